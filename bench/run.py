@@ -54,8 +54,11 @@ def measured(words: list, source: str) -> tuple:
 
 
 def digest(path: str) -> str:
+    hasher = hashlib.sha256()
     with open(path, "rb") as file:
-        return hashlib.file_digest(file, "sha256").hexdigest()
+        while piece := file.read(1 << 20):
+            hasher.update(piece)
+    return hasher.hexdigest()
 
 
 class Row:

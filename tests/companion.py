@@ -257,7 +257,7 @@ def round_trips(bench: Bench):
     for method in ["lzma", "xz", "bzip2"]:
         name = "19 Bzip2" if method == "bzip2" else "18 Lzma"
         for words in [[BOX, "bad", "out"], ["unpack", "bad", "out"]]:
-            bench.refused(f"{method}: {words[0]}", packed(found, method), f": {name}\n", "osmium cat IN -o new.osm.pbf", words=words)
+            bench.refused(f"{method}: {words[0]}", packed(found, method), f": {name}\n", "hint: few programs read such a file", words=words)
 
 
 def many_frames(bench: Bench):
@@ -357,9 +357,9 @@ def refusals(bench: Bench):
     """What pbfcutz refuses, with its line and what helps."""
     whole = bench.read("zlib.osm.pbf")
     begin = len(frame(b"OSMHeader", bytes(100))) - 100
-    for number, name in [(6, "20 Lz4"), (7, "21 Zstd")]:
+    for number, name, hint in [(6, "20 Lz4", "osmium cat IN -o new.osm.pbf"), (7, "21 Zstd", "few programs read such a file")]:
         blob = town.scalar(2, 100) + town.nested(number, bytes(96))
-        bench.refused(name, frame(b"OSMHeader", blob), f"pbfcutz: refused at {begin + 2}: {name}\n", "hint: ", "osmium cat IN -o new.osm.pbf")
+        bench.refused(name, frame(b"OSMHeader", blob), f"pbfcutz: refused at {begin + 2}: {name}\n", "hint: ", hint)
     history = header_with(b"HistoricalInformation")
     bench.refused("a history file", raw_file([(b"OSMHeader", history)]), ": 55 Feature\n", "osmium time-filter")
     other = packed([(b"OSMHeader", header_with(b"Elsewise"))])
@@ -385,7 +385,7 @@ def refusals(bench: Bench):
 
 def wrong_words(bench: Bench):
     whole = bench.read("zlib.osm.pbf")
-    bench.refused("a wrong box", whole, "pbfcutz: box: LeftOverRight", status=2, words=("--box=2,0,1,1", "bad", "out"))
+    bench.refused("a wrong box", whole, "pbfcutz: box: LeftOverRight\nhint: the box is west,south,east,north", status=2, words=("--box=2,0,1,1", "bad", "out"))
     with bench.pipe("zlib.osm.pbf") as pipe:
         bench.case("a wrong box, and a pipe", ["--box=2,0,1,1", "/dev/stdin", "out"], status=2, stdin=pipe, parts=("pbfcutz: box: LeftOverRight",))
         expect("nothing of the pipe was read", whole, pipe.read())
@@ -404,7 +404,7 @@ def hints(bench: Bench):
     for name, content in [("an XML file", b"\xef\xbb\xbf<?xml version='1.0'?><osm/>"), ("compressed by gzip", gzip.compress(whole)),
                           ("compressed by bzip2", bz2.compress(whole)), ("compressed by xz", lzma.compress(whole)),
                           ("a ZIP archive", b"PK\x03\x04" + whole), ("an o5m file", b"\xff\xe0\x04o5m2" + bytes(9)),
-                          ("an OPL file", b"n1 v1 dV c0 t i0 u T x1.5 y2.5\n"), ("", b"something")]:
+                          ("a JSON text", b'{"error": 1}'), ("an OPL file", b"n1 v1 dV c0 t i0 u T x1.5 y2.5\n"), ("", b"something")]:
         bench.count += 1
         bench.write("bad", content)
         with open(bench.path("bad"), "rb") as file:
@@ -542,8 +542,8 @@ def sabotage(bench: Bench):
     # a pbfcutz that prints other things than it does
     right, wrong = digest_of(bench.read("direct")), digest_of(b"")
     counts = COUNTS[:-1] + "\\n"
-    told = f"{counts}{wrong}  IN\\nunpacked {wrong}\\n{right}  OUT\\n"
-    checked = f"{counts}{wrong}  packed\\nunpacked {right}\\n"
+    told = f"{counts}{wrong}  IN\\n# unpacked {wrong}\\n{right}  OUT\\n"
+    checked = f"{counts}{wrong}  packed\\n# unpacked {right}\\n"
     for name, options, printed, validated, status in [
             ("as it is", [], counts, checked, 0), ("other counts", [], counts, checked.replace("121", "122"), 70),
             ("another digest", [], counts, checked.replace(right, wrong), 70), ("no receipt", [], counts, "", 70),

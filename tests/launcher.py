@@ -159,7 +159,11 @@ def other_sources(folder: str):
     expect("other sources, no toolchain", (127, ""), (status, out))
     expect("what is said of it", True, "not those of the program in release/" in errors and NO_TOOLCHAIN in errors)
     copy.toolchain()
-    status, out, errors = copy.pbfcut("check", "x")
+    for words in [["--help"], ["help", "check"], ["-V"], ["check", "--help"]]:
+        status, out, errors = copy.pbfcut(*words)
+        expect(f"other sources, {words}: no proof", (0, "handed over\n", False), (status, out, "building" in errors))
+        expect(f"other sources, {words}: what is said of it", True, "built from other sources" in errors or "not those of the program" in errors)
+    status, out, errors = copy.pbfcut("check", "x", "--", "--help")
     expect("other sources, with a toolchain", (0, "built\n"), (status, out))
     expect("what is said of it", True, "proving and building it" in errors and "building\n" in errors)
     expect("the program that was built runs at once", (0, "built\n", ""), copy.pbfcut())
@@ -250,7 +254,8 @@ def installs(folder: str, program: bytes):
     write(os.path.join(root, "opt/x/bin/another"), "")
     install = copy.path("install")
     for _ in range(2):  # also over an older one
-        expect("install", 0, copy.run([install, "/opt/x"], DESTDIR=root)[0])
+        wanted = f"pbfcut is in {root}/opt/x/bin; DESTDIR='{root}' ./install --uninstall /opt/x takes it away again\n"
+        expect("install", (0, wanted), copy.run([install, "/opt/x"], DESTDIR=root)[:2])
         expect("what is installed", INSTALLED | {"bin/another"}, files_below(os.path.join(root, "opt/x")))
     status, out, _ = copy.run([os.path.join(root, "opt/x/bin/pbfcut"), "--version"])
     expect("the installed program", (0, True), (status, out.startswith("pbfcut 1.0.0")))
@@ -259,6 +264,9 @@ def installs(folder: str, program: bytes):
     expect("the installed companion finds the program beside it", (0, "nodes 121 ways 23 relations 7\n", ""), copy.run(any_of))
     expect("uninstall", 0, copy.run([install, "--uninstall", "/opt/x"], DESTDIR=root)[0])
     expect("what is left", {"bin/another"}, files_below(os.path.join(root, "opt/x")))
+    home = os.path.join(copy.folder, "home")
+    said = copy.run([install, home])[1]
+    expect("what a shell needs", (True, True), (f'export PATH="{home}/bin:$PATH"' in said, f"fpath=({home}/share/zsh/site-functions $fpath)" in said))
     for words in [["--nonsense"], ["/a", "/b"], [""]]:
         expect(f"install {words}", 1, copy.run([install, *words], DESTDIR=root)[0])
 

@@ -22,6 +22,11 @@ import tempfile
 import termios
 import time
 
+sys.dont_write_bytecode = True
+sys.path.insert(0, os.path.dirname(os.path.abspath(__file__)))
+
+from published import packed
+
 TOP = os.path.dirname(os.path.dirname(os.path.abspath(__file__)))
 BUILT = os.path.join(TOP, "crates", "pbfcut_run", "out", "pbfcut_run")
 SECONDS = 120
@@ -187,6 +192,7 @@ class Case:
     def run(self) -> bytes:
         self.prepare()
         status, stdout, stderr = self.start()
+        self.unlock()
         compare("exit status", self.status, status)
         compare("standard error", self.stderr, stderr)
         if self.output is None:
@@ -215,8 +221,13 @@ class Case:
         if self.fifo:
             os.mkfifo(os.path.join(self.folder, "in"), 0o666)
         for name in self.locked:
-            mode = 0o555 if os.path.isdir(os.path.join(self.folder, name)) else 0
-            os.chmod(os.path.join(self.folder, name), mode)
+            path = os.path.join(self.folder, name)
+            os.chmod(path, 0o555 if os.path.isdir(path) else 0)
+
+    def unlock(self):
+        """So that an ordinary user can look at what is there."""
+        for name in self.locked:
+            os.chmod(os.path.join(self.folder, name), 0o755)
 
     def limit(self):
         """In the program's process, before it begins."""
@@ -457,24 +468,37 @@ def refused_with_digest(bench: Bench):
 
 
 def checked_by_sha256sum(bench: Bench):
-    """`sha256sum -c` says that the files are the ones that were read and written, and that a changed one isn't."""
-    folder = os.path.join(bench.folder, "sums")
-    os.mkdir(folder)
-    shutil.copy(os.path.join(TOP, "sample", "town.osm.pbf"), os.path.join(folder, "a\\ town\n\r.osm.pbf"))
-    words = ["extract", "--digests", "--box=9.997,49.999,10.003,50.003", "a\\ town\n\r.osm.pbf", "old\\town"]
-    printed = subprocess.run([bench.program, *words], cwd=folder, capture_output=True, check=True).stdout
-    sums = b"".join(printed.splitlines(keepends=True)[-2:])
+    """One recipe for both programs: `sha256sum -c` says that the files are the ones that were read and written, and that a changed one isn't."""
+    town = os.path.join(TOP, "sample", "town.osm.pbf")
+    with open(town, "rb") as file:
+        sample = file.read()
+    os.symlink(bench.program, os.path.join(bench.folder, "pbfcutz"))
+    for number, (program, given) in enumerate([(bench.program, sample), (os.path.join(bench.folder, "pbfcutz"), packed(sample))]):
+        folder = os.path.join(bench.folder, f"sums{number}")
+        os.mkdir(folder)
+        names = [os.path.join(folder, name) for name in ("a\\ town\n\r.osm.pbf", "old\\town")]
+        with open(names[0], "wb") as file:
+            file.write(given)
+        words = ["extract", "--digests", "--box=9.997,49.999,10.003,50.003", *map(os.path.basename, names)]
+        printed = subprocess.run([program, *words], cwd=folder, capture_output=True, check=True).stdout
 
-    def sound() -> bool:
-        return subprocess.run(["sha256sum", "-c", "--strict", "--quiet"], input=sums, cwd=folder, capture_output=True).returncode == 0
+        def sound() -> bool:
+            recipe = ["sh", "-c", "tail -n +2 | sha256sum -c --strict --quiet"]
+            return subprocess.run(recipe, input=printed, cwd=folder, capture_output=True).returncode == 0
 
-    if not sound():
-        sys.exit("tests/program.py: sha256sum -c refuses the digests of the sample and its extract")
-    with open(os.path.join(folder, "old\\town"), "r+b") as file:
-        file.write(b"\x01")
-    if sound():
-        sys.exit("tests/program.py: sha256sum -c accepts the digests of an extract that was changed")
-    bench.count += 2
+        if not sound():
+            sys.exit(f"tests/program.py: sha256sum -c refuses the digests of {program}")
+        for name in names:
+            with open(name, "r+b") as file:
+                first = file.read(1)
+                file.seek(0)
+                file.write(b"\x01")
+                file.flush()
+                if sound():
+                    sys.exit(f"tests/program.py: sha256sum -c accepts the digests of {program} beside a changed {name!r}")
+                file.seek(0)
+                file.write(first)
+        bench.count += 3
 
 
 def files_that_cannot_be(bench: Bench):
@@ -799,6 +823,40 @@ def millions(bench: Bench):
                    stdout=counted(12_000 * parts, 4_000 * parts, 2_000 * parts), out=lambda found: hashlib.sha256(found).digest() == wanted)
 
 
+def many_nodes(ids: range) -> bytes:
+    """A block of nodes at one place, with these ids, one after the other."""
+    zeros = bytes(len(ids))
+    return data(field(2, field(2, field(1, varint(zigzag(ids[0])) + b"\x02" * (len(ids) - 1)) + field(8, zeros) + field(9, zeros))))
+
+
+def twenty_million(bench: Bench):
+    """Twenty million nodes, of which all are kept: no set of ids is too small for them."""
+    count, part = 20_000_000, 1_000_000
+    given = EMPTY_HEADER + b"".join(many_nodes(range(begin + 1, begin + part + 1)) for begin in range(0, count, part))
+    blocks = hashlib.sha256(BOX_HEADER)
+    plain = hashlib.sha256(PLAIN_HEADER)
+    for begin in range(0, count, 8000):
+        block = many_nodes(range(begin + 1, begin + 8001))
+        blocks.update(block)
+        plain.update(block)
+    bench.case("check of twenty million", ["check", "in"], given=given, stdout=counted(count, 0, 0))
+    for words, wanted in [(["convert"], plain), (["extract", BOX], blocks), (["extract", "--parents", BOX], blocks)]:
+        bench.case(f"{words} of twenty million", [*words, "in", "out"], given=given, stdout=counted(count, 0, 0),
+                   out=lambda found, wanted=wanted: hashlib.sha256(found).digest() == wanted.digest())
+    path, shown, wanted = os.path.join(bench.folder, "many"), hashlib.sha256(), hashlib.sha256()
+    with open(path, "wb") as file:
+        file.write(given)
+    with subprocess.Popen([bench.program, "show", path], stdout=subprocess.PIPE) as process:
+        while piece := process.stdout.read(1 << 20):
+            shown.update(piece)
+    for begin in range(0, count, 100_000):
+        wanted.update("".join([f"N {number} 0 0\n" for number in range(begin + 1, begin + 100_001)]).encode())
+    if process.returncode or shown.digest() != wanted.digest():
+        sys.exit("tests/program.py: show of twenty million: another text")
+    os.unlink(path)
+    bench.count += 1
+
+
 def parents(bench: Bench, cuts):
     given = EMPTY_HEADER + NODE_IN_BOX + TWO_RELATIONS
     cuts("two relations, one in the other", given, (1, 0, 2), BOX_HEADER + NODE_IN_BOX + TWO_RELATIONS_CUT, "--parents")
@@ -858,7 +916,7 @@ def main():
     try:
         bench = Bench(program, folder)
         for part in [words_of_all_kinds, boxes, progress, digests, files_that_cannot_be, pipes, files_that_change, closed_descriptors,
-                     files_that_are_refused, files_that_are_accepted, extracts, conversions, sample, millions]:
+                     files_that_are_refused, files_that_are_accepted, extracts, conversions, sample, millions, twenty_million]:
             part(bench)
     except Difference as difference:
         sys.exit(f"tests/program.py: {difference}")

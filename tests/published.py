@@ -52,6 +52,7 @@ class Piece:
     raw_at: int = 0
     payload_at: Optional[int] = None
     is_damaged: bool = False
+    data_at: int = 0
 
 
 def frame_at(data: bytes, at: int):
@@ -109,6 +110,7 @@ def meaning_of(data: bytes) -> list:
         payload = payload_of(blob) if kind in KNOWN else None
         piece.raw_at = at
         piece.is_damaged = payload is None and kind in KNOWN and forms_of(blob) == {ZLIB}
+        piece.data_at = last_of(blob, ZLIB).place if piece.is_damaged else 0
         piece.raw = piece.packed if payload is None else written(kind, payload)
         if payload is not None:
             piece.payload_at = at + len(piece.raw) - len(payload)
@@ -149,7 +151,16 @@ def told_by_pbfcutz(said: str, pieces: list) -> str:
     refused = re.fullmatch(r"pbfcut: refused at (\d+): (.*)\n", said)
     if not refused:
         return said.replace("pbfcut:", "pbfcutz:", 1)
-    return f"pbfcutz: {place_of(int(refused[1]), pieces)}: {refused[2]}\n"
+    place = place_of(int(refused[1]), pieces)
+    if refused[2] == "17 Zlib":
+        place = damaged_place(place, int(refused[1]), pieces)
+    return f"pbfcutz: {place}: {refused[2]}\n"
+
+
+def damaged_place(place: str, offset: int, pieces: list) -> str:
+    """Of more than one occurrence of damaged zlib data the last counts, and it is the one that is named."""
+    piece = next(piece for piece in reversed(pieces) if piece.raw_at <= offset)
+    return f"refused at {piece.data_at}" if piece.is_damaged else place
 
 
 class Bench:
@@ -265,10 +276,10 @@ def other_lines(bench: Bench):
     digest = {name: subprocess.run(["sha256sum"], input=of, capture_output=True, check=True).stdout.decode()[:64]
               for name, of in (("packed", data), ("raw", b"".join(piece.raw for piece in meaning_of(data))))}
     _, said, _, _ = bench.run(bench.pbfcutz, ["check", "--digests", "in"], data)
-    yield "digests of check", [f"{digest['packed']}  in", f"unpacked {digest['raw']}"], said.splitlines()[1:]
+    yield "digests of check", [f"{digest['packed']}  in", f"# unpacked {digest['raw']}"], said.splitlines()[1:]
     _, said, _, out = bench.run(bench.pbfcutz, ["extract", "--digests", BOX, "in", "out"], data)
     of_out = subprocess.run(["sha256sum"], input=out, capture_output=True, check=True).stdout.decode()[:64]
-    yield "digests of extract", [f"{digest['packed']}  in", f"unpacked {digest['raw']}", f"{of_out}  out"], said.splitlines()[1:]
+    yield "digests of extract", [f"{digest['packed']}  in", f"# unpacked {digest['raw']}", f"{of_out}  out"], said.splitlines()[1:]
     piped = subprocess.run([bench.pbfcutz, "check", "/dev/stdin"], input=data, capture_output=True, timeout=SECONDS)
     yield "check of a pipe", (0, bench.run(bench.pbfcut, ["check", "in"], sample)[1]), (piped.returncode, piped.stdout.decode())
     for words in ["--version"], ["help", "extract"], ["extract", "in"]:

@@ -17,6 +17,8 @@ CALLS = {
     "extract": ("pbfcut", "extracting"), "extract_with_receipt": ("pbfcut", "extracting"), "extract_parents": ("pbfcut", "extracting"),
     "extract_sorted": ("pbfcut", "sorted"), "extract_sorted_with_receipt": ("pbfcut", "sorted"),
     "convert": ("pbfcut", "converting"), "show": ("pbfcut", "showing"), "check": ("pbf_pass", "checking"), "list_blobs": ("pbfcut", "blobs"),
+    # what `pbfcutz extract` calls
+    "pbf_published::extract_sorted_with_receipt": ("pbf_published", "extracting"),
 }
 # The calls with a clause of this name, which says what the answer means, and what is refused.
 PROMISE = "promise"
@@ -144,7 +146,7 @@ class Sources:
 def contract(crate: str, file: str, call: str, clause: str = "") -> set:
     """The definitions that the contract of a function names, or its clause of this name."""
     text = read("crates", crate, "src", file + ".rt")
-    found = re.search(rf"^pub fn {call}\b.*?^\{{", text, re.M | re.S)
+    found = re.search(rf"^pub fn {call.split('::')[-1]}\b.*?^\{{", text, re.M | re.S)
     clauses = re.findall(rf"^    (?:requires|ensures) {clause}.*?\}}$", found[0], re.M | re.S)
     return Scope(text.splitlines()).found_in("\n".join(clauses))
 
@@ -200,6 +202,29 @@ def sources_used(sources: Sources, found: list) -> list:
     return [crate for crate in reversed(sources.crates) if any(definition.crate == crate for definition in found)]
 
 
+def constant_row(module: str, name: str) -> str:
+    """A constant, with the comment above it and its value."""
+    crate, path = re.fullmatch(r"(\w+)\.specs\.declared\.(.+)\.TheConstants", module).groups()
+    file = path.replace(".", "/")
+    lines = read("crates", crate, "src", file + ".rt").splitlines()
+    at = next(number for number, line in enumerate(lines) if re.match(rf"pub(\(crate\))? const {name}:", line))
+    first = at
+    while lines[first - 1].startswith("//"):
+        first -= 1
+    says = " ".join(re.sub(r"///? ?", "", line) for line in lines[first:at])
+    value = re.search(r"= (.*);$", lines[at])
+    return f"| `{name}` | {says} | {f'`{value[1]}`' if value else 'a table'} | [{crate}](../crates/{crate}/src/{file}.rt) |"
+
+
+def constants_part(places: set):
+    """The numbers that the definitions have from the code."""
+    yield "\n## Constants\n"
+    yield "The definitions above have these from the code. [Limits](../crates/pbf_examples/specs/Limits.antt) says again, as laws, which numbers the limits are.\n"
+    yield "| Constant | What it is | Value | Where |\n|---|---|---|---|"
+    for module, name in sorted(places):
+        yield constant_row(module, name)
+
+
 def foreign_part(places: set):
     yield "\n## What is trusted of std and of the toolchain's crates\n"
     yield "The definitions above use these words, which are defined outside the repository.\n"
@@ -213,11 +238,13 @@ def foreign_part(places: set):
 
 
 def page() -> str:
-    sources, foreign = Sources(), set()
+    sources, foreign, constants = Sources(), set(), set()
     for call, home in CALLS.items():
         for place in sources.closure(contract(*home, call)):
             if place in sources.all:
                 sources.all[place].under.add(call)
+            elif place[0].endswith(".TheConstants"):
+                constants.add(place)
             elif place[0].split(".")[0] not in sources.crates:
                 foreign.add(place)
     for call in PROMISED:
@@ -229,6 +256,7 @@ def page() -> str:
     lines = [INTRODUCTION, *counts_part(sources, found)]
     for crate in sources_used(sources, found):
         lines += crate_part(crate, [definition for definition in found if definition.crate == crate])
+    lines += constants_part(constants)
     lines += foreign_part(foreign)
     return "\n".join(lines) + "\n"
 

@@ -3,13 +3,15 @@
 
 usage: tests/terminal.py PROGRAM
 
-If standard error is no terminal there is no such line, as tests/program.py shows in every run. On a machine without terminals nothing is run,
-which is said.
+If standard error is no terminal there is no such line, as tests/program.py shows in every run. On a machine without terminals nothing is run, and the
+status is 77.
 """
 
 import os
 import pty
+import resource
 import select
+import signal
 import subprocess
 import sys
 import tempfile
@@ -21,7 +23,11 @@ TOWN = os.path.join(TOP, "sample", "town.osm.pbf")
 SECONDS = 60
 BOX = "--box=9.997,49.999,10.003,50.003"
 
-RAW_BY_OSMIUM = "this makes a raw PBF file of it: osmium cat IN -f pbf,pbf_compression=none -o RAW"
+def raw_by_osmium(form: str) -> str:
+    return f"this makes a raw PBF file of it: osmium cat -F {form} IN -f pbf,pbf_compression=none -o RAW"
+
+
+HISTORY = "this takes the state of now out of it: osmium time-filter IN -o NOW.osm.pbf"
 ORDER = "hint: the box is west,south,east,north in degrees, as --box=-0.5,51.25,0.3,51.7"
 
 
@@ -41,21 +47,35 @@ def header_with(feature: bytes) -> bytes:
 
 # what IN begins with, and what is said of it
 FORMATS = {
-    "bzip2": (b"BZh91AY&SY", "IN is compressed as a whole, by bzip2; " + RAW_BY_OSMIUM),
-    "gzip": (b"\x1f\x8b\x08\x00", "IN is compressed as a whole, by gzip; " + RAW_BY_OSMIUM),
-    "XML": (b"<?xml version='1.0'?>\n<osm>", "IN is an XML file; " + RAW_BY_OSMIUM),
-    "XML without its first line": (b"<osm version='0.6'>", "IN is an XML file; " + RAW_BY_OSMIUM),
-    "o5m": (b"\xff\xe0\x04o5m2", "IN is an o5m file; " + RAW_BY_OSMIUM),
-    "OPL": (b"n1 v1 dV c1", "IN is an OPL file; " + RAW_BY_OSMIUM),
+    "bzip2": (b"BZh91AY&SY", "IN is compressed as a whole, by bzip2; this unpacks it: bunzip2 -c IN >UNPACKED"),
+    "gzip": (b"\x1f\x8b\x08\x00", "IN is compressed as a whole, by gzip; this unpacks it: gunzip -c IN >UNPACKED"),
+    "xz": (b"\xfd7zXZ\0", "IN is compressed as a whole, by xz; this unpacks it: unxz -c IN >UNPACKED"),
+    "ZIP": (b"PK\x03\x04", "IN is a ZIP archive; this unpacks it: unzip IN"),
+    "XML": (b"<?xml version='1.0'?>\n<osm>", "IN is an XML file; " + raw_by_osmium("xml")),
+    "XML without its first line": (b"<osm version='0.6'>", "IN is an XML file; " + raw_by_osmium("xml")),
+    "XML behind a mark and a line": (b"\xef\xbb\xbf\n<?xml version='1.0'?>", "IN is an XML file; " + raw_by_osmium("xml")),
+    "o5m": (b"\xff\xe0\x04o5m2", "IN is an o5m file; " + raw_by_osmium("o5m")),
+    "OPL": (b"n1 v1 dV c1", "IN is an OPL file; " + raw_by_osmium("opl")),
     "HTML": (b"<!DOCTYPE html><html>", "IN is a web page: the download failed, so fetch the file again"),
+    "JSON": (b'{"error": "not found"}',
+             "IN is a JSON text, perhaps a server's message that the download failed: look at it, and fetch the file again"),
     "something": (b"something else", "IN does not begin as a PBF file does"),
 }
 
 
-def run(program: str, words: list, folder: str):
-    """The exit status, and what was written to standard output and to the terminal."""
+def long_frame(data: bytes) -> bytes:
+    """A header frame with so many bytes of zlib data that their length takes three."""
+    blob = bytes([3 * 8 + 2, len(data) & 127 | 128, len(data) >> 7 & 127 | 128, len(data) >> 14]) + data
+    size = len(blob)
+    header = field(1, b"OSMHeader") + bytes([24, size & 127 | 128, size >> 7 & 127 | 128, size >> 14])
+    return len(header).to_bytes(4, "big") + header + blob
+
+
+def run(program: str, words: list, folder: str, to: str, prepare):
+    """The exit status, and what was written to standard output, if that isn't a device, and to the terminal."""
     ours, theirs = pty.openpty()
-    process = subprocess.Popen([program, *words], cwd=folder, stdin=subprocess.DEVNULL, stdout=subprocess.PIPE, stderr=theirs)
+    target = open(to, "wb") if to else subprocess.PIPE
+    process = subprocess.Popen([program, *words], cwd=folder, stdin=subprocess.DEVNULL, stdout=target, stderr=theirs, preexec_fn=prepare)
     os.close(theirs)
     seen, end = b"", time.monotonic() + SECONDS
     while time.monotonic() < end:
@@ -68,7 +88,7 @@ def run(program: str, words: list, folder: str):
                 break
             seen += part
     os.close(ours)
-    out = process.communicate(timeout=SECONDS)[0]
+    out = process.communicate(timeout=SECONDS)[0] or b""
     return process.returncode, out.decode(), seen.decode().replace("\r\n", "\n")
 
 
@@ -80,16 +100,16 @@ def main():
         for end in pty.openpty():
             os.close(end)
     except OSError:
-        print("tests/terminal.py: there are no terminals here, so nothing was run")
-        return
+        print("tests/terminal.py: there are no terminals here")
+        sys.exit(77)
     with tempfile.TemporaryDirectory(prefix="pbfcut-terminal-") as folder:
 
-        def case(name: str, words: list, status: int, *lines: str, given: bytes = b"", out: str = ""):
+        def case(name: str, words: list, status: int, *lines: str, given: bytes = b"", out: str = "", to: str = "", prepare=None):
             nonlocal count
             count += 1
             with open(os.path.join(folder, "in"), "wb") as file:
                 file.write(given)
-            found = run(program, words, folder)
+            found = run(program, words, folder, to, prepare)
             wanted = (status, out, "".join(line + "\n" for line in lines))
             if found != wanted:
                 sys.exit(f"tests/terminal.py: {name}: expected {wanted!r}, found {found!r}")
@@ -105,14 +125,30 @@ def main():
         os.symlink(os.path.abspath(sys.argv[1]), program)
         case("pbfcutz, damaged data", ["check", "in"], 1, "pbfcutz: refused at 17: 17 Zlib: Header",
              "hint: the compressed data of IN is damaged: fetch the file again", given=zlib_blob)
+        empty = zlib.compress(b"")
+        case("pbfcutz, data twice", ["check", "in"], 1, "pbfcutz: refused at 17: 17 Zlib",
+             "hint: a blob of IN has its data twice, in zlib's form and in another: ask the author of the file for a sound one",
+             given=frame(field(3, empty) + field(1, b"")))
+        case("pbfcutz, another length", ["check", "in"], 1, "pbfcutz: refused at 19: 17 Zlib: RawSize",
+             "hint: a blob of IN names another length than its data have: ask the author of the file for a sound one",
+             given=frame(b"\x10\x01" + field(3, empty)))
+        case("pbfcutz, two occurrences of data", ["check", "in"], 1, f"pbfcutz: refused at {17 + 2 + len(empty)}: 17 Zlib: Header",
+             "hint: the compressed data of IN is damaged: fetch the file again", given=frame(field(3, empty) + field(3, b"xyz")))
+        case("pbfcutz, too long a payload", ["check", "in"], 1, "pbfcutz: refused at 19: 17 Zlib: Long",
+             "hint: a blob of IN unpacks to 32 MiB or more, which the format does not allow: ask the author of the file for a sound one",
+             given=long_frame(zlib.compress(bytes(33_554_432), 9)))
         header = zlib.compress(field(4, b"Elsewise"))
         case("pbfcutz, a fault in a blob", ["check", "in"], 1, "pbfcutz: refused in the blob at 0, byte 0 of its payload: 55 Feature",
-             given=frame(field(3, header)))
+             f"hint: IN requires a feature that pbfcutz does not know. If it has history, {HISTORY}", given=frame(field(3, header)))
         program = os.path.abspath(sys.argv[1])
-        for number, name in [(4, "18 Lzma"), (5, "19 Bzip2"), (6, "20 Lz4"), (7, "21 Zstd")]:
-            case(name, ["check", "in"], 1, f"pbfcut: refused at 17: {name}",
-                 "hint: IN is compressed by another method; this makes a raw file of it: osmium cat IN -f pbf,pbf_compression=none -o RAW",
-                 given=frame(field(number, b"xyz")))
+        rare = "IN is compressed by a method that few programs read: let the program that wrote it write it again, compressed by zlib or not at all"
+        lz4 = "IN is compressed by LZ4; this makes a raw file of it: osmium cat IN -f pbf,pbf_compression=none -o RAW"
+        for number, name, hint in [(4, "18 Lzma", rare), (5, "19 Bzip2", rare), (6, "20 Lz4", lz4), (7, "21 Zstd", rare)]:
+            case(name, ["check", "in"], 1, f"pbfcut: refused at 17: {name}", f"hint: {hint}", given=frame(field(number, b"xyz")))
+        case("an empty file", ["check", "in"], 1, "pbfcut: refused at 0: 22 NoHeader",
+             "hint: IN is empty: whatever made it has failed, so make it or fetch it again")
+        os.mkdir(os.path.join(folder, "place"))
+        case("a folder", ["check", "place"], 3, "pbfcut: read failed", "hint: IN is a folder, and not a file")
         for name, (start, hint) in FORMATS.items():
             case(name, ["check", "in"], 1, "pbfcut: refused at 0: 11 HeaderLong", f"hint: {hint}", given=start + bytes(100))
         case("a file that ends too early", ["check", "in"], 1, "pbfcut: refused at 0: 10 PrefixCut",
@@ -121,8 +157,7 @@ def main():
              "hint: IN requires the feature Elsewise, which pbfcut does not know", given=header_with(b"Elsewise"))
         case("a feature that would move the cursor", ["check", "in"], 1, "pbfcut: refused at 19: 55 Feature", given=header_with(b"\x1b[2J"))
         case("history", ["check", "in"], 1, "pbfcut: refused at 19: 55 Feature",
-             "hint: IN has history; this takes the state of now out of it: osmium time-filter IN -o NOW.osm.pbf",
-             given=header_with(b"HistoricalInformation"))
+             f"hint: IN has history; {HISTORY}", given=header_with(b"HistoricalInformation"))
         case("another fault", ["check", "in"], 1, "pbfcut: refused at 17: 15 NoRaw", given=frame(b""))
         os.mkfifo(os.path.join(folder, "pipe"))
         case("a pipe that is to be read twice", ["show", "pipe"], 3, "pbfcut: IN must be a file, not a pipe",
@@ -140,6 +175,12 @@ def main():
              "hint: no node of IN lies in the box, which is west,south,east,north", given=town, out="nodes 0 ways 0 relations 0\n")
         case("an extract", ["extract", BOX, "in", "out"], 0, given=town, out="nodes 121 ways 23 relations 7\n")
         case("a check", ["check", "in"], 0, given=town, out="nodes 272 ways 64 relations 13\n")
+        full = "No space left on device (os error 28)"
+        limit, out_of = resource.RLIMIT_FSIZE, "File too large (os error 27)"
+        case("a disk that is full", ["convert", "in", "out"], 3, "pbfcut: write failed", f"hint: out: {out_of}: remove out, since it is incomplete", given=town,
+             prepare=lambda: (signal.signal(signal.SIGXFSZ, signal.SIG_IGN), resource.setrlimit(limit, (1_000, 1_000))))
+        case("counts that can't be printed", ["check", "in"], 3, "pbfcut: write failed", f"hint: standard output: {full}", given=town, to="/dev/full")
+        case("a text that can't be printed", ["show", "in"], 3, "pbfcut: write failed", f"hint: standard output: {full}", given=town, to="/dev/full")
     print(f"tests/terminal.py: {count} cases as they have to be")
 
 

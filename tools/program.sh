@@ -18,6 +18,10 @@ say() {
   echo "pbfcut: $*" >&2
 }
 
+say_no_toolchain() {
+  say "the Rattle toolchain, which proves and builds it, is not here: install the kit that README.md names, so that 'rt version' works"
+}
+
 # a value of the MANIFEST, by its name
 manifest_value() {
   sed -n "s/^$1: //p" "$manifest" 2>/dev/null
@@ -78,7 +82,7 @@ unpack_program() {
     say "it needs $(manifest_value needs)"
     return 3
   fi
-  say "running the program of release/, proved and built from these sources on $(manifest_value date)" \
+  say "running the program of release/, proved and built from ${its_sources:-these sources} on $(manifest_value date)" \
     "(SHA-256 $(manifest_value sha256 | cut -c 1-8)..); './pbfcut --prove' makes it again"
   if [ "$is_lasting" = yes ]; then
     mv -f "$made" "$unpacked"
@@ -91,20 +95,27 @@ unpack_program() {
   fi
 }
 
-find_program() {
-  local sources
-  sources=$("$top/tools/sources.sh") || return 1
-  if [ -x "$built" ] && [ "$(cat "$built.sources" 2>/dev/null)" = "$sources" ]; then
-    program=$built
-  elif [ ! -f "$manifest" ] || ! is_digest "$(manifest_value sources)" || ! is_digest "$(manifest_value sha256)"; then
+# The program of release/, of whatever sources it is.
+find_released() {
+  if [ ! -f "$manifest" ] || ! is_digest "$(manifest_value sources)" || ! is_digest "$(manifest_value sha256)"; then
     say "release/MANIFEST cannot be read"
-    return 1
-  elif ! is_handed_over "$sources"; then
-    say "the sources here are not those of the program in release/"
     return 1
   elif [ -x "$unpacked" ] && [ "$(digest_of "$unpacked")" = "$(manifest_value sha256)" ]; then
     program=$unpacked
   else
     unpack_program
+  fi
+}
+
+find_program() {
+  local sources
+  sources=$("$top/tools/sources.sh") || return 1
+  if [ -x "$built" ] && [ "$(cat "$built.sources" 2>/dev/null)" = "$sources" ]; then
+    program=$built
+  elif is_handed_over "$sources" || [ ! -f "$manifest" ] || ! is_digest "$(manifest_value sha256)"; then
+    find_released
+  else
+    say "the sources here are not those of the program in release/"
+    return 1
   fi
 }

@@ -54,9 +54,8 @@ pack_folder() {
 # The suite by itself: vectors/ and the two pages that it links to.
 copy_vectors() {
   mkdir -p "$1/docs"
-  git archive HEAD:crates/pbf_vectors/data --prefix=vectors/ | tar -x -C "$1"
+  git archive HEAD:vectors --prefix=vectors/ | tar -x -C "$1"
   cp docs/FORMAT.md docs/CONFORMANCE.md "$1/docs"
-  sed -i 's|\.\./\.\./\.\./docs/|../docs/|g' "$1/vectors/README.md" "$1/vectors/about.md"
 }
 
 make_archive() {

@@ -86,7 +86,7 @@ def main():
             data = payload(rng, words)
             cases.append(damaged(rng, packed(rng, data), len(data)))
         frames = b"".join(struct.pack("<II", len(stream), limit) + stream for stream, limit in cases)
-        run = subprocess.run([given.program], input=b"\x01" + frames, capture_output=True, check=True)
+        run = subprocess.run([given.program], input=b"r\x01" + frames, capture_output=True, check=True)
         lines = run.stdout.decode().splitlines()
         if len(lines) != len(cases):
             sys.exit(f"tests/inflate/fuzz.py: {len(lines)} lines for {len(cases)} streams")

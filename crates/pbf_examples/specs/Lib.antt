@@ -13,3 +13,4 @@ pub mod Extracts
 pub mod Written
 pub mod Shown
 pub mod InFull
+pub mod Limits

@@ -1,5 +1,5 @@
 -- What is put into the room is the frame in written form.
-use Rattle.std.proofs.Common.{◌≡◌, ℕ, ◌+◌, ◌*◌, min, List, [], ◌∷◌, ◌++◌, length, take, Option, Some, refl, sym, ap, ◌∙◌, append_assoc, length-append, arith}
+use Rattle.std.proofs.Common.{◌≡◌, ℕ, ◌+◌, ◌*◌, List, [], ◌∷◌, ◌++◌, length, Some, refl, sym, ap, ◌∙◌, append_assoc, length-append, arith}
 use Rattle.std.proofs.lemmas.List.{append-nil, take_min, take-append-le}
 use Rattle.std.proofs.Math.Seq.{take-append-add}
 use Rattle.byteorder.specs.Endian.{big_bytes}
@@ -32,27 +32,15 @@ blob_put n payload e1 e2 long p1 p2 =
     bytes_put RAW payload [] e1 e2 (e2 ++ payload) p1 (p2 ∙ ap (λ (m : ℕ). e1 ++ shortest m) (sym long)) refl
     ∙ sym (append-nil (slot_bytes slot)) ∙ ap (λ l. slot_bytes slot ++ l) (sym message_none) ∙ sym (message_first slot [])
 
-pub frame_put : (k : FrameKind) (payload header blob e1 e2 e3 : List ℕ) → blob ++ payload ≡ written_blob payload → header ≡ written_header k (length blob + length payload) → e1 ≡ big_bytes 4 (length header) → e2 ≡ e1 ++ header → e3 ≡ e2 ++ blob → e3 ++ payload ≡ written_frame k payload
+-- what is before a blob of this size
+abbrev pub front_of : FrameKind → ℕ → List ℕ
+front_of k size = big_bytes 4 (length (written_header k size)) ++ written_header k size
+
+pub front_put : (k : FrameKind) (size : ℕ) (header e1 e2 : List ℕ) → header ≡ written_header k size → e1 ≡ big_bytes 4 (length header) → e2 ≡ e1 ++ header → e2 ≡ front_of k size
+front_put k size header e1 e2 is_header p1 p2 = p2 ∙ ap (λ l. l ++ header) p1 ∙ ap (λ (l : List ℕ). big_bytes 4 (length l) ++ l) is_header
+
+pub frame_put : (k : FrameKind) (payload blob e2 e3 : List ℕ) → blob ++ payload ≡ written_blob payload → e2 ≡ front_of k (length blob + length payload) → e3 ≡ e2 ++ blob → e3 ++ payload ≡ written_frame k payload
 unfolding written_frame
-frame_put k payload header blob e1 e2 e3 is_blob is_header p1 p2 p3 =
+frame_put k payload blob e2 e3 is_blob p2 p3 =
     let size : length blob + length payload ≡ length (written_blob payload) = sym (length-append blob payload) ∙ ap length is_blob in
-    let header_is : header ≡ written_header k (length (written_blob payload)) = is_header ∙ ap (λ (n : ℕ). written_header k n) size in
-    let front : e2 ≡ big_bytes 4 (length (written_header k (length (written_blob payload)))) ++ written_header k (length (written_blob payload)) = p2 ∙ ap (λ l. l ++ header) p1 ∙ ap (λ (l : List ℕ). big_bytes 4 (length l) ++ l) header_is in
-    ap (λ l. l ++ payload) p3 ∙ append_assoc e2 blob payload ∙ ap (λ l. e2 ++ l) is_blob ∙ ap (λ l. l ++ written_blob payload) front
-
--- ---- a prefix
-
--- what went out of the first part is a prefix of the whole
-pub front_first : (old new : Option (List ℕ)) (first second whole : List ℕ) → first ++ second ≡ whole → IsFront old new first → IsFront old new whole
-front_first old new first second whole is front = record {
-  count = min front.count (length first);
-  taken = front.taken ∙ ap (append old) (sym (take_min front.count first) ∙ sym (take-append-le (min front.count (length first)) first second (omega arith)) ∙ ap (take (min front.count (length first))) is);
-}
-
--- the first part went out, and of the second a prefix
-pub front_second : (old mid new : Option (List ℕ)) (first second whole : List ℕ) → first ++ second ≡ whole → mid ≡ append old first → IsFront mid new second → IsFront old new whole
-front_second old mid new first second whole is went front = record {
-  count = length first + front.count;
-  taken = front.taken ∙ ap (λ (k : Option (List ℕ)). append k (take front.count second)) went ∙ append_append old first (take front.count second)
-      ∙ ap (append old) (sym (take-append-add first second front.count) ∙ ap (take (length first + front.count)) is);
-}
+    ap (λ l. l ++ payload) p3 ∙ append_assoc e2 blob payload ∙ ap (λ l. e2 ++ l) is_blob ∙ ap (λ l. l ++ written_blob payload) (p2 ∙ ap (front_of k) size)

@@ -1,6 +1,7 @@
 //! Frames, written.
 
 ghost use Rattle.std.specs.Prelude.{◌≡◌, ◌+◌, ◌<◌, ◌≤◌, ◌++◌, List, ℕ, length, take, OnOk, IfErr};
+ghost use Rattle.byteorder.specs.Endian.{big_bytes};
 ghost use Rattle.pbf_wire.specs.Varint.{shortest};
 ghost use Rattle.pbf_frame.specs.Devices.{IsFront};
 ghost use Rattle.pbf_frame.specs.Transfers.{Added};
@@ -15,7 +16,7 @@ use crate::device::Drain;
 use crate::frame::FrameKind;
 use crate::header::{DATASIZE, TYPE};
 use crate::stop::Stop;
-use crate::transfer::write_all;
+use crate::transfer::write_both;
 use byteorder::{BigEndian, ByteOrder};
 use pbf_wire::shortest_spelling;
 
@@ -78,6 +79,19 @@ fn put_blob_head(room: &mut [u8], payload: usize) -> usize
     put_varint(room, end, payload as u64)
 }
 
+/// Puts what a frame has before its blob, which has this length, at the start of the room, and returns how many bytes that is.
+pub fn put_front(room: &mut [u8], kind: FrameKind, blob: u64) -> usize
+    requires { length room.old ≡ HEAD_ROOM }
+    ensures front { take result room.new
+        ≡ big_bytes 4 (length (written_header kind blob)) ++ written_header kind blob }
+    ensures end { result ≤ 68 }
+{
+    let mut header = [0; 64];
+    let header_end = put_header(&mut header, kind, blob);
+    BigEndian::write_u32(room, header_end as u32);
+    put(room, 4, &header[..header_end])
+}
+
 /// Puts all of a frame but its payload, which has this length, at the start of the room, and returns how many bytes that is.
 pub fn put_head(room: &mut [u8], kind: FrameKind, payload: usize) -> usize
     requires room { length room.old ≡ HEAD_ROOM }
@@ -88,10 +102,7 @@ pub fn put_head(room: &mut [u8], kind: FrameKind, payload: usize) -> usize
 {
     let mut blob = [0; 32];
     let blob_end = put_blob_head(&mut blob, payload);
-    let mut header = [0; 64];
-    let header_end = put_header(&mut header, kind, (blob_end + payload) as u64);
-    BigEndian::write_u32(room, header_end as u32);
-    let end = put(room, 4, &header[..header_end]);
+    let end = put_front(room, kind, (blob_end + payload) as u64);
     put(room, end, &blob[..blob_end])
 }
 
@@ -110,7 +121,6 @@ pub fn put_frame<D: Drain>(drain: &mut D, kind: FrameKind, payload: &[u8]) -> Re
 {
     let mut head = [0; HEAD_ROOM];
     let length = put_head(&mut head, kind, payload.len());
-    write_all(drain, &head[..length])?;
-    write_all(drain, payload)?;
+    write_both(drain, &head[..length], payload)?;
     Ok(())
 }

@@ -1,6 +1,6 @@
 //! Loops over a device, however it cuts the bytes.
 
-ghost use Rattle.std.specs.Prelude.{◌≡◌, ◌<◌, ◌≤◌, length, take, IfOk, OnOk, OnErr};
+ghost use Rattle.std.specs.Prelude.{◌≡◌, ◌<◌, ◌≤◌, ◌++◌, length, take, IfOk, OnOk, OnErr};
 ghost use Rattle.pbf_frame.specs.Devices.{IsAtEnd, HasRisen, IsFront};
 ghost use Rattle.pbf_frame.specs.Keeps.{KeepsFeed};
 ghost use Rattle.pbf_frame.specs.Transfers.{Added, SuppliedFirst};
@@ -41,4 +41,16 @@ pub fn write_all<D: Drain>(drain: &mut D, bytes: &[u8]) -> Result<(), DrainFault
         done += drain.write(&bytes[done..])?;
     }
     Ok(())
+}
+
+/// Writes both slices, one after the other; after a failure a prefix of their bytes went out. It does not allocate.
+pub fn write_both<D: Drain>(drain: &mut D, first: &[u8], second: &[u8]) -> Result<(), DrainFault>
+    ensures ok { OnOk result (Added D.Drain drain.old (first.now ++ second.now) drain.new) }
+    ensures front { IsFront (D.taken drain.old) (D.taken drain.new) (first.now ++ second.now) }
+    ensures counts { D.failures drain.old ≤ D.failures drain.new }
+    ensures failed { OnErr result (HasRisen (D.failures drain.old) (D.failures drain.new)) }
+    ensures lender { D.lender drain.new ≡ D.lender drain.old }
+{
+    write_all(drain, first)?;
+    write_all(drain, second)
 }

@@ -51,5 +51,6 @@ pub fn check_with_receipt<F: Feed>(passes: Passes, feed: &mut F) -> Result<Input
     Ok(InputReceipt {
         counts: told.pass.counts,
         input,
+        spared: false,
     })
 }

@@ -27,6 +27,8 @@ pub struct InputReceipt {
     /// The digest of the bytes that the feed gave; if a call has several feeds, of those that each of them gave that was read. It says
     /// nothing if the call hashes nothing.
     pub input: [u8; 32],
+    /// Whether nothing was read of the second feed, since the first pass was enough: so it is in calls for sorted files.
+    pub spared: bool,
 }
 
 /// The refusal of an input, with what was read of it.

@@ -22,7 +22,7 @@ use Rattle.pbfcut.specs.Calls.{Differ, GaveOrNot, RefusedFirst}
 use Rattle.pbfcut.proofs.ConvertingLemmas.{nothing_out}
 use Rattle.pbf_published.specs.declared.input.PublishedHalt.{PublishedHalt}
 use Rattle.pbf_published.specs.declared.traced.TracedFeed.{TracedFeed}
-use Rattle.pbf_published.specs.Published.{Closed, GavePublished, GaveOrNone, IsUnread, Opened, ReportsOutcome, UnlessChanged, log_number, log_of, raw_of, told_by}
+use Rattle.pbf_published.specs.Published.{Closed, GavePublished, GaveOrNone, Opened, ReportsOutcome, UnlessChanged, log_number, log_of, raw_of, told_by}
 
 -- a feed of a pass that was opened, in the log that says most
 pub opened_by : {D H : Type 0} (holds : H → List ℕ → Type 0) (below : D → ℕ → List ℕ → Type 0) (device : D) (flag hashes : Bool) (hasher : H) (count : ℕ) → flag ≡ hashes → holds hasher [] → count ≡ 0 → HasCounted holds below device flag hasher count (log_of hashes) []
@@ -83,13 +83,12 @@ module _ {F U : Type 0} (f : feed.Ghosts F) (first last : F) {u : feed.Ghosts U}
         let digest_is : digest ≡ sha256 p.packed = subst (λ (h : Bool). IsDigestOf (digest_if h digest) p.packed) hashed p.digest_is in
         some ∙ ap (λ (l : List ℕ). Some l) digest_is ∙ ap (λ (l : List ℕ). Some (sha256 l)) (sym (p.told all is))
 
--- the same of a feed of which perhaps nothing was read
-pub published_or_none : {F U : Type 0} (f : feed.Ghosts F) (first last : F) {u : feed.Ghosts U} {old new : U} {raw_digest : Option (List ℕ)} (holds : List ℕ → Type 0) (file : List ℕ) → GaveOrNot u old new raw_digest file holds → (o : Option (List ℕ)) → u.remaining old ≡ raw_of (f.remaining first)
-    → Opened (f.remaining first) (f.has_passed first) true (u.has_passed old) → Closed (f.has_passed last) (u.has_passed new) (u.remaining new) o → (digest : List ℕ) → (o ≡ Some digest) ⊎ (o ≡ Some (sha256 [])) → (new ≡ old → last ≡ first)
+-- the same of a feed that may have been spared
+pub published_or_none : {F U : Type 0} (f : feed.Ghosts F) (first last : F) (u : feed.Ghosts U) {old new : U} {raw_digest : Option (List ℕ)} (holds : List ℕ → Type 0) (file : List ℕ) (spared : Bool) → GaveOrNot u spared old new raw_digest file holds → (o : Option (List ℕ)) → u.remaining old ≡ raw_of (f.remaining first)
+    → Opened (f.remaining first) (f.has_passed first) true (u.has_passed old) → Closed (f.has_passed last) (u.has_passed new) (u.remaining new) o → (digest : List ℕ) → (spared ≡ false → o ≡ Some digest) → (new ≡ old → last ≡ first)
     → (keeps : List ℕ → Type 0) → ((file : List ℕ) → holds file → keeps file) → GaveOrNone f first last digest raw_digest file keeps
-published_or_none f first last holds file (inl given) o remaining opened closed digest (inl is) same keeps step = inl (inl (published_of f first last given true o remaining opened closed digest is keeps step))
-published_or_none f first last holds file (inl given) o remaining opened closed digest (inr is) same keeps step = inl (inr (published_of f first last given true o remaining opened closed (sha256 []) is keeps step))
-published_or_none f first last holds file (inr (unchanged, holding)) o remaining opened closed digest is same keeps step = inr (same unchanged, step file holding)
+published_or_none f first last u holds file false given o remaining opened closed digest is same keeps step = inl (published_of f first last given true o remaining opened closed digest (is refl) keeps step)
+published_or_none f first last u holds file true none o remaining opened closed digest is same keeps step = inr (same none.0, step file none.1)
 
 -- a feed that was closed is one that a reference goes to
 pub closed_below : {F : Type 0} (has_passed : F → ℕ → List ℕ → Type 0) (mid last : F) (supplied : ℕ → List ℕ → Type 0) (left o : Option (List ℕ)) → mid ≡ last → Closed (has_passed mid) supplied left o → Closed (has_passed last) supplied left o
@@ -184,20 +183,16 @@ first_unknown known o of none b c is_b is_c same = (let bad : ⊥ = (let some : 
 pub later_differ : (first other o p : Option (List ℕ)) (digest : List ℕ) → DigestIsOf first o → o ≡ Some digest → DigestIsOf other p → (p ≡ Some digest → ⊥) → Differ first other
 later_differ first other o p digest of is other_of unlike b c is_b is_c same = unlike (other_of c is_c ∙ ap (λ (l : List ℕ). Some (sha256 l)) (sym same) ∙ sym (of b is_b) ∙ is)
 
--- a feed that is as it was opened
-pub unread_still : {F : Type 0} (holds : Sha256 → List ℕ → Type 0) (old new : UnpackedFeed (TracedFeed (PassFeed F))) (below : F) → new ≡ old → IsUnread holds old below → IsUnread holds new below
-unread_still holds old new below same unread = subst (λ u. IsUnread holds u below) (sym same) unread
-
--- the second feed hasn't the digest of the first nor that of nothing: it was read, and its bytes differ
-pub second_differs : {U : Type 0} {u : feed.Ghosts U} {old new : U} {raw_digest : Option (List ℕ)} (file : List ℕ) (holds : List ℕ → Type 0) → GaveOrNot u old new raw_digest file holds → {first other o p : Option (List ℕ)} {digest : List ℕ} → DigestIsOf first o → o ≡ Some digest
-    → (GaveFile u old new raw_digest holds → DigestIsOf other p) → (new ≡ old → p ≡ Some (sha256 [])) → (p ≡ Some digest → ⊥) × (p ≡ Some (sha256 []) → ⊥) → Differ first other
-second_differs file holds (inl given) of is read unread unlike = later_differ _ _ _ _ _ of is (read given) unlike.0
-second_differs file holds (inr (same, holding)) of is read unread unlike = absurd (unlike.1 (unread same))
+-- the second feed was read, and hasn't the digest of the first: so its bytes differ
+pub second_differs : {U : Type 0} {u : feed.Ghosts U} {old new : U} {raw_digest : Option (List ℕ)} (file : List ℕ) (holds : List ℕ → Type 0) (spared : Bool) → GaveOrNot u spared old new raw_digest file holds → spared ≡ false → {first other o p : Option (List ℕ)} {digest : List ℕ} → DigestIsOf first o → o ≡ Some digest
+    → (GaveFile u old new raw_digest holds → DigestIsOf other p) → (p ≡ Some digest → ⊥) → Differ first other
+second_differs file holds false given was of is read unlike = later_differ _ _ _ _ _ of is (read given) unlike
+second_differs file holds true none was of is read unlike = (let bad : ⊥ = cc in absurd bad)
 
 -- what is said of the next feed, whether the one before was read or not
-pub rest_of : {U : Type 0} {u : feed.Ghosts U} {old new : U} {raw_digest : Option (List ℕ)} (file : List ℕ) (holds : List ℕ → Type 0) → GaveOrNot u old new raw_digest file holds → (c : List ℕ) × holds c
-rest_of file holds (inl given) = (given.file, given.holding)
-rest_of file holds (inr (same, holding)) = (file, holding)
+pub rest_of : {U : Type 0} (u : feed.Ghosts U) (old new : U) (raw_digest : Option (List ℕ)) (file : List ℕ) (holds : List ℕ → Type 0) (spared : Bool) → GaveOrNot u spared old new raw_digest file holds → (c : List ℕ) × holds c
+rest_of u old new raw_digest file holds false given = (given.file, given.holding)
+rest_of u old new raw_digest file holds true none = (file, none.1)
 
 -- before a drain was used, whatever is said
 pub nothing_went_out : {A : Type 0} (r : Result A PublishedHalt) (old new : Option (List ℕ)) (whole : List ℕ → List ℕ) (supplies : List ℕ → Type 0) → new ≡ old

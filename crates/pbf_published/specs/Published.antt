@@ -38,9 +38,9 @@ pub record GavePublished {F : Type 0} (f : feed.Ghosts F) (old new : F) (digest 
   pub logged : (log : ℕ) → f.has_passed old log [] → PassedAs (f.has_passed new) log (unpacked packed)
   pub holding : holds (unpacked packed)
 
--- a later feed did so; or it had no bytes; or nothing was read of it, and this holds of the file before
+-- a later feed did so; or nothing was read of it, and this holds of the file before
 abbrev pub GaveOrNone : {F : Type 0} → feed.Ghosts F → (old new : F) → (digest : List ℕ) → Option (List ℕ) → (raw : List ℕ) → (List ℕ → Type 0) → Type 0
-GaveOrNone f old new digest raw_digest raw holds = (GavePublished f old new (Some digest) raw_digest holds ⊎ GavePublished f old new (Some (sha256 [])) raw_digest holds) ⊎ ((new ≡ old) × holds raw)
+GaveOrNone f old new digest raw_digest raw holds = GavePublished f old new (Some digest) raw_digest holds ⊎ ((new ≡ old) × holds raw)
 
 -- ---- the digest of a feed that was read
 
@@ -82,12 +82,6 @@ pub record HasTraced {F : Type 0} (f : feed.Ghosts F) (feed : F) (log : ℕ) (by
   pub told : start ≡ prepend bytes (f.remaining feed)
 
 -- ---- feeds that are opened and closed
-
--- nothing was read of an unpacking feed over this one
-pub record IsUnread {F : Type 0} (holds : Sha256 → List ℕ → Type 0) (u : UnpackedFeed (TracedFeed (PassFeed F))) (below : F) : Type 0 where
-  pub all : has_all u ≡ true
-  pub none : holds u.feed.feed.hasher []
-  pub over : u.feed.feed.feed ≡ below
 
 -- an unpacking feed, by its logs, has supplied nothing of what the feed below reports and logs
 pub record Opened (known : Option (List ℕ)) (passed : ℕ → List ℕ → Type 0) (hashes : Bool) (supplied : ℕ → List ℕ → Type 0) : Type 0 where

@@ -15,7 +15,7 @@ ghost use Rattle.pbf_pass.specs.Stops.{Caused, ReadFailed, WriteFailed};
 ghost use Rattle.pbf_published.specs.Published.{ChangedOfThree, GaveOrNone, GavePublished, UnlessChanged, raw_of};
 
 use crate::input::{
-    PublishedHalt, PublishedInput, close, compare, compare_or_none, first_digest, lacks_memory,
+    PublishedHalt, PublishedInput, close, compare, compare_unless_spared, first_digest, lacks_memory,
     open, published_outcome, two_inflaters,
 };
 use osm_entity::BoundingBox;
@@ -43,7 +43,7 @@ pub fn extract_sorted_with_receipt<F: Feed, G: Feed, H: Feed, D: Drain, S: Build
     hasher: S,
 ) -> Result<PublishedInput, PublishedHalt>
     // The first and the third feed gave packed bytes of the digest `input`, which mean a raw file, of the digest `raw` if it is hashed,
-    // and the second too or nothing. The first raw file has no fault, and its header can be written. The drain took bytes. If the raw
+    // and the second too, unless nothing was read of it. The first raw file has no fault, and its header can be written. The drain took bytes. If the raw
     // files are the same, these bytes are exactly its complete-ways extract, in canonical form, and the counts are those of the entities
     // in it.
     ensures receipt { IfOk result (λ receipt. GavePublished F.Feed first.old first.new
@@ -90,7 +90,7 @@ pub fn extract_sorted_with_receipt<F: Feed, G: Feed, H: Feed, D: Drain, S: Build
     let receipt = outcome?;
     let raw = receipt.input;
     let input = first_digest(one)?;
-    compare_or_none(input, two, 2)?;
+    compare_unless_spared(&receipt, input, two)?;
     compare(input, three, 3)?;
     Ok(PublishedInput {
         counts: receipt.counts,

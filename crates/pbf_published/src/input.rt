@@ -3,7 +3,7 @@
 ghost use Rattle.std.specs.Prelude.{◌≡◌, ◌⊎◌, [], Some, None, IfOk, IfErr, OnOk, false};
 ghost use Rattle.sha2.specs.Sha256.{sha256};
 ghost use Rattle.pbf_frame.specs.declared.stop.Stop.TheVariants as stop;
-ghost use Rattle.pbf_published.specs.Published.{Closed, IsUnread, Opened, ReportsOutcome, raw_of, told_by};
+ghost use Rattle.pbf_published.specs.Published.{Closed, Opened, ReportsOutcome, raw_of, told_by};
 
 use crate::traced::TracedFeed;
 use pbf_block::Counts;
@@ -67,7 +67,7 @@ pub fn open<F: Feed>(alloc: Global, inflater: Inflater, feed: F, hashes: bool) -
         ≡ raw_of (F.remaining feed) }
     ensures opened { Opened (F.remaining feed) (F.has_passed feed) hashes
         (⟦<PublishedFeed<F> as Feed>⟧.has_passed result) }
-    ensures unread { IsUnread ⟦<Sha256 as Digest>⟧.holds result feed }
+    ensures below { result.feed.feed.feed ≡ feed }
     ensures lender { ⟦<PublishedFeed<F> as Feed>⟧.lender result ≡ F.lender feed }
     ensures failures { ⟦<PublishedFeed<F> as Feed>⟧.failures result
         ≡ F.failures feed }
@@ -83,8 +83,6 @@ pub fn close<F: Feed>(feed: PublishedFeed<F>) -> (Option<[u8; 32]>, F)
     ensures closed { Closed (F.has_passed result.1)
         (⟦<PublishedFeed<F> as Feed>⟧.has_passed feed)
         (⟦<PublishedFeed<F> as Feed>⟧.remaining feed) result.0 }
-    ensures unread { (below : _) → IsUnread ⟦<Sha256 as Digest>⟧.holds feed below
-        → result.0 ≡ Some (sha256 []) }
     ensures feed { result.1 ≡ feed.feed.feed.feed }
     ensures lender { F.lender result.1
         ≡ ⟦<PublishedFeed<F> as Feed>⟧.lender feed }
@@ -116,17 +114,16 @@ pub fn compare(digest: [u8; 32], later: Option<[u8; 32]>, pass: u8) -> Result<()
     }
 }
 
-/// The same, for a feed of which nothing may have been read.
-pub fn compare_or_none(digest: [u8; 32], later: Option<[u8; 32]>, pass: u8) -> Result<(), Stop>
-    ensures same { OnOk result ((later ≡ Some digest) ⊎ (later ≡ Some (sha256 []))) }
-    ensures stops { IfErr result (λ s. (s ≡ stop.Changed pass)
-        × ((later ≡ Some digest → ⊥) × (later ≡ Some (sha256 []) → ⊥))) }
+/// The same of the second pass of a call that may spare it.
+pub fn compare_unless_spared(receipt: &InputReceipt, digest: [u8; 32], second: Option<[u8; 32]>) -> Result<(), Stop>
+    ensures same { OnOk result (receipt.now.spared ≡ false → second ≡ Some digest) }
+    ensures stops { IfErr result (λ s. (s ≡ stop.Changed 2)
+        × (receipt.now.spared ≡ false) × (second ≡ Some digest → ⊥)) }
 {
-    let mut hasher = Sha256::new();
-    if later == Some(hasher.finalize_reset()) {
+    if receipt.spared {
         return Ok(());
     }
-    compare(digest, later, pass)
+    compare(digest, second, 2)
 }
 
 /// What a stop of a call over raw files says of published ones: of the first of them, and of a feed that was refused memory.

@@ -14,7 +14,7 @@ pub use checking::check_with_receipt;
 pub use converting::convert_with_receipt;
 pub use extracting::extract_sorted_with_receipt;
 pub use input::{
-    PublishedFeed, PublishedHalt, PublishedInput, close, compare, compare_or_none, first_digest,
+    PublishedFeed, PublishedHalt, PublishedInput, close, compare, compare_unless_spared, first_digest,
     lacks_memory, open, published_outcome, stopped,
 };
 pub use parents::extract_parents_sorted_with_receipt;

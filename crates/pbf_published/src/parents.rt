@@ -15,7 +15,7 @@ ghost use Rattle.pbf_pass.specs.Stops.{Caused, ReadFailed, WriteFailed};
 ghost use Rattle.pbf_published.specs.Published.{ChangedOfFour, GaveOrNone, GavePublished, UnlessChanged, raw_of};
 
 use crate::input::{
-    PublishedHalt, PublishedInput, close, compare, compare_or_none, first_digest, lacks_memory,
+    PublishedHalt, PublishedInput, close, compare, compare_unless_spared, first_digest, lacks_memory,
     open, published_outcome, two_inflaters,
 };
 use osm_entity::BoundingBox;
@@ -98,7 +98,7 @@ pub fn extract_parents_sorted_with_receipt<
     let receipt = outcome?;
     let raw = receipt.input;
     let input = first_digest(one)?;
-    compare_or_none(input, two, 2)?;
+    compare_unless_spared(&receipt, input, two)?;
     compare(input, three, 3)?;
     compare(input, four, 4)?;
     Ok(PublishedInput {

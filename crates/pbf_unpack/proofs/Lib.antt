@@ -4,3 +4,5 @@ pub mod PayloadLemmas
 pub mod SupplyLemmas
 pub mod ReportLemmas
 pub mod RawLemmas
+pub mod PackingLemmas
+pub mod FinishLemmas

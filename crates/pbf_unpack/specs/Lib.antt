@@ -5,3 +5,8 @@ pub mod Payloads
 pub mod Supplying
 pub mod Reports
 pub mod Laws
+pub mod Parts
+pub mod Course
+pub mod Packing
+pub mod Packs
+pub mod Streams

@@ -5,6 +5,7 @@ use Rattle.pbf_frame.specs.declared.header.Head.{Head}
 use Rattle.pbf_frame.specs.declared.header.TheConstants.{HEADER_LIMIT, LARGEST_SIZE}
 use Rattle.pbf_frame.specs.Devices.{prepend, Passes, IsAtEnd}
 use Rattle.pbf_frame.specs.Steps.{head_of}
+use Rattle.pbf_unpack.specs.declared.whole.WholeFrame.{WholeFrame}
 use Rattle.pbf_unpack.specs.declared.whole.Found.{Found}
 use Rattle.pbf_unpack.specs.declared.whole.Found.TheVariants as found
 use Rattle.pbf_unpack.specs.declared.whole.Front.{Front}
@@ -40,9 +41,13 @@ BeginsWith place read header left (front.Says head) = HasHead place read header 
 BeginsWith place read header left front.Unfit = IsUnfit place read
 BeginsWith place read header left front.Cut = IsCut place read left
 
--- these are a whole frame, whatever follows; or bytes that begin none; or all that there was
+-- these are a whole frame, whatever follows
+abbrev pub MeansWhole : ℕ → (read blob : List ℕ) → WholeFrame → Type 0
+MeansWhole place read blob w = (0 < length read) × ((rest : List ℕ) → unpacked_from place (read ++ rest) ≡ then_unpacked (unpacked_frame w.kind w.blob_at read blob) (unpacked_from w.end rest))
+
+-- a whole frame; or bytes that begin none; or all that there was
 abbrev pub Means : ℕ → (read blob : List ℕ) → Option (List ℕ) → Found → Type 0
-Means place read blob left (found.Whole w) = (0 < length read) × ((rest : List ℕ) → unpacked_from place (read ++ rest) ≡ then_unpacked (unpacked_frame w.kind w.blob_at read blob) (unpacked_from w.end rest))
+Means place read blob left (found.Whole w) = MeansWhole place read blob w
 Means place read blob left found.Unfit = IsUnfit place read
 Means place read blob left found.Cut = IsCut place read left
 
@@ -51,3 +56,9 @@ abbrev pub IsPlaced : List ℕ → Found → Type 0
 IsPlaced blob (found.Whole w) = (w.end ≤ FILE_LIMIT) × (w.blob_at + length blob ≤ FILE_LIMIT)
 IsPlaced blob found.Unfit = Unit {0}
 IsPlaced blob found.Cut = Unit {0}
+
+-- the same of a frame that begins here
+pub record IsPlacedAt (place : ℕ) (read blob : List ℕ) (w : WholeFrame) : Type 0 where
+  pub end_is : w.end ≡ place + length read
+  pub within : w.end ≤ FILE_LIMIT
+  pub blob_within : w.blob_at + length blob ≤ FILE_LIMIT

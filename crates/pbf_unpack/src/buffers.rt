@@ -5,6 +5,14 @@ ghost use Rattle.pbf_frame.specs.declared.header.TheConstants.{HEADER_LIMIT, LAR
 
 use std::alloc::Global;
 
+/// Empties a buffer, and frees its memory.
+fn free(buffer: &mut Vec<u8>)
+    ensures { vec_len buffer.new ≡ 0 }
+{
+    buffer.clear();
+    buffer.shrink_to_fit();
+}
+
 /// One packed frame and one raw one. `front` and then `raw` are what is supplied.
 #[derive(Drop)]
 pub(crate) struct Buffers {
@@ -48,6 +56,17 @@ impl Buffers {
     pub(crate) fn drop_supplied(&mut self) {
         self.front.clear();
         self.raw.clear();
+    }
+
+    /// Nothing is held any more, and its memory is free.
+    pub(crate) fn free(&mut self)
+        ensures front { vec_len self.new.front ≡ 0 }
+        ensures raw { vec_len self.new.raw ≡ 0 }
+    {
+        free(&mut self.front);
+        free(&mut self.header);
+        free(&mut self.packed);
+        free(&mut self.raw);
     }
 
     /// The number of bytes held.

@@ -27,7 +27,8 @@ fn is_length(payload: Payload<'_>, length: usize) -> bool
     size >= 0 && size.unsigned_abs() as usize == length
 }
 
-fn fits_size(raw_size: Option<Field<'_>>, length: usize) -> bool
+/// Whether `raw_size` is this length, or absent.
+pub(crate) fn fits_size(raw_size: Option<Field<'_>>, length: usize) -> bool
     ensures { result ≡ fits_size (option_map occurrence raw_size.entry) length }
 {
     match raw_size {
@@ -36,10 +37,13 @@ fn fits_size(raw_size: Option<Field<'_>>, length: usize) -> bool
     }
 }
 
-/// The most bytes that a byte of a stream can mean: copies of 258 bytes, of two bits each.
-const MOST_OF_A_BYTE: usize = 1032;
+/// How many bytes a byte of a stream is taken to mean at first, which is enough for most map data. It may mean 1,032.
+const USUAL_OF_A_BYTE: usize = 4;
 
-/// The room that is tried first: what `raw_size` says or, without it, what a stream of this length can mean, within the limit.
+/// The least room by which a stream that had too little is tried again.
+const MORE_ROOM: usize = 4_096;
+
+/// The room that is tried first, within the limit: what `raw_size` says or, without it, what such a stream mostly means.
 fn first_room(raw_size: Option<Field<'_>>, stream: usize) -> usize
     ensures { result < RAW_LIMIT }
 {
@@ -50,7 +54,7 @@ fn first_room(raw_size: Option<Field<'_>>, stream: usize) -> usize
                 ..
             },
         ) => value as usize,
-        _ => stream.saturating_mul(MOST_OF_A_BYTE),
+        _ => stream.saturating_mul(USUAL_OF_A_BYTE),
     };
     room.min(RAW_LIMIT - 1)
 }
@@ -76,21 +80,25 @@ fn inflate_within(
     }
 }
 
-/// The same with the limit of raw data. `room` is tried first, so that a vector of that length is used if it is enough.
+/// The same with the limit of raw data. `room` is tried first, and then at least twice as much each time, so that all tries together take no
+/// more than some three times as long as the last one, and make no more room than they need.
 fn inflate_raw(
     inflater: &mut Inflater,
     packed: &[u8],
     room: usize,
     out: &mut Vec<u8>,
 ) -> Result<Option<InflateFault>, AllocError>
-    requires { room < RAW_LIMIT }
     ensures exact { IfOk result (λ fault.
         IsMeaning (inflated (RAW_LIMIT - 1) packed.now) fault out.new.items) }
     ensures within { IfOk result (λ fault. IfNone fault (vec_len out.new < RAW_LIMIT)) }
     ensures held { vec_len out.new ≤ max (RAW_LIMIT - 1) (vec_len out.old) }
 {
-    if inflate_within(inflater, packed, room, out)?.is_none() {
-        return Ok(None);
+    let mut room = room;
+    'tries: while room < RAW_LIMIT - 1 {
+        if inflate_within(inflater, packed, room, out)?.is_none() {
+            return Ok(None);
+        }
+        room = 2 * room + MORE_ROOM;
     }
     inflate_within(inflater, packed, RAW_LIMIT - 1, out)
 }

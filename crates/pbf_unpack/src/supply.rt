@@ -146,6 +146,19 @@ impl<F: Feed> UnpackedFeed<F> {
         self.state = State::Failed;
     }
 
+    /// The end was reached: no memory is held for frames any more, since other passes may follow.
+    fn free_buffers(&mut self)
+        requires { left_in self.old ≡ [] }
+        ensures left { left_in self.new ≡ [] }
+        ensures feed { self.new.feed ≡ self.old.feed }
+        ensures state { self.new.state ≡ self.old.state }
+        ensures place { self.new.place ≡ self.old.place }
+        ensures fault { self.new.fault ≡ self.old.fault }
+    {
+        self.buffers.free();
+        self.done = 0;
+    }
+
     /// Supplies bytes, none only at the end.
     fn supply(&mut self, buf: &mut [u8]) -> Result<usize, Stop>
         ensures bound { IfOk result (λ n. n ≤ length buf.old) }
@@ -164,6 +177,7 @@ impl<F: Feed> UnpackedFeed<F> {
         if self.state == State::PassingOn || self.state == State::Failed {
             return Ok(self.feed.read(buf)?);
         }
+        self.free_buffers();
         Ok(0)
     }
 }

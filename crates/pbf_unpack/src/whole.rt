@@ -1,10 +1,10 @@
 //! A whole frame, read from a feed.
 
-ghost use Rattle.std.specs.Prelude.{◌≡◌, ◌+◌, ◌-◌, ◌<◌, ◌≤◌, ◌++◌, length, IfOk, OnOk, vec_len, max};
+ghost use Rattle.std.specs.Prelude.{◌≡◌, ◌+◌, ◌-◌, ◌<◌, ◌≤◌, ◌++◌, length, IfOk, IfSome, OnOk, vec_len, max};
 ghost use Rattle.pbf_frame.specs.declared.header.Head.{Head};
 ghost use Rattle.pbf_frame.specs.declared.header.TheConstants.{HEADER_LIMIT};
 ghost use Rattle.pbf_frame.specs.Reads.{FillsFrom};
-ghost use Rattle.pbf_unpack.specs.Whole.{TookBytes, BeginsWith, Means, IsPlaced};
+ghost use Rattle.pbf_unpack.specs.Whole.{TookBytes, BeginsWith, Means, MeansWhole, IsPlaced, IsPlacedAt};
 ghost use Rattle.pbf_frame.specs.declared.frame.TheConstants.{FILE_LIMIT};
 
 use crate::buffers::Buffers;
@@ -39,6 +39,35 @@ enum Front {
     Says(Head),
     Unfit,
     Cut,
+}
+
+/// The frame that these bytes are, if they are a whole one at this place.
+pub(crate) fn whole_frame(front: &[u8], blob: &[u8], place: u64) -> Option<WholeFrame>
+    requires { place ≤ FILE_LIMIT }
+    ensures means { IfSome result (MeansWhole place (front.now ++ blob.now) blob.now) }
+    ensures placed { IfSome result (IsPlacedAt place (front.now ++ blob.now) blob.now) }
+{
+    if front.len() < 4 {
+        return None;
+    }
+    let (prefix, header) = front.split_at(4);
+    let length = BigEndian::read_u32(prefix);
+    if length >= HEADER_LIMIT || header.len() != length as usize {
+        return None;
+    }
+    let Ok(head) = read_head(header, place + 4) else {
+        return None;
+    };
+    let blob_at = place + front.len() as u64;
+    let end = blob_at + blob.len() as u64;
+    if head.size as usize != blob.len() || end > FILE_LIMIT {
+        return None;
+    }
+    Some(WholeFrame {
+        kind: head.kind,
+        blob_at,
+        end,
+    })
 }
 
 /// Reads the four bytes and the header of a frame into `front`, and the header into `header` too.

@@ -337,12 +337,12 @@ same_frames b one two e f = let same : ◌≡◌ {A = Option Verdict} (Some (one
 
 -- what the first pass took, and a second one if the order was broken
 module _ {G : Type 0} (f : feed.Ghosts G) (old new : G) (digest : Option (List ℕ)) (area : BoundingBox) (b : List ℕ) (h : HeaderSpec) (begun phase : FirstSets) (started ways : WaySets) (sets : KeptSets) where
-  pub chooses_first : (in_order : Bool) → Begins with_first area b begun phase h → begun ≡ start_first area → in_order ≡ phase.in_order → started ≡ phase.ways → GathersRest f with_way in_order old new digest started ways → sets ≡ without_parents ways → GaveOrNot f old new digest b (λ c. IsChoice area b c sets h)
+  pub chooses_first : (in_order : Bool) → Begins with_first area b begun phase h → begun ≡ start_first area → in_order ≡ phase.in_order → started ≡ phase.ways → GathersRest f with_way in_order old new digest started ways → sets ≡ without_parents ways → GaveOrNot f in_order old new digest b (λ c. IsChoice area b c sets h)
   chooses_first true p fresh order starts rest ends =
       let es = stored_entities p.frames in
       let taken : phase ≡ fold with_first (start_first area) es = p.gathered_all ∙ ap (λ (s : FirstSets). fold with_first s es) fresh in
       let came = ways_came area es (ap (λ (s : FirstSets). s.in_order) (sym taken) ∙ sym order) in
-      inr (
+      (
         rest.0,
         record {
           ways = ways;
@@ -361,7 +361,7 @@ module _ {G : Type 0} (f : feed.Ghosts G) (old new : G) (digest : Option (List �
       let es = stored_entities p.frames in
       let taken : phase ≡ fold with_first (start_first area) es = p.gathered_all ∙ ap (λ (s : FirstSets). fold with_first s es) fresh in
       let wait = ways_wait area es (ap (λ (s : FirstSets). s.in_order) (sym taken) ∙ sym order) in
-      inl (gave_file_less f old new digest (λ file. GathersFile with_way (judged_file (Some file)) started ways) (λ c. IsChoice area b c sets h) (λ c more. record {
+      gave_file_less f old new digest (λ file. GathersFile with_way (judged_file (Some file)) started ways) (λ c. IsChoice area b c sets h) (λ c more. record {
         ways = ways;
         kept = ends;
         chosen = record {
@@ -372,4 +372,4 @@ module _ {G : Type 0} (f : feed.Ghosts G) (old new : G) (digest : Option (List �
           chosen = λ frames known. more frames known ∙ ap (λ (s : WaySets). fold with_way s (stored_entities frames)) (starts ∙ ap (λ (s : FirstSets). s.ways) taken ∙ wait);
         };
         short = p.short;
-      }) rest)
+      }) rest

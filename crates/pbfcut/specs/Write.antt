@@ -1,5 +1,5 @@
 -- The pass that writes, over payloads that it doesn't judge: what is written is stated for files without a fault.
-use Rattle.std.specs.Prelude.{◌≡◌, ℕ, List, ◌++◌, Option, Some, None, Result, OnOk, OnErr, IfOk, IfErr}
+use Rattle.std.specs.Prelude.{Bool, ◌≡◌, ℕ, List, ◌++◌, Option, Some, None, Result, OnOk, OnErr, IfOk, IfErr}
 use Rattle.std.specs.List.{filter}
 use Rattle.osm_entity.specs.Entity.{EntitySpec}
 use Rattle.osm_ways.specs.Phases.{KeptSets}
@@ -107,8 +107,8 @@ pub record WritesAgain {F D : Type 0} (f : feed.Ghosts F) (old new : F) (d : dra
 
 -- the feed gave a file of the first pass's digest, and the drain took its header and what is picked of it; or a prefix of that, if the pass
 -- stopped, which is no refusal
-pub record WritesChoice {F D : Type 0} (f : feed.Ghosts F) (old new : F) (d : drain.Ghosts D) (before now : D) (again : LaterPass) (sets : KeptSets) (h : HeaderSpec) (result : Result InputReceipt Halt) : Type 0 where
-  pub input : IfOk result (λ receipt. receipt.input ≡ again.digest)
+pub record WritesChoice {F D : Type 0} (f : feed.Ghosts F) (old new : F) (d : drain.Ghosts D) (before now : D) (again : LaterPass) (sets : KeptSets) (h : HeaderSpec) (spared : Bool) (result : Result InputReceipt Halt) : Type 0 where
+  pub input : IfOk result (λ receipt. (receipt.input ≡ again.digest) × (receipt.spared ≡ spared))
   pub packed : IfOk result (λ receipt. GaveFile f old new (digest_of again) (λ file. Took d before now (Packed (taken_by sets) h receipt.counts (judged_file (Some file)))))
   pub front : OnErr result (PacksFront (taken_by sets) h (judged_file (f.remaining old)) (d.taken before) (d.taken now))
   pub stops : IfErr result (λ halt. StopsLater f again old new (WriteFailed d before now) (stop_of halt))

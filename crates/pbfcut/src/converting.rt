@@ -102,5 +102,6 @@ pub fn convert_with_receipt<F: Feed, G: Feed, D: Drain, S: BuildHasher + Drop>(
     Ok(InputReceipt {
         counts,
         input: digest,
+        spared: false,
     })
 }

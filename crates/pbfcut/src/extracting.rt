@@ -57,6 +57,8 @@ pub(crate) struct Choice {
     pub(crate) header: Header,
     /// The pass that comes next, with the digest of the first.
     pub(crate) next: LaterPass,
+    /// Whether the second pass was not made, since the first was enough.
+    pub(crate) spared: bool,
 }
 
 impl Cutting {
@@ -88,7 +90,7 @@ impl Choice {
             (digest_of self.next)
             (λ file. AddsParents (judged_file (Some file)) self.chosen choice.chosen)) }
         ensures same { IfOk result (λ choice. (choice.header ≡ self.header)
-            × (choice.next.digest ≡ self.next.digest)) }
+            × (choice.next.digest ≡ self.next.digest) × (choice.spared ≡ self.spared)) }
         ensures next { IfOk result (λ choice. IsPass 4 self.next.passes choice.next) }
         ensures stops { IfErr result
             (λ h. StopsLater F.Feed self.next feed.old feed.new ⊥ (stop_of h)) }
@@ -104,6 +106,7 @@ impl Choice {
                 number: 4,
                 ..self.next
             },
+            spared: self.spared,
         })
     }
 
@@ -116,7 +119,7 @@ impl Choice {
     ) -> Result<InputReceipt, Halt>
         requires { HasShortTexts (header_of self.header) }
         ensures { WritesChoice F.Feed feed.old feed.new D.Drain drain.old drain.new
-            self.next self.chosen (header_of self.header) result }
+            self.next self.chosen (header_of self.header) self.spared result }
     {
         let plan = OutputPlan {
             pass: self.next,
@@ -127,6 +130,7 @@ impl Choice {
         Ok(InputReceipt {
             counts,
             input: self.next.digest,
+            spared: self.spared,
         })
     }
 }
@@ -156,6 +160,7 @@ fn choose<F: Feed, G: Feed>(cutting: Cutting, first: &mut F, second: &mut G) -> 
         chosen,
         header: begun.header,
         next: LaterPass { number: 3, ..again },
+        spared: false,
     })
 }
 

@@ -22,7 +22,7 @@ ghost use Rattle.pbfcut.specs.Pick.{everything, pick_of, take_of, picks_of, pick
 use osm_entity::{EntityRef, HIGHEST_WEIGHT, NodeRef};
 use osm_pack::Packer;
 use osm_ways::{Chooser, Chosen, ChosenParents, SeenWay};
-use pbf_block::{Block, Counts, Kinds, Run, Runs, UnmadeEntity, UnmadeWay};
+use pbf_block::{Block, Counts, Kinds, MOST_ENTITIES, Run, Runs, UnmadeEntity, UnmadeWay};
 use pbf_dense::Dense;
 use pbf_frame::{Drain, Feed, Frame, FrameKind, FrameReader, Stop};
 use pbf_pass::Pass;
@@ -441,7 +441,7 @@ impl<'a> EntityPacker<'a> {
     }
 
     /// Packs nodes that come after one that was packed: as many together as are picked and may wait with it in its block, if all that are
-    /// still to come are alike.
+    /// still to come are alike. It looks up no more ids than a block has entities, since it is called again for each block.
     #[inline(never)]
     fn pack_many<D: Drain, S: BuildHasher>(
         &mut self,
@@ -455,7 +455,7 @@ impl<'a> EntityPacker<'a> {
             self.old self.new packer.old packer.new result }
         ensures even { OnOk result (AreEven left.new.alike (dense_left left.new.nodes)) }
     {
-        let most = picked_run(&left.nodes, &mut self.picker, left.alike);
+        let most = picked_run(&left.nodes, &mut self.picker, left.alike.min(MOST_ENTITIES));
         if most < FEW {
             return Ok(());
         }

@@ -227,6 +227,7 @@ pub fn show_with_receipt<F: Feed, G: Feed, D: Drain>(
             Ok(InputReceipt {
                 counts: judged.pass.counts,
                 input,
+                spared: false,
             })
         }
         Err(stop) => Err(Halt::from(last.changed(stop))),

@@ -36,7 +36,7 @@ pub(crate) fn choose_sorted<F: Feed, G: Feed>(
 ) -> Result<Choice, Halt>
     ensures chosen { IfOk result (λ choice. GaveFile F.Feed first.old first.new
         (digest_if cutting.passes.hashes choice.next.digest)
-        (λ b. GaveOrNot G.Feed second.old second.new
+        (λ b. GaveOrNot G.Feed choice.spared second.old second.new
         (digest_if cutting.passes.hashes choice.next.digest) b
         (λ c. IsChoice cutting.area b c choice.chosen (header_of choice.header)))) }
     ensures ends { EndsChoosing F.Feed first.old first.new G.Feed second.old second.new
@@ -58,6 +58,7 @@ pub(crate) fn choose_sorted<F: Feed, G: Feed>(
         chosen,
         header: begun.header,
         next: LaterPass { number: 3, ..again },
+        spared: in_order,
     })
 }
 
@@ -115,12 +116,13 @@ pub fn extract_sorted_with_receipt<F: Feed, G: Feed, H: Feed, D: Drain, S: Build
     drain: &mut D,
     hasher: S,
 ) -> Result<InputReceipt, Halt>
-    // The first and the third feed gave a file, of the digest `input` if the passes hash, to its end, and the second too or nothing. The
-    // first file has no fault, and its header can be written. The drain took bytes. If the files are the same, these bytes are exactly
+    // The first and the third feed gave a file, of the digest `input` if the passes hash, to its end, and the second too, unless it was
+    // spared. The first file has no fault, and its header can be written. The drain took bytes. If the files are the same, these bytes are exactly
     // its complete-ways extract, and the counts are those of the entities in it.
     ensures receipt { IfOk result (λ receipt. GaveFile F.Feed first.old first.new
         (digest_if passes.hashes receipt.input) (λ b. IsWritable b
-        × GaveOrNot G.Feed second.old second.new (digest_if passes.hashes receipt.input) b
+        × GaveOrNot G.Feed receipt.spared second.old second.new
+        (digest_if passes.hashes receipt.input) b
         (λ c. GaveFile H.Feed third.old third.new (digest_if passes.hashes receipt.input) (λ d.
         Took D.Drain drain.old drain.new
         (λ written. b ≡ c → b ≡ d → IsExtraction (complete_ways area) (extract (seen_decoded area))
@@ -144,7 +146,7 @@ fn choose_parents_sorted<F: Feed, G: Feed, H: Feed>(
 ) -> Result<Choice, Halt>
     ensures chosen { IfOk result (λ choice. GaveFile F.Feed first.old first.new
         (digest_if cutting.passes.hashes choice.next.digest)
-        (λ b. GaveOrNot G.Feed second.old second.new
+        (λ b. GaveOrNot G.Feed choice.spared second.old second.new
         (digest_if cutting.passes.hashes choice.next.digest) b
         (λ c. GaveFile H.Feed third.old third.new
         (digest_if cutting.passes.hashes choice.next.digest)
@@ -175,12 +177,13 @@ pub fn extract_parents_sorted_with_receipt<
     drain: &mut D,
     hasher: S,
 ) -> Result<InputReceipt, Halt>
-    // Each feed gave a file, of the digest `input` if the passes hash, to its end, or the second nothing; the first has no fault, and its
-    // header can be written. The drain took bytes. If the files are the same, these bytes are exactly its complete-ways extract with all
+    // Each feed gave a file, of the digest `input` if the passes hash, to its end, unless the second was spared; the first has no fault, and
+    // its header can be written. The drain took bytes. If the files are the same, these bytes are exactly its complete-ways extract with all
     // parents, and the counts are those of the entities in it.
     ensures receipt { IfOk result (λ receipt. GaveFile F.Feed first.old first.new
         (digest_if passes.hashes receipt.input) (λ b. IsWritable b
-        × GaveOrNot G.Feed second.old second.new (digest_if passes.hashes receipt.input) b
+        × GaveOrNot G.Feed receipt.spared second.old second.new
+        (digest_if passes.hashes receipt.input) b
         (λ c. GaveFile H.Feed third.old third.new (digest_if passes.hashes receipt.input)
         (λ d. GaveFile I.Feed fourth.old fourth.new (digest_if passes.hashes receipt.input)
         (λ e. Took D.Drain drain.old drain.new (λ written. b ≡ c → b ≡ d → b ≡ e

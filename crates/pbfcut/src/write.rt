@@ -122,7 +122,11 @@ impl<'a> OutputPlan<'a> {
         let Writer { packer, counts, .. } = writer;
         let input = outcome?.digest;
         packer.finish()?;
-        Ok(InputReceipt { counts, input })
+        Ok(InputReceipt {
+            counts,
+            input,
+            spared: false,
+        })
     }
 
     /// Writes a header and what is picked of a whole file. What was written is specified if the digest is that of the bytes which were

@@ -7,6 +7,7 @@ mod help;
 mod joined;
 mod packed;
 mod programs;
+mod tips;
 mod words;
 
 pub use endings::{Ending, line, status};

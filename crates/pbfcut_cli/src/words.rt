@@ -20,6 +20,7 @@ ghost use Rattle.pbfcut_cli.specs.declared.words.CliFault.TheVariants as fault;
 
 use crate::commands::command_line;
 use crate::programs::Program;
+use crate::tips::with_tip;
 use clap::error::ErrorKind;
 use clap::{ArgMatches, Error};
 use osm_entity::{BoundingBox, BoxFault};
@@ -68,7 +69,7 @@ pub enum Command<'a> {
 /// Why the command line is no command.
 #[derive(Debug, Drop)]
 pub enum CliFault {
-    /// The command line is invalid: what `clap` says of it, with its line ends, and for an option `-o` with another tip.
+    /// The command line is invalid: what `clap` says of it, with its line ends, and for an option of other programs with another tip.
     Line(String),
     /// The box of `extract` is invalid.
     Box(BoxFault),
@@ -154,23 +155,6 @@ fn command_in<'a>(matches: &ArgMatches<'a>) -> Result<Command<'a>, BoxFault>
                 digests,
             })
         }
-    }
-}
-
-/// What is said of a command line that names OUT by an option, as other programs do: the text of `clap`, with another tip than its own,
-/// which takes `-o` for a file's name. Any other text stays as it is.
-fn with_tip(alloc: Global, text: String) -> Result<String, AllocError> {
-    let Some((found, rest)) = text.as_str().split_once("\n\n  tip: to pass '-") else {
-        return Ok(text);
-    };
-    let names_output = found.ends_with("'-o' found") || found.ends_with("'--output' found");
-    match rest.split_once("\n\n") {
-        Some((_, usage)) if names_output => {
-            format!(in alloc;
-                "{found}\n\n  tip: OUT is the last argument and has no option\n\n{usage}"
-            )
-        }
-        _ => Ok(text),
     }
 }
 

@@ -1,5 +1,6 @@
 //! The files of a run: IN, opened once for each pass, and OUT, which is made new.
 
+use crate::failure::Noted;
 use crate::progress::{Line, Watched};
 use pbf_frame::{FromRead, Stop};
 use pbfcut_cli::Ending;
@@ -64,7 +65,7 @@ pub fn refuse_existing(rt: &HostRuntime, output: &str) -> Result<(), Ending> {
 }
 
 /// Makes OUT, with a buffer. A file that exists is never opened, so none is ever emptied.
-pub fn create_output(rt: &HostRuntime, output: &str) -> Result<BufWriter<File>, Ending> {
+pub fn create_output(rt: &HostRuntime, output: &str) -> Result<BufWriter<Noted<File>>, Ending> {
     let created = OpenOptions::new()
         .write(true)
         .create_new(true)
@@ -72,7 +73,7 @@ pub fn create_output(rt: &HostRuntime, output: &str) -> Result<BufWriter<File>, 
     let Ok(file) = created else {
         return Err(Ending::CannotOpen);
     };
-    match BufWriter::with_capacity(rt.alloc(), OUTPUT_BUFFER, file) {
+    match BufWriter::with_capacity(rt.alloc(), OUTPUT_BUFFER, Noted::new(file)) {
         Ok(writer) => Ok(writer),
         Err(_) => Err(Ending::Stopped(Stop::Memory)),
     }

@@ -1,9 +1,11 @@
 //! The line below pbfcut's own that says what to do next. It is for people, so it is written only if standard error is a terminal; IN is
 //! read again for it only if it is a plain file.
 
+use crate::failure::{FailedWrite, Failure, Target};
+use crate::formats::of_start;
 use pbf_frame::Stop;
 use pbf_pass::Counts;
-use pbf_unpack::Place;
+use pbf_unpack::{InflateFault, Place, UnpackReason};
 use pbf_wire::Reason;
 use pbfcut_cli::{Command, Ending, PackedRefusal, Program};
 use std::fs::{self, File};
@@ -57,47 +59,6 @@ fn glance(rt: &HostRuntime, input: &str, offset: u64) -> Option<Vec<u8>> {
     Some(seen)
 }
 
-/// Whether the bytes begin a line of OPL: a letter and a number.
-fn is_opl(start: &[u8]) -> bool {
-    match (start.first(), start.get(1)) {
-        (Some(kind), Some(digit)) => b"nwrc".contains(kind) && digit.is_ascii_digit(),
-        _ => false,
-    }
-}
-
-/// What a file is that begins so, if Osmium can read it.
-fn other_format(start: &[u8]) -> Option<&'static str> {
-    if start.starts_with(b"BZh") {
-        Some("compressed as a whole, by bzip2")
-    } else if start.starts_with(&[0x1f, 0x8b]) {
-        Some("compressed as a whole, by gzip")
-    } else if start.starts_with(b"<?xml") || start.starts_with(b"<osm") {
-        Some("an XML file")
-    } else if start.starts_with(&[0xff, 0xe0, 0x04]) {
-        Some("an o5m file")
-    } else if is_opl(start) {
-        Some("an OPL file")
-    } else {
-        None
-    }
-}
-
-/// What to do with a file that does not begin as a PBF file does.
-fn of_start(rt: &HostRuntime, start: &[u8]) -> Option<String> {
-    match other_format(start) {
-        Some(what) => format!(in rt.alloc();
-            "IN is {what}; this makes a raw PBF file of it: osmium cat IN -f pbf,pbf_compression=none -o RAW"
-        ).ok(),
-        None if start.starts_with(b"<") => {
-            text(
-                rt,
-                "IN is a web page: the download failed, so fetch the file again",
-            )
-        }
-        None => text(rt, "IN does not begin as a PBF file does"),
-    }
-}
-
 /// The feature at the start of these bytes, which are those of a header's field: its tag, its length and its text.
 fn feature_of(bytes: &[u8]) -> Option<&str> {
     let (_tag, rest) = bytes.split_first()?;
@@ -110,9 +71,16 @@ fn feature_of(bytes: &[u8]) -> Option<&str> {
     }
 }
 
-/// What to do with a file that requires what pbfcut does not know.
-fn of_feature(rt: &HostRuntime, bytes: &[u8]) -> Option<String> {
-    let feature = feature_of(bytes)?;
+/// What to do with a file that requires what pbfcut does not know, by the place of the feature if that is a byte of IN.
+fn of_feature(rt: &HostRuntime, asked: Asked<'_>, offset: Option<u64>) -> Option<String> {
+    let Some(offset) = offset else {
+        return text(
+            rt,
+            "IN requires a feature that pbfcutz does not know. If it has history, this takes the state of now out of it: osmium time-filter IN -o NOW.osm.pbf",
+        );
+    };
+    let bytes = glance(rt, asked.input, offset)?;
+    let feature = feature_of(bytes.as_slice())?;
     if feature == "HistoricalInformation" {
         return text(
             rt,
@@ -122,42 +90,66 @@ fn of_feature(rt: &HostRuntime, bytes: &[u8]) -> Option<String> {
     format!(in rt.alloc(); "IN requires the feature {feature}, which pbfcut does not know").ok()
 }
 
-/// What pbfcut and pbfcutz say of blobs that they don't read.
-fn of_blobs(asked: Asked<'_>, reason: Reason) -> Option<&'static str> {
-    match reason {
-        Reason::Zlib if asked.program == Program::Pbfcutz => {
-            Some("the compressed data of IN is damaged: fetch the file again")
+/// What to do with a file whose zlib data pbfcutz refuses.
+fn of_zlib(detail: Option<UnpackReason>) -> &'static str {
+    match detail {
+        None => {
+            "a blob of IN has its data twice, in zlib's form and in another: ask the author of the file for a sound one"
         }
+        Some(UnpackReason::Inflate(InflateFault::Long)) => {
+            "a blob of IN unpacks to 32 MiB or more, which the format does not allow: ask the author of the file for a sound one"
+        }
+        Some(UnpackReason::RawSize) => {
+            "a blob of IN names another length than its data have: ask the author of the file for a sound one"
+        }
+        Some(UnpackReason::Inflate(_)) => {
+            "the compressed data of IN is damaged: fetch the file again"
+        }
+    }
+}
+
+/// What to do with a file whose blobs the program doesn't read, or with damaged ones.
+fn of_blobs(asked: Asked<'_>, refused: Refused) -> Option<&'static str> {
+    match refused.reason {
+        Reason::Zlib if asked.program == Program::Pbfcutz => Some(of_zlib(refused.detail)),
         Reason::Zlib if asked.cuts => {
             Some("IN is compressed; this cuts it: pbfcut-any --box=BOX IN OUT")
         }
         Reason::Zlib => Some("IN is compressed; pbfcutz, which takes the same words, reads it"),
-        Reason::Lzma | Reason::Bzip2 | Reason::Lz4 | Reason::Zstd => Some(
-            "IN is compressed by another method; this makes a raw file of it: osmium cat IN -f pbf,pbf_compression=none -o RAW",
+        Reason::Lz4 => Some(
+            "IN is compressed by LZ4; this makes a raw file of it: osmium cat IN -f pbf,pbf_compression=none -o RAW",
+        ),
+        Reason::Lzma | Reason::Bzip2 | Reason::Zstd => Some(
+            "IN is compressed by a method that few programs read: let the program that wrote it write it again, compressed by zlib or not at all",
         ),
         _ => None,
     }
 }
 
-/// What to do with a file that is refused for this reason, at this byte of it unless it is one of a compressed blob.
-fn of_fault(
-    rt: &HostRuntime,
-    asked: Asked<'_>,
+/// A refusal: its reason, where it is if that is a byte of IN, and what is wrong with zlib data.
+#[derive(Clone, Copy)]
+struct Refused {
     reason: Reason,
     offset: Option<u64>,
-) -> Option<String> {
-    match (reason, offset) {
-        (Reason::PrefixCut | Reason::HeaderCut | Reason::BlobCut, _) => {
-            text(
-                rt,
-                "IN ends too early, most often because a download broke off: fetch it again",
-            )
+    detail: Option<UnpackReason>,
+}
+
+/// What to do with a file that is refused.
+fn of_refusal(rt: &HostRuntime, asked: Asked<'_>, refused: Refused) -> Option<String> {
+    match (refused.reason, refused.offset) {
+        (Reason::PrefixCut | Reason::HeaderCut | Reason::BlobCut, _) => text(
+            rt,
+            "IN ends too early, most often because a download broke off: fetch it again",
+        ),
+        (Reason::NoHeader, Some(0)) if glance(rt, asked.input, 0)?.is_empty() => text(
+            rt,
+            "IN is empty: whatever made it has failed, so make it or fetch it again",
+        ),
+        (Reason::HeaderLong, Some(0)) => {
+            text(rt, of_start(glance(rt, asked.input, 0)?.as_slice()))
         }
-        (Reason::HeaderLong, Some(0)) => of_start(rt, glance(rt, asked.input, 0)?.as_slice()),
-        (Reason::Feature, Some(offset)) => {
-            of_feature(rt, glance(rt, asked.input, offset)?.as_slice())
-        }
-        _ => text(rt, of_blobs(asked, reason)?),
+        (Reason::Feature, offset) => of_feature(rt, asked, offset),
+        _ => text(rt, of_blobs(asked, refused)?),
     }
 }
 
@@ -190,9 +182,29 @@ fn of_files(rt: &HostRuntime, asked: Asked<'_>) -> Option<String> {
     ).ok()
 }
 
+/// What to do after a read that failed, if IN is a folder.
+fn of_read(rt: &HostRuntime, asked: Asked<'_>) -> Option<String> {
+    if fs::metadata(rt, asked.input).ok()?.is_dir() {
+        return text(rt, "IN is a folder, and not a file");
+    }
+    None
+}
+
+/// Which write failed, and the system's reason.
+fn of_write(rt: &HostRuntime, asked: Asked<'_>, failed: FailedWrite) -> Option<String> {
+    let error = io::Error::from_raw_os_error(failed.code);
+    match failed.target {
+        Target::Out => {
+            let output = asked.output?;
+            format!(in rt.alloc(); "{output}: {error}: remove {output}, since it is incomplete").ok()
+        }
+        Target::StandardOutput => format!(in rt.alloc(); "standard output: {error}").ok(),
+    }
+}
+
 /// What to do next after a run that ended so.
-fn hint(rt: &HostRuntime, asked: Asked<'_>, ending: &Ending) -> Option<String> {
-    match ending {
+fn hint(rt: &HostRuntime, asked: Asked<'_>, failure: &Failure) -> Option<String> {
+    match &failure.ending {
         Ending::Words(_) | Ending::NotText | Ending::Box(_) => None,
         Ending::CannotOpen => of_files(rt, asked),
         Ending::IsPipe => text(
@@ -204,10 +216,20 @@ fn hint(rt: &HostRuntime, asked: Asked<'_>, ending: &Ending) -> Option<String> {
             "only new files are written: remove OUT, or name another",
         ),
         Ending::Stopped(Stop::Refused(fault)) => {
-            of_fault(rt, asked, fault.reason, Some(fault.offset))
+            let refused = Refused {
+                reason: fault.reason,
+                offset: Some(fault.offset),
+                detail: None,
+            };
+            of_refusal(rt, asked, refused)
         }
         Ending::RefusedPacked(refusal) => {
-            of_fault(rt, asked, refusal.reason, offset_of(refusal))
+            let refused = Refused {
+                reason: refusal.reason,
+                offset: offset_of(refusal),
+                detail: refusal.detail,
+            };
+            of_refusal(rt, asked, refused)
         }
         Ending::Stopped(Stop::Changed(_)) => text(
             rt,
@@ -216,17 +238,19 @@ fn hint(rt: &HostRuntime, asked: Asked<'_>, ending: &Ending) -> Option<String> {
         Ending::Stopped(Stop::Memory) if asked.cuts => {
             text(rt, "a smaller box takes less memory")
         }
-        Ending::Stopped(_) => None,
+        Ending::Stopped(Stop::Memory) => None,
+        Ending::Stopped(Stop::Read) => of_read(rt, asked),
+        Ending::Stopped(Stop::Write) => of_write(rt, asked, failure.write?),
     }
 }
 
 /// Writes the line below that of an ending, on a terminal.
-pub fn tell_hint(rt: &HostRuntime, asked: Option<Asked<'_>>, ending: &Ending) {
+pub fn tell_hint(rt: &HostRuntime, asked: Option<Asked<'_>>, failure: &Failure) {
     if !rt.stderr().is_terminal() {
         return;
     }
     let hint = match asked {
-        Some(asked) => hint(rt, asked, ending),
+        Some(asked) => hint(rt, asked, failure),
         None => None,
     };
     if let Some(hint) = hint {

@@ -1,11 +1,14 @@
 //! What the program does with files and a terminal: IN and OUT, counts and digests, the report of progress, and hints.
 #![tactic(auto)]
 
+mod failure;
 mod files;
+mod formats;
 mod hints;
 mod output;
 mod progress;
 
+pub use failure::{Failure, Noted, Target};
 pub use files::{Input, OUTPUT_BUFFER, create_output, open_pass, refuse_existing};
 pub use hints::{Asked, tell_empty, tell_hint, tell_order};
 pub use output::{print_counts, print_digest, print_help, print_unpacked, report_refusal};

@@ -1,52 +1,64 @@
 //! What goes to standard output beside listings and texts: counts, digests and help.
 
+use crate::failure::{Failure, Target};
 use osm_text::{put_digest_line, put_hex};
 use pbf_frame::Stop;
 use pbf_pass::{Counts, Refusal};
 use pbfcut_cli::{Ending, Program};
-use std::io::Write;
+use std::io::{self, Write};
+
+/// What a write to standard output came to.
+fn printed(outcome: io::Result<()>) -> Result<(), Failure> {
+    match outcome {
+        Ok(()) => Ok(()),
+        Err(error) => Err(Failure::of_write(
+            Target::StandardOutput,
+            error.raw_os_error(),
+        )),
+    }
+}
+
+/// What is said if there is no memory for a line.
+fn no_memory() -> Failure {
+    Failure::from(Ending::Stopped(Stop::Memory))
+}
 
 /// Prints the line of counts.
-pub fn print_counts(rt: &HostRuntime, counts: Counts) -> Result<(), Ending> {
+pub fn print_counts(rt: &HostRuntime, counts: Counts) -> Result<(), Failure> {
     let Counts {
         nodes,
         ways,
         relations,
     } = counts;
-    if println!(rt; "nodes {nodes} ways {ways} relations {relations}").is_err() {
-        return Err(Ending::Stopped(Stop::Write));
-    }
-    Ok(())
+    printed(println!(rt; "nodes {nodes} ways {ways} relations {relations}"))
 }
 
-fn print_line(rt: &HostRuntime, line: &[u8]) -> Result<(), Ending> {
+fn print_line(rt: &HostRuntime, line: &[u8]) -> Result<(), Failure> {
     let mut screen = rt.stdout();
-    if screen.write_all(line).is_err() || screen.flush().is_err() {
-        return Err(Ending::Stopped(Stop::Write));
-    }
-    Ok(())
+    printed(screen.write_all(line))?;
+    printed(screen.flush())
 }
 
 /// Prints the line of a file and its digest, as `sha256sum` does.
-pub fn print_digest(rt: &HostRuntime, digest: [u8; 32], path: &str) -> Result<(), Ending> {
+pub fn print_digest(rt: &HostRuntime, digest: [u8; 32], path: &str) -> Result<(), Failure> {
     let mut line = Vec::new(rt.alloc());
     if put_digest_line(&mut line, &digest, path.as_bytes()).is_err() {
-        return Err(Ending::Stopped(Stop::Memory));
+        return Err(no_memory());
     }
     print_line(rt, &line)
 }
 
-/// Prints the digest of IN unpacked, if it is. The line is none of `sha256sum`, since there is no such file.
-pub fn print_unpacked(rt: &HostRuntime, digest: Option<[u8; 32]>) -> Result<(), Ending> {
+/// Prints the digest of IN unpacked, if it is. The line is a comment to `sha256sum -c`, since there is no such file.
+pub fn print_unpacked(rt: &HostRuntime, digest: Option<[u8; 32]>) -> Result<(), Failure> {
     let Some(digest) = digest else {
         return Ok(());
     };
     let mut line = Vec::new(rt.alloc());
-    let put = line.extend_from_slice(b"unpacked ").is_ok()
+    let put = line.extend_from_slice(b"# unpacked ").is_ok()
         && put_hex(&mut line, &digest).is_ok()
         && line.push(b'\n').is_ok();
     if !put {
-        return Err(Ending::Stopped(Stop::Memory));
+        return Err(no_memory());
     }
     print_line(rt, &line)
 }
@@ -66,17 +78,17 @@ pub fn report_refusal(
     program: Program,
     refusal: Option<Refusal>,
     input: &str,
-) -> Result<(), Ending> {
+) -> Result<(), Failure> {
     let Some(refusal) = refusal else {
         return Ok(());
     };
     let (read, unit) = (refusal.read, unit_of(program));
     let mut line = Vec::new(rt.alloc());
     let Ok(name) = format!(in rt.alloc(); "first {read} {unit} of {input}") else {
-        return Err(Ending::Stopped(Stop::Memory));
+        return Err(no_memory());
     };
     if put_digest_line(&mut line, &refusal.input, name.as_bytes()).is_err() {
-        return Err(Ending::Stopped(Stop::Memory));
+        return Err(no_memory());
     }
     // If it can't be written, only the refusal is reported.
     let _ = rt.stderr().write_all(&line);
@@ -84,9 +96,6 @@ pub fn report_refusal(
 }
 
 /// Prints a text of help, which has its line ends.
-pub fn print_help(rt: &HostRuntime, text: &str) -> Result<(), Ending> {
-    if print!(rt; "{text}").is_err() {
-        return Err(Ending::Stopped(Stop::Write));
-    }
-    Ok(())
+pub fn print_help(rt: &HostRuntime, text: &str) -> Result<(), Failure> {
+    printed(print!(rt; "{text}"))
 }

@@ -4,7 +4,7 @@ use osm_entity::BoundingBox;
 use pbf_frame::{Drain, FromRead, Stop};
 use pbf_pass::Refusal;
 use pbf_published::{PublishedHalt, PublishedInput};
-use pbf_unpack::UnpackReason;
+use pbf_unpack::{Place, UnpackFault};
 use pbf_wire::{Fault, Reason};
 use pbfcut::{Counts, Halt, InputReceipt};
 use pbfcut_cli::{Ending, PackedRefusal, Program};
@@ -99,22 +99,23 @@ impl From<Stop> for Halted {
     }
 }
 
-/// What is wrong with zlib data, if that is what the refusal is for.
-fn detail_of(halt: &PublishedHalt, fault: Fault) -> Option<UnpackReason> {
-    match halt.fault {
-        Some(found) if fault.reason == Reason::Zlib => Some(found.reason),
-        _ => None,
-    }
+/// What is wrong with zlib data and where, if that is what the refusal is for.
+fn zlib_fault_of(halt: &PublishedHalt, fault: Fault) -> Option<UnpackFault> {
+    halt.fault.filter(|_| fault.reason == Reason::Zlib)
 }
 
-/// How pbfcutz ends after such a halt.
+/// How pbfcutz ends after such a halt. A blob may have more than one occurrence of zlib data, of which the last counts: that is where a
+/// fault of such data is.
 fn ending_of(halt: &PublishedHalt) -> Ending {
     match (halt.stop, halt.place) {
-        (Stop::Refused(fault), Some(place)) => Ending::RefusedPacked(PackedRefusal {
-            reason: fault.reason,
-            place,
-            detail: detail_of(halt, fault),
-        }),
+        (Stop::Refused(fault), Some(place)) => {
+            let found = zlib_fault_of(halt, fault);
+            Ending::RefusedPacked(PackedRefusal {
+                reason: fault.reason,
+                place: found.map_or(place, |found| Place::Byte(found.offset)),
+                detail: found.map(|found| found.reason),
+            })
+        }
         (stop, _) => Ending::Stopped(stop),
     }
 }

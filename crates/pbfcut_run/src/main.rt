@@ -9,20 +9,24 @@ mod writers;
 use engine::Engine;
 use pbf_frame::Stop;
 use pbfcut_cli::{Command, Ending, Program, normalize_words, read_words, status};
-use pbfcut_files::{Asked, Input, print_help, tell_hint, tell_order};
+use pbfcut_files::{Asked, Failure, Input, print_help, tell_hint, tell_order};
 use readers::{run_blobs, run_check, run_show};
 use std::fs::File;
 use std::process::ExitCode;
-use std::{env, io};
+use std::env::{self, Env};
+use std::io;
 use writers::{Files, run_convert, run_extract, run_extract_parents};
 
-/// The program that this path names, which is the first word of a command line.
-fn program_named(path: &str) -> Program {
-    let name = match path.rsplit_once('/') {
-        Some((_, name)) => name,
-        None => path,
-    };
-    if name == Program::Pbfcutz.name() {
+/// The room for the first word of a command line: that of the longest path that Linux has.
+const LONGEST_PATH: usize = 4_096;
+
+/// The program that the first word of the command line names, which is read without a request for memory.
+fn program_named(rt: &HostRuntime) -> Program {
+    let mut path = [0; LONGEST_PATH];
+    let length = rt.arg(0, &mut path).unwrap_or(0);
+    let path = path.get(..length).unwrap_or(&[]);
+    let name = path.rsplit(|byte| *byte == b'/').next().unwrap_or(path);
+    if name == Program::Pbfcutz.name().as_bytes() {
         Program::Pbfcutz
     } else {
         Program::Pbfcut
@@ -56,7 +60,7 @@ fn prints_digests(command: &Command<'_>) -> bool {
 }
 
 /// Runs a command.
-fn run(rt: &HostRuntime, engine: Engine, command: Command<'_>) -> Result<(), Ending> {
+fn run(rt: &HostRuntime, engine: Engine, command: Command<'_>) -> Result<(), Failure> {
     match command {
         Command::Help(text) => print_help(rt, text.as_str()),
         Command::Blobs { input } => run_blobs(rt, engine, input),
@@ -126,9 +130,9 @@ fn work(rt: &HostRuntime, program: Program, words: &[String]) -> Result<u8, Endi
     };
     match run(rt, engine, command) {
         Ok(()) => Ok(0),
-        Err(ending) => {
-            let status = tell(rt, program, &ending);
-            tell_hint(rt, asked, &ending);
+        Err(failure) => {
+            let status = tell(rt, program, &failure.ending);
+            tell_hint(rt, asked, &failure);
             Ok(status)
         }
     }
@@ -157,12 +161,9 @@ fn stand_ins(rt: &HostRuntime) -> [Option<File>; 3] {
     [open(), open(), open()]
 }
 
-/// The exit status of a run of these words.
-fn status_of(rt: &HostRuntime, words: &[String]) -> u8 {
-    let (program, rest) = match words.split_first() {
-        Some((name, rest)) => (program_named(name.as_str()), rest),
-        None => (Program::Pbfcut, words),
-    };
+/// The exit status of a run of these words, of which the first is the program's name.
+fn status_of(rt: &HostRuntime, program: Program, words: &[String]) -> u8 {
+    let rest = words.get(1..).unwrap_or(&[]);
     match work(rt, program, rest) {
         Ok(status) => status,
         Err(ending) => {
@@ -177,9 +178,10 @@ fn status_of(rt: &HostRuntime, words: &[String]) -> u8 {
 
 fn main(rt: HostRuntime) -> ExitCode {
     let _kept_open = stand_ins(&rt);
+    let program = program_named(&rt);
     let status = match words(&rt) {
-        Ok(words) => status_of(&rt, words.as_slice()),
-        Err(ending) => tell(&rt, Program::Pbfcut, &ending),
+        Ok(words) => status_of(&rt, program, words.as_slice()),
+        Err(ending) => tell(&rt, program, &ending),
     };
     ExitCode::from(status)
 }

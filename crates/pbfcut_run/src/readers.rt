@@ -1,33 +1,48 @@
 //! The commands that write no file: `blobs`, `show` and `check`.
 
-use crate::engine::{Engine, TwoPasses};
+use crate::engine::{Engine, Halted, TwoPasses};
 use pbf_frame::{Stop, ToWrite};
 use pbfcut_cli::Ending;
 use pbfcut_files::{
-    Input, OUTPUT_BUFFER, end_line, open_pass, print_counts, print_digest, print_unpacked,
-    report_refusal,
+    Failure, Input, Noted, OUTPUT_BUFFER, Target, end_line, open_pass, print_counts, print_digest,
+    print_unpacked, report_refusal,
 };
-use std::io::{BufWriter, Write};
+use std::io::{BufWriter, Stdout, Write};
 
-/// `blobs IN`: the lines go to standard output through a buffer. They are written even if the file is refused; a line
-/// that can't be written is reported in place of a later refusal, since it came first.
-pub(crate) fn run_blobs(rt: &HostRuntime, engine: Engine, input: &str) -> Result<(), Ending> {
+/// Standard output through a buffer, which notes why a write fails.
+type Output = BufWriter<Noted<Stdout>>;
+
+fn buffered_output(rt: &HostRuntime) -> Result<Output, Ending> {
+    match BufWriter::with_capacity(rt.alloc(), OUTPUT_BUFFER, Noted::new(rt.stdout())) {
+        Ok(output) => Ok(output),
+        Err(_) => Err(Ending::Stopped(Stop::Memory)),
+    }
+}
+
+/// What a call came to whose text goes to standard output, of which the rest is written now. A text that can't be written is reported in
+/// place of a later refusal, since it came first.
+fn ended<T: Drop>(output: &mut Output, outcome: Result<T, Halted>) -> Result<(), Failure> {
+    let flushed = output.flush();
+    let code = output.get_ref().code();
+    if flushed.is_err() {
+        return Err(Failure::of_write(Target::StandardOutput, code));
+    }
+    match outcome {
+        Ok(_) => Ok(()),
+        Err(halted) => Err(Failure::from(halted.ending).noting(Target::StandardOutput, code)),
+    }
+}
+
+/// `blobs IN`: the lines go to standard output, even if the file is refused.
+pub(crate) fn run_blobs(rt: &HostRuntime, engine: Engine, input: &str) -> Result<(), Failure> {
     let input = Input {
         path: input,
         progress: false,
     };
     let mut pass = open_pass(rt, input, 1, 1)?;
-    let Ok(mut output) = BufWriter::with_capacity(rt.alloc(), OUTPUT_BUFFER, rt.stdout()) else {
-        return Err(Ending::Stopped(Stop::Memory));
-    };
+    let mut output = buffered_output(rt)?;
     let outcome = engine.list_blobs(&mut pass, &mut ToWrite::new(&mut output));
-    if output.flush().is_err() {
-        return Err(Ending::Stopped(Stop::Write));
-    }
-    match outcome {
-        Ok(_) => Ok(()),
-        Err(halted) => Err(halted.ending),
-    }
+    ended(&mut output, outcome)
 }
 
 /// `show [--dates] [--progress] IN`: IN is opened for each of the two passes, and the text goes to standard output through a buffer.
@@ -37,23 +52,15 @@ pub(crate) fn run_show(
     engine: Engine,
     input: Input<'_>,
     dates: bool,
-) -> Result<(), Ending> {
+) -> Result<(), Failure> {
     let one = open_pass(rt, input, 1, 2)?;
     let two = open_pass(rt, input, 2, 2)?;
     let mut passes = TwoPasses { one, two };
-    let Ok(mut output) = BufWriter::with_capacity(rt.alloc(), OUTPUT_BUFFER, rt.stdout()) else {
-        return Err(Ending::Stopped(Stop::Memory));
-    };
+    let mut output = buffered_output(rt)?;
     let drain = &mut ToWrite::new(&mut output);
     let outcome = engine.show(&mut passes, drain, dates);
     end_line(rt, input.progress);
-    if output.flush().is_err() {
-        return Err(Ending::Stopped(Stop::Write));
-    }
-    match outcome {
-        Ok(_) => Ok(()),
-        Err(halted) => Err(halted.ending),
-    }
+    ended(&mut output, outcome)
 }
 
 /// `check [--progress] [--digests] IN`: the numbers of entities go to standard output if the file is accepted, and with
@@ -63,7 +70,7 @@ pub(crate) fn run_check(
     engine: Engine,
     input: Input<'_>,
     digests: bool,
-) -> Result<(), Ending> {
+) -> Result<(), Failure> {
     let mut pass = open_pass(rt, input, 1, 1)?;
     let outcome = engine.check(&mut pass);
     end_line(rt, input.progress);
@@ -73,7 +80,7 @@ pub(crate) fn run_check(
             if digests {
                 report_refusal(rt, engine.program, halted.refusal, input.path)?;
             }
-            return Err(halted.ending);
+            return Err(halted.ending.into());
         }
     };
     print_counts(rt, report.counts)?;

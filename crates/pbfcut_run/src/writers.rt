@@ -8,7 +8,7 @@ use pbf_pass::HashedDrain;
 use pbfcut::Counts;
 use pbfcut_cli::Ending;
 use pbfcut_files::{
-    Input, create_output, end_line, open_pass, print_counts, print_digest, print_unpacked,
+    Failure, Input, Noted, Target, create_output, end_line, open_pass, print_counts, print_digest, print_unpacked,
     refuse_existing, report_refusal, tell_empty,
 };
 use std::fs::File;
@@ -53,23 +53,24 @@ fn end(
     rt: &HostRuntime,
     engine: Engine,
     files: Files<'_>,
-    file: &mut BufWriter<File>,
+    file: &mut BufWriter<Noted<File>>,
     outcome: Outcome,
-) -> Result<Counts, Ending> {
+) -> Result<Counts, Failure> {
     let path = files.input.path;
     end_line(rt, files.input.progress);
     let flushed = file.flush();
+    let code = file.get_ref().code();
     let report = match outcome.result {
         Ok(report) => report,
         Err(halted) => {
             if files.digests {
                 report_refusal(rt, engine.program, halted.refusal, path)?;
             }
-            return Err(halted.ending);
+            return Err(Failure::from(halted.ending).noting(Target::Out, code));
         }
     };
     if flushed.is_err() {
-        return Err(Ending::Stopped(Stop::Write));
+        return Err(Failure::of_write(Target::Out, code));
     }
     print_counts(rt, report.counts)?;
     if let Some(output) = outcome.output {
@@ -85,7 +86,7 @@ pub(crate) fn run_convert(
     rt: &HostRuntime,
     engine: Engine,
     files: Files<'_>,
-) -> Result<(), Ending> {
+) -> Result<(), Failure> {
     refuse_existing(rt, files.output)?;
     let one = open_pass(rt, files.input, 1, 2)?;
     let two = open_pass(rt, files.input, 2, 2)?;
@@ -115,7 +116,7 @@ pub(crate) fn run_extract(
     engine: Engine,
     area: BoundingBox,
     files: Files<'_>,
-) -> Result<(), Ending> {
+) -> Result<(), Failure> {
     refuse_existing(rt, files.output)?;
     let mut passes = open_three(rt, files.input, 3)?;
     let hasher = seeded(rt)?;
@@ -143,7 +144,7 @@ pub(crate) fn run_extract_parents(
     engine: Engine,
     area: BoundingBox,
     files: Files<'_>,
-) -> Result<(), Ending> {
+) -> Result<(), Failure> {
     refuse_existing(rt, files.output)?;
     let three = open_three(rt, files.input, 4)?;
     let four = open_pass(rt, files.input, 4, 4)?;

@@ -2,4 +2,6 @@
 #![tactic(auto)]
 
 #[cfg(test)]
+mod packing;
+#[cfg(test)]
 mod tests;

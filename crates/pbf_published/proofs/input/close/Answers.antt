@@ -40,9 +40,3 @@ returns-clause-closed g c = elim c.if-all.branch [
         there = λ ended none. not_both _ (c.has_given_all-all.ensures.value ∙ all_supplied (λ t. g.F.Feed.remaining t.feed.feed) c.args.feed ended) w.if-all.false;
       }
 ]
-
-pub returns-clause-unread : goal.returns-clause-unread
-returns-clause-unread g c below fresh = elim c.if-all.branch [
-  | then-all w ↦ rw w.result-is (ap (λ (l : List ℕ). Some l) (c.digest-digest.ensures.digest [] (rw c.into_feed-traced.ensures.feed fresh.none)))
-  | else-all w ↦ absurd (not_both _ (c.has_given_all-all.ensures.value ∙ fresh.all) w.if-all.false)
-]

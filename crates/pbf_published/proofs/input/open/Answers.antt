@@ -15,5 +15,5 @@ returns-clause-opened g c =
       logged = λ log start. c.new-2.ensures.supplied _ (rw (sym c.new.ensures.feed) (traced_from _ fresh (suc (suc log)) (rw c.new.ensures.feed start)));
     }
 
-pub returns-clause-unread : goal.returns-clause-unread
-returns-clause-unread g c = record { all = c.new-2.ensures.all; none = rw c.new-2.ensures.feed c.new.ensures.hasher; over = rw c.new-2.ensures.feed c.new.ensures.feed }
+pub returns-clause-below : goal.returns-clause-below
+returns-clause-below g c = rw c.new-2.ensures.feed c.new.ensures.feed

@@ -1,7 +1,7 @@
 use Rattle.std.proofs.Common.{true, inl, inr, refl, rules, sym, ap, ◌∙◌}
 use Rattle.std.proofs.lemmas.Result.{err_from_is_err_and}
 use Rattle.pbf_pass.specs.HeaderLimit.{judged_writable}
-use Rattle.pbf_published.proofs.PublishedLemmas.{published_of, published_or_none, digest_told, closed_below, same_by, outcome_receipt, outcome_stops, outcome_beginning, read_below, either_of, refused_as, none_lacks, nothing_went_out, packed_differ, changed_stop, first_unknown, second_differs, unread_still, later_differ, rest_of}
+use Rattle.pbf_published.proofs.PublishedLemmas.{published_of, published_or_none, digest_told, closed_below, same_by, outcome_receipt, outcome_stops, outcome_beginning, read_below, either_of, refused_as, none_lacks, nothing_went_out, packed_differ, changed_stop, first_unknown, second_differs, later_differ, rest_of}
 use Rattle.pbf_published.proofs.parents.extract_parents_sorted_with_receipt.Goals as goal
 
 pub returns-clause-receipt : goal.returns-clause-receipt
@@ -10,8 +10,8 @@ returns-clause-receipt g c =
     let from_first = outcome_receipt _ _ c.extract_parents_sorted_with_receipt-outcome.ensures.receipt _ _ c.in_ok-receipt.was _ c.published_outcome-outcome.ensures in
     published_of g.F.Feed c.args.first.now _ from_first true _ c.open-one.ensures.remaining c.open-one.ensures.opened (closed_below g.F.Feed.has_passed c.close-one.result.1.now _ _ _ _ (search rules) c.close-one.ensures.closed) digest c.in_ok-input.ensures.there _ (λ b holds. (
       holds.0,
-      published_or_none g.G.Feed c.args.second.now _ _ _ holds.1 _ c.open-two.ensures.remaining c.open-two.ensures.opened (closed_below g.G.Feed.has_passed c.close-two.result.1.now _ _ _ _ (search rules) c.close-two.ensures.closed) digest c.in_ok-compare_or_none.ensures.same
-          (λ e. same_by c.close-two.result.1.now _ _ (search rules) (ap (λ r. r.now) c.close-two.ensures.feed ∙ ap (λ u. u.feed.feed.feed.now) e ∙ ap (λ r. r.now) c.open-two.ensures.unread.over))
+      published_or_none g.G.Feed c.args.second.now _ _ _ _ c.in_ok-receipt.receipt.spared holds.1 _ c.open-two.ensures.remaining c.open-two.ensures.opened (closed_below g.G.Feed.has_passed c.close-two.result.1.now _ _ _ _ (search rules) c.close-two.ensures.closed) digest c.in_ok-compare_unless_spared.ensures.same
+          (λ e. same_by c.close-two.result.1.now _ _ (search rules) (ap (λ r. r.now) c.close-two.ensures.feed ∙ ap (λ u. u.feed.feed.feed.now) e ∙ ap (λ r. r.now) c.open-two.ensures.below))
           _ (λ e rest.
           published_of g.H.Feed c.args.third.now _ rest true _ c.open-three.ensures.remaining c.open-three.ensures.opened (closed_below g.H.Feed.has_passed c.close-three.result.1.now _ _ _ _ (search rules) c.close-three.ensures.closed) digest c.in_ok-compare.ensures.same _ (λ d rest.
           published_of g.I.Feed c.args.fourth.now _ rest true _ c.open-four.ensures.remaining c.open-four.ensures.opened (closed_below g.I.Feed.has_passed c.close-four.result.1.now _ _ _ _ (search rules) c.close-four.ensures.closed) digest c.in_ok-compare-2.ensures.same _ (λ e took. took))),
@@ -49,20 +49,20 @@ returns-in_err-input-clause-stops g c =
     let from_first = outcome_receipt _ _ c.extract_parents_sorted_with_receipt-outcome.ensures.receipt _ _ c.in_ok-receipt.was _ c.published_outcome-outcome.ensures in
     rw p.1 (changed_stop _ _ _ _ _ _ 1 p.2 c.in_err-input.ensures.stops.0 (inl (inl (inl (refl, first_unknown _ _ (digest_told g.F.Feed c.args.first.now c.close-one.result.1.now from_first true _ c.open-one.ensures.remaining c.open-one.ensures.opened c.close-one.ensures.closed refl) c.in_err-input.ensures.stops.1)))))
 
-pub returns-in_err-compare_or_none-clause-stops : goal.returns-in_err-compare_or_none-clause-stops
-returns-in_err-compare_or_none-clause-stops g c =
-    let p = err_from_is_err_and c.from_residual-in_err-compare_or_none.result c.from_residual-in_err-compare_or_none.ensures.1 in
+pub returns-in_err-compare_unless_spared-clause-stops : goal.returns-in_err-compare_unless_spared-clause-stops
+returns-in_err-compare_unless_spared-clause-stops g c =
+    let p = err_from_is_err_and c.from_residual-in_err-compare_unless_spared.result c.from_residual-in_err-compare_unless_spared.ensures.1 in
     let from_first = outcome_receipt _ _ c.extract_parents_sorted_with_receipt-outcome.ensures.receipt _ _ c.in_ok-receipt.was _ c.published_outcome-outcome.ensures in
-    rw p.1 (changed_stop _ _ _ _ _ _ 2 p.2 c.in_err-compare_or_none.ensures.stops.0 (inl (inl (inr (refl, second_differs _ _ from_first.holding.1 (digest_told g.F.Feed c.args.first.now c.close-one.result.1.now from_first true _ c.open-one.ensures.remaining c.open-one.ensures.opened c.close-one.ensures.closed refl) c.in_ok-input.ensures.there (λ given. digest_told g.G.Feed c.args.second.now c.close-two.result.1.now given true _ c.open-two.ensures.remaining c.open-two.ensures.opened c.close-two.ensures.closed refl) (λ same. c.close-two.ensures.unread _ (unread_still _ _ _ _ same c.open-two.ensures.unread)) c.in_err-compare_or_none.ensures.stops.1)))))
+    rw p.1 (changed_stop _ _ _ _ _ _ 2 p.2 c.in_err-compare_unless_spared.ensures.stops.0 (inl (inl (inr (refl, second_differs _ _ c.in_ok-receipt.receipt.spared from_first.holding.1 c.in_err-compare_unless_spared.ensures.stops.1 (digest_told g.F.Feed c.args.first.now c.close-one.result.1.now from_first true _ c.open-one.ensures.remaining c.open-one.ensures.opened c.close-one.ensures.closed refl) c.in_ok-input.ensures.there (λ given. digest_told g.G.Feed c.args.second.now c.close-two.result.1.now given true _ c.open-two.ensures.remaining c.open-two.ensures.opened c.close-two.ensures.closed refl) c.in_err-compare_unless_spared.ensures.stops.2)))))
 
 pub returns-in_err-compare-clause-stops : goal.returns-in_err-compare-clause-stops
 returns-in_err-compare-clause-stops g c =
     let p = err_from_is_err_and c.from_residual-in_err-compare.result c.from_residual-in_err-compare.ensures.1 in
     let from_first = outcome_receipt _ _ c.extract_parents_sorted_with_receipt-outcome.ensures.receipt _ _ c.in_ok-receipt.was _ c.published_outcome-outcome.ensures in
-    rw p.1 (changed_stop _ _ _ _ _ _ 3 p.2 c.in_err-compare.ensures.stops.0 (inl (inr (refl, later_differ _ _ _ _ _ (digest_told g.F.Feed c.args.first.now c.close-one.result.1.now from_first true _ c.open-one.ensures.remaining c.open-one.ensures.opened c.close-one.ensures.closed refl) c.in_ok-input.ensures.there (digest_told g.H.Feed c.args.third.now c.close-three.result.1.now (rest_of _ _ from_first.holding.1).1 true _ c.open-three.ensures.remaining c.open-three.ensures.opened c.close-three.ensures.closed refl) c.in_err-compare.ensures.stops.1))))
+    rw p.1 (changed_stop _ _ _ _ _ _ 3 p.2 c.in_err-compare.ensures.stops.0 (inl (inr (refl, later_differ _ _ _ _ _ (digest_told g.F.Feed c.args.first.now c.close-one.result.1.now from_first true _ c.open-one.ensures.remaining c.open-one.ensures.opened c.close-one.ensures.closed refl) c.in_ok-input.ensures.there (digest_told g.H.Feed c.args.third.now c.close-three.result.1.now (rest_of _ _ _ _ _ _ c.in_ok-receipt.receipt.spared from_first.holding.1).1 true _ c.open-three.ensures.remaining c.open-three.ensures.opened c.close-three.ensures.closed refl) c.in_err-compare.ensures.stops.1))))
 
 pub returns-in_err-compare-2-clause-stops : goal.returns-in_err-compare-2-clause-stops
 returns-in_err-compare-2-clause-stops g c =
     let p = err_from_is_err_and c.from_residual-in_err-compare-2.result c.from_residual-in_err-compare-2.ensures.1 in
     let from_first = outcome_receipt _ _ c.extract_parents_sorted_with_receipt-outcome.ensures.receipt _ _ c.in_ok-receipt.was _ c.published_outcome-outcome.ensures in
-    rw p.1 (changed_stop _ _ _ _ _ _ 4 p.2 c.in_err-compare-2.ensures.stops.0 (inr (refl, later_differ _ _ _ _ _ (digest_told g.F.Feed c.args.first.now c.close-one.result.1.now from_first true _ c.open-one.ensures.remaining c.open-one.ensures.opened c.close-one.ensures.closed refl) c.in_ok-input.ensures.there (digest_told g.I.Feed c.args.fourth.now c.close-four.result.1.now (rest_of _ _ from_first.holding.1).1.holding true _ c.open-four.ensures.remaining c.open-four.ensures.opened c.close-four.ensures.closed refl) c.in_err-compare-2.ensures.stops.1)))
+    rw p.1 (changed_stop _ _ _ _ _ _ 4 p.2 c.in_err-compare-2.ensures.stops.0 (inr (refl, later_differ _ _ _ _ _ (digest_told g.F.Feed c.args.first.now c.close-one.result.1.now from_first true _ c.open-one.ensures.remaining c.open-one.ensures.opened c.close-one.ensures.closed refl) c.in_ok-input.ensures.there (digest_told g.I.Feed c.args.fourth.now c.close-four.result.1.now (rest_of _ _ _ _ _ _ c.in_ok-receipt.receipt.spared from_first.holding.1).1.holding true _ c.open-four.ensures.remaining c.open-four.ensures.opened c.close-four.ensures.closed refl) c.in_err-compare-2.ensures.stops.1)))

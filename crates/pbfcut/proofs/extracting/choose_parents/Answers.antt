@@ -44,5 +44,5 @@ returns-clause-ends g c =
 
 pub returns-clause-chosen : goal.returns-clause-chosen
 returns-clause-chosen g c =
-    parents_chosen g.F.Feed _ _ g.H.Feed _ _ c.args.cutting.area c.args.cutting.passes c.in_ok-choice.choice c.in_ok-choice.ensures.ends.next c.with_parents.result (λ digest file holds. GaveFile g.G.Feed c.args.second.now c.choose.new.second digest holds) (λ digest file. gave_file_less g.G.Feed c.args.second.now c.choose.new.second digest)
+    parents_chosen g.F.Feed _ _ g.H.Feed _ _ c.args.cutting.area c.args.cutting.passes c.in_ok-choice.choice c.in_ok-choice.ensures.ends.next c.with_parents.result (λ s digest file holds. GaveFile g.G.Feed c.args.second.now c.choose.new.second digest holds) (λ s digest file. gave_file_less g.G.Feed c.args.second.now c.choose.new.second digest)
     c.in_ok-choice.ensures.chosen c.with_parents.ensures.parents c.with_parents.ensures.same

@@ -56,7 +56,7 @@ returns-clause-ends g c =
       beginning = on_err_weaker c.write.result (λ front b supply.
           let two = one.holding in
           let three = two.holding in
-          front b supply.3 (selects_parents sets area b _ _ _ h (ap judged (tells_file g.F.Feed _ _ _ _ one b supply.0)) (ap judged (tells_file g.G.Feed _ _ _ _ two b supply.1)) (ap judged (tells_file g.H.Feed _ _ _ _ three b supply.2)) three.holding.chosen)) (wrote_front g.I.Feed _ _ g.D.Drain _ _ (all_parents area) (λ meant. extract_with_parents (seen_decoded area) meant) (all_parents_select area) area edges next sets h c.write.result c.write.ensures);
+          front b supply.3 (selects_parents sets area b _ _ _ h (ap judged (tells_file g.F.Feed _ _ _ _ one b supply.0)) (ap judged (tells_file g.G.Feed _ _ _ _ two b supply.1)) (ap judged (tells_file g.H.Feed _ _ _ _ three b supply.2)) three.holding.chosen)) (wrote_front g.I.Feed _ _ g.D.Drain _ _ (all_parents area) (λ meant. extract_with_parents (seen_decoded area) meant) (all_parents_select area) area edges next sets h _ c.write.result c.write.ensures);
       feeds = search rules;
       out = search rules;
     }
@@ -68,4 +68,4 @@ returns-clause-receipt g c =
     let edges = edges_typed area w.0.1 w.1.0.1 w.1.1.0.1 w.1.1.1.0.1 in
     let next = c.in_ok-choice.choice.next in
     let is = c.in_ok-choice.ensures.ends.next in
-    parents_receipt g.F.Feed _ _ g.I.Feed _ _ g.D.Drain _ _ area edges (record { alloc = c.args.alloc; hashes = true }) next is.1 _ _ c.write.result c.write.ensures (λ digest file holds. GaveFile g.G.Feed c.args.second.now c.choose_parents.new.second digest holds) (λ digest file holds P step given. step given.file given.holding) (λ digest file. gave_file_less g.G.Feed c.args.second.now c.choose_parents.new.second digest) g.H.Feed _ _ c.in_ok-choice.ensures.chosen
+    parents_receipt g.F.Feed _ _ g.I.Feed _ _ g.D.Drain _ _ area edges (record { alloc = c.args.alloc; hashes = true }) next is.1 _ _ _ c.write.result c.write.ensures (λ s digest file holds. GaveFile g.G.Feed c.args.second.now c.choose_parents.new.second digest holds) (λ s digest file holds P step given. step given.file given.holding) (λ s digest file. gave_file_less g.G.Feed c.args.second.now c.choose_parents.new.second digest) g.H.Feed _ _ c.in_ok-choice.ensures.chosen

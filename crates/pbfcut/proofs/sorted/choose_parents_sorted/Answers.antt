@@ -32,7 +32,7 @@ pub returns-clause-ends : goal.returns-clause-ends
 returns-clause-ends g c =
     let one = c.in_ok-choice.ensures.chosen in
     let said : (frames : List FrameSpec) × Says (judged_file (Some one.file)) (frames, None) =
-    gave_or_not g.G.Feed _ _ _ one.file _ _ (λ file choice. (choice.chosen.frames, choice.chosen.judged)) one.holding in
+    gave_or_not g.G.Feed _ _ _ c.in_ok-choice.choice.spared one.file _ _ (λ file choice. (choice.chosen.frames, choice.chosen.judged)) one.holding in
     let next = c.in_ok-choice.choice.next in
     let is = c.in_ok-choice.ensures.ends.next in
     let earlier = ReadFailed g.F.Feed c.args.first.now c.choose_sorted.new.first in
@@ -49,5 +49,5 @@ returns-clause-ends g c =
 
 pub returns-clause-chosen : goal.returns-clause-chosen
 returns-clause-chosen g c =
-    parents_chosen g.F.Feed _ _ g.H.Feed _ _ c.args.cutting.area c.args.cutting.passes c.in_ok-choice.choice c.in_ok-choice.ensures.ends.next c.with_parents.result (λ digest file holds. GaveOrNot g.G.Feed c.args.second.now c.choose_sorted.new.second digest file holds) (λ digest. gave_or_less g.G.Feed c.args.second.now c.choose_sorted.new.second digest)
+    parents_chosen g.F.Feed _ _ g.H.Feed _ _ c.args.cutting.area c.args.cutting.passes c.in_ok-choice.choice c.in_ok-choice.ensures.ends.next c.with_parents.result (λ s digest file holds. GaveOrNot g.G.Feed s c.args.second.now c.choose_sorted.new.second digest file holds) (λ s digest. gave_or_less g.G.Feed c.args.second.now c.choose_sorted.new.second digest s)
     c.in_ok-choice.ensures.chosen c.with_parents.ensures.parents c.with_parents.ensures.same

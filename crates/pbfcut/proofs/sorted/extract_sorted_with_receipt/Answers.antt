@@ -39,7 +39,7 @@ pub returns-clause-ends : goal.returns-clause-ends
 returns-clause-ends g c =
     let one = c.in_ok-choice.ensures.chosen in
     let said : (frames : List FrameSpec) × Says (judged_file (Some one.file)) (frames, None) =
-    gave_or_not g.G.Feed _ _ _ one.file _ _ (λ file choice. (choice.chosen.frames, choice.chosen.judged)) one.holding in
+    gave_or_not g.G.Feed _ _ _ c.in_ok-choice.choice.spared one.file _ _ (λ file choice. (choice.chosen.frames, choice.chosen.judged)) one.holding in
     let old = g.D.Drain.taken c.args.drain.now in
     let new = g.D.Drain.taken c.write.new.drain in
     let read = ReadFailed g.F.Feed c.args.first.now c.choose_sorted.new.first ⊎ (ReadFailed g.G.Feed c.args.second.now c.choose_sorted.new.second ⊎ ReadFailed g.H.Feed c.args.third.now c.write.new.feed) in
@@ -57,8 +57,8 @@ returns-clause-ends g c =
       changed = IfErr-weaker c.write.result _ _ (λ h stops. changed_later g.F.Feed _ _ g.H.Feed _ _ next _ _ _ _ (stop_of h) one said.0 said.1 (ap (λ (p : Passes). digest_if p.hashes next.digest) is.1) (λ pass at. inr (at.0 ∙ is.0, at.1)) stops) c.write.ensures.stops;
       beginning = on_err_weaker c.write.result (λ front b supply.
           let tells = tells_file g.F.Feed _ _ _ _ one in
-          let choice = told_or_not g.G.Feed _ _ _ _ one.file b _ tells supply.0 supply.1 one.holding in
-          front b supply.2 (selects_chosen sets area b _ _ h (tells b supply.0) refl choice)) (wrote_front g.H.Feed _ _ g.D.Drain _ _ (complete_ways area) (λ meant. extract (seen_decoded area) meant) (complete_ways_select area) area edges next sets h c.write.result c.write.ensures);
+          let choice = told_or_not g.G.Feed _ _ _ c.in_ok-choice.choice.spared _ one.file b _ tells supply.0 supply.1 one.holding in
+          front b supply.2 (selects_chosen sets area b _ _ h (tells b supply.0) refl choice)) (wrote_front g.H.Feed _ _ g.D.Drain _ _ (complete_ways area) (λ meant. extract (seen_decoded area) meant) (complete_ways_select area) area edges next sets h _ c.write.result c.write.ensures);
       feeds = search rules;
       out = search rules;
     }
@@ -70,4 +70,4 @@ returns-clause-receipt g c =
     let edges = edges_typed area w.0.1 w.1.0.1 w.1.1.0.1 w.1.1.1.0.1 in
     let next = c.in_ok-choice.choice.next in
     let is = c.in_ok-choice.ensures.ends.next in
-    extract_receipt g.F.Feed _ _ g.H.Feed _ _ g.D.Drain _ _ area edges c.args.passes next is.1 _ _ c.write.result c.write.ensures (λ digest file holds. GaveOrNot g.G.Feed c.args.second.now c.choose_sorted.new.second digest file holds) (λ digest. gave_or_not g.G.Feed c.args.second.now c.choose_sorted.new.second digest) (λ digest. gave_or_less g.G.Feed c.args.second.now c.choose_sorted.new.second digest) c.in_ok-choice.ensures.chosen
+    extract_receipt g.F.Feed _ _ g.H.Feed _ _ g.D.Drain _ _ area edges c.args.passes next is.1 _ _ _ c.write.result c.write.ensures (λ s digest file holds. GaveOrNot g.G.Feed s c.args.second.now c.choose_sorted.new.second digest file holds) (λ s digest. gave_or_not g.G.Feed c.args.second.now c.choose_sorted.new.second digest s) (λ s digest. gave_or_less g.G.Feed c.args.second.now c.choose_sorted.new.second digest s) c.in_ok-choice.ensures.chosen

@@ -14,4 +14,4 @@ pub returns : goal.returns
 unfolding take_of
 returns g c =
     let wrote = c.in_ok-counts.ensures in
-    record { input = refl; packed = wrote.packed; front = tt; stops = tt; keeps = wrote.keeps; out = wrote.out }
+    record { input = (refl, refl); packed = wrote.packed; front = tt; stops = tt; keeps = wrote.keeps; out = wrote.out }

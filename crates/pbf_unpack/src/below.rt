@@ -1,0 +1,70 @@
+//! The drain below a packing one, and how far the file is that it takes.
+
+ghost use Rattle.std.specs.Prelude.{◌≡◌, ◌+◌, ◌≤◌, ◌++◌, List, ℕ, Some, [], length, OnOk, OnErr, IfSome};
+ghost use Rattle.pbf_frame.specs.Devices.{HasRisen, IsFront};
+ghost use Rattle.pbf_frame.specs.Transfers.{Added};
+ghost use Rattle.pbf_frame.specs.declared.frame.TheConstants.{FILE_LIMIT};
+ghost use Rattle.pbf_unpack.specs.declared.below.Course.TheVariants as courses;
+ghost use Rattle.pbf_unpack.specs.Course.{HasWhole, Stands};
+
+use pbf_frame::{Drain, DrainFault, write_both};
+
+/// How a drain goes on.
+#[derive(Clone, Copy, PartialEq, Eq)]
+pub(crate) enum Course {
+    /// It takes bytes.
+    Taking,
+    /// It takes nothing more, since a write of the drain below failed.
+    Failed,
+    /// The same, since bytes came that are no raw file.
+    Unfit,
+    /// The same, since memory was refused.
+    Refused,
+}
+
+/// A drain that takes whole frames.
+#[derive(Drop)]
+pub(crate) struct Below<D: Drain> {
+    pub(crate) drain: D,
+    /// How many bytes of whole frames it took.
+    pub(crate) place: u64,
+    pub(crate) course: Course,
+    ghost in_range: { place ≤ FILE_LIMIT },
+    ghost whole: { (taken : List ℕ) → D.taken drain ≡ Some taken → HasWhole course place taken },
+}
+
+impl<D: Drain> Below<D> {
+    ghost use Rattle.pbf_unpack.specs.Packing.{IsStuck};
+
+    pub(crate) fn new(drain: D) -> Below<D>
+        requires { IfSome (D.taken drain) (λ taken. taken ≡ []) }
+        ensures drain { result.drain ≡ drain }
+        ensures place { result.place ≡ 0 }
+        ensures course { result.course ≡ courses.Taking }
+    {
+        Below {
+            drain,
+            place: 0,
+            course: Course::Taking,
+        }
+    }
+
+    /// Gives the drain a whole frame, in two parts.
+    pub(crate) fn send(&mut self, front: &[u8], blob: &[u8]) -> Result<(), DrainFault>
+        requires taking { self.old.course ≡ courses.Taking }
+        requires means { (raw : List ℕ) × Stands self.old.place raw (front.now ++ blob.now) }
+        ensures place { OnOk result (self.new.place ≡ self.old.place + length (front.now ++ blob.now)) }
+        ensures course { OnOk result (self.new.course ≡ courses.Taking) }
+        ensures took { OnOk result (Added D.Drain self.old.drain (front.now ++ blob.now) self.new.drain) }
+        ensures failed { OnErr result (IsStuck (front.now ++ blob.now) self.old self.new) }
+        ensures counts { D.failures self.old.drain ≤ D.failures self.new.drain }
+        ensures lender { D.lender self.new.drain ≡ D.lender self.old.drain }
+    {
+        let length = (front.len() + blob.len()) as u64;
+        self.course = Course::Failed;
+        write_both(&mut self.drain, front, blob)?;
+        self.place += length;
+        self.course = Course::Taking;
+        Ok(())
+    }
+}

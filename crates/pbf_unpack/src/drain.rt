@@ -1,0 +1,148 @@
+//! A raw file, given to another drain as the published one that means it.
+
+ghost use Rattle.std.specs.Prelude.{◌≡◌, ◌+◌, ◌≤◌, List, ℕ, Some, [], OnOk, OnErr, IfSome, IsSome};
+ghost use Rattle.pbf_frame.specs.Keeps.{KeepsDrain};
+ghost use Rattle.pbf_frame.specs.declared.header.TheConstants.{HEADER_LIMIT, LARGEST_SIZE};
+ghost use Rattle.pbf_frame.specs.declared.put.TheConstants.{HEAD_ROOM};
+ghost use Rattle.pbf_unpack.specs.declared.packer.TheConstants.{MOST_ROOM};
+ghost use Rattle.pbf_unpack.specs.Course.{spent_failures, stop_of_course, HasWhole};
+ghost use Rattle.pbf_unpack.specs.Packing.{taken_raw, failures_of_drain, GaveAll, HasPacked, IsEmptied, TookSame};
+ghost use Rattle.pbf_unpack.specs.declared.below.Course.TheVariants as courses;
+
+use crate::below::{Below, Course};
+use crate::frame::RawFrame;
+use crate::packer::Packer;
+use deflate::Deflater;
+use pbf_frame::{Drain, DrainFault, Stop};
+use std::alloc::Global;
+
+/// Takes the bytes of a raw file, however they are cut, and gives the drain below the published file that means it: each frame in written form
+/// has its payload as zlib data, if it gets shorter by that, and all others stay as they are.
+///
+/// A frame goes to the drain below when the next one begins, and the last one by [`finish`](Self::finish). It holds one raw frame and one packed
+/// one. A write fails if one of the drain below does, if memory is refused, or if the bytes before it are no raw file: no whole frame, or
+/// one that has zlib data already. Then each later write fails too.
+#[derive(Drop)]
+pub struct PackedDrain<D: Drain> {
+    pub(crate) below: Below<D>,
+    pub(crate) frame: RawFrame,
+    packer: Packer,
+}
+
+impl<D: Drain> PackedDrain<D> {
+    /// Over a drain that took nothing. It does not allocate before the first frame.
+    pub fn new(alloc: Global, deflater: Deflater, drain: D) -> Self
+        requires { IfSome (D.taken drain) (λ taken. taken ≡ []) }
+        ensures drain { result.below.drain ≡ drain }
+        ensures lender { D.lender result.below.drain ≡ D.lender drain }
+        ensures taken { taken_raw result ≡ D.taken drain }
+        ensures logged { (log : ℕ) → D.has_taken drain log [] → HasPacked result log [] }
+        ensures failures { spent_failures result.below.course ≡ 0 }
+    {
+        PackedDrain {
+            below: Below::new(drain),
+            frame: RawFrame::new(alloc),
+            packer: Packer::new(alloc, deflater),
+        }
+    }
+
+    /// Takes nothing more.
+    fn stop_as(&mut self, course: Course) -> DrainFault
+        requires { course ≡ courses.Taking → ⊥ }
+        ensures course { self.new.below.course ≡ course }
+        ensures drain { self.new.below.drain ≡ self.old.below.drain }
+        ensures place { self.new.below.place ≡ self.old.below.place }
+        ensures frame { self.new.frame ≡ self.old.frame }
+    {
+        self.below.course = course;
+        DrainFault
+    }
+
+    /// Gives the drain below the frame that is held.
+    fn send(&mut self) -> Result<(), DrainFault>
+        requires taking { self.old.below.course ≡ courses.Taking }
+        ensures taken { taken_raw self.new ≡ taken_raw self.old }
+        ensures logged { OnOk result (TookSame self.old self.new) }
+        ensures empty { OnOk result (IsEmptied self.new) }
+        ensures stopped { OnErr result (self.new.below.course ≡ courses.Taking → ⊥) }
+        ensures keeps { KeepsDrain D.Drain self.old.below.drain self.new.below.drain }
+    {
+        let packing = match self.packer.pack(&self.frame, self.below.place) {
+            Ok(Some(packing)) => packing,
+            Ok(None) => return Err(self.stop_as(Course::Unfit)),
+            Err(_) => return Err(self.stop_as(Course::Refused)),
+        };
+        let (front, blob) = self.packer.parts(&self.frame, packing);
+        self.below.send(front, blob)?;
+        self.frame.clear();
+        Ok(())
+    }
+
+    /// Gives the drain below what is held of the file, which has to end here: then that drain took a file that means what this one took.
+    pub fn finish(&mut self) -> Result<(), DrainFault>
+        ensures gave { OnOk result (GaveAll self.old self.new) }
+        ensures taken { taken_raw self.new ≡ taken_raw self.old }
+        ensures stopped { OnErr result (IsSome (stop_of_course self.new.below.course)) }
+        ensures keeps { KeepsDrain D.Drain self.old.below.drain self.new.below.drain }
+    {
+        if self.below.course != Course::Taking {
+            return Err(DrainFault);
+        }
+        if self.frame.is_empty() {
+            return Ok(());
+        }
+        self.send()?;
+        Ok(())
+    }
+
+    /// Why it takes nothing more: `Write` if a write of the drain below failed, or if the bytes are no raw file; `Memory` if memory was refused.
+    pub fn stop(&self) -> Option<Stop>
+        ensures { result ≡ stop_of_course self.now.below.course }
+    {
+        match self.below.course {
+            Course::Taking => None,
+            Course::Failed | Course::Unfit => Some(Stop::Write),
+            Course::Refused => Some(Stop::Memory),
+        }
+    }
+
+    /// The bytes held, beside the tables of the [`Deflater`], half a megabyte: one raw frame and one packed one, at most 67,241,154.
+    pub fn held(&self) -> u64
+        ensures { result ≤ HEADER_LIMIT + LARGEST_SIZE + 3 + HEAD_ROOM + MOST_ROOM }
+    {
+        self.frame.held() + self.packer.held()
+    }
+
+    /// The drain below. If it reports its bytes, it took whole frames, and after them one was begun at most.
+    pub fn into_inner(self) -> D
+        ensures drain { result ≡ self.below.drain }
+        ensures whole { (taken : List ℕ) → D.taken result ≡ Some taken
+            → HasWhole self.below.course self.below.place taken }
+        ensures lender { D.lender result ≡ D.lender self.below.drain }
+    {
+        self.below.drain
+    }
+}
+
+impl<D: Drain> Drain for PackedDrain<D> {
+    ghost taken = { λ p. taken_raw p };
+
+    ghost has_taken = { λ p log raw. HasPacked p log raw };
+
+    ghost failures = { λ p. failures_of_drain p };
+
+    ghost lender = { λ p. D.lender p.below.drain };
+
+    fn write(&mut self, bytes: &[u8]) -> Result<usize, DrainFault> {
+        if self.below.course != Course::Taking {
+            return Err(DrainFault);
+        }
+        if self.frame.is_complete() {
+            self.send()?;
+        }
+        match self.frame.take(bytes) {
+            Ok(count) => Ok(count),
+            Err(_) => Err(self.stop_as(Course::Refused)),
+        }
+    }
+}

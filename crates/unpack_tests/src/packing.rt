@@ -1,0 +1,114 @@
+//! That a drain packs what gets shorter by it, however it is written, and when it stops.
+
+use pbf_frame::{FrameKind, Sink, Stop, fill_vec, put_frame, write_all};
+use pbf_unpack::{Deflater, Inflater, PackedDrain, UnpackedFeed};
+use std::alloc::Global;
+use std::test::Fail;
+
+/// A header frame, and a data frame of which a shorter one can be made.
+fn raw_file(alloc: Global) -> Result<Vec<u8>, Stop> {
+    let mut file = Vec::new(alloc);
+    put_frame(&mut file, FrameKind::Header, b"\x22\x0eOsmSchema-V0.6")?;
+    put_frame(&mut file, FrameKind::Data, &[0; 1_000])?;
+    Ok(file)
+}
+
+/// A drain over this much room, to which the bytes were written in pieces of this length until one failed.
+fn write_pieces(
+    alloc: Global,
+    bytes: &[u8],
+    piece: usize,
+    room: usize,
+) -> Result<PackedDrain<Sink>, Stop> {
+    let sink = Sink::new(alloc, room, 0)?;
+    let mut drain = PackedDrain::new(alloc, Deflater::new(alloc)?, sink);
+    for piece in bytes.chunks(piece) {
+        if write_all(&mut drain, piece).is_err() {
+            break;
+        }
+    }
+    Ok(drain)
+}
+
+/// What a drain with enough room gives for these bytes.
+fn packed(alloc: Global, bytes: &[u8], piece: usize) -> Result<Vec<u8>, Stop> {
+    let mut drain = write_pieces(alloc, bytes, piece, 10_000)?;
+    drain.finish()?;
+    let mut packed = Vec::new(alloc);
+    packed.extend_from_slice(drain.into_inner().bytes())?;
+    Ok(packed)
+}
+
+/// What a packed file means.
+fn unpacked(alloc: Global, bytes: &[u8]) -> Result<Vec<u8>, Stop> {
+    let mut feed = UnpackedFeed::new(alloc, Inflater::new(alloc)?, bytes);
+    let mut raw = Vec::new(alloc);
+    fill_vec(&mut feed, &mut raw, 10_000)?;
+    Ok(raw)
+}
+
+#[test]
+fn a_frame_gets_shorter(rt: HostRuntime) -> Result<(), Fail> {
+    let raw = raw_file(rt.alloc())?;
+    let packed = packed(rt.alloc(), &raw, raw.len())?;
+    assert!(rt; packed.len() < 150);
+    assert!(rt; unpacked(rt.alloc(), &packed)? == raw);
+    Ok(())
+}
+
+#[test]
+fn however_it_is_written(rt: HostRuntime) -> Result<(), Fail> {
+    let raw = raw_file(rt.alloc())?;
+    let whole = packed(rt.alloc(), &raw, raw.len())?;
+    assert!(rt; packed(rt.alloc(), &raw, 1)? == whole);
+    assert!(rt; packed(rt.alloc(), &raw, 7)? == whole);
+    Ok(())
+}
+
+#[test]
+fn what_would_not_get_shorter(rt: HostRuntime) -> Result<(), Fail> {
+    // A header frame, of which the payload has 16 bytes; and one of another type, with one byte.
+    let mut raw = Vec::new(rt.alloc());
+    put_frame(&mut raw, FrameKind::Header, b"\x22\x0eOsmSchema-V0.6")?;
+    raw.extend_from_slice(b"\x00\x00\x00\x05\x0a\x01X\x18\x01Z")?;
+    assert!(rt; packed(rt.alloc(), &raw, 5)? == raw);
+    Ok(())
+}
+
+#[test]
+fn no_bytes(rt: HostRuntime) -> Result<(), Fail> {
+    assert!(rt; packed(rt.alloc(), &[], 1)?.is_empty());
+    Ok(())
+}
+
+#[test]
+fn a_file_that_is_cut(rt: HostRuntime) -> Result<(), Fail> {
+    let raw = raw_file(rt.alloc())?;
+    let mut drain = write_pieces(rt.alloc(), &raw[..raw.len() - 1], 100, 10_000)?;
+    assert!(rt; drain.stop().is_none());
+    assert!(rt; drain.finish().is_err());
+    assert!(rt; drain.stop() == Some(Stop::Write));
+    // The first frame went out before: 4 bytes, 13 of a header, 18 of a blob.
+    assert!(rt; drain.into_inner().bytes().len() == 35);
+    Ok(())
+}
+
+#[test]
+fn what_has_zlib_data(rt: HostRuntime) -> Result<(), Fail> {
+    let raw = raw_file(rt.alloc())?;
+    let packed = packed(rt.alloc(), &raw, raw.len())?;
+    let mut drain = write_pieces(rt.alloc(), &packed, 100, 10_000)?;
+    assert!(rt; drain.finish().is_err());
+    assert!(rt; drain.stop() == Some(Stop::Write));
+    Ok(())
+}
+
+#[test]
+fn a_drain_that_is_full(rt: HostRuntime) -> Result<(), Fail> {
+    let raw = raw_file(rt.alloc())?;
+    let mut drain = write_pieces(rt.alloc(), &raw, 100, 50)?;
+    assert!(rt; drain.finish().is_err());
+    assert!(rt; drain.stop() == Some(Stop::Write));
+    assert!(rt; drain.finish().is_err());
+    Ok(())
+}

@@ -1,0 +1,486 @@
+#!/usr/bin/env python3
+"""Runs the commands over files that grow, and tests that time and memory grow no faster.
+
+usage: tests/growth.py PROGRAM [--table] [NAME..]
+
+Each shape is a kind of file that is odd, costly or hostile, made at 1, 2, 4 and 8 times a size. The commands run over it as pbfcut, and over the same
+file compressed as pbfcutz; what counts is the time of a processor and the greatest memory. A run is out of place if
+
+- it takes more than 2.6 times as long as over half the file: a loop that goes over all that is left, for each part that it takes, needs 4 times as long;
+- it takes more than 25 times as long as the program needs to read and hash as many bytes as it reads, unpacks and writes;
+- it takes more than 2.6 times as long as over the same blobs in their usual form;
+- it holds more than 2.6 times the memory of a run over half the file, and more than every file may need.
+
+NAME runs the shapes whose names begin so; --table prints what each run took.
+"""
+
+import ast
+import os
+import struct
+import sys
+import tempfile
+import zlib
+
+sys.dont_write_bytecode = True
+sys.path.insert(0, os.path.dirname(os.path.abspath(__file__)))
+
+from program import EMPTY_HEADER, deltas, field, scalar, varint, zigzag
+
+SIZES = (1, 2, 4, 8)
+MOST_GROWTH = 2.6
+MOST_PASSES = 25
+# so much memory may each run need, in KB, whatever the file is
+ANY_FILE = 70_000
+# so long, in seconds, has a run to take before its growth says anything
+LONG_ENOUGH = 0.03
+TRIES = 6
+# how many bytes are read and hashed for comparison
+PASSED_OVER = 2_000_000
+
+FAR = 200_000_000  # twenty degrees, out of the box
+TABLE = field(1, b"\x0a\x00")
+
+
+def growing(count: int) -> bytes:
+    """The ids 1, 2, .. as a column."""
+    return b"\x02" * count
+
+
+def dense(ids: bytes, lats: bytes, lons: bytes, *rest: bytes) -> bytes:
+    """A group of dense nodes, by the bytes of its columns."""
+    return field(2, field(2, field(1, ids) + field(8, lats) + field(9, lons) + b"".join(rest)))
+
+
+def nodes(count: int, *rest: bytes) -> bytes:
+    """A group of so many nodes in the box."""
+    return dense(growing(count), bytes(count), bytes(count), *rest)
+
+
+def way(number: int, refs: bytes, *rest: bytes) -> bytes:
+    return field(3, scalar(1, number) + b"".join(rest) + field(8, refs))
+
+
+def relation(number: int, ids: bytes, kinds: bytes, *rest: bytes) -> bytes:
+    return field(4, scalar(1, number) + b"".join(rest) + field(8, bytes(len(kinds))) + field(9, ids) + field(10, kinds))
+
+
+def block(*groups: bytes, table: bytes = TABLE) -> tuple:
+    return b"OSMData", table + b"".join(groups)
+
+
+def texts(*each: bytes) -> bytes:
+    """A table of these texts, after the empty one."""
+    return field(1, field(1, b"") + b"".join(field(1, text) for text in each))
+
+
+# ---- the shapes: a list of frames by the size
+
+
+def kept_nodes_in_one_message(size: int) -> list:
+    return [block(nodes(40_000 * size))]
+
+
+def kept_nodes_with_gaps(size: int) -> list:
+    """All are kept, and none has a neighbour."""
+    count = 80_000 * size
+    return [block(dense(b"\x04" * count, bytes(count), bytes(count)))]
+
+
+def dropped_nodes_in_one_message(size: int) -> list:
+    count = 40_000 * size
+    return [block(dense(growing(count), bytes(count), varint(zigzag(FAR)) + bytes(count - 1)))]
+
+
+def every_second_node_kept(size: int) -> list:
+    pairs = 10_000 * size
+    return [block(dense(growing(2 * pairs), bytes(2 * pairs), (varint(zigzag(FAR)) + varint(zigzag(-FAR))) * pairs))]
+
+
+def nodes_of_a_long_user(size: int) -> list:
+    """A block has room for a hundred of them."""
+    count = 4_000 * size
+    zeros = bytes(count)
+    info = field(5, field(1, zeros) + field(2, zeros) + field(3, zeros) + field(4, zeros) + field(5, b"\x02" + bytes(count - 1)))
+    return [block(dense(b"\x04" * count, zeros, zeros, info), table=texts(b"u" * 120_000))]
+
+
+def a_long_key_in_each_node(size: int) -> list:
+    count = 2_000 * size
+    return [block(nodes(count, field(10, b"\x01\x01\x00" * count)), table=texts(b"k" * 20_000))]
+
+
+def a_long_key_in_each_way(size: int) -> list:
+    ways = b"".join(way(number, b"\x02\x02", field(2, b"\x01"), field(3, b"\x01")) for number in range(1, 2_000 * size))
+    return [block(nodes(2)), block(field(2, ways), table=texts(b"k" * 20_000))]
+
+
+def nodes_of_a_thousand_tags(size: int) -> list:
+    count = 40 * size
+    tags = b"".join(varint(1 + number % 100) * 2 for number in range(1_000)) + b"\x00"
+    return [block(nodes(count, field(10, tags * count)), table=texts(*(b"%d" % number for number in range(100))))]
+
+
+def texts_that_differ(size: int) -> list:
+    count = 8_000 * size
+    tags = b"".join(varint(number) * 2 + b"\x00" for number in range(1, count + 1))
+    return [block(nodes(count, field(10, tags)), table=texts(*(b"text %d" % number for number in range(count))))]
+
+
+def ways_of_refs_that_spread(size: int) -> list:
+    """Each way has 2,000 refs, which lie as far apart as there are ids."""
+    count = 5_000 * size
+    step, refs = count // 2_000 + 1, []
+    for number in range(10 * size):
+        refs.append(deltas([1 + (number + index * step) % count for index in range(2_000)]))
+    return [block(nodes(count)), block(field(2, b"".join(way(number + 1, column) for number, column in enumerate(refs))))]
+
+
+def ways_of_refs_that_are_nowhere(size: int) -> list:
+    count = 2_000 * size
+    refs = deltas([1 << 40, 5, 1 << 50, 7, 1 << 45])
+    return [block(nodes(count)), block(field(2, b"".join(way(number, refs) for number in range(1, count))))]
+
+
+def ids_far_apart(size: int) -> list:
+    count = 10_000 * size
+    return [block(dense(varint(zigzag(1 << 45)) * count, bytes(count), bytes(count)))]
+
+
+def ids_that_fall(size: int) -> list:
+    count = 20_000 * size
+    ids = varint(zigzag(1 << 40)) + b"\x01" * (count - 1)
+    return [block(dense(ids, bytes(count), bytes(count)))]
+
+
+def ids_that_fall_far(size: int) -> list:
+    count = 5_000 * size
+    ids = varint(zigzag(1 << 61)) + varint(zigzag(-(1 << 40))) * (count - 1)
+    return [block(dense(ids, bytes(count), bytes(count)))]
+
+
+def ids_in_two_rising_rows(size: int) -> list:
+    """An id of a row, and then one of the other, far away."""
+    pairs = 5_000 * size
+    ids = varint(zigzag(1)) + (varint(zigzag(1 << 40)) + varint(zigzag(1 - (1 << 40)))) * pairs
+    return [block(dense(ids, bytes(2 * pairs + 1), bytes(2 * pairs + 1)))]
+
+
+def ids_in_runs_of_a_page(size: int) -> list:
+    """Runs of 127, 128 and 129 ids, each with a gap before it, and ways whose refs lie on both sides of a gap."""
+    runs = 40 * size
+    ids = b"".join(varint(zigzag(1_000)) + b"\x02" * (126 + run % 3) for run in range(runs))
+    count = sum(127 + run % 3 for run in range(runs))
+    refs = deltas([1_127, 1_126, 2_127, 2_126, 3_256, 3_255])
+    ways = field(2, b"".join(way(number, refs) for number in range(1, 1_000 * size)))
+    return [block(dense(ids, bytes(count), bytes(count))), block(ways)]
+
+
+def relations_of_30000_members(size: int) -> list:
+    ids, kinds = b"\x02" * 30_000, bytes(30_000)
+    return [block(nodes(1_000)), block(field(2, b"".join(relation(number, ids, kinds) for number in range(1, 1 + 2 * size))))]
+
+
+def parents_in_a_chain(size: int) -> list:
+    """Each relation has the next one as its member; the last has a node."""
+    count = 5_000 * size
+    chain = b"".join(relation(number, varint(zigzag(number + 1)), b"\x02") for number in range(1, count))
+    return [block(nodes(1)), block(field(2, chain + relation(count, b"\x02", b"\x00")))]
+
+
+def parents_in_circles(size: int) -> list:
+    """Relations that have each other, the one before and the one after, as members; one has a node."""
+    count = 2_500 * size
+    circle = [relation(1 + number, deltas([1 + (number - 1) % count, 1 + (number + 1) % count]), b"\x02\x02") for number in range(count)]
+    return [block(nodes(1)), block(field(2, b"".join(circle) + relation(1, b"\x02", b"\x00")))]
+
+
+def a_parent_of_many(size: int) -> list:
+    """A relation with many relations as its members, and each of these with it."""
+    count = 5_000 * size
+    parent = relation(count + 1, deltas(list(range(1, count + 1))), b"\x02" * count)
+    children = b"".join(relation(number, varint(zigzag(count + 1)), b"\x02") for number in range(1, count + 1))
+    return [block(nodes(1)), block(field(2, parent + children + relation(1, b"\x02", b"\x00")))]
+
+
+def an_id_column_in_single_numbers(size: int) -> list:
+    """Each number of the columns is an occurrence of its field by itself."""
+    count = 12_500 * size
+    message = scalar(1, 2) * count + scalar(8, 0) * count + scalar(9, 0) * count
+    return [block(field(2, field(2, message)))]
+
+
+def refs_in_single_numbers(size: int) -> list:
+    count = 12_500 * size
+    return [block(nodes(1_000)), block(field(2, field(3, scalar(1, 1) + scalar(8, 2) + scalar(8, 0) * count)))]
+
+
+def members_in_single_numbers(size: int) -> list:
+    count = 8_000 * size
+    return [block(nodes(1_000)), block(field(2, field(4, scalar(1, 1) + (scalar(8, 0) + scalar(9, 0) + scalar(10, 0)) * count)))]
+
+
+def ids_of_many_ways(size: int) -> list:
+    """The id of one way, told again and again."""
+    return [block(nodes(2)), block(field(2, field(3, scalar(1, 7) * (40_000 * size) + field(8, b"\x02\x02"))))]
+
+
+def unknown_fields(size: int) -> list:
+    unknown = scalar(99, 0) * (20_000 * size)
+    message = field(1, growing(2)) + field(8, bytes(2)) + field(9, bytes(2)) + unknown
+    ways = field(2, unknown + field(3, scalar(1, 1) + unknown + field(8, b"\x02\x02")))
+    return [(b"OSMData", unknown + TABLE + field(2, unknown + field(2, message)) + ways)]
+
+
+def groups_of_a_node(size: int) -> list:
+    return [(b"OSMData", TABLE + nodes(1) * (10_000 * size))]
+
+
+def empty_groups(size: int) -> list:
+    return [block(nodes(2)), (b"OSMData", TABLE + field(2, b"") * (40_000 * size))]
+
+
+def plain_nodes(size: int) -> list:
+    return [block(field(2, field(1, scalar(1, 2) + scalar(8, 0) + scalar(9, 0)) * (10_000 * size)))]
+
+
+def entities_of_odd_spelling(size: int) -> list:
+    """Numbers that are spelled longer than they have to be."""
+    count = 10_000 * size
+    return [block(dense(b"\x82\x00" * count, b"\x80\x80\x00" * count, b"\x80\x00" * count))]
+
+
+def nodes_with_metadata_that_differs(size: int) -> list:
+    """Of two nodes that come together only one may have a time, so that each is a block of its own."""
+    group = field(1, scalar(1, 2) + scalar(8, 0) + scalar(9, 0)) + field(1, scalar(1, 4) + field(4, scalar(2, 1)) + scalar(8, 0) + scalar(9, 0))
+    return [block(field(2, group * (1_000 * size)))]
+
+
+def tiny_frames(size: int) -> list:
+    return [(b"OSMData", TABLE)] * (3_000 * size)
+
+
+def frames_of_unknown_kinds(size: int) -> list:
+    return [(b"Other", b"x")] * (3_000 * size)
+
+
+SHAPES = [shape for name, shape in list(globals().items()) if callable(shape) and getattr(shape, "__annotations__", {}).get("return") is list]
+
+
+# ---- the files
+
+
+def framed(kind: bytes, blob: bytes) -> bytes:
+    header = field(1, kind) + scalar(3, len(blob))
+    return struct.pack(">I", len(header)) + header + blob
+
+
+def raw_file(frames: list) -> bytes:
+    return EMPTY_HEADER + b"".join(framed(kind, field(1, payload)) for kind, payload in frames)
+
+
+def zlib_file(frames: list, pack=lambda payload: zlib.compress(payload, 1), has_size: bool = True) -> bytes:
+    def blob(payload: bytes) -> bytes:
+        return (scalar(2, len(payload)) if has_size else b"") + field(3, pack(payload))
+
+    made = {frame: framed(frame[0], blob(frame[1])) for frame in set(frames)}
+    return EMPTY_HEADER + b"".join(made[frame] for frame in frames)
+
+
+def stored(payload: bytes) -> bytes:
+    return zlib.compress(payload, 0)
+
+
+def after_blocks(bits: str, count: int):
+    """Packs into streams that begin with so many blocks without content, each of these bits, the first bit of each first."""
+    def pack(payload: bytes) -> bytes:
+        # the block with the payload is stored: its three bits, and then whole bytes
+        text = bits * count + "100"
+        text += "0" * (-len(text) % 8)
+        begun = int(text[::-1], 2).to_bytes(len(text) // 8, "little")
+        end = struct.pack("<HH", len(payload), 65535 - len(payload)) + payload + struct.pack(">I", zlib.adler32(payload))
+        return b"\x78\x01" + begun + end
+
+    return pack
+
+
+FIXED = "0" + "10" + "0000000"
+# codes of one bit for the end of the block, for a length and for a distance, by the lengths of 258 and of 1 symbols
+LENGTHS = "".join("100" if symbol in (18, 1) else "000" for symbol in (16, 17, 18, 0, 8, 7, 9, 6, 10, 5, 11, 4, 12, 3, 13, 2, 14, 1))
+DYNAMIC = "0" + "01" + "10000" + "00000" + "0111" + LENGTHS + "".join("1" + format(run - 11, "07b")[::-1] for run in (138, 118)) + "000" + "0"
+
+# name: the frames by the size, and the file that is made of them by the size; and whether the usual form of it is to be as quick
+ZLIB_SHAPES = {
+    "blocks of fixed codes": (lambda size: [block(nodes(1_000))], lambda frames, size: zlib_file(frames, after_blocks(FIXED, 50_000 * size)), False),
+    "blocks of their own codes": (lambda size: [block(nodes(1_000))], lambda frames, size: zlib_file(frames, after_blocks(DYNAMIC, 3_000 * size)), False),
+    "blobs without raw_size": (lambda size: [block(nodes(11_000))] * (10 * size), lambda frames, size: zlib_file(frames, has_size=False), True),
+    "stored blobs without raw_size": (lambda size: [block(nodes(11_000))] * (10 * size), lambda frames, size: zlib_file(frames, stored, False), True),
+    "a blob without raw_size": (lambda size: [block(nodes(40_000 * size))], lambda frames, size: zlib_file(frames, has_size=False), True),
+}
+
+# ---- the runs
+
+# what follows the program, and how often it reads IN at most
+COMMANDS = {
+    "check": (["check", "in"], 1),
+    "show": (["show", "in"], 2),
+    "convert": (["convert", "in", "out"], 2),
+    "extract": (["extract", "--box=0,0,1,1", "in", "out"], 3),
+    "extract --parents": (["extract", "--parents", "--box=0,0,1,1", "in", "out"], 4),
+}
+# what these say in full is longer than the file by far
+NOT_SHOWN = {nodes_of_a_long_user, a_long_key_in_each_node, a_long_key_in_each_way}
+
+
+def files_of(shape, size: int) -> dict:
+    """The files of a shape, each with how many bytes it unpacks to: for pbfcut and for pbfcutz, or for pbfcutz alone and in the usual form."""
+    if callable(shape):
+        frames = shape(size)
+        raw = raw_file(frames)
+        return {"pbfcut": (raw, 0), "pbfcutz": (zlib_file(frames), len(raw))}
+    make_frames, make, has_usual = ZLIB_SHAPES[shape]
+    frames = make_frames(size)
+    unpacked = len(raw_file(frames))
+    files = {"pbfcutz": (make(frames, size), unpacked)}
+    if has_usual:
+        files["usual"] = zlib_file(frames, stored if "stored" in shape else zlib.compress), unpacked
+    return files
+
+
+def made_apart(make) -> dict:
+    """Writes files, in a process of its own, since the memory of this one counts as that of each program that it starts. It answers how many bytes
+    a pass over each of them reads and unpacks."""
+    reading, writing = os.pipe()
+    pid = os.fork()
+    if pid == 0:
+        read = {}
+        for name, (content, unpacked) in make().items():
+            with open(name, "wb") as opened:
+                opened.write(content)
+            read[name] = len(content) + unpacked
+        os.write(writing, repr(read).encode())
+        os._exit(0)
+    os.close(writing)
+    with os.fdopen(reading) as told:
+        read = told.read()
+    if os.waitpid(pid, 0)[1]:
+        sys.exit("tests/growth.py: a file can't be made")
+    return ast.literal_eval(read)
+
+
+class Failed(Exception):
+    """A run that did not end with status 0."""
+
+
+def run(program: str, words: list, file: str) -> tuple:
+    """The seconds of a processor, the greatest memory in KB, and how many bytes were printed and written."""
+    for name in ("out", "said"):
+        open(name, "wb").close()
+    os.unlink("out")
+    actions = [(os.POSIX_SPAWN_OPEN, 0, os.devnull, os.O_RDONLY, 0), (os.POSIX_SPAWN_OPEN, 1, "said", os.O_WRONLY, 0)]
+    words = [program, *(file if word == "in" else word for word in words)]
+    pid = os.posix_spawn(program, words, os.environ, file_actions=actions)
+    _, status, usage = os.wait4(pid, 0)
+    if status:
+        raise Failed(f"{words}: status {os.waitstatus_to_exitcode(status)}")
+    written = sum(os.path.getsize(name) for name in ("out", "said") if os.path.exists(name))
+    return usage.ru_utime + usage.ru_stime, usage.ru_maxrss, written
+
+
+class Row:
+    """One command over one file that grows. A machine may be slower for some seconds, so what is compared was run one after the other, and what
+    counts is the least of some tries."""
+
+    def __init__(self, name: str, file: str, command: str, read: dict):
+        self.name, self.file, self.read = f"{file} {command}: {name}", file, read
+        self.words, self.passes = COMMANDS[command]
+        self.has_usual = f"usual.{SIZES[0]}" in read
+        self.seconds, self.memory = {}, {}
+        # by size: the time beside that of half the file, of as many bytes hashed, and of the usual form; the memory beside that of half the file
+        self.growth, self.share, self.beside, self.memory_growth = {}, {}, {}, {}
+
+    def least(self, kept: dict, size: int, found: float):
+        kept[size] = min(found, kept.get(size, found))
+
+    def run(self):
+        """Runs it once over each size of the file."""
+        second_per_byte = run("pbfcut", ["check", "--digests", "in"], "passed.over")[0] / PASSED_OVER
+        last = memory_last = None
+        for size in SIZES:
+            seconds, memory, written = run(self.file, self.words, f"{self.file}.{size}")
+            self.least(self.seconds, size, seconds)
+            self.least(self.memory, size, memory)
+            most = MOST_PASSES * second_per_byte * (self.read[f"{self.file}.{size}"] * self.passes + written)
+            self.least(self.share, size, seconds / (most + LONG_ENOUGH))
+            if last:
+                self.least(self.growth, size, seconds / last if seconds > LONG_ENOUGH else 0)
+                self.least(self.memory_growth, size, memory / memory_last if memory > ANY_FILE else 0)
+            if self.has_usual:
+                usual = run(self.file, self.words, f"usual.{size}")[0]
+                self.least(self.beside, size, seconds / usual if seconds > LONG_ENOUGH else 0)
+            last, memory_last = seconds, memory
+
+    def faults(self):
+        for size in SIZES:
+            seconds = f"{self.seconds[size]:.3f} s over {size} times the file"
+            if self.share[size] > 1:
+                yield f"{seconds}, {self.share[size]:.2f} times as long as is right"
+            if self.growth.get(size, 0) > MOST_GROWTH:
+                yield f"{seconds}, {self.growth[size]:.2f} times as long as over half of it"
+            if self.beside.get(size, 0) > MOST_GROWTH:
+                yield f"{seconds}, {self.beside[size]:.2f} times as long as over its usual form"
+            if self.memory_growth.get(size, 0) > MOST_GROWTH:
+                yield f"{self.memory[size]} KB over {size} times the file, {self.memory_growth[size]:.2f} times as much as over half of it"
+
+    def line(self) -> str:
+        times = " ".join(f"{self.seconds[size] * 1000:7.1f}" for size in SIZES)
+        last = SIZES[-1]
+        return f"{self.name:70} {times} ms {self.growth[last]:5.2f} {self.share[last]:5.2f} {self.memory[last] // 1000:4} MB"
+
+
+def rows_of(shape) -> list:
+    """The rows of a shape, each run again as long as it is out of place: other processes may be in its way."""
+    read = {}
+    for size in SIZES:
+        read.update(made_apart(lambda: {f"{name}.{size}": made for name, made in files_of(shape, size).items()}))
+    name = shape.__name__.replace("_", " ") if callable(shape) else shape
+    commands = [command for command in COMMANDS if not (shape in NOT_SHOWN and command == "show")]
+    programs = [program for program in ("pbfcut", "pbfcutz") if f"{program}.{SIZES[0]}" in read]
+    rows = [Row(name, program, command, read) for program in programs for command in commands]
+    for row in rows:
+        row.run()
+        for _ in range(TRIES):
+            if list(row.faults()):
+                row.run()
+    return rows
+
+
+def main():
+    words = [word for word in sys.argv[1:] if not word.startswith("--")]
+    if not words or {word for word in sys.argv[1:] if word.startswith("--")} - {"--table"}:
+        sys.exit(__doc__)
+    program, names = os.path.abspath(words[0]), tuple(words[1:])
+    wrong, count = [], 0
+    with tempfile.TemporaryDirectory(prefix="pbfcut-growth-") as folder:
+        os.chdir(folder)
+        for name in ("pbfcut", "pbfcutz"):
+            os.symlink(program, name)
+        made_apart(lambda: {"passed.over": (EMPTY_HEADER + framed(b"Other", bytes(PASSED_OVER)), 0)})
+        for shape in SHAPES + list(ZLIB_SHAPES):
+            if names and not (shape.__name__ if callable(shape) else shape).startswith(names):
+                continue
+            try:
+                rows = rows_of(shape)
+            except Failed as failed:
+                sys.exit(f"tests/growth.py: {failed}")
+            count += len(rows)
+            wrong += [f"tests/growth.py: {row.name}: {fault}" for row in rows for fault in row.faults()]
+            for row in rows if "--table" in sys.argv else []:
+                print(row.line(), flush=True)
+        os.chdir("/")
+    if wrong:
+        sys.exit("\n".join(wrong))
+    print(f"tests/growth.py: {count} commands take at most {MOST_GROWTH} times as long over twice the file")
+
+
+if __name__ == "__main__":
+    main()
