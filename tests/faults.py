@@ -4,9 +4,11 @@
 usage: tests/faults.py PROGRAM [--all]
 
 Whatever is refused or fails, the program gives its usual answer, or ends with the one status and line that fits; and what it wrote to
-OUT and to standard output is a beginning of what it usually writes. The same of pbfcutz, over compressed files. tests/faults.c does the refusing, and cc builds it: where there is
-no cc, this is told, and nothing is run. With --all more files are read, and from each request on all are refused over the sample too. A
-series of faults ends at its first run that is out of place, and then the status is 1.
+OUT and to standard output is a beginning of what it usually writes. The same of pbfcutz, over compressed files. tests/faults.c does the
+refusing, and cc builds it. With --all more files are read, and from each request on all are refused over the sample too. A series of
+faults ends at its first run that is out of place.
+
+Exit status: 0 each run ended as it may; 1 one did not; 2 wrong words; 77 there is no cc here, so nothing was run.
 """
 
 import concurrent.futures
@@ -27,6 +29,8 @@ from published import packed
 
 SAMPLE = os.path.join(TOP, "sample", "town.osm.pbf")
 SECONDS = 60
+# what tests/run calls skipped
+NOTHING_TO_RUN = 77
 MOST = 20_000
 
 ROWS = ["three_dense_nodes", "relation_and_its_parent", "node_with_metadata_and_a_tag", "second_header", "unknown_required_feature"]
@@ -187,7 +191,7 @@ def main(words: list) -> int:
         library = build(folder)
         if not library:
             print("faults: there is no cc here, so nothing was run")
-            return 0
+            return NOTHING_TO_RUN
         done = all_series(words[0], library, every)
     runs, met = sum(one[0] for one in done), sum(one[1] for one in done)
     wrong = [one[2] for one in done if one[2]]
