@@ -20,7 +20,7 @@ use pbf_frame::{FrameKind, HEAD_ROOM, RAW, RAW_LIMIT, RAW_SIZE, ZLIB_DATA, put_f
 use pbf_wire::{Message, last_field, shortest_spelling};
 use std::alloc::{AllocError, Global};
 
-/// The room in front of a stream for the other fields of its blob: two tags and two varints.
+/// The room before a stream for the other fields of its blob: two tags and two varints.
 const FIELDS_ROOM: usize = 32;
 
 /// The longest room: a stream may be longer than its payload.
