@@ -6,6 +6,8 @@ use Rattle.clap.specs.declared.parser.matches.ArgMatches.TheViews.{out-ArgMatche
 use Rattle.clap.proofs.TakesLemmas.{some_rows}
 use Rattle.clap.specs.Simple.{argument_words, entered, label_of, names_of, rows_at}
 use Rattle.clap.specs.Walk.{answers_to, stop_after}
+use Rattle.pbfcut_cli.specs.declared.programs.Program.{Program}
+use Rattle.pbfcut_cli.specs.declared.programs.Program.TheVariants.{Pbfcut, Pbfcutz}
 use Rattle.pbfcut_cli.specs.Words.{IsOffered, program_app}
 
 -- the text of a reference, or the empty one
@@ -40,12 +42,12 @@ entered_name a None p e = cc
 entered_name a (Some q) p e = found_name (λ s. answers_to q.0 (label_of s)) a.subs q.1 p e
 
 -- the words name a command of the program
-pub named : (words : List Text) (p : Text × List Row)
-    → subcommand_of program_app words ≡ Some p → IsOffered (Some p)
-named words p e =
-    let stop = stop_after (built program_app).top.rules (names_of (built program_app))
-    (argument_words program_app words) in
-    elim (entered_name (built program_app) stop p e) [
+pub named : (program : Program) (words : List Text) (p : Text × List Row)
+    → subcommand_of (program_app program) words ≡ Some p → IsOffered (Some p)
+named program words p e =
+    let stop = stop_after (built (program_app program)).top.rules (names_of (built (program_app program)))
+    (argument_words (program_app program) words) in
+    elim (entered_name (built (program_app program)) stop p e) [
       | inl h ↦ inl h
       | inr (inl h) ↦ inr (inl h)
       | inr (inr (inl h)) ↦ inr (inr (inl h))
@@ -54,15 +56,16 @@ named words p e =
       | inr (inr (inr (inr (inr h)))) ↦ absurd h
     ]
 
-pub simple : is_simple program_app ≡ true
-simple = refl
+pub simple : (program : Program) → is_simple (program_app program) ≡ true
+simple Pbfcut = refl
+simple Pbfcutz = refl
 
 -- if the matches are those of the words and have a subcommand, it is a command of the program
-pub offered : (m : ArgMatches) (words : List Text) → has_subcommand m ≡ true
-    → subcommand_rows_of m ≡ subcommand_of program_app words → IsOffered (subcommand_rows_of m)
-offered m words has same =
+pub offered : (program : Program) (m : ArgMatches) (words : List Text) → has_subcommand m ≡ true
+    → subcommand_rows_of m ≡ subcommand_of (program_app program) words → IsOffered (subcommand_rows_of m)
+offered program m words has same =
     go (subcommand_rows_of m) (sym (some_rows (out-ArgMatches m).subcommand) ∙ has) (sym same)
   where
-    go : (o : Option (Text × List Row)) → is_some o ≡ true → subcommand_of program_app words ≡ o → IsOffered o
+    go : (o : Option (Text × List Row)) → is_some o ≡ true → subcommand_of (program_app program) words ≡ o → IsOffered o
     go None h e = cc
-    go (Some p) h e = named words p e
+    go (Some p) h e = named program words p e

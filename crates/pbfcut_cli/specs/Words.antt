@@ -8,6 +8,8 @@ use Rattle.osm_box.specs.Degrees.{box_of_text}
 use Rattle.osm_box.specs.declared.bounding_box.BoxFault.{BoxFault}
 use Rattle.pbfcut_cli.specs.declared.words.Command.{Command}
 use Rattle.pbfcut_cli.specs.declared.words.Command.TheVariants.{Blobs, Show, Check, Convert, Extract, Help}
+use Rattle.pbfcut_cli.specs.declared.programs.Program.{Program}
+use Rattle.pbfcut_cli.specs.declared.programs.Program.TheVariants.{Pbfcut, Pbfcutz}
 use Rattle.pbfcut_cli.specs.declared.words.CliFault.{CliFault}
 use Rattle.pbfcut_cli.specs.declared.words.CliFault.TheVariants.{Line, Box}
 
@@ -34,6 +36,9 @@ abbrev pub parents_rule : Rule
 parents_rule =
     record (new_rule (codes "parents")) { long = Some (codes "parents"); action = Some SetTrue }
 
+abbrev pub raw_rule : Rule
+raw_rule = record (new_rule (codes "raw")) { long = Some (codes "raw"); action = Some SetTrue }
+
 -- `--box`
 abbrev pub lone_box_rule : Rule
 lone_box_rule = record (new_rule (codes "box")) { long = Some (codes "box"); value_names = 1; required = true }
@@ -53,19 +58,24 @@ show_app = with_rule (with_rule (with_rule (new_app (codes "show")) dates_rule) 
 abbrev pub check_app : App
 check_app = with_rule (with_rule (with_rule (new_app (codes "check")) progress_rule) digests_rule) input_rule
 
+-- a command that writes a file, with `--raw` if its blobs would be compressed otherwise
+abbrev pub with_raw : Program → App → App
+with_raw Pbfcut app = app
+with_raw Pbfcutz app = with_rule app raw_rule
+
 -- `convert` with its options
 abbrev pub conversion_app : App
 conversion_app = with_rule (with_rule (new_app (codes "convert")) progress_rule) digests_rule
 
-abbrev pub convert_app : App
-convert_app = with_rule (with_rule conversion_app input_rule) output_rule
+abbrev pub convert_app : Program → App
+convert_app program = with_rule (with_rule (with_raw program conversion_app) input_rule) output_rule
 
 -- `extract` with its flags
 abbrev pub options_app : App
 options_app = with_rule (with_rule (with_rule (new_app (codes "extract")) parents_rule) progress_rule) digests_rule
 
-abbrev pub extract_app : App
-extract_app = with_rule (with_rule (with_rule options_app box_rule) input_rule) output_rule
+abbrev pub extract_app : Program → App
+extract_app program = with_rule (with_rule (with_rule (with_raw program options_app) box_rule) input_rule) output_rule
 
 abbrev pub versioned : Shape → Shape
 versioned s = record s { has_version = true }
@@ -81,11 +91,11 @@ abbrev pub bare_app : App
 bare_app = on_top settled (new_app (codes "pbfcut"))
 
 -- the commands that write a file
-abbrev pub writers_app : App
-writers_app = with_subcommand (with_subcommand bare_app extract_app.top) convert_app.top
+abbrev pub writers_app : Program → App
+writers_app program = with_subcommand (with_subcommand bare_app (extract_app program).top) (convert_app program).top
 
-abbrev pub program_app : App
-program_app = with_subcommand (with_subcommand (with_subcommand writers_app check_app.top)
+abbrev pub program_app : Program → App
+program_app program = with_subcommand (with_subcommand (with_subcommand (writers_app program) check_app.top)
     show_app.top) blobs_app.top
 
 -- ---- what the words mean
@@ -108,13 +118,15 @@ ReadsAs name rows (Show input dates progress) = (name ≡ codes "show")
 ReadsAs name rows (Check input progress digests) = (name ≡ codes "check")
     × (input.now ≡ argument_value (codes "IN") rows) × ReadsFlag progress (codes "progress") rows
     × ReadsFlag digests (codes "digests") rows
-ReadsAs name rows (Convert input output progress digests) = (name ≡ codes "convert")
+ReadsAs name rows (Convert input output progress digests raw) = (name ≡ codes "convert")
     × (input.now ≡ argument_value (codes "IN") rows) × (output.now ≡ argument_value (codes "OUT") rows)
     × ReadsFlag progress (codes "progress") rows × ReadsFlag digests (codes "digests") rows
-ReadsAs name rows (Extract area parents input output progress digests) = (name ≡ codes "extract")
+    × ReadsFlag raw (codes "raw") rows
+ReadsAs name rows (Extract area parents input output progress digests raw) = (name ≡ codes "extract")
     × (box_of_text (argument_value (codes "box") rows) ≡ Ok area) × ReadsFlag parents (codes "parents") rows
     × (input.now ≡ argument_value (codes "IN") rows) × (output.now ≡ argument_value (codes "OUT") rows)
     × ReadsFlag progress (codes "progress") rows × ReadsFlag digests (codes "digests") rows
+    × ReadsFlag raw (codes "raw") rows
 ReadsAs name rows (Help text) = ⊥
 
 abbrev pub IsRead : Option (Text × List Row) → Command → Type 0
@@ -159,5 +171,5 @@ abbrev pub word_texts : List (Bor Text) → List Text
 word_texts = map (λ w. w.now)
 
 -- the subcommand that the words name, with its matches, as `clap` defines them
-abbrev pub command_words : List (Bor Text) → Option (Text × List Row)
-command_words words = subcommand_of program_app (word_texts words)
+abbrev pub command_words : Program → List (Bor Text) → Option (Text × List Row)
+command_words program words = subcommand_of (program_app program) (word_texts words)

@@ -21,12 +21,15 @@ ghost use Rattle.pbfcut_cli.specs.Words.{
   parents_rule,
   progress_rule,
   program_app,
+  raw_rule,
   show_app,
   versioned,
+  with_raw,
   writers_app,
 };
 
 use crate::help::{self, Help};
+use crate::programs::Program;
 use clap::{Arg, ArgAction, Command};
 use std::alloc::{AllocError, Global};
 
@@ -80,6 +83,15 @@ fn parents<'a>(alloc: Global) -> Arg<'a>
         .help(help::PARENTS)
 }
 
+fn raw<'a>(alloc: Global) -> Arg<'a>
+    ensures { IsArgument raw_rule result }
+{
+    Arg::new(alloc, "raw")
+        .long("raw")
+        .action(ArgAction::SetTrue)
+        .help(help::RAW)
+}
+
 /// The box, as text, by one name.
 fn box_alone<'a>(alloc: Global) -> Arg<'a>
     ensures { IsArgument lone_box_rule result }
@@ -130,6 +142,17 @@ fn with_command<'a>(command: Made<'a>, below: Made<'a>) -> Made<'a>
     command?.subcommand(below?)
 }
 
+/// The command with `--raw`, if the program compresses what it writes.
+fn with_raw<'a>(command: Made<'a>, alloc: Global, program: Program) -> Made<'a>
+    requires local { IfOk command HasNoGlobals }
+    ensures { IfOk result (IsWith (with_raw program) command.entry) }
+{
+    match program {
+        Program::Pbfcut => command,
+        Program::Pbfcutz => with_arg(command, raw(alloc)),
+    }
+}
+
 fn blobs<'a>(alloc: Global, help: &'a Help) -> Made<'a>
     ensures { IfOk result (IsCommand blobs_app) }
 {
@@ -166,10 +189,12 @@ fn conversion<'a>(alloc: Global, help: &'a Help) -> Made<'a>
     with_arg(command, digests(alloc, help.digests))
 }
 
-fn convert<'a>(alloc: Global, help: &'a Help) -> Made<'a>
-    ensures { IfOk result (IsCommand convert_app) }
+fn convert<'a>(alloc: Global, program: Program) -> Made<'a>
+    ensures { IfOk result (IsCommand (convert_app program)) }
 {
-    let command = with_arg(conversion(alloc, help), input(alloc, help));
+    let help = program.help();
+    let command = with_raw(conversion(alloc, help), alloc, program);
+    let command = with_arg(command, input(alloc, help));
     with_arg(command, output(alloc))
 }
 
@@ -197,10 +222,12 @@ fn with_area<'a>(command: Made<'a>, alloc: Global) -> Made<'a>
     with_arg(command, area(alloc)?)
 }
 
-fn extract<'a>(alloc: Global, help: &'a Help) -> Made<'a>
-    ensures { IfOk result (IsCommand extract_app) }
+fn extract<'a>(alloc: Global, program: Program) -> Made<'a>
+    ensures { IfOk result (IsCommand (extract_app program)) }
 {
-    let command = with_area(options(alloc, help), alloc);
+    let help = program.help();
+    let command = with_raw(options(alloc, help), alloc, program);
+    let command = with_area(command, alloc);
     let command = with_arg(command, input(alloc, help));
     with_arg(command, output(alloc))
 }
@@ -228,18 +255,19 @@ fn bare<'a>(alloc: Global, help: &'a Help) -> Made<'a>
 }
 
 /// The command line with the commands that write a file.
-fn writers<'a>(alloc: Global, help: &'a Help) -> Made<'a>
-    ensures { IfOk result (IsCommand writers_app) }
+fn writers<'a>(alloc: Global, program: Program) -> Made<'a>
+    ensures { IfOk result (IsCommand (writers_app program)) }
 {
-    let command = with_command(bare(alloc, help), extract(alloc, help));
-    with_command(command, convert(alloc, help))
+    let command = with_command(bare(alloc, program.help()), extract(alloc, program));
+    with_command(command, convert(alloc, program))
 }
 
-/// The command line of a program with this help, with the commands in the order in which help lists them.
-pub(crate) fn command_line<'a>(alloc: Global, help: &'a Help) -> Result<Command<'a>, AllocError>
-    ensures { IfOk result (IsCommand program_app) }
+/// The command line of a program, with the commands in the order in which help lists them.
+pub(crate) fn command_line<'a>(alloc: Global, program: Program) -> Result<Command<'a>, AllocError>
+    ensures { IfOk result (IsCommand (program_app program)) }
 {
-    let command = with_command(writers(alloc, help), check(alloc, help));
+    let help = program.help();
+    let command = with_command(writers(alloc, program), check(alloc, help));
     let command = with_command(command, show(alloc, help));
     with_command(command, blobs(alloc, help))
 }

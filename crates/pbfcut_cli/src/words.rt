@@ -45,15 +45,16 @@ pub enum Command<'a> {
         progress: bool,
         digests: bool,
     },
-    /// `convert IN OUT`: write all entities of the file at `input` to a new file at `output`.
+    /// `convert IN OUT`: write all entities of the file at `input` to a new file at `output`, with `raw` in raw blobs.
     Convert {
         input: &'a str,
         output: &'a str,
         progress: bool,
         digests: bool,
+        raw: bool,
     },
     /// `extract [--parents] --box=L,B,R,T IN OUT`: cut `area` out of the file at `input` into a new file at `output`, with
-    /// `parents` also all relations that contain kept ones.
+    /// `parents` also all relations that contain kept ones, and with `raw` in raw blobs.
     Extract {
         area: BoundingBox,
         parents: bool,
@@ -61,6 +62,7 @@ pub enum Command<'a> {
         output: &'a str,
         progress: bool,
         digests: bool,
+        raw: bool,
     },
     /// Help or the version is wanted: its text, with its line ends, for standard output.
     Help(String),
@@ -133,11 +135,13 @@ fn command_in<'a>(matches: &ArgMatches<'a>) -> Result<Command<'a>, BoxFault>
             let output = value(inner, "OUT");
             let progress = flag(inner, "progress");
             let digests = flag(inner, "digests");
+            let raw = flag(inner, "raw");
             Ok(Command::Convert {
                 input,
                 output,
                 progress,
                 digests,
+                raw,
             })
         }
         _ => {
@@ -146,6 +150,7 @@ fn command_in<'a>(matches: &ArgMatches<'a>) -> Result<Command<'a>, BoxFault>
             let output = value(inner, "OUT");
             let progress = flag(inner, "progress");
             let digests = flag(inner, "digests");
+            let raw = flag(inner, "raw");
             Ok(Command::Extract {
                 area,
                 parents,
@@ -153,6 +158,7 @@ fn command_in<'a>(matches: &ArgMatches<'a>) -> Result<Command<'a>, BoxFault>
                 output,
                 progress,
                 digests,
+                raw,
             })
         }
     }
@@ -188,13 +194,13 @@ pub fn read_words<'a>(
     words: &'a [&'a str],
 ) -> Result<Command<'a>, CliFault>
     // A command is help, or what `clap` reads in the words.
-    ensures read { IfOk result (λ c. IsHelp c ⊎ IsRead (command_words words.now) c) }
+    ensures read { IfOk result (λ c. IsHelp c ⊎ IsRead (command_words program words.now) c) }
     // The fault of a box comes only for a box that has it.
-    ensures fault { IfErr result (FitsFault (command_words words.now)) }
+    ensures fault { IfErr result (FitsFault (command_words program words.now)) }
     // Words that `clap` takes give a command that is not help, or a fault other than `Line`.
-    ensures taken { takes program_app (word_texts words.now) ≡ true → IsTaken result }
+    ensures taken { takes (program_app program) (word_texts words.now) ≡ true → IsTaken result }
 {
-    let command_line = command_line(alloc, program.help())?;
+    let command_line = command_line(alloc, program)?;
     match command_line.try_get_matches_from(words) {
         Ok(matches) => match command_in(&matches) {
             Ok(command) => Ok(command),
