@@ -15,8 +15,8 @@ ghost use Rattle.pbf_pass.specs.Stops.{Caused, ReadFailed, WriteFailed};
 ghost use Rattle.pbf_published.specs.Published.{ChangedOfThree, GaveOrNone, GavePublished, UnlessChanged, raw_of};
 
 use crate::input::{
-    PublishedHalt, PublishedInput, close, compare, compare_unless_spared, first_digest, lacks_memory,
-    open, published_outcome, two_inflaters,
+    PublishedHalt, PublishedInput, close, compare, compare_unless_spared, first_digest,
+    lacks_memory, open, published_outcome, two_inflaters,
 };
 use osm_entity::BoundingBox;
 use pbf_frame::{Drain, Feed};

@@ -115,7 +115,11 @@ pub fn compare(digest: [u8; 32], later: Option<[u8; 32]>, pass: u8) -> Result<()
 }
 
 /// The same of the second pass of a call that may spare it.
-pub fn compare_unless_spared(receipt: &InputReceipt, digest: [u8; 32], second: Option<[u8; 32]>) -> Result<(), Stop>
+pub fn compare_unless_spared(
+    receipt: &InputReceipt,
+    digest: [u8; 32],
+    second: Option<[u8; 32]>,
+) -> Result<(), Stop>
     ensures same { OnOk result (receipt.now.spared ≡ false → second ≡ Some digest) }
     ensures stops { IfErr result (λ s. (s ≡ stop.Changed 2)
         × (receipt.now.spared ≡ false) × (second ≡ Some digest → ⊥)) }

@@ -14,8 +14,8 @@ pub use checking::check_with_receipt;
 pub use converting::convert_with_receipt;
 pub use extracting::extract_sorted_with_receipt;
 pub use input::{
-    PublishedFeed, PublishedHalt, PublishedInput, close, compare, compare_unless_spared, first_digest,
-    lacks_memory, open, published_outcome, stopped,
+    PublishedFeed, PublishedHalt, PublishedInput, close, compare, compare_unless_spared,
+    first_digest, lacks_memory, open, published_outcome, stopped,
 };
 pub use parents::extract_parents_sorted_with_receipt;
 pub use showing::{list_blobs, show_with_receipt};

@@ -36,9 +36,7 @@ pub(crate) fn with_tip(alloc: Global, text: String) -> Result<String, AllocError
         None => None,
     };
     match (tip, rest.split_once("\n\n")) {
-        (Some(tip), Some((_, usage))) => {
-            format!(in alloc; "{found}\n\n  tip: {tip}\n\n{usage}")
-        }
+        (Some(tip), Some((_, usage))) => { format!(in alloc; "{found}\n\n  tip: {tip}\n\n{usage}") }
         _ => Ok(text),
     }
 }

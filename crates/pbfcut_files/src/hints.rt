@@ -196,7 +196,9 @@ fn of_write(rt: &HostRuntime, asked: Asked<'_>, failed: FailedWrite) -> Option<S
     match failed.target {
         Target::Out => {
             let output = asked.output?;
-            format!(in rt.alloc(); "{output}: {error}: remove {output}, since it is incomplete").ok()
+            format!(in rt.alloc();
+                "{output}: {error}: remove {output}, since it is incomplete"
+            ).ok()
         }
         Target::StandardOutput => format!(in rt.alloc(); "standard output: {error}").ok(),
     }

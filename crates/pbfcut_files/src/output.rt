@@ -11,10 +11,7 @@ use std::io::{self, Write};
 fn printed(outcome: io::Result<()>) -> Result<(), Failure> {
     match outcome {
         Ok(()) => Ok(()),
-        Err(error) => Err(Failure::of_write(
-            Target::StandardOutput,
-            error.raw_os_error(),
-        )),
+        Err(error) => Err(Failure::of_write(Target::StandardOutput, error.raw_os_error())),
     }
 }
 

@@ -11,10 +11,10 @@ use pbf_frame::Stop;
 use pbfcut_cli::{Command, Ending, Program, normalize_words, read_words, status};
 use pbfcut_files::{Asked, Failure, Input, print_help, tell_hint, tell_order};
 use readers::{run_blobs, run_check, run_show};
-use std::fs::File;
-use std::process::ExitCode;
 use std::env::{self, Env};
+use std::fs::File;
 use std::io;
+use std::process::ExitCode;
 use writers::{Files, run_convert, run_extract, run_extract_parents};
 
 /// The room for the first word of a command line: that of the longest path that Linux has.

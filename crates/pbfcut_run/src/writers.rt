@@ -8,8 +8,8 @@ use pbf_pass::HashedDrain;
 use pbfcut::Counts;
 use pbfcut_cli::Ending;
 use pbfcut_files::{
-    Failure, Input, Noted, Target, create_output, end_line, open_pass, print_counts, print_digest, print_unpacked,
-    refuse_existing, report_refusal, tell_empty,
+    Failure, Input, Noted, Target, create_output, end_line, open_pass, print_counts, print_digest,
+    print_unpacked, refuse_existing, report_refusal, tell_empty,
 };
 use std::fs::File;
 use std::hash::RandomState;
