@@ -1,2 +1,3 @@
 pub mod PublishedLemmas
 pub mod TracedLemmas
+pub mod PackingLemmas

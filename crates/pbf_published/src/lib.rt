@@ -6,6 +6,8 @@ mod checking;
 mod converting;
 mod extracting;
 mod input;
+mod packed;
+mod packing;
 mod parents;
 mod showing;
 mod traced;
@@ -17,6 +19,7 @@ pub use input::{
     PublishedFeed, PublishedHalt, PublishedInput, close, compare, compare_unless_spared,
     first_digest, lacks_memory, open, published_outcome, stopped,
 };
+pub use packed::{convert_packed, extract_packed, extract_parents_packed};
 pub use parents::extract_parents_sorted_with_receipt;
 pub use showing::{list_blobs, show_with_receipt};
 pub use traced::TracedFeed;
