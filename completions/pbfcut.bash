@@ -11,14 +11,16 @@ _pbfcut_words() {
 }
 
 _pbfcut() {
-  local word=${COMP_WORDS[COMP_CWORD]} command=${COMP_WORDS[1]-}
+  local word=${COMP_WORDS[COMP_CWORD]} command=${COMP_WORDS[1]-} raw=
+  [ "${COMP_WORDS[0]##*/}" = pbfcutz ] && raw=--raw
   if [ "$COMP_CWORD" -eq 1 ]; then
     _pbfcut_words "$word" "extract convert check show blobs help --help --version"
     return
   fi
   case $command:$word in
-    extract:-*) _pbfcut_words "$word" "--box= --parents --progress --digests --help" ;;
-    convert:-* | check:-*) _pbfcut_words "$word" "--progress --digests --help" ;;
+    extract:-*) _pbfcut_words "$word" "--box= --parents --progress --digests $raw --help" ;;
+    convert:-*) _pbfcut_words "$word" "--progress --digests $raw --help" ;;
+    check:-*) _pbfcut_words "$word" "--progress --digests --help" ;;
     show:-*) _pbfcut_words "$word" "--dates --progress --help" ;;
     blobs:-*) _pbfcut_words "$word" "--help" ;;
     help:*) _pbfcut_words "$word" "extract convert check show blobs" ;;

@@ -16,3 +16,6 @@ complete -c $program -n "__fish_seen_subcommand_from extract" -l parents -d "kee
 complete -c $program -n "__fish_seen_subcommand_from show" -l dates -d "print times from 1970 to 2099 as dates"
 complete -c $program -n "__fish_seen_subcommand_from extract convert check show" -l progress -d "report progress on standard error"
 complete -c $program -n "__fish_seen_subcommand_from extract convert check" -l digests -d "print SHA-256 digests"
+if test $program = pbfcutz
+    complete -c $program -n "__fish_seen_subcommand_from extract convert" -l raw -d "write raw blobs"
+end

@@ -102,10 +102,9 @@ macro_rules! after_convert {
     ($blobs:literal, $examples:literal) => {
         after_arguments_of_writer!(
             "OUT has the same nodes, ways and relations as IN in the same order, with dense\n\
-            nodes, in raw blobs, and with at most 8000 entities in a block. Its form is\n\
-            fixed: converting OUT again gives the same bytes. What the format does not name\n\
-            is left out. The command prints how many entities it wrote, as\n\
-            'nodes 3 ways 0 relations 0'.\n\
+            nodes, and with at most 8000 entities in a block. Its form is fixed: converting\n\
+            OUT again gives the same bytes. What the format does not name is left out. The\n\
+            command prints how many entities it wrote, as 'nodes 3 ways 0 relations 0'.\n\
             IN is read twice, so it must be a file, not a pipe. A run that stops early may\n\
             leave an incomplete OUT: delete it.\n",
             $blobs,
@@ -180,6 +179,8 @@ pub(crate) const PROGRESS: &str = "Show progress on standard error";
 
 pub(crate) const PARENTS: &str = "Also keep relations that contain kept ones";
 
+pub(crate) const RAW: &str = "Write raw blobs, which pbfcut reads too";
+
 pub(crate) const BOX: &str = "Edges of the box, in degrees; also --bbox";
 
 pub(crate) const EXTRACT: &str = "Cut a box out of IN and write it to OUT, with complete ways";
@@ -204,33 +205,32 @@ pub(crate) const OF_PBFCUT: Help = Help {
     after: after_arguments_of_writer!(
         "'pbfcut help COMMAND' prints what a command does, its units and an example.\n",
         "pbfcut reads and writes files with raw blobs, and refuses compressed ones.\n\
-        Published files are compressed: pbfcutz, which takes the same words, reads them,\n\
-        and pbfcut-any cuts them and writes a compressed file.\n",
+        Published files are compressed: pbfcutz, which takes the same words, cuts them\n\
+        and writes a compressed file.\n",
         "Example, which cuts London out of a published file of England:\n  \
-          pbfcut-any --box=-0.5,51.25,0.3,51.7 england.osm.pbf london.osm.pbf\n"
+          pbfcutz extract --box=-0.5,51.25,0.3,51.7 england.osm.pbf london.osm.pbf\n"
     ),
     extract: after_extract!(
         "IN must have raw blobs, and OUT has raw blobs. Published files are compressed:\n\
-        pbfcut-any cuts them, and writes a compressed file.\n",
+        'pbfcutz extract' cuts them, and writes a compressed file.\n",
         "Examples, which cut London out of a published file of England:\n  \
-          pbfcut-any --box=-0.5,51.25,0.3,51.7 england.osm.pbf london.osm.pbf\n\
-        or, with osmium:\n  \
-          osmium cat england.osm.pbf -f pbf,pbf_compression=none -o raw.osm.pbf\n  \
-          pbfcut extract --box=-0.5,51.25,0.3,51.7 raw.osm.pbf cut.osm.pbf\n  \
-          osmium cat cut.osm.pbf -o london.osm.pbf\n"
+          pbfcutz extract --box=-0.5,51.25,0.3,51.7 england.osm.pbf london.osm.pbf\n\
+        or, with a raw file between:\n  \
+          pbfcutz convert --raw england.osm.pbf raw.osm.pbf\n  \
+          pbfcut extract --box=-0.5,51.25,0.3,51.7 raw.osm.pbf cut.osm.pbf\n"
     ),
     convert: after_convert!(
         "IN must have raw blobs, and OUT has raw blobs. Published files are compressed:\n\
-        'pbfcutz convert' reads them, and 'pbfcut-any pack' compresses OUT.\n",
+        'pbfcutz convert' reads them, and compresses OUT.\n",
         "Example:\n  \
-          pbfcut-any unpack london.osm.pbf london.raw.osm.pbf\n  \
+          pbfcutz convert --raw london.osm.pbf london.raw.osm.pbf\n  \
           pbfcut convert london.raw.osm.pbf plain.osm.pbf\n"
     ),
     check: after_check!(
         "IN must have raw blobs. Published files are compressed: 'pbfcutz check' reads\n\
         them.\n",
         "Examples:\n  \
-          pbfcut-any unpack london.osm.pbf london.raw.osm.pbf\n  \
+          pbfcutz convert --raw london.osm.pbf london.raw.osm.pbf\n  \
           pbfcut check london.raw.osm.pbf\n\
         or, with osmium and without a raw file:\n  \
           osmium cat england.osm.pbf -f pbf,pbf_compression=none -o - |\n    \
@@ -240,14 +240,14 @@ pub(crate) const OF_PBFCUT: Help = Help {
         "IN must have raw blobs. Published files are compressed: 'pbfcutz show' reads\n\
         them.\n",
         "Example:\n  \
-          pbfcut-any unpack london.osm.pbf london.raw.osm.pbf\n  \
+          pbfcutz convert --raw london.osm.pbf london.raw.osm.pbf\n  \
           pbfcut show --dates london.raw.osm.pbf\n"
     ),
     blobs: after_blobs!(
         "IN must have raw blobs. Published files are compressed: 'pbfcutz blobs' reads\n\
         them.\n",
         "Example:\n  \
-          pbfcut-any unpack london.osm.pbf london.raw.osm.pbf\n  \
+          pbfcutz convert --raw london.osm.pbf london.raw.osm.pbf\n  \
           pbfcut blobs london.raw.osm.pbf\n"
     ),
 };
@@ -263,24 +263,21 @@ pub(crate) const OF_PBFCUTZ: Help = Help {
     after: after_arguments_of_writer!(
         "'pbfcutz help COMMAND' prints what a command does, its units and an example.\n",
         "pbfcutz takes the words of pbfcut. It reads files whose blobs are compressed by\n\
-        zlib, as published files are, or raw; it writes raw ones, and pbfcut-any cuts\n\
-        and compresses in one step.\n",
+        zlib, as published files are, or raw. It compresses what it writes; with --raw\n\
+        it does not.\n",
         "Example, which cuts London out of a published file of England:\n  \
           pbfcutz extract --box=-0.5,51.25,0.3,51.7 england.osm.pbf london.osm.pbf\n"
     ),
     extract: after_extract!(
-        "IN has zlib or raw blobs, and OUT has raw blobs. pbfcut-any writes a compressed\n\
-        file.\n",
-        "Examples, which cut London out of a published file of England:\n  \
-          pbfcutz extract --box=-0.5,51.25,0.3,51.7 england.osm.pbf london.osm.pbf\n\
-        and with an OUT that is compressed:\n  \
-          pbfcut-any --box=-0.5,51.25,0.3,51.7 england.osm.pbf small.osm.pbf\n"
+        "IN has zlib or raw blobs, and OUT has zlib blobs; with --raw it has raw ones.\n",
+        "Example, which cuts London out of a published file of England:\n  \
+          pbfcutz extract --box=-0.5,51.25,0.3,51.7 england.osm.pbf london.osm.pbf\n"
     ),
     convert: after_convert!(
-        "IN has zlib or raw blobs, and OUT has raw blobs. 'pbfcut-any pack' compresses\n\
-        it.\n",
-        "Example:\n  \
-          pbfcutz convert england.osm.pbf plain.osm.pbf\n"
+        "IN has zlib or raw blobs, and OUT has zlib blobs; with --raw it has raw ones.\n",
+        "Examples, the second of which unpacks a file:\n  \
+          pbfcutz convert england.osm.pbf plain.osm.pbf\n  \
+          pbfcutz convert --raw england.osm.pbf england.raw.osm.pbf\n"
     ),
     check: after_check!(
         "IN has zlib or raw blobs. A fault in a compressed blob is named by the byte of\n\

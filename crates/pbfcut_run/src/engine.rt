@@ -1,10 +1,12 @@
 //! The calls of both programs: those of pbfcut over raw files, and those of pbfcutz over published ones.
 
+ghost use Rattle.std.specs.Prelude.{◌≡◌, [], IfSome};
+
 use osm_entity::BoundingBox;
 use pbf_frame::{Drain, FromRead, Stop};
 use pbf_pass::Refusal;
 use pbf_published::{PublishedHalt, PublishedInput};
-use pbf_unpack::{Place, UnpackFault};
+use pbf_unpack::{Deflater, PackedDrain, Place, UnpackFault};
 use pbf_wire::{Fault, Reason};
 use pbfcut::{Counts, Halt, InputReceipt};
 use pbfcut_cli::{Ending, PackedRefusal, Program};
@@ -136,6 +138,8 @@ pub(crate) struct Engine {
     pub(crate) alloc: Global,
     /// Whether the digests of what is read are printed.
     pub(crate) digests: bool,
+    /// Whether OUT has zlib blobs.
+    pub(crate) packs: bool,
 }
 
 impl Engine {
@@ -157,6 +161,13 @@ impl Engine {
                 Program::Pbfcutz => self.digests,
             },
         }
+    }
+
+    /// A drain that gives OUT zlib blobs.
+    fn packed<D: Drain>(self, drain: D) -> Result<PackedDrain<D>, Stop>
+        requires { IfSome (D.taken drain) (λ taken. taken ≡ []) }
+    {
+        Ok(PackedDrain::new(self.alloc, Deflater::new(self.alloc)?, drain))
     }
 
     pub(crate) fn check(self, pass: &mut Pass) -> Result<Report, Halted> {
@@ -201,12 +212,18 @@ impl Engine {
         passes: &mut TwoPasses,
         drain: &mut D,
         hasher: RandomState,
-    ) -> Result<Report, Halted> {
+    ) -> Result<Report, Halted>
+        requires { IfSome (D.taken drain.old) (λ taken. taken ≡ []) }
+    {
         let how = self.more_passes();
         let TwoPasses { one, two } = passes;
         Ok(match self.program {
             Program::Pbfcut => {
                 pbfcut::convert_with_receipt(how, one, two, drain, hasher)?.into()
+            }
+            Program::Pbfcutz if self.packs => {
+                let mut packed = self.packed(drain)?;
+                pbf_published::convert_packed(how, one, two, &mut packed, hasher)?.into()
             }
             Program::Pbfcutz => {
                 pbf_published::convert_with_receipt(how, one, two, drain, hasher)?.into()
@@ -220,13 +237,21 @@ impl Engine {
         area: BoundingBox,
         drain: &mut D,
         hasher: RandomState,
-    ) -> Result<Report, Halted> {
+    ) -> Result<Report, Halted>
+        requires { IfSome (D.taken drain.old) (λ taken. taken ≡ []) }
+    {
         let how = self.more_passes();
         let Passes { one, two, three } = passes;
         Ok(match self.program {
             Program::Pbfcut => pbfcut::extract_sorted_with_receipt(
                 how, one, two, three, area, drain, hasher,
             )?.into(),
+            Program::Pbfcutz if self.packs => {
+                let mut packed = self.packed(drain)?;
+                pbf_published::extract_packed(
+                    how, one, two, three, area, &mut packed, hasher,
+                )?.into()
+            }
             Program::Pbfcutz => pbf_published::extract_sorted_with_receipt(
                 how, one, two, three, area, drain, hasher,
             )?.into(),
@@ -240,7 +265,9 @@ impl Engine {
         area: BoundingBox,
         drain: &mut D,
         hasher: RandomState,
-    ) -> Result<Report, Halted> {
+    ) -> Result<Report, Halted>
+        requires { IfSome (D.taken drain.old) (λ taken. taken ≡ []) }
+    {
         let how = self.more_passes();
         let FourPasses { three, four } = passes;
         let Passes { one, two, three } = three;
@@ -248,6 +275,12 @@ impl Engine {
             Program::Pbfcut => pbfcut::extract_parents_sorted_with_receipt(
                 how, one, two, three, four, area, drain, hasher,
             )?.into(),
+            Program::Pbfcutz if self.packs => {
+                let mut packed = self.packed(drain)?;
+                pbf_published::extract_parents_packed(
+                    how, one, two, three, four, area, &mut packed, hasher,
+                )?.into()
+            }
             Program::Pbfcutz => pbf_published::extract_parents_sorted_with_receipt(
                 how, one, two, three, four, area, drain, hasher,
             )?.into(),

@@ -59,6 +59,16 @@ fn prints_digests(command: &Command<'_>) -> bool {
     }
 }
 
+/// Whether a command writes zlib blobs: of pbfcutz, without `--raw`.
+fn packs(program: Program, command: &Command<'_>) -> bool {
+    let raw = match command {
+        Command::Convert { raw, .. } => *raw,
+        Command::Extract { raw, .. } => *raw,
+        _ => true,
+    };
+    program == Program::Pbfcutz && !raw
+}
+
 /// Runs a command.
 fn run(rt: &HostRuntime, engine: Engine, command: Command<'_>) -> Result<(), Failure> {
     match command {
@@ -79,6 +89,7 @@ fn run(rt: &HostRuntime, engine: Engine, command: Command<'_>) -> Result<(), Fai
             output,
             progress,
             digests,
+            ..
         } => {
             let input = Input { path, progress };
             let files = Files {
@@ -95,6 +106,7 @@ fn run(rt: &HostRuntime, engine: Engine, command: Command<'_>) -> Result<(), Fai
             output,
             progress,
             digests,
+            ..
         } => {
             let input = Input { path, progress };
             let files = Files {
@@ -127,6 +139,7 @@ fn work(rt: &HostRuntime, program: Program, words: &[String]) -> Result<u8, Endi
         program,
         alloc: rt.alloc(),
         digests: prints_digests(&command),
+        packs: packs(program, &command),
     };
     match run(rt, engine, command) {
         Ok(()) => Ok(0),

@@ -61,10 +61,17 @@ fn is_convert(alloc: Global, words: &[&str], asked: (bool, bool)) -> bool {
                 output: "b",
                 progress,
                 digests,
+                raw: false,
             },
         ) => (*progress, *digests) == asked,
         _ => false,
     }
+}
+
+/// Whether they are a command of pbfcutz to convert `a` to `b` in raw blobs.
+fn is_raw_convert(alloc: Global, words: &[&str]) -> bool {
+    let read = read_words(alloc, Program::Pbfcutz, words);
+    matches!(&read, Ok(Command::Convert { input: "a", output: "b", raw: true, .. }))
 }
 
 /// Whether they are a command to cut London out of `a` into `b`, with all of parents, progress and digests, or with none of them.
@@ -79,6 +86,7 @@ fn is_extract(alloc: Global, words: &[&str], asked: bool) -> bool {
                 output: "b",
                 progress,
                 digests,
+                raw: false,
             },
         ) => *area == LONDON && *parents == asked && *progress == asked && *digests == asked,
         _ => false,
@@ -139,6 +147,15 @@ fn commands_with_progress(rt: HostRuntime) {
             (true, false)
         )
     );
+}
+
+#[test]
+fn raw_is_an_option_of_pbfcutz(rt: HostRuntime) {
+    let words = ["convert", "--raw", "a", "b"];
+    assert!(rt; is_raw_convert(rt.alloc(), &words));
+    assert!(rt; !is_raw_convert(rt.alloc(), &["convert", "a", "b"]));
+    let read = read_words(rt.alloc(), Program::Pbfcut, &words);
+    assert!(rt; matches!(&read, Err(CliFault::Line(_))));
 }
 
 #[test]
