@@ -5,7 +5,7 @@ usage: tests/published.py PROGRAM [--all]
 
 What a compressed file means is made here, with Python's zlib and the reference of vectors/, which shares no code with the program: each
 frame with its payload raw. pbfcutz has to print and write of the compressed file what pbfcut does of the raw one, and to name the place of
-a fault in the compressed one. The files are the cases of vectors/, packed; the cases of the packing itself; the sample at several levels;
+a fault in the compressed one. OUT has to mean the raw file that pbfcut writes, and to be it with --raw. The files are the cases of vectors/, packed; the cases of the packing itself; the sample at several levels;
 and damaged files, 250 or with --all 2,000. Where osmium is installed, it packs the sample, too.
 """
 
@@ -39,6 +39,8 @@ KNOWN = (b"OSMHeader", b"OSMData")
 RAW, RAW_SIZE, ZLIB = 1, 2, 3
 DATA = {RAW, ZLIB, 4, 5, 6, 7}
 LONGEST = 200_000
+COMMANDS = [["check", "in"], ["show", "--dates", "in"], ["blobs", "in"], ["convert", "in", "out"], ["extract", BOX, "in", "out"],
+            ["extract", "--parents", BOX, "in", "out"]]
 
 
 @dataclass
@@ -135,6 +137,11 @@ def packed(data: bytes, level: int = 6) -> bytes:
     return b"".join(parts)
 
 
+def unpacked(data: Optional[bytes]) -> Optional[bytes]:
+    """The raw file that these bytes mean."""
+    return None if data is None else b"".join(piece.raw for piece in meaning_of(data))
+
+
 def place_of(offset: int, pieces: list) -> str:
     """How pbfcutz names a byte of the raw file."""
     piece = next((piece for piece in reversed(pieces) if piece.raw_at <= offset), None)
@@ -191,6 +198,12 @@ class Bench:
         pieces = meaning_of(data)
         status, said, line, out = self.run(self.pbfcut, words, b"".join(piece.raw for piece in pieces))
         found = self.run(self.pbfcutz, words, data)
+        if "out" in words:
+            # with --raw OUT is the raw file itself; otherwise it means that file, and has no more bytes
+            raw = self.run(self.pbfcutz, [words[0], "--raw", *words[1:]], data)
+            if raw != (*found[:3], out) or len(found[3] or b"") > len(out or b""):
+                return f"{name}: {words} with --raw: found {(raw[0], raw[1][:300], raw[2])!r}, beside {found[:2]!r}"
+            found = (*found[:3], unpacked(found[3]))
         line = told_by_pbfcutz(line, pieces)
         # only pbfcutz says why zlib data are damaged
         told = re.sub(r": 17 Zlib: [A-Z]\w+\n$", ": 17 Zlib, damaged\n", found[2])
@@ -218,12 +231,10 @@ def sample_files():
     """The sample, packed, through all commands."""
     with open(SAMPLE, "rb") as file:
         sample = file.read()
-    commands = [["check", "in"], ["show", "--dates", "in"], ["blobs", "in"], ["convert", "in", "out"], ["extract", BOX, "in", "out"],
-                ["extract", "--parents", BOX, "in", "out"]]
     for level in (0, 1, 6, 9):
-        for words in commands:
+        for words in COMMANDS:
             yield f"sample at level {level}", words, packed(sample, level)
-    for words in commands:
+    for words in COMMANDS:
         yield "sample, raw", words, sample
         if shutil.which("osmium"):
             yield "sample, packed by osmium", words, by_osmium()
@@ -265,7 +276,7 @@ def damaged_files(number: int):
     files += [packed(data) for data in small if 0 < len(data) < 2_000]
     for index in range(number):
         data = files[chance.randrange(3)] if index % 5 == 0 else chance.choice(files[3:])
-        yield f"damaged file {index}", ["check", "in"], damaged(data, chance)
+        yield f"damaged file {index}", chance.choice(COMMANDS), damaged(data, chance)
 
 
 def other_lines(bench: Bench):
@@ -280,6 +291,8 @@ def other_lines(bench: Bench):
     _, said, _, out = bench.run(bench.pbfcutz, ["extract", "--digests", BOX, "in", "out"], data)
     of_out = subprocess.run(["sha256sum"], input=out, capture_output=True, check=True).stdout.decode()[:64]
     yield "digests of extract", [f"{digest['packed']}  in", f"# unpacked {digest['raw']}", f"{of_out}  out"], said.splitlines()[1:]
+    yield "all blobs of the extract compressed", {ZLIB}, {form for _, kind, blob in pieces_of(out) for form in forms_of(blob)}
+    yield "no longer than by zlib's level 1", True, len(out) <= len(packed(unpacked(out), 1))
     piped = subprocess.run([bench.pbfcutz, "check", "/dev/stdin"], input=data, capture_output=True, timeout=SECONDS)
     yield "check of a pipe", (0, bench.run(bench.pbfcut, ["check", "in"], sample)[1]), (piped.returncode, piped.stdout.decode())
     for words in ["--version"], ["help", "extract"], ["extract", "in"]:
