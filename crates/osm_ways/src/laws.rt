@@ -33,7 +33,13 @@ pub fn extract_of_larger_is_extract<X>()
         ≡ extract_with_parents small xs }
 {}
 
-/// And the large look's extract of the small look's extract is all of it, with and without parents.
+/// That premise is needed: there are two looks and a list for which the large look drops what the small one needs.
+pub fn larger_look_is_needed()
+    ensures { ((small large : Seen → Seen) (xs : List Seen)
+        → extract small (extract large xs) ≡ extract small xs) → ⊥ }
+{}
+
+/// A large look's extract of a small look's extract is all of it, with and without parents.
 pub fn extract_is_kept_by_larger<X>()
     ensures ways { (small large : X → Seen) → IsWithin small large → (xs : List X)
         → extract large (extract small xs) ≡ extract small xs }
