@@ -148,8 +148,8 @@ pub fn file_extracted_with_parents_is_kept(area: BoundingBox)
 {}
 
 /// Two runs compose, with and without parents. If an extract of a file wrote `part`, and an extract of `part` by a box that lies in that
-/// box wrote `cut`, then `cut` is byte for byte the extract of the file by the smaller box. So its header has the smaller box, and its
-/// features, its source and its replication fields are those that an extract of the file has. A longer `part` would be refused.
+/// box wrote `cut`, then `cut` is byte for byte the extract of the file by the smaller box: its header too, which has the smaller box, and
+/// the features, the source and the replication fields that an extract of the file has. A file that is read has at most `FILE_LIMIT` bytes.
 pub fn extracts_compose(area: BoundingBox, small: BoundingBox)
     ensures ways { is_box_within small area ≡ true → (file part cut : List ℕ)
         → (counts fewer : Counts) → length part ≤ FILE_LIMIT
