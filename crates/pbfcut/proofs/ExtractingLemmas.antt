@@ -341,8 +341,7 @@ module _ {G : Type 0} (f : feed.Ghosts G) (old new : G) (digest : Option (List �
   chooses_first true p fresh order starts rest ends =
       let es = stored_entities p.frames in
       let taken : phase ≡ fold with_first (start_first area) es = p.gathered_all ∙ ap (λ (s : FirstSets). fold with_first s es) fresh in
-      let came = ways_came area es (ap (λ (s : FirstSets). s.in_order) (sym taken) ∙ sym order) in
-      (
+      let came = ways_came area es (ap (λ (s : FirstSets). s.in_order) (sym taken) ∙ sym order) in (
         rest.0,
         record {
           ways = ways;
