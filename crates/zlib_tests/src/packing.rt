@@ -26,7 +26,14 @@ fn noise(alloc: Global, length: usize, mask: u32) -> Result<Vec<u8>, AllocError>
 /// So many words of a few, as in a text.
 fn text(alloc: Global, count: usize) -> Result<Vec<u8>, AllocError> {
     let words: [&[u8]; 8] = [
-        b"node ", b"way ", b"highway ", b"of ", b"the ", b"residential ", b"area, ", b"and ",
+        b"node ",
+        b"way ",
+        b"highway ",
+        b"of ",
+        b"the ",
+        b"residential ",
+        b"area, ",
+        b"and ",
     ];
     let mut bytes = Vec::new(alloc);
     let order = noise(alloc, count, 0xff)?;
@@ -46,12 +53,7 @@ fn repeated(alloc: Global, part: &[u8], count: usize) -> Result<Vec<u8>, AllocEr
 }
 
 /// Packs into `out`, of this length, and returns how long the stream is.
-fn size_in(
-    deflater: &mut Deflater,
-    input: &[u8],
-    out: &mut Vec<u8>,
-    room: usize,
-) -> Option<usize> {
+fn size_in(deflater: &mut Deflater, input: &[u8], out: &mut Vec<u8>, room: usize) -> Option<usize> {
     out.clear();
     if out.resize(room, 0).is_err() {
         return None;
