@@ -96,7 +96,7 @@ fn needs_its_room(alloc: Global, deflater: &mut Deflater, input: &[u8]) -> bool 
             return false;
         }
     }
-    size_in(deflater, input, &mut out, size + SPARE) == Some(size)
+    size_in(deflater, input, &mut out, size.saturating_add(SPARE)) == Some(size)
 }
 
 /// Whether the stream of these bytes is the same after others were packed, and after there was no room for them.
