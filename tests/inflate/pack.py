@@ -31,7 +31,7 @@ MOST_OVER_LEVEL_6 = 0.015
 SIZES = (1, 2, 4, 8)
 GROWING = 120_000  # bytes of the least size
 MOST_GROWTH = 2.6
-MOST_OVER_MAP_DATA = 8
+MOST_OVER_MAP_DATA = 4
 LONG_ENOUGH = 0.05  # seconds that the least size takes at least, so that its growth says something
 TRIES = 6
 
