@@ -86,10 +86,10 @@ OF_64_BITS = {"pbf_wire/specs/Signed.antt", "pbf_wire/src/laws.rt", "osm_entity/
 
 
 def numerals(crates: set) -> list:
-    """The lines of contracts and definitions that have a limit as a numeral. The examples spell out what they compute with, and zlib is
-    another format."""
+    """The lines of contracts and definitions that have a limit as a numeral. The examples spell out what they compute with, and that of
+    zlib and deflate is another format."""
     found = []
-    for crate in sorted(crates - {"pbf_examples", "zlib"}):
+    for crate in sorted(crates - {"pbf_examples", "zlib", "deflate"}):
         for part in ("src", "specs"):
             folder = os.path.join(TOP, "crates", crate, part)
             for name in sorted(os.listdir(folder)) if os.path.isdir(folder) else []:
@@ -117,7 +117,7 @@ def main():
         faults.extend(f"{what}: '{name}' is not on the page" for name in sorted(there - listed))
 
     differ("crates", {name for row in rows(section(text, "The crates")) for name in names(row[0])} - (crates - code), code)
-    layers = set(re.findall(r"\b[a-z]+_[a-z]+\b|\bpbfcut\b|^zlib\b", section(text, "Layers"), re.M))
+    layers = set(re.findall(r"\b[a-z]+_[a-z]+\b|\bpbfcut\b|^zlib\b|^deflate\b", section(text, "Layers"), re.M))
     differ("layers", layers - (crates - code), code)
     page = mapped(text)
     differ("rooms", set(page) - (crates - code), code)

@@ -44,7 +44,7 @@ ELSEWHERE = {
     "bench/": "a large file",
     "python3 tools/build.py": "the toolchain",
     "crates/": "a program that the toolchain builds",
-    "python3 tests/inflate/fuzz.py": "run by the gate",
+    "python3 tests/inflate/": "run by the gate",
 }
 
 

@@ -102,6 +102,27 @@ fn places_at_each_edge(rt: HostRuntime) {
 }
 
 #[test]
+fn boxes_within_boxes(rt: HostRuntime) {
+    let area = BoundingBox {
+        left: 1,
+        bottom: 2,
+        right: 3,
+        top: 4,
+    };
+    assert!(rt; area.is_within(&area));
+    let wider = [
+        BoundingBox { left: 0, ..area },
+        BoundingBox { bottom: 1, ..area },
+        BoundingBox { right: 4, ..area },
+        BoundingBox { top: 5, ..area },
+    ];
+    for other in &wider {
+        assert!(rt; area.is_within(other) && !other.is_within(&area));
+    }
+    assert!(rt; !wider[0].is_within(&wider[1]) && !wider[1].is_within(&wider[0]));
+}
+
+#[test]
 fn faults_by_their_names(rt: HostRuntime) -> Result<(), Fail> {
     for (fault, name) in [
         (BoxFault::Shape, "Shape"),

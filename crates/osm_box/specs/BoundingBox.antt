@@ -29,3 +29,8 @@ box_of_edges left bottom right top =
 -- a place in nanodegrees is in the box, edges included
 abbrev pub is_inside : BoundingBox → ℤ → ℤ → Bool
 is_inside area lat lon = is_between area.bottom area.top lat && is_between area.left area.right lon
+
+-- the one box lies in the other, edges included: two opposite corners of it do
+abbrev pub is_box_within : BoundingBox → BoundingBox → Bool
+is_box_within small large =
+    is_inside large small.bottom small.left && is_inside large small.top small.right

@@ -1,7 +1,7 @@
 //! The box of an extract.
 
 ghost use Rattle.std.specs.Prelude.{◌≡◌, ◌≤ℤ◌, ◌&&◌, pos};
-ghost use Rattle.osm_box.specs.BoundingBox.{box_of_edges, box_of_ordered, is_between, is_up_to, is_inside};
+ghost use Rattle.osm_box.specs.BoundingBox.{box_of_edges, box_of_ordered, is_between, is_up_to, is_inside, is_box_within};
 ghost use Rattle.osm_box.specs.Degrees.{box_of_numbers, box_of_text};
 
 use crate::degrees::{Parts, degrees};
@@ -149,5 +149,18 @@ impl BoundingBox {
         ensures { result ≡ is_inside self.now lat lon }
     {
         self.spans_lat(lat) && self.spans_lon(lon)
+    }
+
+    fn has_corner(&self, lat: i64, lon: i64) -> bool
+        ensures { result ≡ is_inside self.now lat lon }
+    {
+        self.contains(i128::from(lat), i128::from(lon))
+    }
+
+    /// Whether this box lies in the other one. They may have edges in common: each box lies in itself.
+    pub fn is_within(&self, other: &BoundingBox) -> bool
+        ensures { result ≡ is_box_within self.now other.now }
+    {
+        other.has_corner(self.bottom, self.left) && other.has_corner(self.top, self.right)
     }
 }

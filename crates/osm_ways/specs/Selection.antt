@@ -1,5 +1,5 @@
 -- The complete-ways extract of a whole list. A set of ids is a test.
-use Rattle.std.specs.Prelude.{ℤ, Bool, false, ◌&&◌, ◌||◌, List, map}
+use Rattle.std.specs.Prelude.{◌≡◌, ℤ, Bool, true, false, ◌&&◌, ◌||◌, List, map}
 use Rattle.std.specs.List.{list_any, filter}
 use Rattle.std.specs.Ordering.{int_eq}
 
@@ -81,3 +81,14 @@ keeps seen = is_kept (box_ids seen) (node_ids seen) (way_ids seen) no_ids
 -- the extract of a list of any type, by what the selection sees of each element: the sublist of what is kept
 abbrev pub extract : {X : Type 0} → (X → Seen) → List X → List X
 extract look xs = filter (λ x. keeps (map look xs) (look x)) xs
+
+-- ---- a look within another
+
+-- a small look and a large one see an entity alike, but a node that is outside by the small one may be inside by the large one
+abbrev pub IsSeenWithin : Seen → Seen → Type 0
+IsSeenWithin (a_node id inside) (a_node own within) = (id ≡ own) × (inside ≡ true → within ≡ true)
+IsSeenWithin some other = some ≡ other
+
+-- so they see each element
+abbrev pub IsWithin : {X : Type 0} → (X → Seen) → (X → Seen) → Type 0
+IsWithin {X} small large = (x : X) → IsSeenWithin (small x) (large x)

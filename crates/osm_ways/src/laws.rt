@@ -6,9 +6,10 @@ ghost use Rattle.std.specs.List.{filter};
 ghost use Rattle.std.specs.Ordering.{int_cmp};
 ghost use Rattle.std.specs.FinSet as set;
 ghost use Rattle.osm_box.specs.declared.bounding_box.BoundingBox.{BoundingBox};
+ghost use Rattle.osm_box.specs.BoundingBox.{is_box_within};
 ghost use Rattle.osm_entity.specs.Entity.{EntitySpec, decoded};
 ghost use Rattle.osm_ids.specs.Links.{IsLeast};
-ghost use Rattle.osm_ways.specs.Selection.{Seen, node_ids, way_ids, keeps, extract};
+ghost use Rattle.osm_ways.specs.Selection.{Seen, node_ids, way_ids, keeps, extract, IsWithin};
 ghost use Rattle.osm_ways.specs.Seen.{seen_entity, seen_decoded};
 ghost use Rattle.osm_ways.specs.Parents.{IsLeastSelected, relation_ids, keeps_with_parents, extract_with_parents, links_in, start_in};
 ghost use Rattle.osm_ways.specs.First.{first_pass};
@@ -20,6 +21,39 @@ pub fn extract_twice_is_once<X>()
         → extract look (extract look xs) ≡ extract look xs }
     ensures parents { (look : X → Seen) (xs : List X)
         → extract_with_parents look (extract_with_parents look xs) ≡ extract_with_parents look xs }
+{}
+
+/// Cuts compose: if a small look is within a large one, the small look's extract of the large look's extract is its extract of the
+/// whole list, with and without parents.
+pub fn extract_of_larger_is_extract<X>()
+    ensures ways { (small large : X → Seen) → IsWithin small large → (xs : List X)
+        → extract small (extract large xs) ≡ extract small xs }
+    ensures parents { (small large : X → Seen) → IsWithin small large → (xs : List X)
+        → extract_with_parents small (extract_with_parents large xs)
+        ≡ extract_with_parents small xs }
+{}
+
+/// That premise is needed: there are two looks and a list for which the large look drops what the small one needs.
+pub fn larger_look_is_needed()
+    ensures { ((small large : Seen → Seen) (xs : List Seen)
+        → extract small (extract large xs) ≡ extract small xs) → ⊥ }
+{}
+
+/// A large look's extract of a small look's extract is all of it, with and without parents.
+pub fn extract_is_kept_by_larger<X>()
+    ensures ways { (small large : X → Seen) → IsWithin small large → (xs : List X)
+        → extract large (extract small xs) ≡ extract small xs }
+    ensures parents { (small large : X → Seen) → IsWithin small large → (xs : List X)
+        → extract_with_parents large (extract_with_parents small xs)
+        ≡ extract_with_parents small xs }
+{}
+
+/// If a box lies in a larger one, the look by it is within the look by the larger one, over stored entities and over decoded ones.
+pub fn box_within_box()
+    ensures stored { (small large : BoundingBox) → is_box_within small large ≡ true
+        → IsWithin (seen_entity small) (seen_entity large) }
+    ensures meant { (small large : BoundingBox) → is_box_within small large ≡ true
+        → IsWithin (seen_decoded small) (seen_decoded large) }
 {}
 
 /// If two views of an entity look alike to the selection, the extract of the one view is that view of the extract.

@@ -17,8 +17,8 @@ use Rattle.osm_ways.specs.Selection.{keeps, extract}
 use Rattle.osm_ways.specs.Parents.{keeps_with_parents, extract_with_parents}
 use Rattle.osm_ways.specs.Seen.{seen_entity, seen_decoded}
 use Rattle.osm_ways.proofs.Decoding.{seen_alike}
-use Rattle.osm_ways.proofs.Extracts.{chosen_twice, chosen_viewed, keeps_settled}
-use Rattle.osm_ways.proofs.ParentLaws.{keeps_with_parents_settled}
+use Rattle.osm_ways.proofs.Extracts.{chosen_viewed, extract_twice}
+use Rattle.osm_ways.proofs.ParentLaws.{extract_with_parents_twice}
 use Rattle.pbf_frame.specs.declared.frame.FrameKind.TheVariants as kind
 use Rattle.pbf_frame.specs.declared.frame.TheConstants.{FILE_LIMIT}
 use Rattle.pbf_frame.specs.Frames.{FrameSpec}
@@ -38,7 +38,7 @@ use Rattle.pbf_pass.specs.Counting.{entities_in, frame_entities, stored_entities
 use Rattle.pbfcut.specs.Extracting.{Choice, complete_ways, all_parents, extraction, extract_bytes}
 use Rattle.pbf_pass.specs.Judged.{fault_in, payload_fault, sound_first, sound_front, fully}
 use Rattle.pbfcut.specs.Kept.{verdict_within, verdict_on, IsWritable, header_read, conversion_of, extract_of}
-use Rattle.pbfcut.specs.Theorem.{IsConversion, IsExtract}
+use Rattle.pbfcut.specs.Theorem.{IsConversion, IsExtract, IsCanonical}
 use Rattle.pbf_pass.specs.Pass.{headers_in, frame_headers, file_header}
 use Rattle.pbf_pass.specs.Payload.{Payload, header_block, primitive_block, unknown, payload_of}
 use Rattle.pbfcut.proofs.FileLaw.{IsFileOf, written_is_file}
@@ -277,6 +277,30 @@ module _ (choose : Choice) (select : List Decoded → List Decoded) (selection :
       let e = extracted_is (verdict_on file) r.header r.entities r.is choose area in
       subst (λ (w : List ℕ). IsKeptExtract (verdict_on file) w) (sym e) (extract_written (verdict_on file) r.header r.entities r.is r.can)
 
+  -- a choice by any box that needs no more than what is chosen: its extract of the extract is that of the file
+  pub extract_of_extract : (fewer : Choice) (other : BoundingBox) → ((es : List EntitySpec) → fewer (choose es) ≡ fewer es) → (file : List ℕ) → IsWritable file → extract_bytes fewer other (verdict_within None (extract_of choose area file)) ≡ extract_of fewer other file
+  extract_of_extract fewer other enough file sound =
+      let r = readable file sound in
+      let out = header_out_for_box area r.header in
+      let kept = choose r.entities in
+      let written = verdict_within None (written_file out kept) in
+      let once : header_out_for_convert out ≡ out = header_out_twice (Some (edges_of area)) (Some (edges_of area)) r.header in
+      let again = subst (λ (g : HeaderSpec). IsFileOf written g kept) once (written_out_is_file out kept (can_extract r.header r.entities r.can)) in
+      ap (λ (w : List ℕ). extract_bytes fewer other (verdict_within None w)) (extracted_is (verdict_on file) r.header r.entities r.is choose area)
+      ∙ (extracted_is written out kept again fewer other
+      ∙ (ap (λ (g : HeaderSpec). written_file g (fewer kept)) (header_out_twice (Some (edges_of other)) (Some (edges_of area)) r.header)
+      ∙ (ap (λ (l : List EntitySpec). written_file (header_out_for_box other r.header) l) (enough r.entities)
+      ∙ sym (extracted_is (verdict_on file) r.header r.entities r.is fewer other))))
+
+  -- and so it is of the bytes that two runs wrote
+  pub run_of_run : (fewer : Choice) (other : BoundingBox) → ((es : List EntitySpec) → fewer (choose es) ≡ fewer es) → (file part cut : List ℕ) → length part ≤ FILE_LIMIT → IsWritable file → IsCanonical (extract_bytes choose area) file part → IsCanonical (extract_bytes fewer other) part cut → cut ≡ extract_of fewer other file
+  run_of_run fewer other enough file part cut low sound first second =
+      let none : (verdict_within None part).1 ≡ None = subst (λ (w : List ℕ). (verdict_within None w).1 ≡ None) (sym first.is) (extract_kept file sound).extract.sound in
+      second.is
+      ∙ (ap (λ (v : Verdict). extract_bytes fewer other v) (same_as_a_file part low none)
+      ∙ (ap (λ (w : List ℕ). extract_bytes fewer other (verdict_within None w)) first.is
+      ∙ extract_of_extract fewer other enough file sound))
+
 -- ---- the complete ways, without and with all parents
 
 kept_or_not : {X : Type 0} (P : X → Type 0) (b : Bool) (x : X) (xs : List X) → P x → AllByRecursion P xs → AllByRecursion P (cond b (x ∷ xs) xs)
@@ -291,7 +315,7 @@ pub complete_ways_select : (area : BoundingBox) → IsSelection (complete_ways a
 complete_ways_select area = record {
   fit = λ es fit. all_filter EntityFits _ es fit;
   typed = λ es typed. all_filter EntityTyped _ es typed;
-  twice = chosen_twice keeps keeps_settled (seen_entity area);
+  twice = extract_twice (seen_entity area);
   meaning = chosen_viewed keeps entity.decoded (seen_entity area) (seen_decoded area) (seen_alike area);
 }
 
@@ -299,6 +323,6 @@ pub all_parents_select : (area : BoundingBox) → IsSelection (all_parents area)
 all_parents_select area = record {
   fit = λ es fit. all_filter EntityFits _ es fit;
   typed = λ es typed. all_filter EntityTyped _ es typed;
-  twice = chosen_twice keeps_with_parents keeps_with_parents_settled (seen_entity area);
+  twice = extract_with_parents_twice (seen_entity area);
   meaning = chosen_viewed keeps_with_parents entity.decoded (seen_entity area) (seen_decoded area) (seen_alike area);
 }

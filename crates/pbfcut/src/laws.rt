@@ -7,6 +7,8 @@ ghost use Rattle.std.specs.Option.{option_map};
 ghost use Rattle.pbf_wire.specs.declared.fault.Fault.{Fault};
 ghost use Rattle.pbf_wire.specs.declared.fault.Reason.TheVariants.{EntityLarge};
 ghost use Rattle.pbf_wire.specs.Least.{least_by};
+ghost use Rattle.osm_box.specs.declared.bounding_box.BoundingBox.{BoundingBox};
+ghost use Rattle.osm_box.specs.BoundingBox.{is_box_within};
 ghost use Rattle.osm_entity.specs.Entity.{EntitySpec};
 ghost use Rattle.osm_entity.specs.Ranges.{EntityFits, EntityTyped};
 ghost use Rattle.osm_entity.specs.Weight.{text_weight};
@@ -14,6 +16,7 @@ ghost use Rattle.osm_ways.specs.Parents.{extract_with_parents};
 ghost use Rattle.osm_ways.specs.Seen.{seen_decoded};
 ghost use Rattle.osm_ways.specs.Selection.{extract};
 ghost use Rattle.osm_pack.specs.Cuts.{written_file};
+ghost use Rattle.pbf_block.specs.declared.counts.Counts.{Counts};
 ghost use Rattle.pbf_header.specs.Header.{HeaderSpec};
 ghost use Rattle.pbf_header.specs.declared.write.TheConstants.{MOST_HEADER_TEXT};
 ghost use Rattle.pbf_header.specs.WrittenHeader.{HeaderFits, header_out_for_convert};
@@ -29,7 +32,7 @@ ghost use Rattle.pbf_pass.specs.HeaderLimit.{judged_writable};
 ghost use Rattle.pbf_pass.specs.Judged.{judged_file};
 ghost use Rattle.pbf_pass.specs.Stops.{FaultOf};
 ghost use Rattle.pbfcut.specs.Kept.{verdict_within, verdict_on, IsWritable, header_read, conversion_of, extract_of};
-ghost use Rattle.pbfcut.specs.Theorem.{IsConversion, IsExtract};
+ghost use Rattle.pbfcut.specs.Theorem.{IsConversion, IsExtract, IsExtraction};
 ghost use Rattle.pbf_pass.specs.declared.hashed.HashedDrain.{HashedDrain};
 ghost use Rattle.sha2.specs.Sha256.{sha256};
 
@@ -116,6 +119,12 @@ pub fn extracted_file_is_kept(area: BoundingBox)
         → extract_bytes (complete_ways area) area
         (verdict_within None (extract_of (complete_ways area) area file))
         ≡ extract_of (complete_ways area) area file }
+    // An extract of it by a box that lies in this one is the same bytes as the file's extract by that box.
+    ensures smaller { (small : BoundingBox) → is_box_within small area ≡ true
+        → (file : List ℕ) → IsWritable file
+        → extract_bytes (complete_ways small) small
+        (verdict_within None (extract_of (complete_ways area) area file))
+        ≡ extract_of (complete_ways small) small file }
 {}
 
 /// The same of the extract with all parents.
@@ -130,6 +139,30 @@ pub fn file_extracted_with_parents_is_kept(area: BoundingBox)
         → extract_bytes (all_parents area) area
         (verdict_within None (extract_of (all_parents area) area file))
         ≡ extract_of (all_parents area) area file }
+    // An extract of it with all parents by a box that lies in this one is the same bytes as that of the file.
+    ensures smaller { (small : BoundingBox) → is_box_within small area ≡ true
+        → (file : List ℕ) → IsWritable file
+        → extract_bytes (all_parents small) small
+        (verdict_within None (extract_of (all_parents area) area file))
+        ≡ extract_of (all_parents small) small file }
+{}
+
+/// Two runs compose, with and without parents. If an extract of a file wrote `part`, and an extract of `part` by a box that lies in that
+/// box wrote `cut`, then `cut` is byte for byte the extract of the file by the smaller box: its header too, which has the smaller box, and
+/// the features, the source and the replication fields that an extract of the file has. A file that is read has at most `FILE_LIMIT` bytes.
+pub fn extracts_compose(area: BoundingBox, small: BoundingBox)
+    ensures ways { is_box_within small area ≡ true → (file part cut : List ℕ)
+        → (counts fewer : Counts) → length part ≤ FILE_LIMIT
+        → IsExtraction (complete_ways area) (extract (seen_decoded area)) area file counts part
+        → IsExtraction (complete_ways small) (extract (seen_decoded small)) small part fewer cut
+        → cut ≡ extract_of (complete_ways small) small file }
+    ensures parents { is_box_within small area ≡ true → (file part cut : List ℕ)
+        → (counts fewer : Counts) → length part ≤ FILE_LIMIT
+        → IsExtraction (all_parents area) (extract_with_parents (seen_decoded area))
+        area file counts part
+        → IsExtraction (all_parents small) (extract_with_parents (seen_decoded small))
+        small part fewer cut
+        → cut ≡ extract_of (all_parents small) small file }
 {}
 
 /// What a hashing drain took, if anything, the drain below took; and the digest that the hashing drain returns is that of it. So such

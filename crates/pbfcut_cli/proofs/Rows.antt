@@ -1,5 +1,5 @@
 -- What the getters read, by the rows.
-use Rattle.std.proofs.Common.{◌≡◌, ◌⊎◌, ◌∙◌, ap, refl, sym, inl, inr, List, [], ◌∷◌, map, Option, Some, None, unwrap_or, option_map, Bor, Bool, true, false, find, is_some}
+use Rattle.std.proofs.Common.{◌≡◌, ◌⊎◌, ◌∙◌, ap, refl, sym, inl, inr, List, [], ◌∷◌, map, Option, Some, None, unwrap_or, option_map, Bor, Bool, true, false, codes, find, is_some}
 use Rattle.clap.specs.Words.{App, Row, Shape, Text, built, has_subcommand, is_simple, subcommand_of, subcommand_rows_of}
 use Rattle.clap.specs.declared.parser.matches.ArgMatches.{ArgMatches}
 use Rattle.clap.specs.declared.parser.matches.ArgMatches.TheViews.{out-ArgMatches}
@@ -41,13 +41,10 @@ entered_name : (a : App) (stop : Option (Text × List Text)) (p : Text × List R
 entered_name a None p e = cc
 entered_name a (Some q) p e = found_name (λ s. answers_to q.0 (label_of s)) a.subs q.1 p e
 
--- the words name a command of the program
-pub named : (program : Program) (words : List Text) (p : Text × List Row)
-    → subcommand_of (program_app program) words ≡ Some p → IsOffered (Some p)
-named program words p e =
-    let stop = stop_after (built (program_app program)).top.rules (names_of (built (program_app program)))
-    (argument_words (program_app program) words) in
-    elim (entered_name (built (program_app program)) stop p e) [
+-- one of the names of commands is that of a command
+one_of_them : (p : Text × List Row) → IsIn p.0 (codes "extract" ∷ codes "convert" ∷ codes "check" ∷ codes "show" ∷ codes "blobs" ∷ []) → IsOffered (Some p)
+one_of_them p is =
+    elim is [
       | inl h ↦ inl h
       | inr (inl h) ↦ inr (inl h)
       | inr (inr (inl h)) ↦ inr (inr (inl h))
@@ -55,6 +52,16 @@ named program words p e =
       | inr (inr (inr (inr (inl h)))) ↦ inr (inr (inr (inr h)))
       | inr (inr (inr (inr (inr h)))) ↦ absurd h
     ]
+
+-- the words that are left for the command
+abbrev command_stop : App → List Text → Option (Text × List Text)
+command_stop app words = stop_after (built app).top.rules (names_of (built app)) (argument_words app words)
+
+-- the words name a command of the program
+pub named : (program : Program) (words : List Text) (p : Text × List Row)
+    → subcommand_of (program_app program) words ≡ Some p → IsOffered (Some p)
+named Pbfcut words p e = one_of_them p (entered_name (built (program_app Pbfcut)) (command_stop (program_app Pbfcut) words) p e)
+named Pbfcutz words p e = one_of_them p (entered_name (built (program_app Pbfcutz)) (command_stop (program_app Pbfcutz) words) p e)
 
 pub simple : (program : Program) → is_simple (program_app program) ≡ true
 simple Pbfcut = refl

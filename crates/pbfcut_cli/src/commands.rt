@@ -189,10 +189,9 @@ fn conversion<'a>(alloc: Global, help: &'a Help) -> Made<'a>
     with_arg(command, digests(alloc, help.digests))
 }
 
-fn convert<'a>(alloc: Global, program: Program) -> Made<'a>
+fn convert<'a>(alloc: Global, program: Program, help: &'a Help) -> Made<'a>
     ensures { IfOk result (IsCommand (convert_app program)) }
 {
-    let help = program.help();
     let command = with_raw(conversion(alloc, help), alloc, program);
     let command = with_arg(command, input(alloc, help));
     with_arg(command, output(alloc))
@@ -222,10 +221,9 @@ fn with_area<'a>(command: Made<'a>, alloc: Global) -> Made<'a>
     with_arg(command, area(alloc)?)
 }
 
-fn extract<'a>(alloc: Global, program: Program) -> Made<'a>
+fn extract<'a>(alloc: Global, program: Program, help: &'a Help) -> Made<'a>
     ensures { IfOk result (IsCommand (extract_app program)) }
 {
-    let help = program.help();
     let command = with_raw(options(alloc, help), alloc, program);
     let command = with_area(command, alloc);
     let command = with_arg(command, input(alloc, help));
@@ -255,19 +253,22 @@ fn bare<'a>(alloc: Global, help: &'a Help) -> Made<'a>
 }
 
 /// The command line with the commands that write a file.
-fn writers<'a>(alloc: Global, program: Program) -> Made<'a>
+fn writers<'a>(alloc: Global, program: Program, help: &'a Help) -> Made<'a>
     ensures { IfOk result (IsCommand (writers_app program)) }
 {
-    let command = with_command(bare(alloc, program.help()), extract(alloc, program));
-    with_command(command, convert(alloc, program))
+    let command = with_command(bare(alloc, help), extract(alloc, program, help));
+    with_command(command, convert(alloc, program, help))
 }
 
-/// The command line of a program, with the commands in the order in which help lists them.
-pub(crate) fn command_line<'a>(alloc: Global, program: Program) -> Result<Command<'a>, AllocError>
+/// The command line of a program with this help, with the commands in the order in which help lists them.
+pub(crate) fn command_line<'a>(
+    alloc: Global,
+    program: Program,
+    help: &'a Help,
+) -> Result<Command<'a>, AllocError>
     ensures { IfOk result (IsCommand (program_app program)) }
 {
-    let help = program.help();
-    let command = with_command(writers(alloc, program), check(alloc, help));
+    let command = with_command(writers(alloc, program, help), check(alloc, help));
     let command = with_command(command, show(alloc, help));
     with_command(command, blobs(alloc, help))
 }

@@ -200,7 +200,7 @@ pub fn read_words<'a>(
     // Words that `clap` takes give a command that is not help, or a fault other than `Line`.
     ensures taken { takes (program_app program) (word_texts words.now) ≡ true → IsTaken result }
 {
-    let command_line = command_line(alloc, program)?;
+    let command_line = command_line(alloc, program, program.help())?;
     match command_line.try_get_matches_from(words) {
         Ok(matches) => match command_in(&matches) {
             Ok(command) => Ok(command),

@@ -1,9 +1,14 @@
 //! That a drain packs what gets shorter by it, however it is written, and when it stops.
 
+ghost use Rattle.std.specs.Prelude.{◌<◌};
+
 use pbf_frame::{FrameKind, Sink, Stop, fill_vec, put_frame, write_all};
 use pbf_unpack::{Deflater, Inflater, PackedDrain, UnpackedFeed};
 use std::alloc::Global;
 use std::test::Fail;
+
+/// The length of a piece that has a whole file.
+const WHOLE: usize = 10_000;
 
 /// A header frame, and a data frame of which a shorter one can be made.
 fn raw_file(alloc: Global) -> Result<Vec<u8>, Stop> {
@@ -19,7 +24,9 @@ fn write_pieces(
     bytes: &[u8],
     piece: usize,
     room: usize,
-) -> Result<PackedDrain<Sink>, Stop> {
+) -> Result<PackedDrain<Sink>, Stop>
+    requires { 0 < piece }
+{
     let sink = Sink::new(alloc, room, 0)?;
     let mut drain = PackedDrain::new(alloc, Deflater::new(alloc)?, sink);
     for piece in bytes.chunks(piece) {
@@ -31,7 +38,9 @@ fn write_pieces(
 }
 
 /// What a drain with enough room gives for these bytes.
-fn packed(alloc: Global, bytes: &[u8], piece: usize) -> Result<Vec<u8>, Stop> {
+fn packed(alloc: Global, bytes: &[u8], piece: usize) -> Result<Vec<u8>, Stop>
+    requires { 0 < piece }
+{
     let mut drain = write_pieces(alloc, bytes, piece, 10_000)?;
     drain.finish()?;
     let mut packed = Vec::new(alloc);
@@ -50,7 +59,7 @@ fn unpacked(alloc: Global, bytes: &[u8]) -> Result<Vec<u8>, Stop> {
 #[test]
 fn a_frame_gets_shorter(rt: HostRuntime) -> Result<(), Fail> {
     let raw = raw_file(rt.alloc())?;
-    let packed = packed(rt.alloc(), &raw, raw.len())?;
+    let packed = packed(rt.alloc(), &raw, WHOLE)?;
     assert!(rt; packed.len() < 150);
     assert!(rt; unpacked(rt.alloc(), &packed)? == raw);
     Ok(())
@@ -59,7 +68,7 @@ fn a_frame_gets_shorter(rt: HostRuntime) -> Result<(), Fail> {
 #[test]
 fn however_it_is_written(rt: HostRuntime) -> Result<(), Fail> {
     let raw = raw_file(rt.alloc())?;
-    let whole = packed(rt.alloc(), &raw, raw.len())?;
+    let whole = packed(rt.alloc(), &raw, WHOLE)?;
     assert!(rt; packed(rt.alloc(), &raw, 1)? == whole);
     assert!(rt; packed(rt.alloc(), &raw, 7)? == whole);
     Ok(())
@@ -84,7 +93,12 @@ fn no_bytes(rt: HostRuntime) -> Result<(), Fail> {
 #[test]
 fn a_file_that_is_cut(rt: HostRuntime) -> Result<(), Fail> {
     let raw = raw_file(rt.alloc())?;
-    let mut drain = write_pieces(rt.alloc(), &raw[..raw.len() - 1], 100, 10_000)?;
+    let mut drain = write_pieces(
+        rt.alloc(),
+        raw.get(..raw.len().saturating_sub(1)).unwrap_or(&[]),
+        100,
+        10_000,
+    )?;
     assert!(rt; drain.stop().is_none());
     assert!(rt; drain.finish().is_err());
     assert!(rt; drain.stop() == Some(Stop::Write));
@@ -96,7 +110,7 @@ fn a_file_that_is_cut(rt: HostRuntime) -> Result<(), Fail> {
 #[test]
 fn what_has_zlib_data(rt: HostRuntime) -> Result<(), Fail> {
     let raw = raw_file(rt.alloc())?;
-    let packed = packed(rt.alloc(), &raw, raw.len())?;
+    let packed = packed(rt.alloc(), &raw, WHOLE)?;
     let mut drain = write_pieces(rt.alloc(), &packed, 100, 10_000)?;
     assert!(rt; drain.finish().is_err());
     assert!(rt; drain.stop() == Some(Stop::Write));

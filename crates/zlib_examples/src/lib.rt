@@ -7,7 +7,7 @@ mod caller;
 ghost use Rattle.zlib_examples.specs.Streams.{Stored, Fixed, Dynamic};
 ghost use Rattle.zlib_examples.specs.Faults.{Faults};
 
-pub use caller::unpacked;
+pub use caller::{packed_and_unpacked, unpacked};
 
 /// A stream of a stored block, of one with the fixed codes, and of one with codes of its own.
 #[tactic(auto, unfolding(crate::proofs::Computing::zlib_on_literals))]

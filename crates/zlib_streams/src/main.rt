@@ -10,7 +10,7 @@ use deflate::Deflater;
 use std::io::{self, Read, Write};
 use zlib::{Inflater, adler32};
 
-/// The highest limit: an item with a higher one is not looked at.
+/// The highest limit: an item with a higher one ends the input.
 const HIGHEST_LIMIT: usize = 1 << 28;
 
 /// A number of four bytes, and the bytes after it.

@@ -1,5 +1,7 @@
-//! The tests of `zlib`: what no contract says.
+//! The tests of `zlib` and of `deflate`: what no contract says.
 #![tactic(auto)]
 
+#[cfg(test)]
+mod packing;
 #[cfg(test)]
 mod tests;
