@@ -311,7 +311,7 @@ def words_of_all_kinds(bench: Bench):
     commands = [b"extract", b"convert", b"check", b"show", b"blobs"]
 
     def helps(*parts):
-        needed = [b"Usage: pbfcut", b"raw blobs", b"pbfcut-any", b"Example", b"Exit status:", *parts]
+        needed = [b"Usage: pbfcut", b"raw blobs", b"pbfcutz", b"Example", b"Exit status:", *parts]
         return lambda text: all(part in text for part in needed) and max(map(len, text.splitlines())) <= 80
 
     def lists_in_order(text: bytes) -> bool:

@@ -5,7 +5,7 @@ usage: tests/published.py PROGRAM [--all]
 
 What a compressed file means is made here, with Python's zlib and the reference of vectors/, which shares no code with the program: each
 frame with its payload raw. pbfcutz has to print and write of the compressed file what pbfcut does of the raw one, and to name the place of
-a fault in the compressed one. OUT has to mean the raw file that pbfcut writes, and to be it with --raw. The files are the cases of vectors/, packed; the cases of the packing itself; the sample at several levels;
+a fault in the compressed one. OUT has to mean the raw file that pbfcut writes, to be it with --raw, and to be absent after a refusal. The files are the cases of vectors/, packed; the cases of the packing itself; the sample at several levels;
 and damaged files, 250 or with --all 2,000. Where osmium is installed, it packs the sample, too.
 """
 
@@ -199,6 +199,8 @@ class Bench:
         status, said, line, out = self.run(self.pbfcut, words, b"".join(piece.raw for piece in pieces))
         found = self.run(self.pbfcutz, words, data)
         if "out" in words:
+            # only pbfcutz takes away an OUT that isn't whole
+            out = None if status else out
             # with --raw OUT is the raw file itself; otherwise it means that file, and has no more bytes
             raw = self.run(self.pbfcutz, [words[0], "--raw", *words[1:]], data)
             if raw != (*found[:3], out) or len(found[3] or b"") > len(out or b""):
@@ -291,8 +293,8 @@ def other_lines(bench: Bench):
     _, said, _, out = bench.run(bench.pbfcutz, ["extract", "--digests", BOX, "in", "out"], data)
     of_out = subprocess.run(["sha256sum"], input=out, capture_output=True, check=True).stdout.decode()[:64]
     yield "digests of extract", [f"{digest['packed']}  in", f"# unpacked {digest['raw']}", f"{of_out}  out"], said.splitlines()[1:]
-    yield "all blobs of the extract compressed", {ZLIB}, {form for _, kind, blob in pieces_of(out) for form in forms_of(blob)}
-    yield "no longer than by zlib's level 1", True, len(out) <= len(packed(unpacked(out), 1))
+    yield "all data of the extract compressed", {ZLIB}, {form for _, kind, blob in pieces_of(out) for form in forms_of(blob) if kind == b"OSMData"}
+    yield "hardly longer than by zlib's level 1", True, len(out) <= len(packed(unpacked(out), 1)) * 1.05 + 100
     piped = subprocess.run([bench.pbfcutz, "check", "/dev/stdin"], input=data, capture_output=True, timeout=SECONDS)
     yield "check of a pipe", (0, bench.run(bench.pbfcut, ["check", "in"], sample)[1]), (piped.returncode, piped.stdout.decode())
     for words in ["--version"], ["help", "extract"], ["extract", "in"]:

@@ -118,7 +118,7 @@ def main():
 
         zlib_blob = frame(field(3, b"xyz"))
         case("zlib, extract", ["extract", BOX, "in", "out"], 1, "pbfcut: refused at 17: 17 Zlib",
-             "hint: IN is compressed; this cuts it: pbfcut-any --box=BOX IN OUT", given=zlib_blob)
+             "hint: IN is compressed; this cuts it: pbfcutz extract --box=BOX IN OUT", given=zlib_blob)
         case("zlib, check", ["check", "in"], 1, "pbfcut: refused at 17: 17 Zlib",
              "hint: IN is compressed; pbfcutz, which takes the same words, reads it", given=zlib_blob)
         program = os.path.join(folder, "pbfcutz")

@@ -179,7 +179,7 @@ pub(crate) const PROGRESS: &str = "Show progress on standard error";
 
 pub(crate) const PARENTS: &str = "Also keep relations that contain kept ones";
 
-pub(crate) const RAW: &str = "Write raw blobs, which pbfcut reads too";
+pub(crate) const RAW: &str = "Write raw blobs: OUT is not compressed";
 
 pub(crate) const BOX: &str = "Edges of the box, in degrees; also --bbox";
 

@@ -63,6 +63,11 @@ impl<W> Noted<W> {
         Noted { inner, code: None }
     }
 
+    /// The writer below.
+    pub fn inner(&self) -> &W {
+        &self.inner
+    }
+
     /// The system's number of the reason, if a write failed for one.
     pub fn code(&self) -> Option<i32> {
         self.code

@@ -1,15 +1,10 @@
-//! The files of a run: IN, opened once for each pass, and OUT, which is made new.
+//! IN, opened once for each pass.
 
-use crate::failure::Noted;
 use crate::progress::{Line, Watched};
-use pbf_frame::{FromRead, Stop};
+use pbf_frame::FromRead;
 use pbfcut_cli::Ending;
-use std::fs::{self, File, OpenOptions};
-use std::io::BufWriter;
+use std::fs::{self, File};
 use std::os::unix::fs::FileTypeExt;
-
-/// The length of the buffers of OUT and of standard output.
-pub const OUTPUT_BUFFER: usize = 65_536;
 
 /// IN, and whether the run reports how far it has come.
 #[derive(Clone, Copy)]
@@ -54,27 +49,4 @@ pub fn open_pass(
         None
     };
     Ok(Watched::new(FromRead::new(file), line))
-}
-
-/// Refuses an OUT that can be opened for reading.
-pub fn refuse_existing(rt: &HostRuntime, output: &str) -> Result<(), Ending> {
-    if File::open(rt, output).is_ok() {
-        return Err(Ending::OutExists);
-    }
-    Ok(())
-}
-
-/// Makes OUT, with a buffer. A file that exists is never opened, so none is ever emptied.
-pub fn create_output(rt: &HostRuntime, output: &str) -> Result<BufWriter<Noted<File>>, Ending> {
-    let created = OpenOptions::new()
-        .write(true)
-        .create_new(true)
-        .open(rt, output);
-    let Ok(file) = created else {
-        return Err(Ending::CannotOpen);
-    };
-    match BufWriter::with_capacity(rt.alloc(), OUTPUT_BUFFER, Noted::new(file)) {
-        Ok(writer) => Ok(writer),
-        Err(_) => Err(Ending::Stopped(Stop::Memory)),
-    }
 }

@@ -113,7 +113,7 @@ fn of_blobs(asked: Asked<'_>, refused: Refused) -> Option<&'static str> {
     match refused.reason {
         Reason::Zlib if asked.program == Program::Pbfcutz => Some(of_zlib(refused.detail)),
         Reason::Zlib if asked.cuts => {
-            Some("IN is compressed; this cuts it: pbfcut-any --box=BOX IN OUT")
+            Some("IN is compressed; this cuts it: pbfcutz extract --box=BOX IN OUT")
         }
         Reason::Zlib => Some("IN is compressed; pbfcutz, which takes the same words, reads it"),
         Reason::Lz4 => Some(
@@ -196,9 +196,14 @@ fn of_write(rt: &HostRuntime, asked: Asked<'_>, failed: FailedWrite) -> Option<S
     match failed.target {
         Target::Out => {
             let output = asked.output?;
-            format!(in rt.alloc();
-                "{output}: {error}: remove {output}, since it is incomplete"
-            ).ok()
+            match asked.program {
+                Program::Pbfcut => format!(in rt.alloc();
+                    "{output}: {error}: remove {output}, since it is incomplete"
+                ).ok(),
+                Program::Pbfcutz => format!(in rt.alloc();
+                    "{output}: {error}: it was not made"
+                ).ok(),
+            }
         }
         Target::StandardOutput => format!(in rt.alloc(); "standard output: {error}").ok(),
     }

@@ -164,7 +164,7 @@ impl Engine {
     }
 
     /// A drain that gives OUT zlib blobs.
-    fn packed<D: Drain>(self, drain: D) -> Result<PackedDrain<D>, Stop>
+    fn packed<D: Drain + Drop>(self, drain: D) -> Result<PackedDrain<D>, Stop>
         requires { IfSome (D.taken drain) (λ taken. taken ≡ []) }
     {
         Ok(PackedDrain::new(self.alloc, Deflater::new(self.alloc)?, drain))

@@ -8,12 +8,10 @@ use pbf_pass::HashedDrain;
 use pbfcut::Counts;
 use pbfcut_cli::Ending;
 use pbfcut_files::{
-    Failure, Input, Noted, Target, create_output, end_line, open_pass, print_counts, print_digest,
+    Failure, Input, Output, Target, create_output, end_line, open_pass, print_counts, print_digest,
     print_unpacked, refuse_existing, report_refusal, tell_empty,
 };
-use std::fs::File;
 use std::hash::RandomState;
-use std::io::{BufWriter, Write};
 
 /// The hasher of the texts of a block, with a seed of this run's own: IN is untrusted, and its strings are hashed.
 fn seeded(rt: &HostRuntime) -> Result<RandomState, Ending> {
@@ -48,21 +46,24 @@ struct Outcome {
     output: Option<[u8; 32]>,
 }
 
-/// Writes to OUT what is left in its buffer, even after a stop, and prints what the call reports if it didn't stop. Returns the counts.
+/// Writes to OUT what is left in its buffer, even after a stop, and prints what the call reports if it didn't stop: then OUT has its name.
+/// Returns the counts.
 fn end(
     rt: &HostRuntime,
     engine: Engine,
     files: Files<'_>,
-    file: &mut BufWriter<Noted<File>>,
+    output: Output,
     outcome: Outcome,
 ) -> Result<Counts, Failure> {
     let path = files.input.path;
+    let mut output = output;
     end_line(rt, files.input.progress);
-    let flushed = file.flush();
-    let code = file.get_ref().code();
+    let flushed = output.flush();
+    let code = output.code();
     let report = match outcome.result {
         Ok(report) => report,
         Err(halted) => {
+            output.discard(rt);
             if files.digests {
                 report_refusal(rt, engine.program, halted.refusal, path)?;
             }
@@ -70,13 +71,15 @@ fn end(
         }
     };
     if flushed.is_err() {
+        output.discard(rt);
         return Err(Failure::of_write(Target::Out, code));
     }
+    output.keep(rt, files.output)?;
     print_counts(rt, report.counts)?;
-    if let Some(output) = outcome.output {
+    if let Some(digest) = outcome.output {
         print_digest(rt, report.input, path)?;
         print_unpacked(rt, report.raw)?;
-        print_digest(rt, output, files.output)?;
+        print_digest(rt, digest, files.output)?;
     }
     Ok(report.counts)
 }
@@ -92,13 +95,15 @@ pub(crate) fn run_convert(
     let two = open_pass(rt, files.input, 2, 2)?;
     let mut passes = TwoPasses { one, two };
     let hasher = seeded(rt)?;
-    let mut file = create_output(rt, files.output)?;
-    let drain = &mut ToWrite::new(&mut file);
+    let mut output = create_output(rt, files.output, engine.program)?;
+    let drain = &mut ToWrite::new(output.writer());
     let outcome = if files.digests {
         let mut hashed = HashedDrain::new(drain);
         let result = engine.convert(&mut passes, &mut hashed, hasher);
-        let output = Some(hashed.digest());
-        Outcome { result, output }
+        Outcome {
+            result,
+            output: Some(hashed.digest()),
+        }
     } else {
         let result = engine.convert(&mut passes, drain, hasher);
         Outcome {
@@ -106,7 +111,7 @@ pub(crate) fn run_convert(
             output: None,
         }
     };
-    end(rt, engine, files, &mut file, outcome)?;
+    end(rt, engine, files, output, outcome)?;
     Ok(())
 }
 
@@ -120,13 +125,15 @@ pub(crate) fn run_extract(
     refuse_existing(rt, files.output)?;
     let mut passes = open_three(rt, files.input, 3)?;
     let hasher = seeded(rt)?;
-    let mut file = create_output(rt, files.output)?;
-    let drain = &mut ToWrite::new(&mut file);
+    let mut output = create_output(rt, files.output, engine.program)?;
+    let drain = &mut ToWrite::new(output.writer());
     let outcome = if files.digests {
         let mut hashed = HashedDrain::new(drain);
         let result = engine.extract(&mut passes, area, &mut hashed, hasher);
-        let output = Some(hashed.digest());
-        Outcome { result, output }
+        Outcome {
+            result,
+            output: Some(hashed.digest()),
+        }
     } else {
         let result = engine.extract(&mut passes, area, drain, hasher);
         Outcome {
@@ -134,7 +141,7 @@ pub(crate) fn run_extract(
             output: None,
         }
     };
-    tell_empty(rt, end(rt, engine, files, &mut file, outcome)?);
+    tell_empty(rt, end(rt, engine, files, output, outcome)?);
     Ok(())
 }
 
@@ -150,13 +157,15 @@ pub(crate) fn run_extract_parents(
     let four = open_pass(rt, files.input, 4, 4)?;
     let mut passes = FourPasses { three, four };
     let hasher = seeded(rt)?;
-    let mut file = create_output(rt, files.output)?;
-    let drain = &mut ToWrite::new(&mut file);
+    let mut output = create_output(rt, files.output, engine.program)?;
+    let drain = &mut ToWrite::new(output.writer());
     let outcome = if files.digests {
         let mut hashed = HashedDrain::new(drain);
         let result = engine.extract_parents(&mut passes, area, &mut hashed, hasher);
-        let output = Some(hashed.digest());
-        Outcome { result, output }
+        Outcome {
+            result,
+            output: Some(hashed.digest()),
+        }
     } else {
         let result = engine.extract_parents(&mut passes, area, drain, hasher);
         Outcome {
@@ -164,6 +173,6 @@ pub(crate) fn run_extract_parents(
             output: None,
         }
     };
-    tell_empty(rt, end(rt, engine, files, &mut file, outcome)?);
+    tell_empty(rt, end(rt, engine, files, output, outcome)?);
     Ok(())
 }
