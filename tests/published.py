@@ -12,7 +12,9 @@ and damaged files, 250 or with --all 2,000. Where osmium is installed, it packs 
 import os
 import random
 import re
+import resource
 import shutil
+import signal
 import subprocess
 import sys
 import tempfile
@@ -303,6 +305,34 @@ def other_lines(bench: Bench):
     yield "no file", (3, "", "pbfcutz: cannot open\n"), bench.run(bench.pbfcutz, ["check", "absent"], data)[:3]
 
 
+def limited():
+    """A process that can write no file of more than 4,000 bytes."""
+    signal.signal(signal.SIGXFSZ, signal.SIG_IGN)
+    resource.setrlimit(resource.RLIMIT_FSIZE, (4_000, 4_000))
+
+
+def whole_or_absent(bench: Bench):
+    """OUT of pbfcutz has its name only when it is whole, and nothing stays beside it."""
+    with open(SAMPLE, "rb") as file:
+        sample = file.read()
+
+    def ends(given: dict, words: list, **how) -> tuple:
+        """The status of a run, and the files that are there afterwards."""
+        with tempfile.TemporaryDirectory(dir=bench.folder) as room:
+            for name, data in given.items():
+                with open(os.path.join(room, name), "wb") as file:
+                    file.write(data)
+            done = subprocess.run([bench.pbfcutz, *words], cwd=room, capture_output=True, timeout=SECONDS, **how)
+            return done.returncode, sorted(os.listdir(room))
+
+    cut = ["convert", "in", "out"]
+    yield "a whole OUT", (0, ["in", "out"]), ends({"in": sample}, cut)
+    yield "a refused IN", (1, ["in"]), ends({"in": sample[:-1]}, cut)
+    yield "an OUT that is there", (3, ["in", "out"]), ends({"in": sample, "out": b"kept"}, cut)
+    yield "what a killed run left", (0, ["in", "out", "out.0.part"]), ends({"in": sample, "out.0.part": b"left"}, cut)
+    yield "a disk that is full", (3, ["in"]), ends({"in": sample}, ["convert", "--raw", "in", "out"], preexec_fn=limited)
+
+
 def report(script: str, wrong: list, count: int, well: str):
     """Prints the first lines of what is out of place, and how many runs are; or that all went well."""
     for line in wrong[:20]:
@@ -321,7 +351,7 @@ def main():
         rows = [*suite_files(), *sample_files(), *damaged_files(number)]
         with ThreadPoolExecutor(os.cpu_count() or 1) as pool:
             wrong = [found for found in pool.map(lambda row: bench.compare(*row), rows) if found]
-        for name, wanted, found in other_lines(bench):
+        for name, wanted, found in [*other_lines(bench), *whole_or_absent(bench)]:
             bench.count += 1
             if wanted != found:
                 wrong.append(f"{name}: expected {wanted!r}, found {found!r}")

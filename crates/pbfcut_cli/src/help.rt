@@ -216,8 +216,8 @@ pub(crate) const OF_PBFCUT: Help = Help {
         "Examples, which cut London out of a published file of England:\n  \
           pbfcutz extract --box=-0.5,51.25,0.3,51.7 england.osm.pbf london.osm.pbf\n\
         or, with a raw file between:\n  \
-          pbfcutz convert --raw england.osm.pbf raw.osm.pbf\n  \
-          pbfcut extract --box=-0.5,51.25,0.3,51.7 raw.osm.pbf cut.osm.pbf\n"
+          pbfcutz convert --raw england.osm.pbf england.raw.osm.pbf\n  \
+          pbfcut extract --box=-0.5,51.25,0.3,51.7 england.raw.osm.pbf cut.osm.pbf\n"
     ),
     convert: after_convert!(
         "IN must have raw blobs, and OUT has raw blobs. Published files are compressed:\n\

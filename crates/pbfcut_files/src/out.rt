@@ -94,7 +94,7 @@ fn name(rt: &HostRuntime, part: &str, output: &str) -> Result<(), Failure> {
 }
 
 impl Output {
-    /// Where OUT is written to.
+    /// The writer of OUT.
     pub fn writer(&mut self) -> &mut BufWriter<Noted<File>> {
         &mut self.writer
     }
