@@ -3,9 +3,9 @@
 
 usage: bench/packed.py PROGRAM FILE [--times N] BOX..
 
-FILE is compressed: `osmium cat` or `tools/pbfcut-any pack` makes one of what bench/make.py makes. In turn, N times (3), for each box:
-tools/pbfcut-any with PROGRAM as pbfcutz, and Osmium's complete-ways extract with its default threads, both on all processors. It prints the
-least and the median of the seconds by the clock, the least beside Osmium's, and the greatest memory of a process. First come `check` by pbfcut of
+FILE is compressed: `pbfcutz convert` makes one of what bench/make.py makes. In turn, N times (3), for each box: PROGRAM as pbfcutz,
+tools/pbfcut-any with it, and Osmium's complete-ways extract with its default threads, all on all processors. It prints the least and the
+median of the seconds by the clock, the least beside Osmium's, and the greatest memory of a process. First come `check` by pbfcut of
 the raw file, which is made for it, and by pbfcutz of FILE, on one processor each, without digests and with them.
 """
 import os
@@ -68,19 +68,23 @@ def compare_checks(pbfcut: str, pbfcutz: str, file: str, folder: str, times: int
 
 
 def compare_cuts(pbfcutz: str, file: str, box: str, folder: str, times: int):
-    ours, theirs = os.path.join(folder, "ours.osm.pbf"), os.path.join(folder, "theirs.osm.pbf")
-    companion = [COMPANION, f"--box={box}", file, ours]
-    osmium = ["osmium", "extract", "-s", "complete_ways", "-b", box, file, "-o", theirs]
+    out = os.path.join(folder, "out.osm.pbf")
+    commands = {
+        "osmium extract": ["osmium", "extract", "-s", "complete_ways", "-b", box, file, "-o", out],
+        "pbfcut-any": [COMPANION, f"--box={box}", file, out],
+        "pbfcutz extract": [pbfcutz, "extract", f"--box={box}", file, out],
+    }
     processors = os.sched_getaffinity(0)
-    found = [], []
+    found, size = {name: [] for name in commands}, 0
     for _ in range(times):
-        for runs, words, out in ((found[0], companion, ours), (found[1], osmium, theirs)):
-            runs.append(measured(words, {"PBFCUTZ": pbfcutz}, processors))
+        for name, words in commands.items():
+            found[name].append(measured(words, {"PBFCUTZ": pbfcutz}, processors))
             size = os.path.getsize(out)
             os.unlink(out)
     print(f"box {box}, OUT {size / 1e6:.1f} MB")
-    beside = show("  osmium extract", found[1])
-    show("  pbfcut-any", found[0], beside)
+    beside = show("  osmium extract", found["osmium extract"])
+    for name in ("pbfcut-any", "pbfcutz extract"):
+        show(f"  {name}", found[name], beside)
 
 
 def main(words: list):
