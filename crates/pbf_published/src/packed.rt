@@ -94,19 +94,20 @@ pub fn extract_packed<F: Feed, G: Feed, H: Feed, D: Drain, S: BuildHasher + Drop
         → IsFront (taken_raw drain.old) (taken_raw drain.new)
         (extract_of (complete_ways area) area b)) h.stop) }
 {
-    let returned = extract_sorted_with_receipt(passes, first, second, third, area, &mut *drain, hasher);
+    let returned = extract_sorted_with_receipt(
+        passes,
+        first,
+        second,
+        third,
+        area,
+        &mut *drain,
+        hasher,
+    );
     finish(returned, drain)
 }
 
 /// Like [`extract_parents_sorted_with_receipt`], over a drain that packs.
-pub fn extract_parents_packed<
-    F: Feed,
-    G: Feed,
-    H: Feed,
-    I: Feed,
-    D: Drain,
-    S: BuildHasher + Drop,
->(
+pub fn extract_parents_packed<F: Feed, G: Feed, H: Feed, I: Feed, D: Drain, S: BuildHasher + Drop>(
     passes: Passes,
     first: &mut F,
     second: &mut G,
@@ -147,7 +148,14 @@ pub fn extract_parents_packed<
         (extract_of (all_parents area) area b)) h.stop) }
 {
     let returned = extract_parents_sorted_with_receipt(
-        passes, first, second, third, fourth, area, &mut *drain, hasher,
+        passes,
+        first,
+        second,
+        third,
+        fourth,
+        area,
+        &mut *drain,
+        hasher,
     );
     finish(returned, drain)
 }
