@@ -1,4 +1,5 @@
 -- What a call over published files gives that writes a published one.
+use native.Mathlib.Omega.{arith}
 use Rattle.std.proofs.Common.{◌≡◌, ◌⊎◌, inl, inr, ℕ, ◌≤◌, ◌+◌, ◌-◌, ◌^◌, List, [], ◌++◌, Option, Some, None, Result, Ok, Err, IfOk, IfErr, IsSome, refl, sym, ap, ◌∙◌, subst, unwrap_or}
 use Rattle.std.proofs.lemmas.Option.{same_Some}
 use Rattle.pbf_wire.specs.declared.fault.Fault.{Fault}
@@ -24,10 +25,10 @@ use Rattle.pbf_published.proofs.PublishedLemmas.{unless_changed}
 -- ---- why a drain takes nothing more
 
 pub spent_course : (course : Course) (n : ℕ) → IsSome (stop_of_course course) → 2 ^ 64 - 1 ≤ spent_failures course + n
-spent_course Taking n is = absurd is
-spent_course Failed n is = omega
-spent_course Unfit n is = omega
-spent_course Refused n is = omega
+spent_course Taking n is = (let bad : ⊥ = cc in absurd bad)
+spent_course Failed n is = omega arith
+spent_course Unfit n is = omega arith
+spent_course Refused n is = omega arith
 
 pub of_writing : (course : Course) → IsOfWriting (unwrap_or (stop_of_course course) stop.Write)
 of_writing Taking = inl refl
@@ -85,34 +86,34 @@ module _ {D : Type 0} {d : drain.Ghosts D} (old mid new : PackedDrain D d) where
 
 -- ---- what is reported
 
-module _ {D : Type 0} {d : drain.Ghosts D} {mid new : PackedDrain D d} where
+-- a stop that is of writing, or names memory, has its cause
+memory_caused : (refused : Fault → Type 0) (read wrote : Type 0) (changed : ℕ → Type 0) (s t : Stop) → NamesMemory s t → Caused refused read wrote changed s → Caused refused read wrote changed t
+memory_caused refused read wrote changed s t (inl same) caused = subst (λ (x : Stop). Caused refused read wrote changed x) (sym same) caused
+memory_caused refused read wrote changed s t (inr memory) caused = subst (λ (x : Stop). Caused refused read wrote changed x) (sym memory.1) tt
+
+writing_caused : (refused : Fault → Type 0) (read wrote : Type 0) (changed : ℕ → Type 0) (t : Stop) → IsOfWriting t → wrote → Caused refused read wrote changed t
+writing_caused refused read wrote changed t (inl is) failed = subst (λ (x : Stop). Caused refused read wrote changed x) (sym is) failed
+writing_caused refused read wrote changed t (inr is) failed = subst (λ (x : Stop). Caused refused read wrote changed x) (sym is) tt
+
+memory_unless : (holds : Type 0) (s t : Stop) → NamesMemory s t → UnlessChanged holds s → UnlessChanged holds t
+memory_unless holds s t (inl same) held = subst (λ (x : Stop). UnlessChanged holds x) (sym same) held
+memory_unless holds s t (inr memory) held = unless_changed holds t (subst (λ (x : Stop). UnlessChanged holds x) memory.0 held)
+
+module _ {D : Type 0} {d : drain.Ghosts D} (mid new : PackedDrain D d) where
   pub finished_receipt : (returned reported : Result PublishedInput PublishedHalt) → Finishes mid new returned reported → (holds keeps : PublishedInput → Type 0) → ((receipt : PublishedInput) → GaveAll mid new → holds receipt → keeps receipt) → IfOk returned holds → IfOk reported keeps
   finished_receipt (Ok receipt) (Ok same) finishes holds keeps step held = subst keeps (sym finishes.0) (step receipt finishes.1 held)
   finished_receipt (Ok receipt) (Err halt) finishes holds keeps step held = tt
   finished_receipt (Err halt) (Ok same) finishes holds keeps step held = absurd finishes
   finished_receipt (Err halt) (Err reported) finishes holds keeps step held = tt
 
-  -- a stop that is of writing, or names memory, has its cause
-  memory_caused : (refused : Fault → Type 0) (read wrote : Type 0) (changed : ℕ → Type 0) (s t : Stop) → NamesMemory s t → Caused refused read wrote changed s → Caused refused read wrote changed t
-  memory_caused refused read wrote changed s t (inl same) caused = subst (λ (x : Stop). Caused refused read wrote changed x) (sym same) caused
-  memory_caused refused read wrote changed s t (inr memory) caused = subst (λ (x : Stop). Caused refused read wrote changed x) (sym memory.1) tt
-
-  writing_caused : (refused : Fault → Type 0) (read wrote : Type 0) (changed : ℕ → Type 0) (t : Stop) → IsOfWriting t → wrote → Caused refused read wrote changed t
-  writing_caused refused read wrote changed t (inl is) failed = subst (λ (x : Stop). Caused refused read wrote changed x) (sym is) failed
-  writing_caused refused read wrote changed t (inr is) failed = subst (λ (x : Stop). Caused refused read wrote changed x) (sym is) tt
-
   pub finished_stops : (returned reported : Result PublishedInput PublishedHalt) → Finishes mid new returned reported → (refused : PackedDrain D d → Fault → Type 0) (read : Type 0) (failures : ℕ) (changed : ℕ → Type 0)
       → IfErr returned (λ h. Caused (refused mid) read (HasRisen failures (failures_of_drain mid)) changed h.stop) → IfErr reported (λ h. Caused (refused new) read (HasRisen failures (failures_of_drain new)) changed h.stop)
   finished_stops (Ok receipt) (Ok same) finishes refused read failures changed caused = tt
   finished_stops (Ok receipt) (Err halt) finishes refused read failures changed caused =
-      writing_caused (refused new) read _ changed halt.stop finishes.1 (let spent : 2 ^ 64 - 1 ≤ failures_of_drain new = finishes.0 in omega)
+      writing_caused (refused new) read _ changed halt.stop finishes.1 (let spent : 2 ^ 64 - 1 ≤ failures_of_drain new = finishes.0 in omega (arith, spent))
   finished_stops (Err halt) (Ok same) finishes refused read failures changed caused = absurd finishes
   finished_stops (Err halt) (Err reported) finishes refused read failures changed caused =
       subst (λ (p : PackedDrain D d). Caused (refused p) read (HasRisen failures (failures_of_drain p)) changed reported.stop) (sym finishes.0) (memory_caused (refused mid) read _ changed halt.stop reported.stop finishes.1 caused)
-
-  memory_unless : (holds : Type 0) (s t : Stop) → NamesMemory s t → UnlessChanged holds s → UnlessChanged holds t
-  memory_unless holds s t (inl same) held = subst (λ (x : Stop). UnlessChanged holds x) (sym same) held
-  memory_unless holds s t (inr memory) held = unless_changed holds t (subst (λ (x : Stop). UnlessChanged holds x) memory.0 held)
 
   pub finished_beginning : (returned reported : Result PublishedInput PublishedHalt) → Finishes mid new returned reported → (held : PublishedInput → Type 0) (begun : PackedDrain D d → Type 0) → ((receipt : PublishedInput) → held receipt → begun new)
       → IfOk returned held → IfErr returned (λ h. UnlessChanged (begun mid) h.stop) → IfErr reported (λ h. UnlessChanged (begun new) h.stop)
