@@ -373,16 +373,23 @@ class Failed(Exception):
     """A run that did not end with status 0."""
 
 
-def frames_in(path: str) -> int:
-    """How many frames OUT has."""
-    count = 0
+def number_in(spelling: bytes) -> int:
+    """The number that these bytes begin with."""
+    length = next(at for at, byte in enumerate(spelling, 1) if byte < 128)
+    return sum((byte & 127) << 7 * at for at, byte in enumerate(spelling[:length]))
+
+
+def packed_bytes(path: str) -> int:
+    """How many bytes were packed for OUT, and what its frames cost beside."""
+    total = 0
     with open(path, "rb") as out:
         while prefix := out.read(4):
             header = out.read(int.from_bytes(prefix, "big"))
-            size = header[2 + header[1] + 1:]  # behind the type and the tag of datasize
-            out.seek(sum((byte & 127) << 7 * at for at, byte in enumerate(size)), os.SEEK_CUR)
-            count += 1
-    return count
+            size = number_in(header[2 + header[1] + 1:])  # behind the type and the tag of datasize
+            blob = out.read(min(size, 12))
+            out.seek(size - len(blob), os.SEEK_CUR)
+            total += PACKED_FRAME + (number_in(blob[1:]) if blob[:1] == b"\x10" else size)
+    return total
 
 
 def run(program: str, words: list, file: str) -> tuple:
@@ -398,7 +405,7 @@ def run(program: str, words: list, file: str) -> tuple:
         raise Failed(f"{words}: status {os.waitstatus_to_exitcode(status)}")
     written = sum(os.path.getsize(name) for name in ("out", "said") if os.path.exists(name))
     if program == "pbfcutz" and os.path.exists("out"):
-        written += PACKED_FRAME * frames_in("out")
+        written += packed_bytes("out")
     return usage.ru_utime + usage.ru_stime, usage.ru_maxrss, written
 
 

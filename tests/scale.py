@@ -15,6 +15,11 @@ import subprocess
 import sys
 import tempfile
 
+sys.dont_write_bytecode = True
+sys.path.insert(0, os.path.dirname(os.path.abspath(__file__)))
+
+from published import unpacked
+
 TOP = os.path.dirname(os.path.dirname(os.path.abspath(__file__)))
 TREE = os.path.join("sample", "tree.mk")
 TOWN = os.path.join("sample", "town.osm.pbf")
@@ -114,7 +119,8 @@ def run_as_array(program: str, folder: str) -> dict:
         for line in [*range(1, len(level) + 1), len(level)]:
             succeed(["bash", "cut.sh", "level"], folder, SLURM_ARRAY_TASK_ID=str(line), PATH=path)
         above, left = set(level), {name: box for name, box in left.items() if name not in level}
-    return {name: contents(os.path.join(folder, f"{name}.osm.pbf")) for name in listed("box")}
+    # pbfcutz compresses them
+    return {name: unpacked(contents(os.path.join(folder, f"{name}.osm.pbf"))) for name in listed("box")}
 
 
 def main():

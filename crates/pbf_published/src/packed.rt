@@ -54,7 +54,7 @@ pub fn convert_packed<F: Feed, G: Feed, D: Drain, S: BuildHasher + Drop>(
         → BothSupply b (raw_of (F.remaining first.old)) (raw_of (G.remaining second.old))
         → IsFront (taken_raw drain.old) (taken_raw drain.new) (conversion_of b)) h.stop) }
 {
-    let returned = convert_with_receipt(passes, first, second, &mut *drain, hasher);
+    let returned = convert_with_receipt(passes, first, second, drain, hasher);
     finish(returned, drain)
 }
 
@@ -94,19 +94,12 @@ pub fn extract_packed<F: Feed, G: Feed, H: Feed, D: Drain, S: BuildHasher + Drop
         → IsFront (taken_raw drain.old) (taken_raw drain.new)
         (extract_of (complete_ways area) area b)) h.stop) }
 {
-    let returned = extract_sorted_with_receipt(passes, first, second, third, area, &mut *drain, hasher);
+    let returned = extract_sorted_with_receipt(passes, first, second, third, area, drain, hasher);
     finish(returned, drain)
 }
 
 /// Like [`extract_parents_sorted_with_receipt`], over a drain that packs.
-pub fn extract_parents_packed<
-    F: Feed,
-    G: Feed,
-    H: Feed,
-    I: Feed,
-    D: Drain,
-    S: BuildHasher + Drop,
->(
+pub fn extract_parents_packed<F: Feed, G: Feed, H: Feed, I: Feed, D: Drain, S: BuildHasher + Drop>(
     passes: Passes,
     first: &mut F,
     second: &mut G,
@@ -147,7 +140,7 @@ pub fn extract_parents_packed<
         (extract_of (all_parents area) area b)) h.stop) }
 {
     let returned = extract_parents_sorted_with_receipt(
-        passes, first, second, third, fourth, area, &mut *drain, hasher,
+        passes, first, second, third, fourth, area, drain, hasher,
     );
     finish(returned, drain)
 }

@@ -30,7 +30,10 @@ pub fn refuse_existing(rt: &HostRuntime, output: &str) -> Result<(), Ending> {
 
 /// Makes a new file. One that exists is never opened, so none is ever emptied.
 fn open_new(rt: &HostRuntime, path: &str) -> io::Result<File> {
-    OpenOptions::new().write(true).create_new(true).open(rt, path)
+    OpenOptions::new()
+        .write(true)
+        .create_new(true)
+        .open(rt, path)
 }
 
 /// Makes a new file beside OUT, with its name.

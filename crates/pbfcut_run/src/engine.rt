@@ -249,7 +249,13 @@ impl Engine {
             Program::Pbfcutz if self.packs => {
                 let mut packed = self.packed(drain)?;
                 pbf_published::extract_packed(
-                    how, one, two, three, area, &mut packed, hasher,
+                    how,
+                    one,
+                    two,
+                    three,
+                    area,
+                    &mut packed,
+                    hasher,
                 )?.into()
             }
             Program::Pbfcutz => pbf_published::extract_sorted_with_receipt(
@@ -278,7 +284,14 @@ impl Engine {
             Program::Pbfcutz if self.packs => {
                 let mut packed = self.packed(drain)?;
                 pbf_published::extract_parents_packed(
-                    how, one, two, three, four, area, &mut packed, hasher,
+                    how,
+                    one,
+                    two,
+                    three,
+                    four,
+                    area,
+                    &mut packed,
+                    hasher,
                 )?.into()
             }
             Program::Pbfcutz => pbf_published::extract_parents_sorted_with_receipt(

@@ -71,7 +71,15 @@ fn is_convert(alloc: Global, words: &[&str], asked: (bool, bool)) -> bool {
 /// Whether they are a command of pbfcutz to convert `a` to `b` in raw blobs.
 fn is_raw_convert(alloc: Global, words: &[&str]) -> bool {
     let read = read_words(alloc, Program::Pbfcutz, words);
-    matches!(&read, Ok(Command::Convert { input: "a", output: "b", raw: true, .. }))
+    matches!(
+        &read,
+        Ok(Command::Convert {
+            input: "a",
+            output: "b",
+            raw: true,
+            ..
+        })
+    )
 }
 
 /// Whether they are a command to cut London out of `a` into `b`, with all of parents, progress and digests, or with none of them.
