@@ -1,11 +1,11 @@
 #!/usr/bin/env python3
-"""The map in docs/ARCHITECTURE.md is the tree's: each crate, and each file of its src/, is named there, and nothing else. The calls, clauses and
-definitions that the tables of docs/PROMISES.md name are in the sources. No contract and no definition has a limit of the format as a numeral: each
-is a constant.
+"""The map in docs/ARCHITECTURE.md is the tree's: it lists each crate once, with what it is for and its state, and each file of pbf_wire. Each file
+of src/ begins with its concept, as the page says. The calls, clauses and definitions that the tables of docs/PROMISES.md name are in the sources. No
+contract and no definition has a limit of the format as a numeral: each is a constant.
 
 usage: tests/architecture.py [PROGRAM]
 
-PROGRAM is not run. The files of tests and of uses, lib.rt and main.rt need not be named; crates of tests are one row.
+PROGRAM is not run. Crates of tests and uses are not in the list of crates.
 """
 
 import os
@@ -38,14 +38,24 @@ def names(cell: str) -> list:
     return re.findall(r"`([^`]+)`", cell)
 
 
-def mapped(text: str) -> dict:
-    """The files that the page names for each crate."""
-    found = {"pbf_wire": [name for row in rows(section(text, "pbf_wire, room by room")) for name in names(row[0])]}
-    crate = None
-    for row in rows(section(text, "The other crates, room by room")):
-        crate = names(row[0])[0] if names(row[0]) else crate
-        found.setdefault(crate, []).extend(names(row[1]))
-    return found
+def twice(listed: list) -> list:
+    return sorted({name for name in listed if listed.count(name) > 1})
+
+
+def files_of(crate: str) -> list:
+    return sorted(name for name in os.listdir(os.path.join(TOP, "crates", crate, "src")) if name.endswith(".rt"))
+
+
+def without_concept(code: set) -> list:
+    """The files of src/ that don't begin with their concept."""
+    places = [f"crates/{crate}/src/{name}" for crate in sorted(code) for name in files_of(crate)]
+    return [f"{place} doesn't begin with its concept, as '//! ..'" for place in places if not read(os.path.join(TOP, place)).startswith("//! ")]
+
+
+def unlike_rows(table: list) -> list:
+    """The rows of the crates that aren't a crate, what it is for, and its state."""
+    sound = [len(row) == 3 and len(names(row[0])) == 1 and bool(row[1]) and row[2].startswith(("proved", "safe")) for row in table]
+    return [f"crates: '{row[0]}' needs what it is for, and its state: proved or safe" for row, is_sound in zip(table, sound) if not is_sound]
 
 
 def is_of_tests(name: str) -> bool:
@@ -75,7 +85,7 @@ def unknown_promises(words: set) -> list:
 
 def unknown_names(text: str, words: set) -> list:
     """The names that are said to stay, and that no source has."""
-    named = {name for row in rows(section(text, "Names that stay")) for cell in row for name in names(cell)}
+    named = {name for row in rows(section(text, "Stable API")) for cell in row for name in names(cell)}
     return [f"docs/ARCHITECTURE.md: no source has '{name}', which is to stay" for name in sorted(named - words) if not name.startswith("_")]
 
 
@@ -116,20 +126,17 @@ def main():
         faults.extend(f"{what}: '{name}' is on the page, and not there" for name in sorted(listed - there))
         faults.extend(f"{what}: '{name}' is not on the page" for name in sorted(there - listed))
 
-    differ("crates", {name for row in rows(section(text, "The crates")) for name in names(row[0])} - (crates - code), code)
-    layers = set(re.findall(r"\b[a-z]+_[a-z]+\b|\bpbfcut\b|^zlib\b|^deflate\b", section(text, "Layers"), re.M))
-    differ("layers", layers - (crates - code), code)
-    page = mapped(text)
-    differ("rooms", set(page) - (crates - code), code)
-    for crate in sorted(code & set(page)):
-        files = {name[:-3] for name in os.listdir(os.path.join(TOP, "crates", crate, "src")) if name.endswith(".rt")}
-        twice = {name for name in page[crate] if page[crate].count(name) > 1}
-        faults.extend(f"{crate}: '{name}' is on the page twice" for name in sorted(twice))
-        optional = {name for name in files if is_of_tests(name)} | {"lib", "main"}
-        differ(crate, set(page[crate]) - optional, files - optional)
+    table = rows(section(text, "The crates"))
+    listed = [name for row in table for name in names(row[0])]
+    faults += unlike_rows(table) + [f"crates: '{name}' is on the page twice" for name in twice(listed)]
+    differ("crates", set(listed), code)
+    files = [name for row in rows(section(text, "Files of pbf_wire")) for name in names(row[0])]
+    faults += [f"pbf_wire: '{name}' is on the page twice" for name in twice(files)]
+    differ("pbf_wire", set(files), {name[:-3] for name in files_of("pbf_wire")} - {"lib"})
+    faults += without_concept(code)
     if faults:
         sys.exit("\n".join(f"tests/architecture.py: {fault}" for fault in faults))
-    print(f"tests/architecture.py: the map has the {len(code)} crates of the tree and their files")
+    print(f"tests/architecture.py: the map has the {len(code)} crates of the tree, and each of their files begins with its concept")
 
 
 if __name__ == "__main__":
