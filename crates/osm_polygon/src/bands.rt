@@ -1,4 +1,4 @@
-//! Bands of latitude, each with the edges that have a place in it. So a place is compared with the edges of one band.
+//! Bands of latitude, each with the edges that have a place in it. So a place is compared with the edges of one band only.
 
 ghost use Rattle.std.specs.Prelude.{◌≡◌, ◌<◌, ◌≤◌, ◌+◌, ◌*◌, true, [], IfOk, OnOk, length};
 ghost use Rattle.osm_polygon.specs.Bands.{AreBands, lists_of, pushed_at, with_edge, span_of, spans_of, held};
@@ -7,7 +7,7 @@ ghost use Rattle.osm_polygon.specs.Edges.{is_in_band};
 use crate::edge::{Edge, band_of};
 use std::alloc::{AllocError, Global};
 
-/// The least power of two that is more nanodegrees than there are from pole to pole has this exponent.
+/// A band that is 2^38 nanodegrees high reaches from pole to pole.
 const POLE_TO_POLE: u32 = 38;
 
 /// The edges that have a place in one band, in their order.
@@ -24,7 +24,7 @@ pub(crate) struct Cut {
     pub(crate) shift: u32,
 }
 
-/// Whether the bands of this height have at most `most` edges together, if an edge counts once in each band that it has a place in.
+/// Whether the bands of this height have at most `most` edges together. An edge counts once in each band that it has a place in.
 fn are_few(edges: &[Edge], shift: u32, most: u64) -> bool
     requires { shift < 64 }
     ensures { result ≡ true → spans_of shift edges.now ≤ most }
@@ -65,8 +65,8 @@ fn cut_at(south: u64, north: u64, shift: u32) -> Cut
     }
 }
 
-/// The bands for edges: the lowest of which there are no more than edges, and that have at most eight times the edges together. So edges
-/// that all reach from south to north get few bands.
+/// Which bands edges get: the lowest bands such that there are no more bands than edges, and that they have at most eight times as many edges
+/// together. So edges that all reach from south to north get few bands, and no polygon gets bands that take more memory than that.
 pub(crate) fn choose_cut(edges: &[Edge]) -> Cut
     ensures height { result.shift < 64 }
     ensures number { result.count ≤ length edges.now + 1 }
@@ -87,7 +87,7 @@ pub(crate) fn choose_cut(edges: &[Edge]) -> Cut
     }
 }
 
-/// Bands without edges.
+/// As many bands as `cut` says, without edges.
 fn empty_bands(alloc: Global, cut: Cut) -> Result<Vec<Band>, AllocError>
     ensures are { IfOk result (λ bands. AreBands cut.shift cut.first [] (lists_of bands.items)) }
     ensures none { IfOk result (λ bands. held bands.items ≡ 0) }
@@ -103,7 +103,8 @@ fn empty_bands(alloc: Global, cut: Cut) -> Result<Vec<Band>, AllocError>
 
 /// Adds an edge to the band with this index, if there is one.
 fn push_at(bands: &mut Vec<Band>, index: usize, edge: Edge) -> Result<(), AllocError>
-    ensures { OnOk result (lists_of bands.new.items ≡ pushed_at index edge (lists_of bands.old.items)) }
+    ensures { OnOk result (lists_of bands.new.items
+        ≡ pushed_at index edge (lists_of bands.old.items)) }
 {
     if let Some(band) = bands.get_mut(index) {
         band.edges.push(edge)?;
@@ -126,10 +127,11 @@ fn add_edge(bands: &mut Vec<Band>, first: u64, shift: u32, edge: Edge) -> Result
     Ok(())
 }
 
-/// The bands with their edges.
+/// The bands of `cut`, each with its edges. Each edge is compared with no band but pushed to those that it reaches.
 pub(crate) fn bands_of(alloc: Global, edges: &[Edge], cut: Cut) -> Result<Vec<Band>, AllocError>
     requires { cut.shift < 64 }
-    ensures are { IfOk result (λ bands. AreBands cut.shift cut.first edges.now (lists_of bands.items)) }
+    ensures are { IfOk result (λ bands.
+        AreBands cut.shift cut.first edges.now (lists_of bands.items)) }
     ensures few { IfOk result (λ bands. held bands.items ≤ spans_of cut.shift edges.now) }
 {
     let mut bands = empty_bands(alloc, cut)?;

@@ -1,7 +1,6 @@
 //! Rings: their edges, and the least box round them.
 
 ghost use Rattle.std.specs.Prelude.{◌≡◌, ◌++◌, IfOk, OnOk, map};
-ghost use Rattle.std.specs.Int.{int_min, int_max};
 ghost use Rattle.osm_polygon.specs.Edges.{point_of, side_of};
 ghost use Rattle.osm_polygon.specs.RingPlaces.{places_of};
 ghost use Rattle.osm_polygon.specs.Rings.{ring_sides, rings_sides, grown, box_round};
@@ -18,7 +17,7 @@ pub struct Ring {
     pub places: Vec<Place>,
 }
 
-/// Adds the edges of a ring.
+/// Adds the edges of a ring with these places.
 fn add_ring(edges: &mut Vec<Edge>, places: &[Place]) -> Result<(), AllocError>
     ensures { OnOk result (map side_of edges.new.items
         ≡ map side_of edges.old.items ++ ring_sides (map point_of places.now)) }
@@ -39,7 +38,8 @@ fn add_ring(edges: &mut Vec<Edge>, places: &[Place]) -> Result<(), AllocError>
 
 /// The edges of rings.
 pub(crate) fn edges_of(alloc: Global, rings: &[Ring]) -> Result<Vec<Edge>, AllocError>
-    ensures { IfOk result (λ edges. map side_of edges.items ≡ rings_sides (map places_of rings.now)) }
+    ensures { IfOk result (λ edges. map side_of edges.items
+        ≡ rings_sides (map places_of rings.now)) }
 {
     let mut edges = Vec::new(alloc);
     let mut rest = rings;
@@ -50,33 +50,19 @@ pub(crate) fn edges_of(alloc: Global, rings: &[Ring]) -> Result<Vec<Edge>, Alloc
     Ok(edges)
 }
 
-/// The lesser of two numbers.
-fn least(a: i64, b: i64) -> i64
-    ensures { result ≡ int_min a b }
-{
-    if b < a { b } else { a }
-}
-
-/// The greater of two numbers.
-fn greatest(a: i64, b: i64) -> i64
-    ensures { result ≡ int_max a b }
-{
-    if b < a { a } else { b }
-}
-
-/// The box with a place more.
-fn grown(area: BoundingBox, place: Place) -> BoundingBox
+/// The box, made as much larger as is needed to have the place too.
+fn widen(area: BoundingBox, place: Place) -> BoundingBox
     ensures { result ≡ grown area (point_of place) }
 {
     BoundingBox {
-        left: least(area.left, place.lon),
-        bottom: least(area.bottom, place.lat),
-        right: greatest(area.right, place.lon),
-        top: greatest(area.top, place.lat),
+        left: area.left.min(place.lon),
+        bottom: area.bottom.min(place.lat),
+        right: area.right.max(place.lon),
+        top: area.top.max(place.lat),
     }
 }
 
-/// The least box that has all edges.
+/// The least box that has all ends of edges. Without edges it has no place.
 pub(crate) fn bounds_of(edges: &[Edge]) -> BoundingBox
     ensures { result ≡ box_round (map side_of edges.now) }
 {
@@ -88,7 +74,7 @@ pub(crate) fn bounds_of(edges: &[Edge]) -> BoundingBox
     };
     let mut rest = edges;
     'edges: while let Some((edge, more)) = rest.split_first() {
-        area = grown(area, edge.to);
+        area = widen(area, edge.to);
         rest = more;
     }
     area
