@@ -10,7 +10,7 @@ use std::test::Fail;
 
 const SQUARE: &str = "x\n1\n1 1\n2 1\n2 2\n1 2\nEND\nEND\n";
 
-/// A square that stands on a corner.
+/// A square with a corner at the bottom.
 const DIAMOND: &str = "x\n1\n1.5 1\n2 1.5\n1.5 2\n1 1.5\nEND\nEND\n";
 
 /// A square of three degrees, and one of one degree within it.
