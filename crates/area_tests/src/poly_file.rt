@@ -5,23 +5,26 @@ use std::alloc::Global;
 use std::test::Fail;
 
 /// A text that is in order.
-const PLAIN: &str = "x\n1\n   9.5000000   47.1000000\n   9.6000000   47.1000000\n   9.5500000   47.2000000\nEND\nEND\n";
+const PLAIN: &str =
+    "x\n1\n   9.5000000   47.1000000\n   9.6000000   47.1000000\n   9.5500000   47.2000000\nEND\nEND\n";
 
 /// The same with exponents.
-const EXPONENTS: &str = "x\n1\n   9.5000000E+00   4.7100000E+01\n   96.000000E-1   4.71e1\n   0.0955E2   4.72E+01\nEND\nEND\n";
+const EXPONENTS: &str =
+    "x\n1\n   9.5000000E+00   4.7100000E+01\n   96.000000E-1   4.71e1\n   0.0955E2   4.72E+01\nEND\nEND\n";
 
 /// The same with tabs.
-const TABS: &str = "x\n1\n\t9.5000000\t47.1000000\n\t9.6000000\t47.1000000\n\t9.5500000\t47.2000000\nEND\nEND\n";
+const TABS: &str =
+    "x\n1\n\t9.5000000\t47.1000000\n\t9.6000000\t47.1000000\n\t9.5500000\t47.2000000\nEND\nEND\n";
 
 /// The same with a carriage return at the end of each line, and blank lines after the last.
-const RETURNS: &str =
-    "x\r\n1\r\n 9.5 47.1\r\n 9.6 47.1\r\n 9.55 47.2\r\nEND\r\nEND\r\n\r\n  \r\n";
+const RETURNS: &str = "x\r\n1\r\n 9.5 47.1\r\n 9.6 47.1\r\n 9.55 47.2\r\nEND\r\nEND\r\n\r\n  \r\n";
 
 /// The same without the last line end, without names, and with `+`.
 const BARE: &str = "\n\n+9.5 +47.1\n9.6  47.1\n  9.55 \t 47.2  \n END \nEND";
 
 /// The same, but for digits after the ninth decimal place, which are cut off.
-const LONG: &str = "x\n1\n   9.5000000000000000   47.100000000000001\n   9.600000000999999999   47.1\n   9.5500000000000007   47.200000000000003\nEND\nEND\n";
+const LONG: &str =
+    "x\n1\n   9.5000000000000000   47.100000000000001\n   9.600000000999999999   47.1\n   9.5500000000000007   47.200000000000003\nEND\nEND\n";
 
 /// South and west.
 const MINUS: &str = "x\n1\n -9.5 -47.1\n -9.6 -4.71E+01\n -955e-2 -4.72e1\nEND\nEND\n";
@@ -104,14 +107,30 @@ fn each_fault(rt: HostRuntime) {
         ("x\n1\n0 0\n1E3 0\n1 1\nEND\nEND\n", 4, PolyReason::Number),
         ("x\n1\n0 0\n1E-10 0\n1 1\nEND\nEND\n", 4, PolyReason::Number),
         ("x\n1\n0 0\n+-1 0\n1 1\nEND\nEND\n", 4, PolyReason::Number),
-        ("x\n1\n0 0\n1.0000000000000000001 0\n1 1\nEND\nEND\n", 4, PolyReason::Number),
-        ("x\n1\n0 0\n1 90.000000001\n1 1\nEND\nEND\n", 4, PolyReason::Range),
-        ("x\n1\n0 0\n-180.000000001 0\n1 1\nEND\nEND\n", 4, PolyReason::Range),
+        (
+            "x\n1\n0 0\n1.0000000000000000001 0\n1 1\nEND\nEND\n",
+            4,
+            PolyReason::Number,
+        ),
+        (
+            "x\n1\n0 0\n1 90.000000001\n1 1\nEND\nEND\n",
+            4,
+            PolyReason::Range,
+        ),
+        (
+            "x\n1\n0 0\n-180.000000001 0\n1 1\nEND\nEND\n",
+            4,
+            PolyReason::Range,
+        ),
         ("x\n1\n0 0\n1 0\nEND\nEND\n", 5, PolyReason::Short),
         ("x\n1\nEND\nEND\n", 3, PolyReason::Short),
         ("x\nEND\n", 3, PolyReason::Empty),
         ("x\nEND", 2, PolyReason::Empty),
-        ("x\n1\n0 0\n1 0\n1 1\nEND\nEND\n\nmore\n", 9, PolyReason::Rest),
+        (
+            "x\n1\n0 0\n1 0\n1 1\nEND\nEND\n\nmore\n",
+            9,
+            PolyReason::Rest,
+        ),
         ("x\nEND\nmore\n", 3, PolyReason::Rest),
     ] {
         assert!(rt; has_fault(rt.alloc(), text, line, reason), "at {text}");

@@ -68,7 +68,10 @@ fn is_box(alloc: Global, text: &str, area: BoundingBox) -> bool {
     };
     for lat in 5i32..25i32 {
         for lon in 5i32..25i32 {
-            let in_box = area.contains(i128::from(lat) * 100_000_000, i128::from(lon) * 100_000_000);
+            let in_box = area.contains(
+                i128::from(lat) * 100_000_000,
+                i128::from(lon) * 100_000_000,
+            );
             if has_place(&polygon, lat, lon) != in_box {
                 return false;
             }
@@ -109,49 +112,161 @@ fn a_square_and_its_box(rt: HostRuntime) {
 
 #[test]
 fn corners_and_edges(rt: HostRuntime) {
-    assert!(rt; has_all(rt.alloc(), SQUARE, &[(10, 10), (10, 20), (20, 10), (20, 20)], true));
-    assert!(rt; has_all(rt.alloc(), SQUARE, &[(10, 15), (20, 15), (15, 10), (15, 20)], true));
-    assert!(rt; has_all(rt.alloc(), DIAMOND, &[(10, 15), (20, 15), (15, 10), (15, 20)], true));
-    assert!(rt; has_all(rt.alloc(), DIAMOND, &[(12, 13), (12, 17), (18, 13), (18, 17)], true));
+    assert!(rt;
+        has_all(
+            rt.alloc(),
+            SQUARE,
+            &[(10, 10), (10, 20), (20, 10), (20, 20)],
+            true
+        )
+    );
+    assert!(rt;
+        has_all(
+            rt.alloc(),
+            SQUARE,
+            &[(10, 15), (20, 15), (15, 10), (15, 20)],
+            true
+        )
+    );
+    assert!(rt;
+        has_all(
+            rt.alloc(),
+            DIAMOND,
+            &[(10, 15), (20, 15), (15, 10), (15, 20)],
+            true
+        )
+    );
+    assert!(rt;
+        has_all(
+            rt.alloc(),
+            DIAMOND,
+            &[(12, 13), (12, 17), (18, 13), (18, 17)],
+            true
+        )
+    );
 }
 
 /// Rays from the west through a corner, through two, and along an edge.
 #[test]
 fn rays_through_corners(rt: HostRuntime) {
-    assert!(rt; has_all(rt.alloc(), DIAMOND, &[(15, 12), (15, 18), (11, 15), (19, 15)], true));
-    assert!(rt; has_all(rt.alloc(), DIAMOND, &[(15, 5), (10, 12), (20, 12), (10, 5)], false));
-    assert!(rt; has_all(rt.alloc(), SQUARE, &[(10, 5), (20, 5), (10, 25), (20, 25)], false));
+    assert!(rt;
+        has_all(
+            rt.alloc(),
+            DIAMOND,
+            &[(15, 12), (15, 18), (11, 15), (19, 15)],
+            true
+        )
+    );
+    assert!(rt;
+        has_all(
+            rt.alloc(),
+            DIAMOND,
+            &[(15, 5), (10, 12), (20, 12), (10, 5)],
+            false
+        )
+    );
+    assert!(rt;
+        has_all(
+            rt.alloc(),
+            SQUARE,
+            &[(10, 5), (20, 5), (10, 25), (20, 25)],
+            false
+        )
+    );
 }
 
 #[test]
 fn a_hole(rt: HostRuntime) {
-    assert!(rt; has_all(rt.alloc(), HOLE, &[(5, 5), (15, 5), (15, 25), (25, 15), (0, 0)], true));
-    assert!(rt; has_all(rt.alloc(), HOLE, &[(10, 10), (10, 15), (15, 20), (20, 20)], true));
-    assert!(rt; has_all(rt.alloc(), HOLE, &[(15, 15), (11, 11), (19, 19), (15, 35)], false));
+    assert!(rt;
+        has_all(
+            rt.alloc(),
+            HOLE,
+            &[(5, 5), (15, 5), (15, 25), (25, 15), (0, 0)],
+            true
+        )
+    );
+    assert!(rt;
+        has_all(
+            rt.alloc(),
+            HOLE,
+            &[(10, 10), (10, 15), (15, 20), (20, 20)],
+            true
+        )
+    );
+    assert!(rt;
+        has_all(
+            rt.alloc(),
+            HOLE,
+            &[(15, 15), (11, 11), (19, 19), (15, 35)],
+            false
+        )
+    );
     assert!(rt; are_alike(rt.alloc(), HOLE, TURNED));
 }
 
 /// What two rings have in common is in neither, but for the edges. A name that begins with `!` makes no hole.
 #[test]
 fn two_rings(rt: HostRuntime) {
-    assert!(rt; has_all(rt.alloc(), OVERLAPPING, &[(5, 5), (25, 25), (10, 15), (20, 20)], true));
-    assert!(rt; has_all(rt.alloc(), OVERLAPPING, &[(15, 15), (5, 25), (25, 5)], false));
+    assert!(rt;
+        has_all(
+            rt.alloc(),
+            OVERLAPPING,
+            &[(5, 5), (25, 25), (10, 15), (20, 20)],
+            true
+        )
+    );
+    assert!(rt;
+        has_all(
+            rt.alloc(),
+            OVERLAPPING,
+            &[(15, 15), (5, 25), (25, 5)],
+            false
+        )
+    );
     assert!(rt; has_all(rt.alloc(), APART, &[(5, 5), (5, 25)], true));
     assert!(rt; has_all(rt.alloc(), APART, &[(5, 15), (15, 5)], false));
 }
 
 #[test]
 fn odd_rings(rt: HostRuntime) {
-    assert!(rt; has_all(rt.alloc(), BOW, &[(15, 12), (15, 18), (15, 15), (11, 11)], true));
+    assert!(rt;
+        has_all(
+            rt.alloc(),
+            BOW,
+            &[(15, 12), (15, 18), (15, 15), (11, 11)],
+            true
+        )
+    );
     assert!(rt; has_all(rt.alloc(), BOW, &[(12, 15), (18, 15)], false));
     assert!(rt; has_all(rt.alloc(), POINT, &[(10, 10)], true));
-    assert!(rt; has_all(rt.alloc(), POINT, &[(10, 9), (10, 11), (9, 10), (11, 10)], false));
+    assert!(rt;
+        has_all(
+            rt.alloc(),
+            POINT,
+            &[(10, 9), (10, 11), (9, 10), (11, 10)],
+            false
+        )
+    );
 }
 
 #[test]
 fn the_ends_of_the_earth(rt: HostRuntime) {
-    assert!(rt; has_all(rt.alloc(), EARTH, &[(900, 1800), (-900, -1800), (0, 0), (0, 1800)], true));
-    assert!(rt; has_all(rt.alloc(), EARTH, &[(901, 0), (-901, 0), (0, 1801), (0, -1801)], false));
+    assert!(rt;
+        has_all(
+            rt.alloc(),
+            EARTH,
+            &[(900, 1800), (-900, -1800), (0, 0), (0, 1800)],
+            true
+        )
+    );
+    assert!(rt;
+        has_all(
+            rt.alloc(),
+            EARTH,
+            &[(901, 0), (-901, 0), (0, 1801), (0, -1801)],
+            false
+        )
+    );
 }
 
 /// A zigzag whose edges all reach from -80 to 80 degrees, as a text.
@@ -171,8 +286,22 @@ fn zigzag(alloc: Global) -> Result<String, AllocError> {
 #[test]
 fn edges_over_all_latitudes(rt: HostRuntime) -> Result<(), Fail> {
     let text = zigzag(rt.alloc())?;
-    assert!(rt; has_all(rt.alloc(), &text, &[(0, 10), (0, 15), (-790, 20), (0, 845)], true));
-    assert!(rt; has_all(rt.alloc(), &text, &[(0, 20), (0, 4), (790, 20), (-800, 845)], false));
+    assert!(rt;
+        has_all(
+            rt.alloc(),
+            &text,
+            &[(0, 10), (0, 15), (-790, 20), (0, 845)],
+            true
+        )
+    );
+    assert!(rt;
+        has_all(
+            rt.alloc(),
+            &text,
+            &[(0, 20), (0, 4), (790, 20), (-800, 845)],
+            false
+        )
+    );
     Ok(())
 }
 

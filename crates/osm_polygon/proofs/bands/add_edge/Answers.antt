@@ -1,8 +1,8 @@
-use Rattle.std.proofs.Common.{◌≡◌, ◌+◌, ◌-◌, ◌≤◌, ◌<◌, ◌∙◌, ap, sym, refl, arith, rules}
+use Rattle.std.proofs.Common.{◌≡◌, ◌+◌, ◌-◌, ◌≤◌, ◌<◌, ◌∙◌, ap, sym, arith, rules}
 use Rattle.std.specs.Prelude.{max}
-use Rattle.osm_polygon.specs.Bands.{lists_of, with_edge, pushed_at, held}
+use Rattle.osm_polygon.specs.Bands.{lists_of, pushed_at, held}
 use Rattle.osm_polygon.specs.Edges.{lowest, highest}
-use Rattle.osm_polygon.proofs.BandLemmas.{in_band_below, with_none, with_same, none_below, all_below, next_pushed, pushed_held}
+use Rattle.osm_polygon.proofs.BandLemmas.{in_band_below, with_none, none_below, next_pushed, pushed_held}
 use Rattle.osm_polygon.proofs.bands.add_edge.Goals as goal
 
 pub loop-number-init : goal.loop-number-init
@@ -31,7 +31,7 @@ loop-number-preserved c =
     let more : held c.push_at.new.bands.items ≤ held c.loop-number.bands.items + 1 = rw pushed (pushed_held (lists_of c.loop-number.bands.items) (number - first) e) in
     record {
       with = pushed ∙ ap (pushed_at (number - first) e) so_far.with
-        ∙ next_pushed (lists_of c.args.bands.now.items) shift e first number (omega (arith, from, so_far.begun)) (omega (arith, from, so_far.begun)) (omega (arith, most));
+          ∙ next_pushed (lists_of c.args.bands.now.items) shift e first number (omega (arith, from, so_far.begun)) (omega (arith, from, so_far.begun)) (omega (arith, most));
       few = omega (arith, more, so_far.few);
       begun = omega (arith, so_far.begun);
       ends = search (rules, so_far.ends);

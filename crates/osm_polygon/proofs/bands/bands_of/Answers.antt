@@ -1,6 +1,5 @@
-use Rattle.std.proofs.Common.{◌≡◌, ◌+◌, ◌++◌, ◌≤◌, ◌<◌, [], ◌∷◌, take, length, get_or, sym, rules, arith}
+use Rattle.std.proofs.Common.{◌≡◌, ◌+◌, ◌++◌, [], ◌∷◌, take, rules, arith}
 use Rattle.std.proofs.lemmas.List.{take_more}
-use Rattle.osm_polygon.specs.Bands.{spans_of}
 use Rattle.osm_polygon.proofs.BandLemmas.{bands_with, spans_more}
 use Rattle.osm_polygon.proofs.bands.bands_of.Goals as goal
 

@@ -1,4 +1,3 @@
-use Rattle.std.proofs.Common.{◌≡◌, [], length, length-append, refl, arith, rules}
 use Rattle.osm_polygon.proofs.BandLemmas.{no_edges, none_held}
 use Rattle.osm_polygon.proofs.bands.empty_bands.Goals as goal
 

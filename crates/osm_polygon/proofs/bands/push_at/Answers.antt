@@ -1,4 +1,4 @@
-use Rattle.std.proofs.Common.{◌≡◌, ◌<◌, ◌≤◌, length, get_or, arith, rules}
+use Rattle.std.proofs.Common.{◌≡◌, ◌<◌, length, get_or, rules}
 use Rattle.std.proofs.lemmas.List.{length-map}
 use Rattle.osm_polygon.specs.Bands.{lists_of}
 use Rattle.osm_polygon.proofs.BandLemmas.{set_pushed, past_pushed}
