@@ -1,6 +1,7 @@
 //! Callers: the example of each crate's README.md, to the letter, and proved.
 #![tactic(auto)]
 
+pub mod any_area;
 pub mod area;
 pub mod block;
 pub mod dense;
@@ -11,6 +12,7 @@ pub mod header;
 pub mod ids;
 pub mod pack;
 pub mod pass;
+pub mod polygon;
 pub mod strings;
 pub mod text;
 pub mod unpack;

@@ -1,0 +1,7 @@
+//! The tests of `osm_area` and `osm_polygon`: what no contract says.
+#![tactic(auto)]
+
+#[cfg(test)]
+mod poly_file;
+#[cfg(test)]
+mod polygon;

@@ -1,0 +1,161 @@
+//! What no clause says: by example what texts of .poly files mean, and each fault.
+
+use osm_polygon::{Place, PolyError, PolyFault, PolyReason, read_poly};
+use std::alloc::Global;
+use std::test::Fail;
+
+/// A text that is in order.
+const PLAIN: &str =
+    "x\n1\n   9.5000000   47.1000000\n   9.6000000   47.1000000\n   9.5500000   47.2000000\nEND\nEND\n";
+
+/// The same with exponents.
+const EXPONENTS: &str =
+    "x\n1\n   9.5000000E+00   4.7100000E+01\n   96.000000E-1   4.71e1\n   0.0955E2   4.72E+01\nEND\nEND\n";
+
+/// The same with tabs.
+const TABS: &str =
+    "x\n1\n\t9.5000000\t47.1000000\n\t9.6000000\t47.1000000\n\t9.5500000\t47.2000000\nEND\nEND\n";
+
+/// The same with a carriage return at the end of each line, and blank lines after the last.
+const RETURNS: &str = "x\r\n1\r\n 9.5 47.1\r\n 9.6 47.1\r\n 9.55 47.2\r\nEND\r\nEND\r\n\r\n  \r\n";
+
+/// The same without the last line end, without names, and with `+`.
+const BARE: &str = "\n\n+9.5 +47.1\n9.6  47.1\n  9.55 \t 47.2  \n END \nEND";
+
+/// The same, but for digits after the ninth decimal place, which are cut off.
+const LONG: &str =
+    "x\n1\n   9.5000000000000000   47.100000000000001\n   9.600000000999999999   47.1\n   9.5500000000000007   47.200000000000003\nEND\nEND\n";
+
+/// South and west.
+const MINUS: &str = "x\n1\n -9.5 -47.1\n -9.6 -4.71E+01\n -955e-2 -4.72e1\nEND\nEND\n";
+
+/// Whether a place has these numbers of nanodegrees.
+fn is_at(place: Place, lat: i64, lon: i64) -> bool {
+    place.lat == lat && place.lon == lon
+}
+
+/// Whether the text has one ring, and this is that of `PLAIN`, or the same beyond the equator and the prime meridian.
+fn is_plain(alloc: Global, text: &str, is_minus: bool) -> bool {
+    let Ok(rings) = read_poly(alloc, text) else {
+        return false;
+    };
+    let [ring] = rings.as_slice() else {
+        return false;
+    };
+    let [first, second, third] = ring.places.as_slice() else {
+        return false;
+    };
+    if is_minus {
+        is_at(*first, -47_100_000_000, -9_500_000_000)
+            && is_at(*second, -47_100_000_000, -9_600_000_000)
+            && is_at(*third, -47_200_000_000, -9_550_000_000)
+    } else {
+        is_at(*first, 47_100_000_000, 9_500_000_000)
+            && is_at(*second, 47_100_000_000, 9_600_000_000)
+            && is_at(*third, 47_200_000_000, 9_550_000_000)
+    }
+}
+
+#[test]
+fn one_ring_in_many_spellings(rt: HostRuntime) {
+    for text in [PLAIN, EXPONENTS, TABS, RETURNS, BARE, LONG] {
+        assert!(rt; is_plain(rt.alloc(), text, false), "at {text}");
+    }
+    assert!(rt; is_plain(rt.alloc(), MINUS, true));
+}
+
+/// How many rings and places the text has.
+fn size_of(alloc: Global, text: &str) -> Option<(usize, usize)> {
+    let rings = read_poly(alloc, text).ok()?;
+    let mut places = 0usize;
+    for ring in &rings {
+        places = places.saturating_add(ring.places.len());
+    }
+    Some((rings.len(), places))
+}
+
+#[test]
+fn two_rings_and_their_places(rt: HostRuntime) {
+    let two = "x\n1\n0 0\n1 0\n1 1\n0 1\nEND\n!2\n2 0\n3 0\n3 1\nEND\nEND\n";
+    assert_eq!(rt; size_of(rt.alloc(), two), Some((2, 7)));
+}
+
+/// Whether the text has this fault.
+fn has_fault(alloc: Global, text: &str, line: usize, reason: PolyReason) -> bool {
+    match read_poly(alloc, text) {
+        Err(PolyError::Refused(fault)) => fault == PolyFault { line, reason },
+        _ => false,
+    }
+}
+
+#[test]
+fn each_fault(rt: HostRuntime) {
+    for (text, line, reason) in [
+        ("", 1, PolyReason::Ended),
+        ("x", 1, PolyReason::Ended),
+        ("x\n", 2, PolyReason::Ended),
+        ("x\n1\n0 0\n1 0\n1 1", 5, PolyReason::Ended),
+        ("x\n1\n0 0\n1 0\n1 1\nEND\n", 7, PolyReason::Ended),
+        ("x\n1\n0 0\n1 foo\n1 1\nEND\nEND\n", 4, PolyReason::Number),
+        ("x\n1\n0 0\n1\n1 1\nEND\nEND\n", 4, PolyReason::Number),
+        ("x\n1\n0 0\n\n1 0\n1 1\nEND\nEND\n", 4, PolyReason::Number),
+        ("x\n1\n0 0\n1 0 0\n1 1\nEND\nEND\n", 4, PolyReason::Number),
+        ("x\n1\n0 0\n1 0\n1 1\nend\nEND\n", 6, PolyReason::Number),
+        ("x\n1\n0 0\n1. 0\n1 1\nEND\nEND\n", 4, PolyReason::Number),
+        ("x\n1\n0 0\n.1 0\n1 1\nEND\nEND\n", 4, PolyReason::Number),
+        ("x\n1\n0 0\n0001 0\n1 1\nEND\nEND\n", 4, PolyReason::Number),
+        ("x\n1\n0 0\n1E3 0\n1 1\nEND\nEND\n", 4, PolyReason::Number),
+        ("x\n1\n0 0\n1E-10 0\n1 1\nEND\nEND\n", 4, PolyReason::Number),
+        ("x\n1\n0 0\n+-1 0\n1 1\nEND\nEND\n", 4, PolyReason::Number),
+        (
+            "x\n1\n0 0\n1.0000000000000000001 0\n1 1\nEND\nEND\n",
+            4,
+            PolyReason::Number,
+        ),
+        (
+            "x\n1\n0 0\n1 90.000000001\n1 1\nEND\nEND\n",
+            4,
+            PolyReason::Range,
+        ),
+        (
+            "x\n1\n0 0\n-180.000000001 0\n1 1\nEND\nEND\n",
+            4,
+            PolyReason::Range,
+        ),
+        ("x\n1\n0 0\n1 0\nEND\nEND\n", 5, PolyReason::Short),
+        ("x\n1\nEND\nEND\n", 3, PolyReason::Short),
+        ("x\nEND\n", 3, PolyReason::Empty),
+        ("x\nEND", 2, PolyReason::Empty),
+        (
+            "x\n1\n0 0\n1 0\n1 1\nEND\nEND\n\nmore\n",
+            9,
+            PolyReason::Rest,
+        ),
+        ("x\nEND\nmore\n", 3, PolyReason::Rest),
+    ] {
+        assert!(rt; has_fault(rt.alloc(), text, line, reason), "at {text}");
+    }
+}
+
+/// The limits themselves are in range.
+#[test]
+fn the_ends_of_the_range(rt: HostRuntime) {
+    let ends = "x\n1\n-180 -90\n180 -90\n180.0000000009 90.0000000009\nEND\nEND\n";
+    assert_eq!(rt; size_of(rt.alloc(), ends), Some((1, 3)));
+}
+
+#[test]
+fn faults_by_their_names(rt: HostRuntime) -> Result<(), Fail> {
+    for (reason, name) in [
+        (PolyReason::Ended, "Ended"),
+        (PolyReason::Number, "Number"),
+        (PolyReason::Range, "Range"),
+        (PolyReason::Short, "Short"),
+        (PolyReason::Empty, "Empty"),
+        (PolyReason::Rest, "Rest"),
+    ] {
+        let text = reason.to_string(rt.alloc())?;
+        assert_eq!(rt; text.as_str(), name);
+    }
+    Ok(())
+}

@@ -1,0 +1,320 @@
+//! What no clause says: that the calls succeed if there is memory, and by example which places some polygons have.
+//!
+//! Refused memory is tried by hand, by `rt try --test --fail-alloc N`: each call then fails, and no test passes that should not.
+
+use osm_area::Area;
+use osm_box::BoundingBox;
+use osm_polygon::{Polygon, Ring, read_poly};
+use std::alloc::{AllocError, Global};
+use std::test::Fail;
+
+const SQUARE: &str = "x\n1\n1 1\n2 1\n2 2\n1 2\nEND\nEND\n";
+
+/// A square with a corner at the bottom.
+const DIAMOND: &str = "x\n1\n1.5 1\n2 1.5\n1.5 2\n1 1.5\nEND\nEND\n";
+
+/// A square of three degrees, and one of one degree within it.
+const HOLE: &str = "x\n1\n0 0\n3 0\n3 3\n0 3\nEND\n!2\n1 1\n2 1\n2 2\n1 2\nEND\nEND\n";
+
+/// The same two rings, each the other way round, in the other order and with other names.
+const TURNED: &str = "x\n1\n1 2\n2 2\n2 1\n1 1\nEND\n2\n0 3\n3 3\n3 0\n0 0\nEND\nEND\n";
+
+/// Two squares of two degrees, which have one of one degree in common.
+const OVERLAPPING: &str = "x\n1\n0 0\n2 0\n2 2\n0 2\nEND\n2\n1 1\n3 1\n3 3\n1 3\nEND\nEND\n";
+
+/// Two squares beside each other. The name of the second begins with a `!`.
+const APART: &str = "x\n1\n0 0\n1 0\n1 1\n0 1\nEND\n!2\n2 0\n3 0\n3 1\n2 1\nEND\nEND\n";
+
+/// A ring that crosses itself at 1.5 and 1.5 degrees.
+const BOW: &str = "x\n1\n1 1\n2 2\n2 1\n1 2\nEND\nEND\n";
+
+/// A square whose ring ends with its first place, and in which another place comes twice.
+const CLOSED: &str = "x\n1\n1 1\n2 1\n2 1\n2 2\n1 2\n1 1\nEND\nEND\n";
+
+/// A ring of one place.
+const POINT: &str = "x\n1\n1 1\n1 1\n1 1\nEND\nEND\n";
+
+/// The whole earth.
+const EARTH: &str = "x\n1\n-180 -90\n180 -90\n180 90\n-180 90\nEND\nEND\n";
+
+/// The polygon of a text, if it has one.
+fn polygon_of(alloc: Global, text: &str) -> Option<Polygon> {
+    let rings = read_poly(alloc, text).ok()?;
+    Polygon::new(alloc, &rings).ok()
+}
+
+/// Whether the polygon has the place with these tenths of degrees.
+fn has_place(polygon: &Polygon, lat: i32, lon: i32) -> bool {
+    polygon.contains(i128::from(lat) * 100_000_000, i128::from(lon) * 100_000_000)
+}
+
+/// Whether the polygon of a text has all of these places, or none of them.
+fn has_all(alloc: Global, text: &str, places: &[(i32, i32)], expected: bool) -> bool {
+    let Some(polygon) = polygon_of(alloc, text) else {
+        return false;
+    };
+    for (lat, lon) in places {
+        if has_place(&polygon, *lat, *lon) != expected {
+            return false;
+        }
+    }
+    true
+}
+
+/// Whether the polygon of a text has the same of these places as the box, and the same bounds.
+fn is_box(alloc: Global, text: &str, area: BoundingBox) -> bool {
+    let Some(polygon) = polygon_of(alloc, text) else {
+        return false;
+    };
+    for lat in 5i32..25i32 {
+        for lon in 5i32..25i32 {
+            let in_box = area.contains(
+                i128::from(lat) * 100_000_000,
+                i128::from(lon) * 100_000_000,
+            );
+            if has_place(&polygon, lat, lon) != in_box {
+                return false;
+            }
+        }
+    }
+    polygon.bounds() == area && polygon.as_box().is_none()
+}
+
+/// Whether both texts have polygons with the same of these places.
+fn are_alike(alloc: Global, text: &str, other: &str) -> bool {
+    let Some(polygon) = polygon_of(alloc, text) else {
+        return false;
+    };
+    let Some(other) = polygon_of(alloc, other) else {
+        return false;
+    };
+    for lat in -5i32..35i32 {
+        for lon in -5i32..35i32 {
+            if has_place(&polygon, lat, lon) != has_place(&other, lat, lon) {
+                return false;
+            }
+        }
+    }
+    true
+}
+
+#[test]
+fn a_square_and_its_box(rt: HostRuntime) {
+    let area = BoundingBox {
+        left: 1_000_000_000,
+        bottom: 1_000_000_000,
+        right: 2_000_000_000,
+        top: 2_000_000_000,
+    };
+    assert!(rt; is_box(rt.alloc(), SQUARE, area));
+    assert!(rt; is_box(rt.alloc(), CLOSED, area));
+}
+
+#[test]
+fn corners_and_edges(rt: HostRuntime) {
+    assert!(rt;
+        has_all(
+            rt.alloc(),
+            SQUARE,
+            &[(10, 10), (10, 20), (20, 10), (20, 20)],
+            true
+        )
+    );
+    assert!(rt;
+        has_all(
+            rt.alloc(),
+            SQUARE,
+            &[(10, 15), (20, 15), (15, 10), (15, 20)],
+            true
+        )
+    );
+    assert!(rt;
+        has_all(
+            rt.alloc(),
+            DIAMOND,
+            &[(10, 15), (20, 15), (15, 10), (15, 20)],
+            true
+        )
+    );
+    assert!(rt;
+        has_all(
+            rt.alloc(),
+            DIAMOND,
+            &[(12, 13), (12, 17), (18, 13), (18, 17)],
+            true
+        )
+    );
+}
+
+/// Rays from the west through a corner, through two, and along an edge.
+#[test]
+fn rays_through_corners(rt: HostRuntime) {
+    assert!(rt;
+        has_all(
+            rt.alloc(),
+            DIAMOND,
+            &[(15, 12), (15, 18), (11, 15), (19, 15)],
+            true
+        )
+    );
+    assert!(rt;
+        has_all(
+            rt.alloc(),
+            DIAMOND,
+            &[(15, 5), (10, 12), (20, 12), (10, 5)],
+            false
+        )
+    );
+    assert!(rt;
+        has_all(
+            rt.alloc(),
+            SQUARE,
+            &[(10, 5), (20, 5), (10, 25), (20, 25)],
+            false
+        )
+    );
+}
+
+#[test]
+fn a_hole(rt: HostRuntime) {
+    assert!(rt;
+        has_all(
+            rt.alloc(),
+            HOLE,
+            &[(5, 5), (15, 5), (15, 25), (25, 15), (0, 0)],
+            true
+        )
+    );
+    assert!(rt;
+        has_all(
+            rt.alloc(),
+            HOLE,
+            &[(10, 10), (10, 15), (15, 20), (20, 20)],
+            true
+        )
+    );
+    assert!(rt;
+        has_all(
+            rt.alloc(),
+            HOLE,
+            &[(15, 15), (11, 11), (19, 19), (15, 35)],
+            false
+        )
+    );
+    assert!(rt; are_alike(rt.alloc(), HOLE, TURNED));
+}
+
+/// What two rings have in common is in neither, but for the edges. A name that begins with `!` makes no hole.
+#[test]
+fn two_rings(rt: HostRuntime) {
+    assert!(rt;
+        has_all(
+            rt.alloc(),
+            OVERLAPPING,
+            &[(5, 5), (25, 25), (10, 15), (20, 20)],
+            true
+        )
+    );
+    assert!(rt;
+        has_all(
+            rt.alloc(),
+            OVERLAPPING,
+            &[(15, 15), (5, 25), (25, 5)],
+            false
+        )
+    );
+    assert!(rt; has_all(rt.alloc(), APART, &[(5, 5), (5, 25)], true));
+    assert!(rt; has_all(rt.alloc(), APART, &[(5, 15), (15, 5)], false));
+}
+
+#[test]
+fn odd_rings(rt: HostRuntime) {
+    assert!(rt;
+        has_all(
+            rt.alloc(),
+            BOW,
+            &[(15, 12), (15, 18), (15, 15), (11, 11)],
+            true
+        )
+    );
+    assert!(rt; has_all(rt.alloc(), BOW, &[(12, 15), (18, 15)], false));
+    assert!(rt; has_all(rt.alloc(), POINT, &[(10, 10)], true));
+    assert!(rt;
+        has_all(
+            rt.alloc(),
+            POINT,
+            &[(10, 9), (10, 11), (9, 10), (11, 10)],
+            false
+        )
+    );
+}
+
+#[test]
+fn the_ends_of_the_earth(rt: HostRuntime) {
+    assert!(rt;
+        has_all(
+            rt.alloc(),
+            EARTH,
+            &[(900, 1800), (-900, -1800), (0, 0), (0, 1800)],
+            true
+        )
+    );
+    assert!(rt;
+        has_all(
+            rt.alloc(),
+            EARTH,
+            &[(901, 0), (-901, 0), (0, 1801), (0, -1801)],
+            false
+        )
+    );
+}
+
+/// A zigzag whose edges all reach from -80 to 80 degrees, as a text.
+fn zigzag(alloc: Global) -> Result<String, AllocError> {
+    let mut text = String::new(alloc);
+    text.push_str("x\n1\n")?;
+    for lon in 0u32..170u32 {
+        let lat = if lon % 2 == 0 { " -80\n" } else { " 80\n" };
+        let lon = lon.to_string(alloc)?;
+        text.push_str(&lon)?;
+        text.push_str(lat)?;
+    }
+    text.push_str("END\nEND\n")?;
+    Ok(text)
+}
+
+#[test]
+fn edges_over_all_latitudes(rt: HostRuntime) -> Result<(), Fail> {
+    let text = zigzag(rt.alloc())?;
+    assert!(rt;
+        has_all(
+            rt.alloc(),
+            &text,
+            &[(0, 10), (0, 15), (-790, 20), (0, 845)],
+            true
+        )
+    );
+    assert!(rt;
+        has_all(
+            rt.alloc(),
+            &text,
+            &[(0, 20), (0, 4), (790, 20), (-800, 845)],
+            false
+        )
+    );
+    Ok(())
+}
+
+/// Whether a polygon without rings has no place.
+fn is_nowhere(alloc: Global) -> bool {
+    let rings: [Ring; 0] = [];
+    match Polygon::new(alloc, &rings) {
+        Ok(polygon) => !has_place(&polygon, 0, 0),
+        Err(_) => false,
+    }
+}
+
+#[test]
+fn no_rings(rt: HostRuntime) {
+    assert!(rt; is_nowhere(rt.alloc()));
+}

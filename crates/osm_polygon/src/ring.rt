@@ -1,0 +1,81 @@
+//! Rings: their edges, and the least box round them.
+
+ghost use Rattle.std.specs.Prelude.{◌≡◌, ◌++◌, IfOk, OnOk, map};
+ghost use Rattle.osm_polygon.specs.Edges.{point_of, side_of};
+ghost use Rattle.osm_polygon.specs.RingPlaces.{places_of};
+ghost use Rattle.osm_polygon.specs.Rings.{ring_sides, rings_sides, grown, box_round};
+
+use crate::edge::Edge;
+use crate::place::Place;
+use osm_box::BoundingBox;
+use std::alloc::{AllocError, Global};
+
+/// A ring: its places in order. An edge joins the last to the first, whether they are the same place or not.
+#[derive(Debug, Drop)]
+pub struct Ring {
+    /// The places, in either direction. A ring from a file has three at least; one of fewer has edges too, if it has a place.
+    pub places: Vec<Place>,
+}
+
+/// Adds the edges of a ring with these places.
+fn add_ring(edges: &mut Vec<Edge>, places: &[Place]) -> Result<(), AllocError>
+    ensures { OnOk result (map side_of edges.new.items
+        ≡ map side_of edges.old.items ++ ring_sides (map point_of places.now)) }
+{
+    let Some((first, rest)) = places.split_first() else {
+        return Ok(());
+    };
+    let mut from = *first;
+    let mut rest = rest;
+    'places: while let Some((place, more)) = rest.split_first() {
+        edges.push(Edge { from, to: *place })?;
+        from = *place;
+        rest = more;
+    }
+    edges.push(Edge { from, to: *first })?;
+    Ok(())
+}
+
+/// The edges of rings.
+pub(crate) fn edges_of(alloc: Global, rings: &[Ring]) -> Result<Vec<Edge>, AllocError>
+    ensures { IfOk result (λ edges. map side_of edges.items
+        ≡ rings_sides (map places_of rings.now)) }
+{
+    let mut edges = Vec::new(alloc);
+    let mut rest = rings;
+    'rings: while let Some((ring, more)) = rest.split_first() {
+        add_ring(&mut edges, ring.places.as_slice())?;
+        rest = more;
+    }
+    Ok(edges)
+}
+
+/// The box, made as much larger as is needed to have the place too.
+fn widen(area: BoundingBox, place: Place) -> BoundingBox
+    ensures { result ≡ grown area (point_of place) }
+{
+    BoundingBox {
+        left: area.left.min(place.lon),
+        bottom: area.bottom.min(place.lat),
+        right: area.right.max(place.lon),
+        top: area.top.max(place.lat),
+    }
+}
+
+/// The least box that has all ends of edges. Without edges it has no place.
+pub(crate) fn bounds_of(edges: &[Edge]) -> BoundingBox
+    ensures { result ≡ box_round (map side_of edges.now) }
+{
+    let mut area = BoundingBox {
+        left: 180_000_000_000,
+        bottom: 90_000_000_000,
+        right: -180_000_000_000,
+        top: -90_000_000_000,
+    };
+    let mut rest = edges;
+    'edges: while let Some((edge, more)) = rest.split_first() {
+        area = widen(area, edge.to);
+        rest = more;
+    }
+    area
+}
