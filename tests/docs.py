@@ -176,7 +176,7 @@ class Pages:
             fail(f"{name} ends with {done.returncode}, or has no example")
         for example in re.findall(r"(?:^  .*\n)+", found[0], re.M):
             place = self.room()
-            if "unpack london.osm.pbf" in example:
+            if "--raw london.osm.pbf" in example:
                 shutil.copy(os.path.join(place, "england.osm.pbf"), os.path.join(place, "london.osm.pbf"))
             self.block(name, "sh", re.sub(r"^  ", "", example, flags=re.M), place)
 
