@@ -89,8 +89,7 @@ macro_rules! after_extract {
                 level\n\
             The command prints how many entities it wrote, as 'nodes 3 ways 0 relations 0'.\n\
             IN is read twice if no node comes after a way, otherwise three times, and with\n\
-            --parents once more. So it must be a file, not a pipe. A run that stops early\n\
-            may leave an incomplete OUT: delete it.\n",
+            --parents once more. So it must be a file, not a pipe.\n",
             $blobs,
             $examples
         )
@@ -105,8 +104,7 @@ macro_rules! after_convert {
             nodes, and with at most 8000 entities in a block. Its form is fixed: converting\n\
             OUT again gives the same bytes. What the format does not name is left out. The\n\
             command prints how many entities it wrote, as 'nodes 3 ways 0 relations 0'.\n\
-            IN is read twice, so it must be a file, not a pipe. A run that stops early may\n\
-            leave an incomplete OUT: delete it.\n",
+            IN is read twice, so it must be a file, not a pipe.\n",
             $blobs,
             $examples
         )
@@ -212,7 +210,8 @@ pub(crate) const OF_PBFCUT: Help = Help {
     ),
     extract: after_extract!(
         "IN must have raw blobs, and OUT has raw blobs. Published files are compressed:\n\
-        'pbfcutz extract' cuts them, and writes a compressed file.\n",
+        'pbfcutz extract' cuts them, and writes a compressed file.\n\
+        A run that stops early may leave an incomplete OUT: delete it.\n",
         "Examples, which cut London out of a published file of England:\n  \
           pbfcutz extract --box=-0.5,51.25,0.3,51.7 england.osm.pbf london.osm.pbf\n\
         or, with a raw file between:\n  \
@@ -221,7 +220,8 @@ pub(crate) const OF_PBFCUT: Help = Help {
     ),
     convert: after_convert!(
         "IN must have raw blobs, and OUT has raw blobs. Published files are compressed:\n\
-        'pbfcutz convert' reads them, and compresses OUT.\n",
+        'pbfcutz convert' reads them, and compresses OUT.\n\
+        A run that stops early may leave an incomplete OUT: delete it.\n",
         "Example:\n  \
           pbfcutz convert --raw london.osm.pbf london.raw.osm.pbf\n  \
           pbfcut convert london.raw.osm.pbf plain.osm.pbf\n"
@@ -269,12 +269,14 @@ pub(crate) const OF_PBFCUTZ: Help = Help {
           pbfcutz extract --box=-0.5,51.25,0.3,51.7 england.osm.pbf london.osm.pbf\n"
     ),
     extract: after_extract!(
-        "IN has zlib or raw blobs, and OUT has zlib blobs; with --raw it has raw ones.\n",
+        "IN has zlib or raw blobs, and OUT has zlib blobs; with --raw it has raw ones.\n\
+        If a run stops early there is no OUT.\n",
         "Example, which cuts London out of a published file of England:\n  \
           pbfcutz extract --box=-0.5,51.25,0.3,51.7 england.osm.pbf london.osm.pbf\n"
     ),
     convert: after_convert!(
-        "IN has zlib or raw blobs, and OUT has zlib blobs; with --raw it has raw ones.\n",
+        "IN has zlib or raw blobs, and OUT has zlib blobs; with --raw it has raw ones.\n\
+        If a run stops early there is no OUT.\n",
         "Examples, the second of which unpacks a file:\n  \
           pbfcutz convert england.osm.pbf plain.osm.pbf\n  \
           pbfcutz convert --raw england.osm.pbf england.raw.osm.pbf\n"

@@ -350,10 +350,10 @@ fn helps_with(rt: &(impl Abort + AllocGlobal), words: &[&str], parts: &[&str]) -
 
 #[test]
 fn help_of_each_command(rt: HostRuntime) -> Result<(), Fail> {
-    let commands = ["extract", "convert", "check", "show", "blobs", "pbfcut-any"];
+    let commands = ["extract", "convert", "check", "show", "blobs", "pbfcutz"];
     helps_with(&rt, &["--help"], &commands)?;
     helps_with(&rt, &["-h"], &commands)?;
-    helps_with(&rt, &["blobs", "--help"], &["<IN>", "bytes", "pbfcut-any"])?;
+    helps_with(&rt, &["blobs", "--help"], &["<IN>", "bytes", "pbfcutz"])?;
     helps_with(
         &rt,
         &["show", "--help"],
@@ -367,7 +367,7 @@ fn help_of_each_command(rt: HostRuntime) -> Result<(), Fail> {
         "--parents",
         "--box=",
         "--bbox",
-        "pbfcut-any",
+        "pbfcutz",
         "<IN>",
         "<OUT>",
     ];
