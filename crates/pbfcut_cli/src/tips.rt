@@ -1,4 +1,4 @@
-//! What is said of an option that other programs have, in place of `clap`'s tip, which takes it for a file's name.
+//! Tips for options that other programs have. The tip of `clap` takes such an option for a file's name.
 
 use std::alloc::{AllocError, Global};
 
@@ -6,7 +6,7 @@ use std::alloc::{AllocError, Global};
 fn tip_of(option: &str) -> Option<&'static str> {
     match option {
         "-b" => Some("the box is --box=WEST,SOUTH,EAST,NORTH"),
-        "-o" | "--output" => Some("OUT is the last argument and has no option"),
+        "-o" | "--output" => Some("OUT is the last argument; leave out the option"),
         "-O" | "--overwrite" => Some("OUT has to be new: remove the old one first"),
         "-s" | "--strategy" => Some("ways are always complete; there is no other strategy"),
         "-p" | "--polygon" => Some("only a box can be cut out"),
