@@ -4,6 +4,7 @@
 
 mod checking;
 mod converting;
+mod copying;
 mod extracting;
 mod input;
 mod packed;
@@ -14,12 +15,13 @@ mod traced;
 
 pub use checking::check_with_receipt;
 pub use converting::convert_with_receipt;
+pub use copying::copy_with_receipt;
 pub use extracting::extract_sorted_with_receipt;
 pub use input::{
     PublishedFeed, PublishedHalt, PublishedInput, close, compare, compare_unless_spared,
     first_digest, lacks_memory, open, published_outcome, stopped,
 };
-pub use packed::{convert_packed, extract_packed, extract_parents_packed};
+pub use packed::{convert_packed, copy_packed, extract_packed, extract_parents_packed};
 pub use parents::extract_parents_sorted_with_receipt;
 pub use showing::{list_blobs, show_with_receipt};
 pub use traced::TracedFeed;

@@ -7,6 +7,8 @@ ghost use Rattle.osm_ways.specs.Selection.{extract};
 ghost use Rattle.pbf_frame.specs.Devices.{IsFront};
 ghost use Rattle.pbf_pass.specs.HeaderLimit.{judged_writable};
 ghost use Rattle.pbf_pass.specs.Hashing.{digest_if};
+ghost use Rattle.pbf_pass.specs.Judged.{judged_file};
+ghost use Rattle.pbf_pass.specs.Pass.{CountsFile};
 ghost use Rattle.pbfcut.specs.Calls.{AllSupply, BothSupply, FourSupply, RefusedFirst};
 ghost use Rattle.pbfcut.specs.Extracting.{all_parents, complete_ways};
 ghost use Rattle.pbfcut.specs.Kept.{IsWritable, conversion_of, extract_of};
@@ -17,6 +19,7 @@ ghost use Rattle.pbf_published.specs.Packing.{GaveOut};
 ghost use Rattle.pbf_published.specs.Published.{ChangedOfFour, ChangedOfThree, ChangedOfTwo, GaveOrNone, GavePublished, UnlessChanged, raw_of};
 
 use crate::converting::convert_with_receipt;
+use crate::copying::copy_with_receipt;
 use crate::extracting::extract_sorted_with_receipt;
 use crate::input::{PublishedHalt, PublishedInput};
 use crate::packing::finish;
@@ -55,6 +58,35 @@ pub fn convert_packed<F: Feed, G: Feed, D: Drain, S: BuildHasher + Drop>(
         → IsFront (taken_raw drain.old) (taken_raw drain.new) (conversion_of b)) h.stop) }
 {
     let returned = convert_with_receipt(passes, first, second, drain, hasher);
+    finish(returned, drain)
+}
+
+/// Like [`copy_with_receipt`], over a drain that packs: the drain below takes a published file that means the same raw file.
+pub fn copy_packed<F: Feed, G: Feed, D: Drain>(
+    passes: Passes,
+    first: &mut F,
+    second: &mut G,
+    drain: &mut PackedDrain<D>,
+) -> Result<PublishedInput, PublishedHalt>
+    // As `receipt` of `copy_with_receipt`; and if the drain had taken nothing, the drain below took packed bytes that mean the raw file.
+    ensures receipt { IfOk result (λ receipt. GavePublished F.Feed first.old first.new
+        (Some receipt.input)
+        (digest_if passes.hashes receipt.raw) (λ b. CountsFile (judged_file (Some b)) receipt.counts
+        × GavePublished G.Feed second.old second.new (Some receipt.input)
+        (digest_if passes.hashes receipt.raw)
+        (λ c. GaveOut drain.old drain.new (λ written. written ≡ c)))) }
+    // As `stops` of `copy_with_receipt`, of the drain that packs.
+    ensures stops { IfErr result (λ h. Caused (RefusedFirst
+        (judged_file (raw_of (F.remaining first.old))) (taken_raw drain.old) (taken_raw drain.new))
+        (ReadFailed F.Feed first.old first.new ⊎ ReadFailed G.Feed second.old second.new)
+        (WriteFailed ⟦<PackedDrain<D> as Drain>⟧ drain.old drain.new)
+        (ChangedOfTwo (F.remaining first.old) (G.remaining second.old)) h.stop) }
+    // As `beginning` of `copy_with_receipt`, of the raw bytes that the drain took.
+    ensures beginning { IfErr result (λ h. UnlessChanged ((b : List ℕ)
+        → BothSupply b (raw_of (F.remaining first.old)) (raw_of (G.remaining second.old))
+        → IsFront (taken_raw drain.old) (taken_raw drain.new) b) h.stop) }
+{
+    let returned = copy_with_receipt(passes, first, second, drain);
     finish(returned, drain)
 }
 

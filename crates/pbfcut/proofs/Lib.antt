@@ -14,3 +14,4 @@ pub mod ChosenLemmas
 pub mod KeptLaw
 pub mod NodeLemmas
 pub mod ManyLemmas
+pub mod CopyingLemmas

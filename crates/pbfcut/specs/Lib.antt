@@ -14,3 +14,4 @@ pub mod Calls
 pub mod Changes
 pub mod Choosing
 pub mod Ends
+pub mod Copying

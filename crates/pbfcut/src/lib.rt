@@ -3,6 +3,7 @@
 
 mod blobs;
 mod converting;
+mod copying;
 mod extracting;
 pub mod laws;
 mod pick;
@@ -13,6 +14,7 @@ mod write;
 
 pub use blobs::list_blobs;
 pub use converting::{convert, convert_with_receipt};
+pub use copying::copy_with_receipt;
 pub use extracting::{
     extract, extract_parents, extract_parents_with_receipt, extract_with_receipt,
 };

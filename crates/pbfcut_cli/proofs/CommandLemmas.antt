@@ -21,13 +21,29 @@ module _ {E : Type 0} (r command : Result Command E) (a : App) (made : IfOk comm
   pub rule_added : (s t : Rule) → s ≡ t → IfOk r (IsWith (λ b. with_rule b s) command) → IfOk r (IsCommand (with_rule a t))
   rule_added s t e adds = subst (λ (u : Rule). IfOk r (IsCommand (with_rule a u))) e (added (λ b. with_rule b s) adds)
 
+module _ {E : Type 0} (r one before : Result Command E) (f : App → App) (first : IfOk one (IsWith f before)) where
+  -- what is added, and then something more
+  pub also : (g : App → App) → IfOk r (IsWith g one) → IfOk r (IsWith (λ a. g (f a)) before)
+  also g adds = IfOk-weaker r (IsWith g one) (IsWith (λ a. g (f a)) before) (λ x with_it. record { adds = both one first x with_it.adds; local = with_it.local }) adds where
+    after : (m : Result Command E) (y x : Command) → IsOkAnd m (λ c. app_of y ≡ f (app_of c)) → app_of x ≡ g (app_of y) → IsOkAnd m (λ c. app_of x ≡ g (f (app_of c)))
+    after (Ok c) y x is e = e ∙ ap g is
+    after (Err _) y x is e = absurd is
+
+    both : (m : Result Command E) → IfOk m (IsWith f before) → (x : Command) → IsOkAnd m (λ c. app_of x ≡ g (app_of c)) → IsOkAnd before (λ c. app_of x ≡ g (f (app_of c)))
+    both (Ok y) before_it x e = after before y x before_it.adds e
+    both (Err _) before_it x e = absurd e
+
+-- an argument, by its rule
+pub one_rule : {E : Type 0} (r before : Result Command E) (s t : Rule) → s ≡ t → IfOk r (IsWith (λ b. with_rule b s) before) → IfOk r (IsWith (λ b. with_rule b t) before)
+one_rule r before s t e adds = subst (λ (u : Rule). IfOk r (IsWith (λ b. with_rule b u) before)) e adds
+
 -- a command below it
-pub command_added : {E : Type 0} (r command below : Result Command E) (a d : App) → IfOk command (IsCommand a) → IfOk below (IsCommand d) → IfOk r (λ x. IsOkAnd command (λ c. IsOkAnd below (λ b. app_of x ≡ with_subcommand (app_of c) (app_of b).top)))
-    → IfOk r HasNoGlobals → IfOk r (IsCommand (with_subcommand a d.top))
-command_added (Ok x) (Ok c) (Ok b) a d e f adds local = record { is = adds ∙ (ap (λ (y : App). with_subcommand y (app_of b).top) e.is ∙ ap (λ (y : App). with_subcommand a y.top) f.is); local = local }
-command_added (Ok x) (Ok c) (Err _) a d e f adds local = absurd adds
-command_added (Ok x) (Err _) below a d e f adds local = absurd adds
-command_added (Err _) command below a d e f adds local = tt
+pub one_command : {E : Type 0} (r command below : Result Command E) (d : App) → IfOk below (IsCommand d) → IfOk r (λ x. IsOkAnd command (λ c. IsOkAnd below (λ b. app_of x ≡ with_subcommand (app_of c) (app_of b).top)))
+    → IfOk r HasNoGlobals → IfOk r (IsWith (λ a. with_subcommand a d.top) command)
+one_command (Ok x) (Ok c) (Ok b) d f adds local = record { adds = adds ∙ ap (λ (y : App). with_subcommand (app_of c) y.top) f.is; local = local }
+one_command (Ok x) (Ok c) (Err _) d f adds local = absurd adds
+one_command (Ok x) (Err _) below d f adds local = absurd adds
+one_command (Err _) command below d f adds local = tt
 
 -- one more name
 one_alias : (old new : Arg) (name : Bor (List ℕ)) → AddsAliases old new ((name, false) ∷ []) → rule_of new ≡ record (rule_of old) { aliases = (rule_of old).aliases ++ name.now ∷ [] }

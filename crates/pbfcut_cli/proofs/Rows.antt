@@ -1,5 +1,6 @@
 -- What the getters read, by the rows.
 use Rattle.std.proofs.Common.{◌≡◌, ◌⊎◌, ◌∙◌, ap, refl, sym, inl, inr, List, [], ◌∷◌, map, Option, Some, None, unwrap_or, option_map, Bor, Bool, true, false, codes, find, is_some}
+use Rattle.std.specs.Prelude.{IsSome}
 use Rattle.clap.specs.Words.{App, Row, Shape, Text, built, has_subcommand, is_simple, subcommand_of, subcommand_rows_of}
 use Rattle.clap.specs.declared.parser.matches.ArgMatches.{ArgMatches}
 use Rattle.clap.specs.declared.parser.matches.ArgMatches.TheViews.{out-ArgMatches}
@@ -8,13 +9,27 @@ use Rattle.clap.specs.Simple.{argument_words, entered, label_of, names_of, rows_
 use Rattle.clap.specs.Walk.{answers_to, stop_after}
 use Rattle.pbfcut_cli.specs.declared.programs.Program.{Program}
 use Rattle.pbfcut_cli.specs.declared.programs.Program.TheVariants.{Pbfcut, Pbfcutz}
-use Rattle.pbfcut_cli.specs.Words.{IsOffered, program_app}
+use Rattle.pbfcut_cli.specs.declared.words.CliFault.{CliFault}
+use Rattle.pbfcut_cli.specs.declared.words.CliFault.TheVariants as fault
+use Rattle.pbfcut_cli.specs.declared.words.Command.{Command}
+use Rattle.pbfcut_cli.specs.declared.words.Command.TheVariants.{Help}
+use Rattle.pbfcut_cli.specs.Words.{HasFault, IsHelp, IsNoLine, IsOffered, IsRead, program_app}
 
 -- the text of a reference, or the empty one
 pub text_or_empty : (o : Option (Bor Text)) (d : Bor Text) (v : Option Text)
     → option_map (λ s. s.now) o ≡ v → d.now ≡ [] → (unwrap_or o d).now ≡ unwrap_or v []
 text_or_empty None d v e empty = rw (← e) empty
 text_or_empty (Some s) d v e empty = rw (← e) refl
+
+-- it is there, or isn't, by what its getter returns
+pub present : (o : Option (Bor Text)) (v : Option Text) (x : Bor Text) → option_map (λ s. s.now) o ≡ v → o ≡ Some x → v ≡ Some x.now
+present o v x e is = sym e ∙ ap (option_map (λ (s : Bor Text). s.now)) is
+
+pub absent : (o : Option (Bor Text)) (v : Option Text) → option_map (λ s. s.now) o ≡ v → o ≡ None → v ≡ None
+absent o v e is = sym e ∙ ap (option_map (λ (s : Bor Text). s.now)) is
+
+pub is_there : (o : Option (Bor Text)) (v : Option Text) (x : Bor Text) → option_map (λ s. s.now) o ≡ v → o ≡ Some x → IsSome v
+is_there o v x e is = rw (present o v x e is) refl
 
 abbrev IsIn : Text → List Text → Type 0
 IsIn name [] = ⊥
@@ -41,31 +56,49 @@ entered_name : (a : App) (stop : Option (Text × List Text)) (p : Text × List R
 entered_name a None p e = cc
 entered_name a (Some q) p e = found_name (λ s. answers_to q.0 (label_of s)) a.subs q.1 p e
 
+-- the words that are left for the command
+abbrev command_stop : App → List Text → Option (Text × List Text)
+command_stop app words = stop_after (built app).top.rules (names_of (built app)) (argument_words app words)
+
 -- one of the names of commands is that of a command
-one_of_them : (p : Text × List Row) → IsIn p.0 (codes "extract" ∷ codes "convert" ∷ codes "check" ∷ codes "show" ∷ codes "blobs" ∷ []) → IsOffered (Some p)
-one_of_them p is =
+one_of_pbfcut : (p : Text × List Row) → IsIn p.0 (codes "extract" ∷ codes "convert" ∷ codes "check" ∷ codes "show" ∷ codes "blobs" ∷ []) → IsOffered (Some p)
+one_of_pbfcut p is =
+    elim is [
+      | inl h ↦ inl h
+      | inr (inl h) ↦ inr (inl h)
+      | inr (inr (inl h)) ↦ inr (inr (inr (inr (inl h))))
+      | inr (inr (inr (inl h))) ↦ inr (inr (inr (inr (inr (inl h)))))
+      | inr (inr (inr (inr (inl h)))) ↦ inr (inr (inr (inr (inr (inr (inl h))))))
+      | inr (inr (inr (inr (inr h)))) ↦ absurd h
+    ]
+
+one_of_pbfcutz : (p : Text × List Row) → IsIn p.0 (codes "extract" ∷ codes "convert" ∷ codes "pack" ∷ codes "unpack" ∷ codes "check" ∷ codes "show" ∷ codes "blobs" ∷ codes "info" ∷ []) → IsOffered (Some p)
+one_of_pbfcutz p is =
     elim is [
       | inl h ↦ inl h
       | inr (inl h) ↦ inr (inl h)
       | inr (inr (inl h)) ↦ inr (inr (inl h))
       | inr (inr (inr (inl h))) ↦ inr (inr (inr (inl h)))
-      | inr (inr (inr (inr (inl h)))) ↦ inr (inr (inr (inr h)))
-      | inr (inr (inr (inr (inr h)))) ↦ absurd h
+      | inr (inr (inr (inr (inl h)))) ↦ inr (inr (inr (inr (inl h))))
+      | inr (inr (inr (inr (inr (inl h))))) ↦ inr (inr (inr (inr (inr (inl h)))))
+      | inr (inr (inr (inr (inr (inr (inl h)))))) ↦ inr (inr (inr (inr (inr (inr (inl h))))))
+      | inr (inr (inr (inr (inr (inr (inr (inl h))))))) ↦ inr (inr (inr (inr (inr (inr (inr h))))))
+      | inr (inr (inr (inr (inr (inr (inr (inr h))))))) ↦ absurd h
     ]
-
--- the words that are left for the command
-abbrev command_stop : App → List Text → Option (Text × List Text)
-command_stop app words = stop_after (built app).top.rules (names_of (built app)) (argument_words app words)
 
 -- the words name a command of the program
 pub named : (program : Program) (words : List Text) (p : Text × List Row)
     → subcommand_of (program_app program) words ≡ Some p → IsOffered (Some p)
-named Pbfcut words p e = one_of_them p (entered_name (built (program_app Pbfcut)) (command_stop (program_app Pbfcut) words) p e)
-named Pbfcutz words p e = one_of_them p (entered_name (built (program_app Pbfcutz)) (command_stop (program_app Pbfcutz) words) p e)
+named Pbfcut words p e = one_of_pbfcut p (entered_name (built (program_app Pbfcut)) (command_stop (program_app Pbfcut) words) p e)
+named Pbfcutz words p e = one_of_pbfcutz p (entered_name (built (program_app Pbfcutz)) (command_stop (program_app Pbfcutz) words) p e)
 
 pub simple : (program : Program) → is_simple (program_app program) ≡ true
 simple Pbfcut = refl
 simple Pbfcutz = refl
+
+pub needs_command : (program : Program) → (program_app program).top.subcommand_required ≡ true
+needs_command Pbfcut = refl
+needs_command Pbfcutz = refl
 
 -- if the matches are those of the words and have a subcommand, it is a command of the program
 pub offered : (program : Program) (m : ArgMatches) (words : List Text) → has_subcommand m ≡ true
@@ -76,3 +109,18 @@ offered program m words has same =
     go : (o : Option (Text × List Row)) → is_some o ≡ true → subcommand_of (program_app program) words ≡ o → IsOffered o
     go None h e = cc
     go (Some p) h e = named program words p e
+
+-- a command that is read is no help
+pub never_help : (o : Option (Text × List Row)) (c : Command) → IsRead o c → IsHelp c → ⊥
+never_help None c read help = read
+never_help (Some p) (Help text) read help = read
+never_help (Some p) _ read help = help
+
+-- a fault of words that `clap` takes is no line of `clap`
+pub never_line : (o : Option (Text × List Row)) (f : CliFault) → HasFault o f → IsNoLine f
+never_line None f has = absurd has
+never_line (Some p) (fault.Line text) (inl has) = has.1
+never_line (Some p) (fault.Line text) (inr has) = (let bad : ⊥ = cc in absurd bad)
+never_line (Some p) (fault.Box f) has = tt
+never_line (Some p) (fault.Choice f) has = tt
+never_line (Some p) fault.Memory has = tt

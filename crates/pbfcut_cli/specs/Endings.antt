@@ -15,6 +15,12 @@ use Rattle.pbf_unpack.specs.Reports.{unpack_reason_name}
 use Rattle.pbfcut_cli.specs.declared.packed.PackedRefusal.{PackedRefusal}
 use Rattle.pbfcut_cli.specs.declared.programs.Program.{Program}
 use Rattle.pbfcut_cli.specs.declared.programs.Program.TheVariants as program
+use Rattle.osm_polygon.specs.declared.fault.PolyError.{PolyError}
+use Rattle.osm_polygon.specs.declared.fault.PolyError.TheVariants as error
+use Rattle.osm_polygon.specs.declared.fault.PolyReason.{PolyReason}
+use Rattle.osm_polygon.specs.declared.fault.PolyReason.TheVariants as poly
+use Rattle.pbfcut_cli.specs.declared.words.ChoiceFault.{ChoiceFault}
+use Rattle.pbfcut_cli.specs.declared.words.ChoiceFault.TheVariants.{NoRegion, TwoRegions, NoOutput, TwoOutputs}
 use Rattle.pbfcut_cli.specs.declared.words.CliFault.{CliFault}
 use Rattle.pbfcut_cli.specs.declared.words.CliFault.TheVariants as fault
 use Rattle.pbfcut_cli.specs.declared.endings.Ending.{Ending}
@@ -73,12 +79,19 @@ packed_text program r = program ++ codes ": " ++ place_text r.place ++ codes ": 
 abbrev pub ending_of : CliFault → Ending
 ending_of (fault.Line text) = ending.Words text
 ending_of (fault.Box f) = ending.Box f
+ending_of (fault.Choice f) = ending.Choice f
 ending_of fault.Memory = ending.Stopped stop.Memory
+
+abbrev pub ending_of_polygon : PolyError → Ending
+ending_of_polygon (error.Refused f) = ending.Polygon f
+ending_of_polygon error.Memory = ending.Stopped stop.Memory
 
 abbrev pub ending_status : Ending → ℕ
 ending_status (ending.Words text) = 2
 ending_status ending.NotText = 2
 ending_status (ending.Box f) = 2
+ending_status (ending.Choice f) = 2
+ending_status (ending.Polygon f) = 2
 ending_status ending.CannotOpen = 3
 ending_status ending.IsPipe = 3
 ending_status ending.OutExists = 3
@@ -92,6 +105,34 @@ box_fault_name box.Range = codes "Range"
 box_fault_name box.LeftOverRight = codes "LeftOverRight"
 box_fault_name box.BottomOverTop = codes "BottomOverTop"
 
+-- an argument that is missing, or one too many, in the words of `clap`
+abbrev pub choice_error : ChoiceFault → List ℕ
+choice_error NoRegion = codes "the following required arguments were not provided:\n  --box <WEST,SOUTH,EAST,NORTH>"
+choice_error TwoRegions = codes "the argument '--box <WEST,SOUTH,EAST,NORTH>' cannot be used with '--polygon <FILE>'"
+choice_error NoOutput = codes "the following required arguments were not provided:\n  <OUT>"
+choice_error TwoOutputs = codes "the argument '--output <OUT>' cannot be used with '[OUT]'"
+
+abbrev pub choice_usage : ChoiceFault → List ℕ
+choice_usage NoRegion = codes "extract [OPTIONS] --box=<WEST,SOUTH,EAST,NORTH> <IN> <OUT>"
+choice_usage TwoRegions = codes "extract [OPTIONS] --box=<WEST,SOUTH,EAST,NORTH> <IN> <OUT>"
+choice_usage NoOutput = codes "<COMMAND> [OPTIONS] <IN> <OUT>"
+choice_usage TwoOutputs = codes "<COMMAND> [OPTIONS] <IN> <OUT>"
+
+abbrev pub choice_text : (program : List ℕ) → ChoiceFault → List ℕ
+choice_text program f = codes "error: " ++ choice_error f ++ codes "\n\nUsage: " ++ program ++ codes " " ++ choice_usage f ++ codes "\n\nFor more information, try '--help'.\n"
+
+-- the number and the name of what is wrong with the file of a polygon
+abbrev pub poly_reason_text : PolyReason → List ℕ
+poly_reason_text poly.Ended = codes "1 Ended"
+poly_reason_text poly.Number = codes "2 Number"
+poly_reason_text poly.Range = codes "3 Range"
+poly_reason_text poly.Short = codes "4 Short"
+poly_reason_text poly.Empty = codes "5 Empty"
+poly_reason_text poly.Rest = codes "6 Rest"
+
+abbrev pub polygon_text : (program : List ℕ) → (line : ℕ) → (reason : List ℕ) → List ℕ
+polygon_text program line reason = program ++ codes ": polygon: line " ++ decimal line ++ codes ": " ++ reason ++ codes "\n"
+
 -- what `clap` would say of a word that isn't UTF-8
 abbrev pub not_text : (program : List ℕ) → List ℕ
 not_text program = codes "error: invalid UTF-8 was detected in one or more arguments\n\nUsage: " ++ program ++ codes " <COMMAND>\n\nFor more information, try '--help'.\n"
@@ -101,6 +142,8 @@ abbrev pub message_of : (program : List ℕ) → Ending → List ℕ
 message_of program (ending.Words text) = string_bytes text
 message_of program ending.NotText = not_text program
 message_of program (ending.Box f) = program ++ codes ": box: " ++ box_fault_name f ++ codes "\n"
+message_of program (ending.Choice f) = choice_text program f
+message_of program (ending.Polygon f) = polygon_text program f.line (poly_reason_text f.reason)
 message_of program ending.CannotOpen = program ++ codes ": cannot open\n"
 message_of program ending.IsPipe = program ++ codes ": IN must be a file, not a pipe\n"
 message_of program ending.OutExists = program ++ codes ": OUT exists\n"

@@ -12,9 +12,9 @@ abbrev pub begins_below_zero : Text → Bool
 begins_below_zero (sign ∷ byte ∷ rest) = nat_eq sign 45 && begins_number byte
 begins_below_zero _ = false
 
--- `--box`, or its other name
+-- `--box`, or one of its other names
 abbrev pub names_box : Text → Bool
-names_box word = bytes_eq word (codes "--box") || bytes_eq word (codes "--bbox")
+names_box word = bytes_eq word (codes "--box") || (bytes_eq word (codes "--bbox") || bytes_eq word (codes "-b"))
 
 -- the first word names the box, and the second one begins so
 abbrev pub begins_with_box : List Text → Bool

@@ -1,17 +1,21 @@
 -- The program's commands, as `clap` sees them.
-use Rattle.std.specs.Prelude.{◌≡◌, ◌⊎◌, Bool, true, false, codes, List, [], ◌∷◌, Option, Some, None, Result, Ok, Err, MatchResult, map, unwrap_or}
+use Rattle.std.specs.Prelude.{◌≡◌, ◌⊎◌, Bool, true, false, codes, List, [], ◌∷◌, Option, Some, None, Result, Ok, Err, IsSome, IsSomeAnd, MatchResult, map, unwrap_or}
 use Rattle.std.specs.Borrow.{Bor}
 use Rattle.clap.specs.Words.{App, Row, Rule, Shape, Text, first_of, new_app, new_rule, one_of, subcommand_of, with_rule, with_subcommand}
 use Rattle.clap.specs.Simple.{on_top}
 use Rattle.clap.specs.declared.builder.ArgAction.TheVariants.{SetTrue}
 use Rattle.osm_box.specs.Degrees.{box_of_text}
-use Rattle.osm_box.specs.declared.bounding_box.BoxFault.{BoxFault}
+use Rattle.pbfcut_cli.specs.declared.words.Files.{Files}
+use Rattle.pbfcut_cli.specs.declared.words.Region.{Region}
+use Rattle.pbfcut_cli.specs.declared.words.Region.TheVariants as region
 use Rattle.pbfcut_cli.specs.declared.words.Command.{Command}
-use Rattle.pbfcut_cli.specs.declared.words.Command.TheVariants.{Blobs, Show, Check, Convert, Extract, Help}
+use Rattle.pbfcut_cli.specs.declared.words.Command.TheVariants.{Blobs, Info, Show, Check, Convert, Pack, Unpack, Extract, Help}
+use Rattle.pbfcut_cli.specs.declared.words.ChoiceFault.{ChoiceFault}
+use Rattle.pbfcut_cli.specs.declared.words.ChoiceFault.TheVariants.{NoRegion, TwoRegions, NoOutput, TwoOutputs}
 use Rattle.pbfcut_cli.specs.declared.programs.Program.{Program}
 use Rattle.pbfcut_cli.specs.declared.programs.Program.TheVariants.{Pbfcut, Pbfcutz}
 use Rattle.pbfcut_cli.specs.declared.words.CliFault.{CliFault}
-use Rattle.pbfcut_cli.specs.declared.words.CliFault.TheVariants.{Line, Box}
+use Rattle.pbfcut_cli.specs.declared.words.CliFault.TheVariants as fault
 
 -- ---- arguments
 
@@ -39,13 +43,29 @@ parents_rule =
 abbrev pub raw_rule : Rule
 raw_rule = record (new_rule (codes "raw")) { long = Some (codes "raw"); action = Some SetTrue }
 
--- `--box`
+-- `--box`, or `-b`
 abbrev pub lone_box_rule : Rule
-lone_box_rule = record (new_rule (codes "box")) { long = Some (codes "box"); value_names = 1; required = true }
+lone_box_rule = record (new_rule (codes "box")) { long = Some (codes "box"); short = Some 98; value_names = 1 }
 
--- `--box`, also by the name that Osmium has for it
+-- also by the name that Osmium has for it
 abbrev pub box_rule : Rule
 box_rule = record lone_box_rule { aliases = codes "bbox" ∷ [] }
+
+-- `--polygon`, or `-p`
+abbrev pub polygon_rule : Rule
+polygon_rule = record (new_rule (codes "polygon")) { long = Some (codes "polygon"); short = Some 112; value_names = 1 }
+
+-- OUT as the last argument, which there may be
+abbrev pub last_rule : Rule
+last_rule = new_rule (codes "OUT")
+
+-- OUT as an option, `--output` or `-o`
+abbrev pub option_rule : Rule
+option_rule = record (new_rule (codes "output")) { long = Some (codes "output"); short = Some 111; value_names = 1 }
+
+-- `--overwrite`, or `-O`
+abbrev pub overwrite_rule : Rule
+overwrite_rule = record (new_rule (codes "overwrite")) { long = Some (codes "overwrite"); short = Some 79; action = Some SetTrue }
 
 -- ---- commands
 
@@ -55,27 +75,57 @@ blobs_app = with_rule (new_app (codes "blobs")) input_rule
 abbrev pub show_app : App
 show_app = with_rule (with_rule (with_rule (new_app (codes "show")) dates_rule) progress_rule) input_rule
 
-abbrev pub check_app : App
-check_app = with_rule (with_rule (with_rule (new_app (codes "check")) progress_rule) digests_rule) input_rule
+-- a command with its progress and digests
+abbrev pub with_told : App → App
+with_told app = with_rule (with_rule app progress_rule) digests_rule
 
--- a command that writes a file, with `--raw` if its blobs would be compressed otherwise
+abbrev pub check_app : App
+check_app = with_rule (with_told (new_app (codes "check"))) input_rule
+
+-- a command that only pbfcutz has
+abbrev pub info_app : App
+info_app = with_rule (new_app (codes "info")) input_rule
+
+-- with `--raw`, if its blobs would be compressed otherwise
 abbrev pub with_raw : Program → App → App
 with_raw Pbfcut app = app
 with_raw Pbfcutz app = with_rule app raw_rule
 
--- `convert` with its options
-abbrev pub conversion_app : App
-conversion_app = with_rule (with_rule (new_app (codes "convert")) progress_rule) digests_rule
+-- OUT as an option too, and what is done with one that exists
+abbrev pub with_file_options : App → App
+with_file_options app = with_rule (with_rule app option_rule) overwrite_rule
+
+-- a command of pbfcutz that writes a file
+abbrev pub with_any_files : App → App
+with_any_files app = with_rule (with_rule (with_file_options app) input_rule) last_rule
+
+-- one of pbfcut, of which both are arguments
+abbrev pub with_both_files : App → App
+with_both_files app = with_rule (with_rule app input_rule) output_rule
+
+abbrev pub with_files : Program → App → App
+with_files Pbfcut app = with_both_files app
+with_files Pbfcutz app = with_any_files app
 
 abbrev pub convert_app : Program → App
-convert_app program = with_rule (with_rule (with_raw program conversion_app) input_rule) output_rule
+convert_app program = with_files program (with_raw program (with_told (new_app (codes "convert"))))
+
+abbrev pub pack_app : App
+pack_app = with_any_files (with_told (new_app (codes "pack")))
+
+abbrev pub unpack_app : App
+unpack_app = with_any_files (with_told (new_app (codes "unpack")))
 
 -- `extract` with its flags
 abbrev pub options_app : App
-options_app = with_rule (with_rule (with_rule (new_app (codes "extract")) parents_rule) progress_rule) digests_rule
+options_app = with_rule (with_told (new_app (codes "extract"))) parents_rule
+
+-- the command with what is cut out
+abbrev pub with_region : App → App
+with_region app = with_rule (with_rule app box_rule) polygon_rule
 
 abbrev pub extract_app : Program → App
-extract_app program = with_rule (with_rule (with_rule (with_raw program options_app) box_rule) input_rule) output_rule
+extract_app program = with_files program (with_region (with_raw program options_app))
 
 abbrev pub versioned : Shape → Shape
 versioned s = record s { has_version = true }
@@ -90,13 +140,23 @@ settled s = record (versioned s) {
 abbrev pub bare_app : App
 bare_app = on_top settled (new_app (codes "pbfcut"))
 
--- the commands that write a file
+-- the commands that write entities
 abbrev pub writers_app : Program → App
 writers_app program = with_subcommand (with_subcommand bare_app (extract_app program).top) (convert_app program).top
 
+-- those that write the same bytes in other blobs
+abbrev pub with_packing : Program → App → App
+with_packing Pbfcut app = app
+with_packing Pbfcutz app = with_subcommand (with_subcommand app pack_app.top) unpack_app.top
+
+-- `info`
+abbrev pub with_info : Program → App → App
+with_info Pbfcut app = app
+with_info Pbfcutz app = with_subcommand app info_app.top
+
 abbrev pub program_app : Program → App
-program_app program = with_subcommand (with_subcommand (with_subcommand (writers_app program) check_app.top)
-    show_app.top) blobs_app.top
+program_app program = with_info program (with_subcommand (with_subcommand (with_subcommand
+    (with_packing program (writers_app program)) check_app.top) show_app.top) blobs_app.top)
 
 -- ---- what the words mean
 
@@ -109,62 +169,96 @@ ReadsFlag flag id rows = (one_of id rows ≡ None → flag ≡ false)
     × (one_of id rows ≡ Some (codes "true") → flag ≡ true)
     × (one_of id rows ≡ Some (codes "false") → flag ≡ false)
 
+-- the path of OUT: one of the two arguments that may have it
+abbrev pub ReadsOutput : List Row → Bor Text → Type 0
+ReadsOutput rows path = ((first_of (codes "OUT") rows ≡ Some path.now) × (first_of (codes "output") rows ≡ None))
+    ⊎ ((first_of (codes "OUT") rows ≡ None) × (first_of (codes "output") rows ≡ Some path.now))
+
+-- what is cut out: one of the two arguments that may say it
+abbrev pub ReadsRegion : List Row → Region → Type 0
+ReadsRegion rows (region.Box area) = (first_of (codes "polygon") rows ≡ None)
+    × IsSomeAnd (first_of (codes "box") rows) (λ text. box_of_text text ≡ Ok area)
+ReadsRegion rows (region.Polygon path) = (first_of (codes "box") rows ≡ None)
+    × (first_of (codes "polygon") rows ≡ Some path.now)
+
+pub record ReadsFiles (rows : List Row) (files : Files) : Type 0 where
+  pub input : files.input.now ≡ argument_value (codes "IN") rows
+  pub output : ReadsOutput rows files.output
+  pub overwrite : ReadsFlag files.overwrite (codes "overwrite") rows
+  pub raw : ReadsFlag files.raw (codes "raw") rows
+  pub progress : ReadsFlag files.progress (codes "progress") rows
+  pub digests : ReadsFlag files.digests (codes "digests") rows
+
 -- the command has this name, and its values are those of the rows
 abbrev pub ReadsAs : Text → List Row → Command → Type 0
 ReadsAs name rows (Blobs input) = (name ≡ codes "blobs") × (input.now ≡ argument_value (codes "IN") rows)
+ReadsAs name rows (Info input) = (name ≡ codes "info") × (input.now ≡ argument_value (codes "IN") rows)
 ReadsAs name rows (Show input dates progress) = (name ≡ codes "show")
     × (input.now ≡ argument_value (codes "IN") rows) × ReadsFlag dates (codes "dates") rows
     × ReadsFlag progress (codes "progress") rows
 ReadsAs name rows (Check input progress digests) = (name ≡ codes "check")
     × (input.now ≡ argument_value (codes "IN") rows) × ReadsFlag progress (codes "progress") rows
     × ReadsFlag digests (codes "digests") rows
-ReadsAs name rows (Convert input output progress digests raw) = (name ≡ codes "convert")
-    × (input.now ≡ argument_value (codes "IN") rows) × (output.now ≡ argument_value (codes "OUT") rows)
-    × ReadsFlag progress (codes "progress") rows × ReadsFlag digests (codes "digests") rows
-    × ReadsFlag raw (codes "raw") rows
-ReadsAs name rows (Extract area parents input output progress digests raw) = (name ≡ codes "extract")
-    × (box_of_text (argument_value (codes "box") rows) ≡ Ok area) × ReadsFlag parents (codes "parents") rows
-    × (input.now ≡ argument_value (codes "IN") rows) × (output.now ≡ argument_value (codes "OUT") rows)
-    × ReadsFlag progress (codes "progress") rows × ReadsFlag digests (codes "digests") rows
-    × ReadsFlag raw (codes "raw") rows
+ReadsAs name rows (Convert files) = (name ≡ codes "convert") × ReadsFiles rows files
+ReadsAs name rows (Pack files) = (name ≡ codes "pack") × ReadsFiles rows files
+ReadsAs name rows (Unpack files) = (name ≡ codes "unpack") × ReadsFiles rows files
+ReadsAs name rows (Extract region parents files) = (name ≡ codes "extract")
+    × ReadsRegion rows region × ReadsFlag parents (codes "parents") rows × ReadsFiles rows files
 ReadsAs name rows (Help text) = ⊥
 
 abbrev pub IsRead : Option (Text × List Row) → Command → Type 0
 IsRead None c = ⊥
 IsRead (Some p) c = ReadsAs p.0 p.1 c
 
--- the command line names `extract`, with a box that has this fault
-abbrev pub HasBoxFault : Option (Text × List Row) → BoxFault → Type 0
-HasBoxFault None fault = ⊥
-HasBoxFault (Some p) fault =
-    (p.0 ≡ codes "extract") × (box_of_text (argument_value (codes "box") p.1) ≡ Err fault)
+-- OUT is nowhere, or twice
+abbrev pub HasOutputFault : List Row → ChoiceFault → Type 0
+HasOutputFault rows NoOutput = (first_of (codes "OUT") rows ≡ None) × (first_of (codes "output") rows ≡ None)
+HasOutputFault rows TwoOutputs = IsSome (first_of (codes "OUT") rows) × IsSome (first_of (codes "output") rows)
+HasOutputFault rows _ = ⊥
+
+-- there is neither a box nor a polygon, or both, or the box has this fault
+abbrev pub HasRegionFault : List Row → CliFault → Type 0
+HasRegionFault rows (fault.Box f) = IsSomeAnd (first_of (codes "box") rows) (λ text. box_of_text text ≡ Err f)
+HasRegionFault rows (fault.Choice NoRegion) = (first_of (codes "box") rows ≡ None) × (first_of (codes "polygon") rows ≡ None)
+HasRegionFault rows (fault.Choice TwoRegions) = IsSome (first_of (codes "box") rows) × IsSome (first_of (codes "polygon") rows)
+HasRegionFault rows _ = ⊥
+
+-- `clap` takes the words, but they have this fault: one of what `extract` cuts out, or of a file that is written
+abbrev pub HasFault : Option (Text × List Row) → CliFault → Type 0
+HasFault None f = ⊥
+HasFault (Some p) f = ((p.0 ≡ codes "extract") × HasRegionFault p.1 f)
+    ⊎ ((choice : ChoiceFault) × (f ≡ fault.Choice choice) × HasOutputFault p.1 choice)
 
 -- the name is that of a command
 abbrev pub IsOffered : Option (Text × List Row) → Type 0
 IsOffered None = ⊥
-IsOffered (Some p) = (p.0 ≡ codes "extract") ⊎ ((p.0 ≡ codes "convert") ⊎ ((p.0 ≡ codes "check")
-    ⊎ ((p.0 ≡ codes "show") ⊎ (p.0 ≡ codes "blobs"))))
+IsOffered (Some p) = (p.0 ≡ codes "extract") ⊎ ((p.0 ≡ codes "convert") ⊎ ((p.0 ≡ codes "pack")
+    ⊎ ((p.0 ≡ codes "unpack") ⊎ ((p.0 ≡ codes "check") ⊎ ((p.0 ≡ codes "show")
+    ⊎ ((p.0 ≡ codes "blobs") ⊎ (p.0 ≡ codes "info")))))))
 
 abbrev pub IsHelp : Command → Type 0
 IsHelp (Help text) = Unit {0}
 IsHelp _ = ⊥
 
-abbrev pub IsBox : CliFault → Type 0
-IsBox (Box fault) = Unit {0}
-IsBox _ = ⊥
+-- a fault of words that `clap` takes
+abbrev pub IsOfWords : CliFault → Type 0
+IsOfWords (fault.Line text) = ⊥
+IsOfWords (fault.Box f) = Unit {0}
+IsOfWords (fault.Choice f) = Unit {0}
+IsOfWords fault.Memory = ⊥
 
 -- a fault that may come if `clap` accepts the words
 abbrev pub IsNoLine : CliFault → Type 0
-IsNoLine (Line text) = ⊥
+IsNoLine (fault.Line text) = ⊥
 IsNoLine _ = Unit {0}
 
 -- neither help nor a refused line
 abbrev pub IsTaken : Result Command CliFault → Type 0
 IsTaken r = MatchResult r (λ c. IsHelp c → ⊥) IsNoLine
 
+-- a fault of words that `clap` takes is one that they have
 abbrev pub FitsFault : Option (Text × List Row) → CliFault → Type 0
-FitsFault stop (Box fault) = HasBoxFault stop fault
-FitsFault stop _ = Unit {0}
+FitsFault stop f = IsOfWords f → HasFault stop f
 
 -- the texts of the words
 abbrev pub word_texts : List (Bor Text) → List Text

@@ -9,22 +9,36 @@ ghost use Rattle.pbfcut_cli.specs.Words.{
   blobs_app,
   box_rule,
   check_app,
-  conversion_app,
   convert_app,
   dates_rule,
   digests_rule,
   extract_app,
+  info_app,
   input_rule,
+  last_rule,
   lone_box_rule,
+  option_rule,
   options_app,
   output_rule,
+  overwrite_rule,
+  pack_app,
   parents_rule,
-  progress_rule,
+  polygon_rule,
   program_app,
+  progress_rule,
   raw_rule,
   show_app,
+  unpack_app,
   versioned,
+  with_any_files,
+  with_both_files,
+  with_file_options,
+  with_files,
+  with_info,
+  with_packing,
   with_raw,
+  with_region,
+  with_told,
   writers_app,
 };
 
@@ -40,11 +54,39 @@ fn input<'a>(alloc: Global, help: &'a Help) -> Arg<'a>
     Arg::new(alloc, "IN").required(true).help(help.input)
 }
 
-/// The file that is written.
+/// The file that is written, if it isn't an option too.
 fn output<'a>(alloc: Global) -> Arg<'a>
     ensures { IsArgument output_rule result }
 {
     Arg::new(alloc, "OUT").required(true).help(help::OUTPUT)
+}
+
+/// The file that is written, as the last argument.
+fn last<'a>(alloc: Global) -> Arg<'a>
+    ensures { IsArgument last_rule result }
+{
+    Arg::new(alloc, "OUT").help(help::ANY_OUTPUT)
+}
+
+/// The file that is written, as an option.
+fn option<'a>(alloc: Global) -> Arg<'a>
+    ensures { IsArgument option_rule result }
+{
+    Arg::new(alloc, "output")
+        .long("output")
+        .short('o')
+        .value_name("OUT")
+        .help(help::OPTION)
+}
+
+fn overwrite<'a>(alloc: Global) -> Arg<'a>
+    ensures { IsArgument overwrite_rule result }
+{
+    Arg::new(alloc, "overwrite")
+        .long("overwrite")
+        .short('O')
+        .action(ArgAction::SetTrue)
+        .help(help::OVERWRITE)
 }
 
 fn dates<'a>(alloc: Global) -> Arg<'a>
@@ -98,8 +140,8 @@ fn box_alone<'a>(alloc: Global) -> Arg<'a>
 {
     Arg::new(alloc, "box")
         .long("box")
+        .short('b')
         .value_name("WEST,SOUTH,EAST,NORTH")
-        .required(true)
         .help(help::BOX)
 }
 
@@ -108,6 +150,17 @@ fn area<'a>(alloc: Global) -> Result<Arg<'a>, AllocError>
     ensures { IfOk result (IsArgument box_rule) }
 {
     box_alone(alloc).alias("bbox")
+}
+
+/// The polygon, as the path of its file.
+fn polygon<'a>(alloc: Global) -> Arg<'a>
+    ensures { IsArgument polygon_rule result }
+{
+    Arg::new(alloc, "polygon")
+        .long("polygon")
+        .short('p')
+        .value_name("FILE")
+        .help(help::POLYGON)
 }
 
 /// A command of this name, with no argument yet.
@@ -153,6 +206,50 @@ fn with_raw<'a>(command: Made<'a>, alloc: Global, program: Program) -> Made<'a>
     }
 }
 
+/// The command with OUT as an option, and with what is done with one that exists.
+fn with_file_options<'a>(command: Made<'a>, alloc: Global) -> Made<'a>
+    requires local { IfOk command HasNoGlobals }
+    ensures { IfOk result (IsWith with_file_options command.entry) }
+{
+    let command = with_arg(command, option(alloc));
+    with_arg(command, overwrite(alloc))
+}
+
+/// A command of pbfcutz with its files.
+fn with_any_files<'a>(command: Made<'a>, alloc: Global, help: &'a Help) -> Made<'a>
+    requires local { IfOk command HasNoGlobals }
+    ensures { IfOk result (IsWith with_any_files command.entry) }
+{
+    let command = with_file_options(command, alloc);
+    let command = with_arg(command, input(alloc, help));
+    with_arg(command, last(alloc))
+}
+
+/// A command of pbfcut with its files.
+fn with_both_files<'a>(command: Made<'a>, alloc: Global, help: &'a Help) -> Made<'a>
+    requires local { IfOk command HasNoGlobals }
+    ensures { IfOk result (IsWith with_both_files command.entry) }
+{
+    let command = with_arg(command, input(alloc, help));
+    with_arg(command, output(alloc))
+}
+
+/// A command that writes a file, with its files.
+fn with_files<'a>(
+    command: Made<'a>,
+    alloc: Global,
+    program: Program,
+    help: &'a Help,
+) -> Made<'a>
+    requires local { IfOk command HasNoGlobals }
+    ensures { IfOk result (IsWith (with_files program) command.entry) }
+{
+    match program {
+        Program::Pbfcut => with_both_files(command, alloc, help),
+        Program::Pbfcutz => with_any_files(command, alloc, help),
+    }
+}
+
 fn blobs<'a>(alloc: Global, help: &'a Help) -> Made<'a>
     ensures { IfOk result (IsCommand blobs_app) }
 {
@@ -171,30 +268,65 @@ fn show<'a>(alloc: Global, help: &'a Help) -> Made<'a>
     with_arg(command, input(alloc, help))
 }
 
+/// The command with its progress and digests.
+fn with_told<'a>(command: Made<'a>, alloc: Global, digests_help: &'a str) -> Made<'a>
+    requires local { IfOk command HasNoGlobals }
+    ensures { IfOk result (IsWith with_told command.entry) }
+{
+    let command = with_arg(command, progress(alloc));
+    with_arg(command, digests(alloc, digests_help))
+}
+
 fn check<'a>(alloc: Global, help: &'a Help) -> Made<'a>
     ensures { IfOk result (IsCommand check_app) }
 {
     let command = named(alloc, "check", help::CHECK, help.check);
-    let command = with_arg(Ok(command), progress(alloc));
-    let command = with_arg(command, digests(alloc, help.digest_of_input));
+    let command = with_told(Ok(command), alloc, help.digest_of_input);
     with_arg(command, input(alloc, help))
-}
-
-/// `convert` with its options.
-fn conversion<'a>(alloc: Global, help: &'a Help) -> Made<'a>
-    ensures { IfOk result (IsCommand conversion_app) }
-{
-    let command = named(alloc, "convert", help::CONVERT, help.convert);
-    let command = with_arg(Ok(command), progress(alloc));
-    with_arg(command, digests(alloc, help.digests))
 }
 
 fn convert<'a>(alloc: Global, program: Program, help: &'a Help) -> Made<'a>
     ensures { IfOk result (IsCommand (convert_app program)) }
 {
-    let command = with_raw(conversion(alloc, help), alloc, program);
-    let command = with_arg(command, input(alloc, help));
-    with_arg(command, output(alloc))
+    let command = named(alloc, "convert", help::CONVERT, help.convert);
+    let command = with_told(Ok(command), alloc, help.digests);
+    with_files(
+        with_raw(command, alloc, program),
+        alloc,
+        program,
+        help,
+    )
+}
+
+fn pack<'a>(alloc: Global, help: &'a Help) -> Made<'a>
+    ensures { IfOk result (IsCommand pack_app) }
+{
+    let command = named(alloc, "pack", help::PACK, help::AFTER_PACK);
+    with_any_files(
+        with_told(Ok(command), alloc, help.digests),
+        alloc,
+        help,
+    )
+}
+
+fn unpack<'a>(alloc: Global, help: &'a Help) -> Made<'a>
+    ensures { IfOk result (IsCommand unpack_app) }
+{
+    let command = named(alloc, "unpack", help::UNPACK, help::AFTER_UNPACK);
+    with_any_files(
+        with_told(Ok(command), alloc, help.digests),
+        alloc,
+        help,
+    )
+}
+
+fn info<'a>(alloc: Global, help: &'a Help) -> Made<'a>
+    ensures { IfOk result (IsCommand info_app) }
+{
+    with_arg(
+        Ok(named(alloc, "info", help::INFO, help::AFTER_INFO)),
+        input(alloc, help),
+    )
 }
 
 /// `extract` with no argument yet.
@@ -208,26 +340,24 @@ fn extraction<'a>(alloc: Global, help: &'a Help) -> Command<'a>
 fn options<'a>(alloc: Global, help: &'a Help) -> Made<'a>
     ensures { IfOk result (IsCommand options_app) }
 {
-    let command = with_arg(Ok(extraction(alloc, help)), parents(alloc));
-    let command = with_arg(command, progress(alloc));
-    with_arg(command, digests(alloc, help.digests))
+    let command = with_told(Ok(extraction(alloc, help)), alloc, help.digests);
+    with_arg(command, parents(alloc))
 }
 
-/// The command with the box.
-fn with_area<'a>(command: Made<'a>, alloc: Global) -> Made<'a>
+/// The command with what is cut out.
+fn with_region<'a>(command: Made<'a>, alloc: Global) -> Made<'a>
     requires local { IfOk command HasNoGlobals }
-    ensures { IfOk result (IsWith (λ app. with_rule app box_rule) command.entry) }
+    ensures { IfOk result (IsWith with_region command.entry) }
 {
-    with_arg(command, area(alloc)?)
+    let command = with_arg(command, area(alloc)?);
+    with_arg(command, polygon(alloc))
 }
 
 fn extract<'a>(alloc: Global, program: Program, help: &'a Help) -> Made<'a>
     ensures { IfOk result (IsCommand (extract_app program)) }
 {
     let command = with_raw(options(alloc, help), alloc, program);
-    let command = with_area(command, alloc);
-    let command = with_arg(command, input(alloc, help));
-    with_arg(command, output(alloc))
+    with_files(with_region(command, alloc), alloc, program, help)
 }
 
 /// The command line with what it says of itself.
@@ -252,12 +382,47 @@ fn bare<'a>(alloc: Global, help: &'a Help) -> Made<'a>
         .display_name(help.name)
 }
 
-/// The command line with the commands that write a file.
+/// The command line with the commands that write entities.
 fn writers<'a>(alloc: Global, program: Program, help: &'a Help) -> Made<'a>
     ensures { IfOk result (IsCommand (writers_app program)) }
 {
     let command = with_command(bare(alloc, help), extract(alloc, program, help));
     with_command(command, convert(alloc, program, help))
+}
+
+/// The command line with the commands that write the same bytes in other blobs, if the program has them.
+fn with_packing<'a>(
+    command: Made<'a>,
+    alloc: Global,
+    program: Program,
+    help: &'a Help,
+) -> Made<'a>
+    requires local { IfOk command HasNoGlobals }
+    ensures { IfOk result (IsWith (with_packing program) command.entry) }
+{
+    match program {
+        Program::Pbfcut => command,
+        Program::Pbfcutz => {
+            let command = with_command(command, pack(alloc, help));
+            with_command(command, unpack(alloc, help))
+        }
+    }
+}
+
+/// The command line with `info`, if the program has it.
+fn with_info<'a>(
+    command: Made<'a>,
+    alloc: Global,
+    program: Program,
+    help: &'a Help,
+) -> Made<'a>
+    requires local { IfOk command HasNoGlobals }
+    ensures { IfOk result (IsWith (with_info program) command.entry) }
+{
+    match program {
+        Program::Pbfcut => command,
+        Program::Pbfcutz => with_command(command, info(alloc, help)),
+    }
 }
 
 /// The command line of a program with this help, with the commands in the order in which help lists them.
@@ -268,7 +433,14 @@ pub(crate) fn command_line<'a>(
 ) -> Result<Command<'a>, AllocError>
     ensures { IfOk result (IsCommand (program_app program)) }
 {
-    let command = with_command(writers(alloc, program, help), check(alloc, help));
+    let command = with_packing(
+        writers(alloc, program, help),
+        alloc,
+        program,
+        help,
+    );
+    let command = with_command(command, check(alloc, help));
     let command = with_command(command, show(alloc, help));
-    with_command(command, blobs(alloc, help))
+    let command = with_command(command, blobs(alloc, help));
+    with_info(command, alloc, program, help)
 }

@@ -3,12 +3,14 @@
 ghost use Rattle.std.specs.Prelude.{◌≡◌, ◌++◌, IfOk, codes, string_bytes};
 ghost use Rattle.pbf_frame.specs.declared.stop.Stop.TheVariants as stop;
 ghost use Rattle.pbfcut_cli.specs.declared.endings.Ending.TheVariants as ending;
-ghost use Rattle.pbfcut_cli.specs.Endings.{box_fault_name, ending_of, ending_status, field_text, ending_line, message_of, not_text, plain_text, program_name, reason_text, refused_text, status_of};
+ghost use Rattle.pbfcut_cli.specs.Endings.{box_fault_name, ending_of, ending_of_polygon, ending_status, field_text, ending_line, message_of, not_text, plain_text, program_name, reason_text, refused_text, status_of};
 
+use crate::faults::{choice_message, polygon_message};
 use crate::packed::{PackedRefusal, packed_line};
 use crate::programs::Program;
-use crate::words::CliFault;
+use crate::words::{ChoiceFault, CliFault};
 use osm_entity::BoxFault;
+use osm_polygon::{PolyError, PolyFault};
 use pbf_frame::Stop;
 use pbf_wire::Reason;
 use std::alloc::{AllocError, Global};
@@ -107,6 +109,10 @@ pub enum Ending {
     NotText,
     /// The box is invalid.
     Box(BoxFault),
+    /// An argument is missing, or there is one too many.
+    Choice(ChoiceFault),
+    /// The file of the polygon isn't in its format.
+    Polygon(PolyFault),
     /// IN can't be opened, there is no seed for the hasher, or OUT can't be created.
     CannotOpen,
     /// IN is a pipe, which the command would have to read more than once.
@@ -126,7 +132,19 @@ impl From<CliFault> for Ending {
         match fault {
             CliFault::Line(text) => Ending::Words(text),
             CliFault::Box(fault) => Ending::Box(fault),
+            CliFault::Choice(fault) => Ending::Choice(fault),
             CliFault::Memory => Ending::Stopped(Stop::Memory),
+        }
+    }
+}
+
+impl From<PolyError> for Ending {
+    ghost from_gives = { λ error e. e ≡ ending_of_polygon error };
+
+    fn from(error: PolyError) -> Ending {
+        match error {
+            PolyError::Refused(fault) => Ending::Polygon(fault),
+            PolyError::Memory => Ending::Stopped(Stop::Memory),
         }
     }
 }
@@ -191,12 +209,13 @@ fn not_text(alloc: Global, program: &str) -> Result<String, AllocError>
 }
 
 impl Ending {
-    /// The exit status: 2 for a command line or a box, 3 if a file can't be used, and otherwise that of the stop.
+    /// The exit status: 2 for a command line, a box or a polygon, 3 if a file can't be used, and otherwise that of the stop.
     pub fn status(&self) -> u8
         ensures { result ≡ ending_status self.now }
     {
         match self {
             Ending::Words(_) | Ending::NotText | Ending::Box(_) => 2,
+            Ending::Choice(_) | Ending::Polygon(_) => 2,
             Ending::CannotOpen | Ending::IsPipe | Ending::OutExists => 3,
             Ending::Stopped(stop) => status(stop),
             Ending::RefusedPacked(_) => 1,
@@ -217,6 +236,8 @@ impl Ending {
             Ending::Words(text) => String::from_str(alloc, text.as_str()),
             Ending::NotText => not_text(alloc, name),
             Ending::Box(fault) => box_message(alloc, name, fault),
+            Ending::Choice(fault) => choice_message(alloc, name, *fault),
+            Ending::Polygon(fault) => polygon_message(alloc, name, *fault),
             Ending::CannotOpen => format!(in alloc; "{name}: cannot open\n"),
             Ending::IsPipe => format!(in alloc; "{name}: IN must be a file, not a pipe\n"),
             Ending::OutExists => format!(in alloc; "{name}: OUT exists\n"),

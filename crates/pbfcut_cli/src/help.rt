@@ -35,7 +35,7 @@ macro_rules! after_arguments {
             Exit status:\n  \
               0  done, or help was asked for\n  \
               1  IN is refused: standard error says at which byte of IN, and why\n  \
-              2  the command line or the box is wrong\n  \
+              2  the command line, the box or the polygon is wrong\n  \
               3  ",
             $files,
             "\n  \
@@ -78,7 +78,8 @@ macro_rules! after_extract {
             order west,south,east,north: the longitudes of its west and east edge from -180\n\
             to 180, and the latitudes of its south and north edge from -90 to 90. A number\n\
             has up to nine digits after the point. West may not be greater than east: a box\n\
-            may not cross the antimeridian.\n\
+            may not cross the antimeridian. A polygon is a .poly file, as published with\n\
+            extracts, and is cut out in the same way.\n\
             \n\
             OUT contains, in the order of IN and with all fields:\n  \
               - the nodes in the box and on its edges\n  \
@@ -166,6 +167,38 @@ macro_rules! after_blobs {
     };
 }
 
+/// What the help of `pack` says after its arguments.
+pub(crate) const AFTER_PACK: &str = after_arguments_of_writer!(
+    "OUT has the same bytes in its blobs, compressed by zlib where they get shorter by\n\
+    it. 'pbfcutz unpack' gives the bytes of IN again. IN must have raw blobs. It is\n\
+    validated first, and read twice, so it must be a file, not a pipe. The command\n\
+    prints how many entities there are, as 'nodes 3 ways 0 relations 0'.\n",
+    "If a run stops early there is no OUT.\n",
+    "Example:\n  \
+      pbfcutz pack london.raw.osm.pbf london.osm.pbf\n"
+);
+
+/// The same of `unpack`.
+pub(crate) const AFTER_UNPACK: &str = after_arguments_of_writer!(
+    "OUT has the same bytes in its blobs, raw. IN is validated first, and read twice,\n\
+    so it must be a file, not a pipe. The command prints how many entities there\n\
+    are, as 'nodes 3 ways 0 relations 0'.\n",
+    "IN has zlib or raw blobs, and OUT has raw ones. If a run stops early there is no\n\
+    OUT.\n",
+    "Example:\n  \
+      pbfcutz unpack london.osm.pbf london.raw.osm.pbf\n"
+);
+
+/// The same of `info`.
+pub(crate) const AFTER_INFO: &str = after_arguments_of_reader!(
+    "The command prints a line for each field of the header, as 'pbfcutz show' does,\n\
+    and last how the header is stored. It reads no further than the header: the\n\
+    box and the features are what the file says of itself. IN may be a pipe.\n",
+    "IN has zlib or raw blobs.\n",
+    "Example:\n  \
+      pbfcutz info england.osm.pbf\n"
+);
+
 /// What `--version` prints after the name.
 pub(crate) const VERSION: &str = "1.0.0 (rattle-kit-13f logic dac8208d650f15bf)";
 
@@ -181,10 +214,25 @@ pub(crate) const RAW: &str = "Write raw blobs: OUT is not compressed";
 
 pub(crate) const BOX: &str = "Edges of the box, in degrees; also --bbox";
 
-pub(crate) const EXTRACT: &str = "Cut a box out of IN and write it to OUT, with complete ways";
+pub(crate) const POLYGON: &str = "Cut out the polygon of a .poly file, not a box";
+
+pub(crate) const ANY_OUTPUT: &str = "The file to write, or - for standard output";
+
+pub(crate) const OPTION: &str = "The file to write, in place of the last argument";
+
+pub(crate) const OVERWRITE: &str = "Replace OUT if it exists";
+
+pub(crate) const EXTRACT: &str =
+    "Cut a box or a polygon out of IN and write it to OUT, with complete ways";
 
 pub(crate) const CONVERT: &str =
     "Write the header and all entities of IN to OUT, in one fixed form";
+
+pub(crate) const PACK: &str = "Write the bytes of IN to OUT with compressed blobs";
+
+pub(crate) const UNPACK: &str = "Write the bytes of IN to OUT with raw blobs";
+
+pub(crate) const INFO: &str = "Print the header of IN, without reading the rest";
 
 pub(crate) const CHECK: &str = "Validate all of IN, and count its nodes, ways and relations";
 
@@ -257,8 +305,8 @@ pub(crate) const OF_PBFCUTZ: Help = Help {
     name: "pbfcutz",
     about: "Cut a bounding box out of a compressed OpenStreetMap PBF file; validate and\nprint such files",
     input: "The OpenStreetMap PBF file to read; its blobs are raw or zlib",
-    digests: "Print the SHA-256 digests of IN, of IN unpacked, and of OUT",
-    digest_of_input: "Print the SHA-256 digests of IN and of IN unpacked",
+    digests: "Print the SHA-256 digests of IN and OUT",
+    digest_of_input: "Print the SHA-256 digest of IN",
     usage_of_extract: "pbfcutz extract [OPTIONS] --box=<WEST,SOUTH,EAST,NORTH> <IN> <OUT>",
     after: after_arguments_of_writer!(
         "'pbfcutz help COMMAND' prints what a command does, its units and an example.\n",

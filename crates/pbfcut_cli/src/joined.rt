@@ -26,11 +26,11 @@ fn begins_below_zero(word: &str) -> bool
     begins_number(*byte)
 }
 
-/// Whether the word is `--box` or its other name.
+/// Whether the word is `--box` or one of its other names.
 fn names_box(word: &str) -> bool
     ensures { result ≡ names_box word.now }
 {
-    word == "--box" || word == "--bbox"
+    word == "--box" || word == "--bbox" || word == "-b"
 }
 
 /// Whether the first word names the box, and the one after it begins below zero.
@@ -78,7 +78,7 @@ fn join_box(alloc: Global, words: &[String]) -> Result<Vec<String>, AllocError>
     Ok(joined)
 }
 
-/// The words of the command line as `read_words` takes them: `--box` or `--bbox`, and a word after it that begins with `-` and a digit
+/// The words of the command line as `read_words` takes them: `--box`, `--bbox` or `-b`, and a word after it that begins with `-` and a digit
 /// or a point, are one word, as `--box=-0.5,51.25,0.3,51.7`; and `help` as the first word is `--help` as the last one. Other words
 /// stay as they are.
 ///

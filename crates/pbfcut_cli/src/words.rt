@@ -1,16 +1,22 @@
 //! The words of the command line, read into a command.
 
 ghost use Rattle.std.specs.Prelude.{◌≡◌, ◌⊎◌, Err, IfErr, IfOk, MatchResult, true};
-ghost use Rattle.clap.specs.Words.{found_of, kind_of, rows_of, subcommand_rows_of, takes};
+ghost use Rattle.std.specs.Option.{option_map};
+ghost use Rattle.clap.specs.Words.{first_of, found_of, kind_of, rows_of, subcommand_rows_of, takes};
 ghost use Rattle.pbfcut_cli.specs.Words.{
   FitsFault,
-  HasBoxFault,
-  IsBox,
+  HasFault,
+  HasOutputFault,
+  HasRegionFault,
   IsHelp,
   IsOffered,
+  IsOfWords,
   IsRead,
   IsTaken,
+  ReadsFiles,
   ReadsFlag,
+  ReadsOutput,
+  ReadsRegion,
   argument_value,
   command_words,
   program_app,
@@ -26,11 +32,37 @@ use clap::{ArgMatches, Error};
 use osm_entity::{BoundingBox, BoxFault};
 use std::alloc::{AllocError, Global};
 
+/// What is cut out of IN.
+#[derive(Clone, Copy, Debug)]
+pub enum Region<'a> {
+    /// This box.
+    Box(BoundingBox),
+    /// The polygon of the `.poly` file at this path.
+    Polygon(&'a str),
+}
+
+/// The files of a command that writes one, and how it is run. Paths are as they were given.
+#[derive(Clone, Copy, Debug)]
+pub struct Files<'a> {
+    pub input: &'a str,
+    pub output: &'a str,
+    /// Whether a file at `output` is replaced.
+    pub overwrite: bool,
+    /// Whether the blobs that are written are raw ones.
+    pub raw: bool,
+    pub progress: bool,
+    pub digests: bool,
+}
+
 /// A command with its arguments. Paths are as they were given.
 #[derive(Debug, Drop)]
 pub enum Command<'a> {
     /// `blobs IN`: list the frames of the file at `input`.
     Blobs {
+        input: &'a str,
+    },
+    /// `info IN`: print the header of the file at `input`.
+    Info {
         input: &'a str,
     },
     /// `show [--dates] IN`: print the file at `input`, with `dates` times as dates.
@@ -45,27 +77,34 @@ pub enum Command<'a> {
         progress: bool,
         digests: bool,
     },
-    /// `convert IN OUT`: write all entities of the file at `input` to a new file at `output`, with `raw` in raw blobs.
-    Convert {
-        input: &'a str,
-        output: &'a str,
-        progress: bool,
-        digests: bool,
-        raw: bool,
-    },
-    /// `extract [--parents] --box=L,B,R,T IN OUT`: cut `area` out of the file at `input` into a new file at `output`, with
-    /// `parents` also all relations that contain kept ones, and with `raw` in raw blobs.
+    /// `convert IN OUT`: write all entities of IN to OUT.
+    Convert(Files<'a>),
+    /// `pack RAW OUT`: write the bytes of RAW to OUT, with its blobs compressed.
+    Pack(Files<'a>),
+    /// `unpack IN RAW`: write the bytes of IN to RAW, with its blobs decompressed.
+    Unpack(Files<'a>),
+    /// `extract [--parents] --box=L,B,R,T IN OUT`: cut `region` out of IN into OUT, with `parents` also all relations that contain
+    /// kept ones.
     Extract {
-        area: BoundingBox,
+        region: Region<'a>,
         parents: bool,
-        input: &'a str,
-        output: &'a str,
-        progress: bool,
-        digests: bool,
-        raw: bool,
+        files: Files<'a>,
     },
     /// Help or the version is wanted: its text, with its line ends, for standard output.
     Help(String),
+}
+
+/// A choice between two arguments that was not made, or made twice.
+#[derive(Clone, Copy, Debug, PartialEq, Eq)]
+pub enum ChoiceFault {
+    /// `extract` has neither a box nor a polygon.
+    NoRegion,
+    /// It has both.
+    TwoRegions,
+    /// OUT is missing.
+    NoOutput,
+    /// OUT is there twice: as an option, and as the last argument.
+    TwoOutputs,
 }
 
 /// Why the command line is no command.
@@ -75,6 +114,8 @@ pub enum CliFault {
     Line(String),
     /// The box of `extract` is invalid.
     Box(BoxFault),
+    /// An argument is missing, or there is one too many.
+    Choice(ChoiceFault),
     /// A request for memory was refused.
     Memory,
 }
@@ -87,11 +128,34 @@ impl From<AllocError> for CliFault {
     }
 }
 
+impl From<BoxFault> for CliFault {
+    ghost from_gives = { λ box e. e ≡ fault.Box box };
+
+    fn from(fault: BoxFault) -> CliFault {
+        CliFault::Box(fault)
+    }
+}
+
+impl From<ChoiceFault> for CliFault {
+    ghost from_gives = { λ choice e. e ≡ fault.Choice choice };
+
+    fn from(fault: ChoiceFault) -> CliFault {
+        CliFault::Choice(fault)
+    }
+}
+
+/// The value of an argument, if it has one.
+fn value_of<'a>(matches: &ArgMatches<'a>, id: &str) -> Option<&'a str>
+    ensures { option_map (λ text. text.now) result ≡ first_of id.now (rows_of (found_of matches.now)) }
+{
+    matches.get_str(id)
+}
+
 /// The value of an argument, or the empty text if it has none.
 fn value<'a>(matches: &ArgMatches<'a>, id: &str) -> &'a str
     ensures { result.now ≡ argument_value id.now (rows_of (found_of matches.now)) }
 {
-    matches.get_str(id).unwrap_or("")
+    value_of(matches, id).unwrap_or("")
 }
 
 /// Whether the flag was used.
@@ -101,11 +165,53 @@ fn flag(matches: &ArgMatches<'_>, id: &str) -> bool
     matches.get_flag(id)
 }
 
+/// The path of the file that is written: that of the last argument, or of the option.
+fn output_in<'a>(matches: &ArgMatches<'a>) -> Result<&'a str, ChoiceFault>
+    ensures { MatchResult result (ReadsOutput (rows_of (found_of matches.now)))
+        (HasOutputFault (rows_of (found_of matches.now))) }
+{
+    match (value_of(matches, "OUT"), value_of(matches, "output")) {
+        (Some(path), None) => Ok(path),
+        (None, Some(path)) => Ok(path),
+        (None, None) => Err(ChoiceFault::NoOutput),
+        (Some(_), Some(_)) => Err(ChoiceFault::TwoOutputs),
+    }
+}
+
+/// The files of a command that writes one.
+fn files_in<'a>(matches: &ArgMatches<'a>) -> Result<Files<'a>, ChoiceFault>
+    ensures { MatchResult result (ReadsFiles (rows_of (found_of matches.now)))
+        (HasOutputFault (rows_of (found_of matches.now))) }
+{
+    let output = output_in(matches)?;
+    Ok(Files {
+        input: value(matches, "IN"),
+        output,
+        overwrite: flag(matches, "overwrite"),
+        raw: flag(matches, "raw"),
+        progress: flag(matches, "progress"),
+        digests: flag(matches, "digests"),
+    })
+}
+
+/// What is cut out: the box, or the polygon.
+fn region_in<'a>(matches: &ArgMatches<'a>) -> Result<Region<'a>, CliFault>
+    ensures { MatchResult result (ReadsRegion (rows_of (found_of matches.now)))
+        (HasRegionFault (rows_of (found_of matches.now))) }
+{
+    match (value_of(matches, "box"), value_of(matches, "polygon")) {
+        (Some(edges), None) => Ok(Region::Box(BoundingBox::parse(edges)?)),
+        (None, Some(path)) => Ok(Region::Polygon(path)),
+        (None, None) => Err(CliFault::Choice(ChoiceFault::NoRegion)),
+        (Some(_), Some(_)) => Err(CliFault::Choice(ChoiceFault::TwoRegions)),
+    }
+}
+
 /// The command that the matches name.
-fn command_in<'a>(matches: &ArgMatches<'a>) -> Result<Command<'a>, BoxFault>
+fn command_in<'a>(matches: &ArgMatches<'a>) -> Result<Command<'a>, CliFault>
     requires { IsOffered (subcommand_rows_of matches.now) }
     ensures { MatchResult result (IsRead (subcommand_rows_of matches.now))
-        (HasBoxFault (subcommand_rows_of matches.now)) }
+        (HasFault (subcommand_rows_of matches.now)) }
 {
     let Some((name, inner)) = matches.subcommand() else {
         unreachable!();
@@ -113,6 +219,7 @@ fn command_in<'a>(matches: &ArgMatches<'a>) -> Result<Command<'a>, BoxFault>
     let input = value(inner, "IN");
     match name {
         "blobs" => Ok(Command::Blobs { input }),
+        "info" => Ok(Command::Info { input }),
         "show" => {
             let dates = flag(inner, "dates");
             let progress = flag(inner, "progress");
@@ -131,34 +238,17 @@ fn command_in<'a>(matches: &ArgMatches<'a>) -> Result<Command<'a>, BoxFault>
                 digests,
             })
         }
-        "convert" => {
-            let output = value(inner, "OUT");
-            let progress = flag(inner, "progress");
-            let digests = flag(inner, "digests");
-            let raw = flag(inner, "raw");
-            Ok(Command::Convert {
-                input,
-                output,
-                progress,
-                digests,
-                raw,
-            })
-        }
+        "convert" => Ok(Command::Convert(files_in(inner)?)),
+        "pack" => Ok(Command::Pack(files_in(inner)?)),
+        "unpack" => Ok(Command::Unpack(files_in(inner)?)),
         _ => {
-            let area = BoundingBox::parse(value(inner, "box"))?;
+            let region = region_in(inner)?;
             let parents = flag(inner, "parents");
-            let output = value(inner, "OUT");
-            let progress = flag(inner, "progress");
-            let digests = flag(inner, "digests");
-            let raw = flag(inner, "raw");
+            let files = files_in(inner)?;
             Ok(Command::Extract {
-                area,
+                region,
                 parents,
-                input,
-                output,
-                progress,
-                digests,
-                raw,
+                files,
             })
         }
     }
@@ -170,7 +260,7 @@ fn refused<'a>(alloc: Global, error: &Error) -> Result<Command<'a>, CliFault>
         × ((kind_of error.now ≡ ErrorKind.DisplayHelp)
         ⊎ (kind_of error.now ≡ ErrorKind.DisplayVersion))) }
     ensures memory { kind_of error.now ≡ ErrorKind.OutOfMemory → result ≡ Err fault.Memory }
-    ensures line { IfErr result (λ e. IsBox e → ⊥) }
+    ensures line { IfErr result (λ e. IsOfWords e → ⊥) }
 {
     match error.kind() {
         ErrorKind::OutOfMemory => Err(CliFault::Memory),
@@ -186,8 +276,8 @@ fn refused<'a>(alloc: Global, error: &Error) -> Result<Command<'a>, CliFault>
 ///
 /// # Errors
 ///
-/// `Line` if `clap` refuses the words, `Box` with the fault of the box of an `extract`, `Memory` if a request for memory was
-/// refused. Words that `clap` takes give neither `Line` nor `Help`.
+/// `Line` if `clap` refuses the words, `Box` with the fault of the box of an `extract`, `Choice` if one of two arguments is needed and there
+/// is none or both, `Memory` if a request for memory was refused. Words that `clap` takes give neither `Line` nor `Help`.
 pub fn read_words<'a>(
     alloc: Global,
     program: Program,
@@ -195,17 +285,14 @@ pub fn read_words<'a>(
 ) -> Result<Command<'a>, CliFault>
     // A command is help, or what `clap` reads in the words.
     ensures read { IfOk result (λ c. IsHelp c ⊎ IsRead (command_words program words.now) c) }
-    // The fault of a box comes only for a box that has it.
+    // The fault of a box comes only for a box that has it, and that of a choice only for one that was not made, or made twice.
     ensures fault { IfErr result (FitsFault (command_words program words.now)) }
     // Words that `clap` takes give a command that is not help, or a fault other than `Line`.
     ensures taken { takes (program_app program) (word_texts words.now) ≡ true → IsTaken result }
 {
     let command_line = command_line(alloc, program, program.help())?;
     match command_line.try_get_matches_from(words) {
-        Ok(matches) => match command_in(&matches) {
-            Ok(command) => Ok(command),
-            Err(fault) => Err(CliFault::Box(fault)),
-        },
+        Ok(matches) => Ok(command_in(&matches)?),
         Err(error) => refused(alloc, &error),
     }
 }

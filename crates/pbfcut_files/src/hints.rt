@@ -7,38 +7,43 @@ use pbf_frame::Stop;
 use pbf_pass::Counts;
 use pbf_unpack::{InflateFault, Place, UnpackReason};
 use pbf_wire::Reason;
-use pbfcut_cli::{Command, Ending, PackedRefusal, Program};
+use pbfcut_cli::{Command, Ending, PackedRefusal, Program, Region};
 use std::fs::{self, File};
 use std::io::{self, IsTerminal, Read, Seek, SeekFrom};
 
 /// How many bytes of IN are read to see what it is.
 const GLANCE: usize = 96;
 
-/// The files that a command names, whether it is `extract`, and the program that runs.
+/// The files that a command names, and the program that runs.
 #[derive(Clone, Copy)]
 pub struct Asked<'a> {
     program: Program,
     input: &'a str,
     output: Option<&'a str>,
-    cuts: bool,
+    region: Option<Region<'a>>,
 }
 
 impl<'a> Asked<'a> {
     /// The files of a command that isn't help, and the program.
     pub fn of(program: Program, command: &Command<'a>) -> Option<Asked<'a>> {
-        let (input, output, cuts) = match command {
+        let (input, output, region) = match command {
             Command::Help(_) => return None,
-            Command::Blobs { input } => (*input, None, false),
-            Command::Show { input, .. } => (*input, None, false),
-            Command::Check { input, .. } => (*input, None, false),
-            Command::Convert { input, output, .. } => (*input, Some(*output), false),
-            Command::Extract { input, output, .. } => (*input, Some(*output), true),
+            Command::Blobs { input } => (*input, None, None),
+            Command::Info { input } => (*input, None, None),
+            Command::Show { input, .. } => (*input, None, None),
+            Command::Check { input, .. } => (*input, None, None),
+            Command::Convert(files) => (files.input, Some(files.output), None),
+            Command::Pack(files) => (files.input, Some(files.output), None),
+            Command::Unpack(files) => (files.input, Some(files.output), None),
+            Command::Extract { region, files, .. } => {
+                (files.input, Some(files.output), Some(*region))
+            }
         };
         Some(Asked {
             program,
             input,
             output,
-            cuts,
+            region,
         })
     }
 }
@@ -112,7 +117,7 @@ fn of_zlib(detail: Option<UnpackReason>) -> &'static str {
 fn of_blobs(asked: Asked<'_>, refused: Refused) -> Option<&'static str> {
     match refused.reason {
         Reason::Zlib if asked.program == Program::Pbfcutz => Some(of_zlib(refused.detail)),
-        Reason::Zlib if asked.cuts => {
+        Reason::Zlib if asked.region.is_some() => {
             Some("IN is compressed; this cuts it: pbfcutz extract --box=BOX IN OUT")
         }
         Reason::Zlib => Some("IN is compressed; pbfcutz, which takes the same words, reads it"),
@@ -161,19 +166,35 @@ fn offset_of(refusal: &PackedRefusal) -> Option<u64> {
     }
 }
 
-/// Why IN cannot be read, as the system says it. A pipe is not opened again.
-fn reason_of_input(rt: &HostRuntime, input: &str) -> Option<io::Error> {
-    match fs::metadata(rt, input) {
+/// Why a file cannot be read, as the system says it. A pipe is not opened again.
+fn reason_of(rt: &HostRuntime, path: &str) -> Option<io::Error> {
+    match fs::metadata(rt, path) {
         Err(error) => Some(error),
-        Ok(metadata) if metadata.is_file() => File::open(rt, input).err(),
+        Ok(metadata) if metadata.is_file() => File::open(rt, path).err(),
         Ok(_) => None,
+    }
+}
+
+/// Why the file of a polygon is none, if it can be opened.
+fn of_polygon(rt: &HostRuntime, path: &str) -> Option<String> {
+    if let Some(error) = reason_of(rt, path) {
+        return format!(in rt.alloc(); "{path}: {error}").ok();
+    }
+    match fs::read_to_string(rt, path) {
+        Ok(_) => None,
+        Err(error) => format!(in rt.alloc(); "{path}: {error}").ok(),
     }
 }
 
 /// Which file could not be opened, and the system's reason.
 fn of_files(rt: &HostRuntime, asked: Asked<'_>) -> Option<String> {
+    if let Some(Region::Polygon(path)) = asked.region {
+        if let Some(reason) = of_polygon(rt, path) {
+            return Some(reason);
+        }
+    }
     let input = asked.input;
-    if let Some(error) = reason_of_input(rt, input) {
+    if let Some(error) = reason_of(rt, input) {
         return format!(in rt.alloc(); "{input}: {error}").ok();
     }
     let output = asked.output?;
@@ -212,7 +233,11 @@ fn of_write(rt: &HostRuntime, asked: Asked<'_>, failed: FailedWrite) -> Option<S
 /// What to do next after a run that ended so.
 fn hint(rt: &HostRuntime, asked: Asked<'_>, failure: &Failure) -> Option<String> {
     match &failure.ending {
-        Ending::Words(_) | Ending::NotText | Ending::Box(_) => None,
+        Ending::Words(_) | Ending::NotText | Ending::Box(_) | Ending::Choice(_) => None,
+        Ending::Polygon(_) => text(
+            rt,
+            "a .poly file has a name; for each ring a name, lines of longitude and latitude, and END; and END",
+        ),
         Ending::CannotOpen => of_files(rt, asked),
         Ending::IsPipe => text(
             rt,
@@ -220,7 +245,12 @@ fn hint(rt: &HostRuntime, asked: Asked<'_>, failure: &Failure) -> Option<String>
         ),
         Ending::OutExists => text(
             rt,
-            "only new files are written: remove OUT, or name another",
+            match asked.program {
+                Program::Pbfcut => "only new files are written: remove OUT, or name another",
+                Program::Pbfcutz => {
+                    "only new files are written, or with --overwrite plain ones: remove OUT, or name another"
+                }
+            },
         ),
         Ending::Stopped(Stop::Refused(fault)) => {
             let refused = Refused {
@@ -242,8 +272,8 @@ fn hint(rt: &HostRuntime, asked: Asked<'_>, failure: &Failure) -> Option<String>
             rt,
             "something wrote to IN meanwhile: copy it to a file that stays the same",
         ),
-        Ending::Stopped(Stop::Memory) if asked.cuts => {
-            text(rt, "a smaller box takes less memory")
+        Ending::Stopped(Stop::Memory) if asked.region.is_some() => {
+            text(rt, "a smaller area takes less memory")
         }
         Ending::Stopped(Stop::Memory) => None,
         Ending::Stopped(Stop::Read) => of_read(rt, asked),
@@ -275,15 +305,18 @@ pub fn tell_order(rt: &HostRuntime) {
 }
 
 /// Says on a terminal that an extract is empty.
-pub fn tell_empty(rt: &HostRuntime, counts: Counts) {
+pub fn tell_empty(rt: &HostRuntime, region: Region<'_>, counts: Counts) {
     let Counts {
         nodes,
         ways,
         relations,
     } = counts;
-    if nodes == 0 && ways == 0 && relations == 0 && rt.stderr().is_terminal() {
-        let _ = eprintln!(rt;
-            "hint: no node of IN lies in the box, which is west,south,east,north"
-        );
+    if nodes > 0 || ways > 0 || relations > 0 || !rt.stderr().is_terminal() {
+        return;
     }
+    let place = match region {
+        Region::Box(_) => "the box, which is west,south,east,north",
+        Region::Polygon(_) => "the polygon",
+    };
+    let _ = eprintln!(rt; "hint: no node of IN lies in {place}");
 }

@@ -7,11 +7,13 @@ mod formats;
 mod hints;
 mod out;
 mod output;
+mod polygon;
 mod progress;
 
 pub use failure::{Failure, Noted, Target};
 pub use files::{Input, open_pass};
 pub use hints::{Asked, tell_empty, tell_hint, tell_order};
-pub use out::{OUTPUT_BUFFER, Output, create_output, refuse_existing};
-pub use output::{print_counts, print_digest, print_help, print_unpacked, report_refusal};
+pub use polygon::read_polygon;
+pub use out::{OUTPUT_BUFFER, Output, Place, create_output, refuse_existing};
+pub use output::{Screen, print_help, report_refusal};
 pub use progress::{Line, Watched, end_line};

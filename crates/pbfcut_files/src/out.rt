@@ -1,10 +1,10 @@
-//! OUT, which is made new, and which gets its name from pbfcutz only when it is whole.
+//! OUT: a file that is made new, and which gets its name from pbfcutz only when it is whole; or standard output.
 
 use crate::failure::{Failure, Noted, Target};
 use pbf_frame::Stop;
-use pbfcut_cli::{Ending, Program};
+use pbfcut_cli::{Ending, Files, Program};
 use std::fs::{self, File, OpenOptions};
-use std::io::{self, BufWriter, Write};
+use std::io::{self, BufWriter, Stdout, Write};
 
 /// The length of the buffers of OUT and of standard output.
 pub const OUTPUT_BUFFER: usize = 65_536;
@@ -12,17 +12,76 @@ pub const OUTPUT_BUFFER: usize = 65_536;
 /// How many names are tried for an OUT that isn't whole: more than one only if earlier runs were killed.
 const MOST_PARTS: u32 = 1_000;
 
+/// What OUT is written to.
+#[derive(Drop)]
+enum Sink {
+    File(File),
+    Screen(Stdout),
+}
+
+impl Write for Sink {
+    fn write(&mut self, buf: &[u8]) -> io::Result<usize> {
+        match self {
+            Sink::File(file) => file.write(buf),
+            Sink::Screen(screen) => screen.write(buf),
+        }
+    }
+
+    fn flush(&mut self) -> io::Result<()> {
+        match self {
+            Sink::File(file) => file.flush(),
+            Sink::Screen(screen) => screen.flush(),
+        }
+    }
+}
+
+/// Where OUT is.
+#[derive(Clone, Copy)]
+pub struct Place<'a> {
+    pub program: Program,
+    pub path: &'a str,
+    /// Whether a file there is replaced.
+    pub overwrite: bool,
+}
+
+impl<'a> Place<'a> {
+    /// The place of the OUT of a command.
+    pub fn of(program: Program, files: &Files<'a>) -> Place<'a> {
+        Place {
+            program,
+            path: files.output,
+            overwrite: files.overwrite,
+        }
+    }
+
+    /// Whether it is standard output, which only pbfcutz writes to.
+    pub fn is_screen(self) -> bool {
+        self.program == Program::Pbfcutz && (self.path == "-" || self.path == "/dev/stdout")
+    }
+}
+
 /// OUT as it is written.
 #[derive(Drop)]
 pub struct Output {
-    writer: BufWriter<Noted<File>>,
+    writer: BufWriter<Noted<Sink>>,
     /// The name that it has until it is whole, if that isn't OUT's own.
     part: Option<String>,
 }
 
-/// Refuses an OUT that can be opened for reading.
-pub fn refuse_existing(rt: &HostRuntime, output: &str) -> Result<(), Ending> {
-    if File::open(rt, output).is_ok() {
+/// Whether a plain file is there, and no link to one.
+fn is_plain(rt: &HostRuntime, path: &str) -> bool {
+    match fs::symlink_metadata(rt, path) {
+        Ok(metadata) => metadata.is_file(),
+        Err(_) => false,
+    }
+}
+
+/// Refuses an OUT that can be opened for reading, unless it is a plain file that is to be replaced.
+pub fn refuse_existing(rt: &HostRuntime, place: Place<'_>) -> Result<(), Ending> {
+    if place.is_screen() || place.overwrite && is_plain(rt, place.path) {
+        return Ok(());
+    }
+    if File::open(rt, place.path).is_ok() {
         return Err(Ending::OutExists);
     }
     Ok(())
@@ -37,8 +96,10 @@ fn open_new(rt: &HostRuntime, path: &str) -> io::Result<File> {
 }
 
 /// Makes a new file beside OUT, with its name.
-fn open_part(rt: &HostRuntime, output: &str) -> Result<(File, String), Ending> {
-    if fs::symlink_metadata(rt, output).is_ok() {
+fn open_part(rt: &HostRuntime, place: Place<'_>) -> Result<(File, String), Ending> {
+    let output = place.path;
+    let replaces = place.overwrite && is_plain(rt, output);
+    if !replaces && fs::symlink_metadata(rt, output).is_ok() {
         return Err(Ending::CannotOpen);
     }
     for number in 0..MOST_PARTS {
@@ -61,24 +122,40 @@ fn remove(rt: &HostRuntime, part: Option<&str>) {
     }
 }
 
-/// Makes OUT, with a buffer: that of pbfcut by its own name, that of pbfcutz by another one in the same folder.
-pub fn create_output(rt: &HostRuntime, output: &str, program: Program) -> Result<Output, Ending> {
-    let (file, part) = match program {
-        Program::Pbfcut => match open_new(rt, output) {
-            Ok(file) => (file, None),
-            Err(_) => return Err(Ending::CannotOpen),
+/// What OUT is written to: of pbfcut a file by its own name, of pbfcutz standard output, or a file by another name in the same folder.
+fn open_sink(rt: &HostRuntime, place: Place<'_>) -> Result<(Sink, Option<String>), Ending> {
+    if place.is_screen() {
+        return Ok((Sink::Screen(rt.stdout()), None));
+    }
+    match place.program {
+        Program::Pbfcut => match open_new(rt, place.path) {
+            Ok(file) => Ok((Sink::File(file), None)),
+            Err(_) => Err(Ending::CannotOpen),
         },
         Program::Pbfcutz => {
-            let (file, part) = open_part(rt, output)?;
-            (file, Some(part))
+            let (file, part) = open_part(rt, place)?;
+            Ok((Sink::File(file), Some(part)))
         }
-    };
-    match BufWriter::with_capacity(rt.alloc(), OUTPUT_BUFFER, Noted::new(file)) {
+    }
+}
+
+/// Makes OUT, with a buffer.
+pub fn create_output(rt: &HostRuntime, place: Place<'_>) -> Result<Output, Ending> {
+    let (sink, part) = open_sink(rt, place)?;
+    match BufWriter::with_capacity(rt.alloc(), OUTPUT_BUFFER, Noted::new(sink)) {
         Ok(writer) => Ok(Output { writer, part }),
         Err(_) => {
             remove(rt, part.as_deref());
             Err(Ending::Stopped(Stop::Memory))
         }
+    }
+}
+
+/// Gives a whole file OUT's name, in place of the plain file that has it.
+fn replace(rt: &HostRuntime, part: &str, output: &str) -> Result<(), Failure> {
+    match fs::rename(rt, part, output) {
+        Ok(()) => Ok(()),
+        Err(error) => Err(Failure::of_write(Target::Out, error.raw_os_error())),
     }
 }
 
@@ -90,15 +167,12 @@ fn name(rt: &HostRuntime, part: &str, output: &str) -> Result<(), Failure> {
     if error.kind() == io::ErrorKind::AlreadyExists || fs::symlink_metadata(rt, output).is_ok() {
         return Err(Failure::from(Ending::OutExists));
     }
-    match fs::rename(rt, part, output) {
-        Ok(()) => Ok(()),
-        Err(error) => Err(Failure::of_write(Target::Out, error.raw_os_error())),
-    }
+    replace(rt, part, output)
 }
 
 impl Output {
     /// The writer of OUT.
-    pub fn writer(&mut self) -> &mut BufWriter<Noted<File>> {
+    pub fn writer(&mut self) -> &mut impl Write {
         &mut self.writer
     }
 
@@ -112,13 +186,22 @@ impl Output {
         self.writer.get_ref().code()
     }
 
+    /// Has the system write the file to its disk.
+    fn sync(&self) -> io::Result<()> {
+        match self.writer.get_ref().inner() {
+            Sink::File(file) => file.sync_all(),
+            Sink::Screen(_) => Ok(()),
+        }
+    }
+
     /// OUT is whole: it is on the disk, by its name.
-    pub fn keep(self, rt: &HostRuntime, output: &str) -> Result<(), Failure> {
+    pub fn keep(self, rt: &HostRuntime, place: Place<'_>) -> Result<(), Failure> {
         let Some(part) = self.part.as_deref() else {
             return Ok(());
         };
-        let kept = match self.writer.get_ref().inner().sync_all() {
-            Ok(()) => name(rt, part, output),
+        let kept = match self.sync() {
+            Ok(()) if place.overwrite && is_plain(rt, place.path) => replace(rt, part, place.path),
+            Ok(()) => name(rt, part, place.path),
             Err(error) => Err(Failure::of_write(Target::Out, error.raw_os_error())),
         };
         remove(rt, Some(part));

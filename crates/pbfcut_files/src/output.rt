@@ -20,44 +20,77 @@ fn no_memory() -> Failure {
     Failure::from(Ending::Stopped(Stop::Memory))
 }
 
-/// Prints the line of counts.
-pub fn print_counts(rt: &HostRuntime, counts: Counts) -> Result<(), Failure> {
-    let Counts {
-        nodes,
-        ways,
-        relations,
-    } = counts;
-    printed(println!(rt; "nodes {nodes} ways {ways} relations {relations}"))
+/// Where counts and digests go.
+#[derive(Clone, Copy, PartialEq, Eq)]
+pub enum Screen {
+    /// To standard output.
+    Output,
+    /// To standard error, since OUT is written to standard output.
+    Error,
 }
 
-fn print_line(rt: &HostRuntime, line: &[u8]) -> Result<(), Failure> {
-    let mut screen = rt.stdout();
-    printed(screen.write_all(line))?;
-    printed(screen.flush())
-}
-
-/// Prints the line of a file and its digest, as `sha256sum` does.
-pub fn print_digest(rt: &HostRuntime, digest: [u8; 32], path: &str) -> Result<(), Failure> {
-    let mut line = Vec::new(rt.alloc());
-    if put_digest_line(&mut line, &digest, path.as_bytes()).is_err() {
-        return Err(no_memory());
+impl Screen {
+    fn print(self, rt: &HostRuntime, line: &[u8]) -> Result<(), Failure> {
+        match self {
+            Screen::Output => {
+                let mut screen = rt.stdout();
+                printed(screen.write_all(line))?;
+                printed(screen.flush())
+            }
+            Screen::Error => {
+                // If it can't be written, OUT is there all the same.
+                let _ = rt.stderr().write_all(line);
+                Ok(())
+            }
+        }
     }
-    print_line(rt, &line)
-}
 
-/// Prints the digest of IN unpacked, if it is. The line is a comment to `sha256sum -c`, since there is no such file.
-pub fn print_unpacked(rt: &HostRuntime, digest: Option<[u8; 32]>) -> Result<(), Failure> {
-    let Some(digest) = digest else {
-        return Ok(());
-    };
-    let mut line = Vec::new(rt.alloc());
-    let put = line.extend_from_slice(b"# unpacked ").is_ok()
-        && put_hex(&mut line, &digest).is_ok()
-        && line.push(b'\n').is_ok();
-    if !put {
-        return Err(no_memory());
+    /// Prints the line of counts.
+    pub fn print_counts(self, rt: &HostRuntime, counts: Counts) -> Result<(), Failure> {
+        let Counts {
+            nodes,
+            ways,
+            relations,
+        } = counts;
+        let line = format!(in rt.alloc(); "nodes {nodes} ways {ways} relations {relations}\n");
+        match line {
+            Ok(line) => self.print(rt, line.as_bytes()),
+            Err(_) => Err(no_memory()),
+        }
     }
-    print_line(rt, &line)
+
+    /// Prints the line of a file and its digest, as `sha256sum` does.
+    pub fn print_digest(
+        self,
+        rt: &HostRuntime,
+        digest: [u8; 32],
+        path: &str,
+    ) -> Result<(), Failure> {
+        let mut line = Vec::new(rt.alloc());
+        if put_digest_line(&mut line, &digest, path.as_bytes()).is_err() {
+            return Err(no_memory());
+        }
+        self.print(rt, &line)
+    }
+
+    /// Prints the digest of IN unpacked, if it is. The line is a comment to `sha256sum -c`, since there is no such file.
+    pub fn print_unpacked(
+        self,
+        rt: &HostRuntime,
+        digest: Option<[u8; 32]>,
+    ) -> Result<(), Failure> {
+        let Some(digest) = digest else {
+            return Ok(());
+        };
+        let mut line = Vec::new(rt.alloc());
+        let put = line.extend_from_slice(b"# unpacked ").is_ok()
+            && put_hex(&mut line, &digest).is_ok()
+            && line.push(b'\n').is_ok();
+        if !put {
+            return Err(no_memory());
+        }
+        self.print(rt, &line)
+    }
 }
 
 /// What a refusal counts of IN: pbfcutz judges its bytes unpacked.

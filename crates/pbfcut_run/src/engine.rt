@@ -2,7 +2,7 @@
 
 ghost use Rattle.std.specs.Prelude.{◌≡◌, [], IfSome};
 
-use osm_entity::BoundingBox;
+use osm_area::Area;
 use pbf_frame::{Drain, FromRead, Stop};
 use pbf_pass::Refusal;
 use pbf_published::{PublishedHalt, PublishedInput};
@@ -178,6 +178,16 @@ impl Engine {
         })
     }
 
+    /// Writes the lines of the header, and how it is stored.
+    pub(crate) fn show_header<D: Drain>(
+        self,
+        pass: &mut Pass,
+        drain: &mut D,
+    ) -> Result<(), Halted> {
+        pbf_published::show_header(self.alloc, pass, drain)?;
+        Ok(())
+    }
+
     /// Writes the lines of the frames.
     pub(crate) fn list_blobs<D: Drain>(
         self,
@@ -231,10 +241,28 @@ impl Engine {
         })
     }
 
-    pub(crate) fn extract<D: Drain>(
+    /// Writes the bytes of IN unpacked, in raw blobs, or packed again.
+    pub(crate) fn copy<D: Drain>(
+        self,
+        passes: &mut TwoPasses,
+        drain: &mut D,
+    ) -> Result<Report, Halted>
+        requires { IfSome (D.taken drain.old) (λ taken. taken ≡ []) }
+    {
+        let how = self.more_passes();
+        let TwoPasses { one, two } = passes;
+        Ok(if self.packs {
+            let mut packed = self.packed(drain)?;
+            pbf_published::copy_packed(how, one, two, &mut packed)?.into()
+        } else {
+            pbf_published::copy_with_receipt(how, one, two, drain)?.into()
+        })
+    }
+
+    pub(crate) fn extract<A: Area, D: Drain>(
         self,
         passes: &mut Passes,
-        area: BoundingBox,
+        area: &A,
         drain: &mut D,
         hasher: RandomState,
     ) -> Result<Report, Halted>
@@ -265,10 +293,10 @@ impl Engine {
     }
 
     /// The same with all parents, for which IN is read once more.
-    pub(crate) fn extract_parents<D: Drain>(
+    pub(crate) fn extract_parents<A: Area, D: Drain>(
         self,
         passes: &mut FourPasses,
-        area: BoundingBox,
+        area: &A,
         drain: &mut D,
         hasher: RandomState,
     ) -> Result<Report, Halted>

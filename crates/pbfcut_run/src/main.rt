@@ -10,12 +10,12 @@ use engine::Engine;
 use pbf_frame::Stop;
 use pbfcut_cli::{Command, Ending, Program, normalize_words, read_words, status};
 use pbfcut_files::{Asked, Failure, Input, print_help, tell_hint, tell_order};
-use readers::{run_blobs, run_check, run_show};
+use readers::{run_blobs, run_check, run_info, run_show};
 use std::env::{self, Env};
 use std::fs::File;
-use std::io;
+use std::io::{self, IsTerminal};
 use std::process::ExitCode;
-use writers::{Files, run_convert, run_extract, run_extract_parents};
+use writers::Writing;
 
 /// The room for the first word of a command line: that of the longest path that Linux has.
 const LONGEST_PATH: usize = 4_096;
@@ -53,73 +53,69 @@ fn words(rt: &HostRuntime) -> Result<Vec<String>, Ending> {
 fn prints_digests(command: &Command<'_>) -> bool {
     match command {
         Command::Check { digests, .. } => *digests,
-        Command::Convert { digests, .. } => *digests,
-        Command::Extract { digests, .. } => *digests,
-        Command::Help(_) | Command::Blobs { .. } | Command::Show { .. } => false,
+        Command::Convert(files) | Command::Pack(files) | Command::Unpack(files) => files.digests,
+        Command::Extract { files, .. } => files.digests,
+        Command::Help(_) | Command::Blobs { .. } | Command::Info { .. } | Command::Show { .. } => {
+            false
+        }
     }
 }
 
-/// Whether a command writes zlib blobs: of pbfcutz, without `--raw`.
+/// Whether a command writes zlib blobs: of pbfcutz, unless raw ones are asked for.
 fn packs(program: Program, command: &Command<'_>) -> bool {
     let raw = match command {
-        Command::Convert { raw, .. } => *raw,
-        Command::Extract { raw, .. } => *raw,
+        Command::Convert(files) => files.raw,
+        Command::Extract { files, .. } => files.raw,
+        Command::Pack(_) => false,
         _ => true,
     };
     program == Program::Pbfcutz && !raw
 }
 
+/// Whether the progress of a run is shown: if that is asked for, and by pbfcutz also on a terminal.
+fn shows_progress(rt: &HostRuntime, program: Program, asked: bool) -> bool {
+    asked || program == Program::Pbfcutz && rt.stderr().is_terminal()
+}
+
 /// Runs a command.
 fn run(rt: &HostRuntime, engine: Engine, command: Command<'_>) -> Result<(), Failure> {
-    match command {
+    let writing = |files| {
+        let progress = shows_progress(rt, engine.program, files.progress);
+        Writing::new(engine, files, progress)
+    };
+    match &command {
         Command::Help(text) => print_help(rt, text.as_str()),
         Command::Blobs { input } => run_blobs(rt, engine, input),
+        Command::Info { input } => run_info(rt, engine, input),
         Command::Show {
             input: path,
             dates,
             progress,
-        } => run_show(rt, engine, Input { path, progress }, dates),
+        } => {
+            let input = Input {
+                path: *path,
+                progress: *progress,
+            };
+            run_show(rt, engine, input, *dates)
+        }
         Command::Check {
             input: path,
             progress,
             digests,
-        } => run_check(rt, engine, Input { path, progress }, digests),
-        Command::Convert {
-            input: path,
-            output,
-            progress,
-            digests,
-            ..
         } => {
-            let input = Input { path, progress };
-            let files = Files {
-                input,
-                output,
-                digests,
+            let input = Input {
+                path: *path,
+                progress: shows_progress(rt, engine.program, *progress),
             };
-            run_convert(rt, engine, files)
+            run_check(rt, engine, input, *digests)
         }
+        Command::Convert(files) => writing(files).convert(rt),
+        Command::Pack(files) | Command::Unpack(files) => writing(files).copy(rt),
         Command::Extract {
-            area,
+            region,
             parents,
-            input: path,
-            output,
-            progress,
-            digests,
-            ..
-        } => {
-            let input = Input { path, progress };
-            let files = Files {
-                input,
-                output,
-                digests,
-            };
-            if parents {
-                run_extract_parents(rt, engine, area, files)
-            } else {
-                run_extract(rt, engine, area, files)
-            }
-        }
+            files,
+        } => writing(files).extract(rt, *region, *parents),
     }
 }
 

@@ -1,11 +1,10 @@
-//! The commands that write no file: `blobs`, `show` and `check`.
+//! The commands that write no file: `blobs`, `info`, `show` and `check`.
 
 use crate::engine::{Engine, Halted, TwoPasses};
 use pbf_frame::{Stop, ToWrite};
 use pbfcut_cli::Ending;
 use pbfcut_files::{
-    Failure, Input, Noted, OUTPUT_BUFFER, Target, end_line, open_pass, print_counts, print_digest,
-    print_unpacked, report_refusal,
+    Failure, Input, Noted, OUTPUT_BUFFER, Screen, Target, end_line, open_pass, report_refusal,
 };
 use std::io::{BufWriter, Stdout, Write};
 
@@ -42,6 +41,18 @@ pub(crate) fn run_blobs(rt: &HostRuntime, engine: Engine, input: &str) -> Result
     let mut pass = open_pass(rt, input, 1, 1)?;
     let mut output = buffered_output(rt)?;
     let outcome = engine.list_blobs(&mut pass, &mut ToWrite::new(&mut output));
+    ended(&mut output, outcome)
+}
+
+/// `info IN`: the lines of the header go to standard output.
+pub(crate) fn run_info(rt: &HostRuntime, engine: Engine, input: &str) -> Result<(), Failure> {
+    let input = Input {
+        path: input,
+        progress: false,
+    };
+    let mut pass = open_pass(rt, input, 1, 1)?;
+    let mut output = buffered_output(rt)?;
+    let outcome = engine.show_header(&mut pass, &mut ToWrite::new(&mut output));
     ended(&mut output, outcome)
 }
 
@@ -83,10 +94,11 @@ pub(crate) fn run_check(
             return Err(halted.ending.into());
         }
     };
-    print_counts(rt, report.counts)?;
+    let screen = Screen::Output;
+    screen.print_counts(rt, report.counts)?;
     if digests {
-        print_digest(rt, report.input, input.path)?;
-        print_unpacked(rt, report.raw)?;
+        screen.print_digest(rt, report.input, input.path)?;
+        screen.print_unpacked(rt, report.raw)?;
     }
     Ok(())
 }

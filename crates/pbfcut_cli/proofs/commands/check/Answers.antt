@@ -1,10 +1,9 @@
 use Rattle.std.proofs.Common.{Ok}
-use Rattle.pbfcut_cli.specs.Words.{progress_rule, digests_rule, input_rule}
-use Rattle.pbfcut_cli.proofs.CommandLemmas.{rule_added}
+use Rattle.pbfcut_cli.specs.Words.{input_rule, with_told}
+use Rattle.pbfcut_cli.proofs.CommandLemmas.{added, rule_added}
 use Rattle.pbfcut_cli.proofs.commands.check.Goals as goal
 
 pub returns : goal.returns
 returns c =
-    let first = rule_added c.with_arg-command.result (Ok c.named-command.result) _ c.named-command.ensures _ progress_rule c.progress.ensures.is c.with_arg-command.ensures in
-    let second = rule_added c.with_arg-command-2.result c.with_arg-command.result _ first _ digests_rule c.digests.ensures.is c.with_arg-command-2.ensures in
-    rule_added c.with_arg.result c.with_arg-command-2.result _ second _ input_rule c.input.ensures.is c.with_arg.ensures
+    let told = added c.with_told-command.result (Ok c.named-command.result) _ c.named-command.ensures with_told c.with_told-command.ensures in
+    rule_added c.with_arg.result c.with_told-command.result _ told _ input_rule c.input.ensures.is c.with_arg.ensures

@@ -1,9 +1,10 @@
-use Rattle.pbfcut_cli.specs.Words.{conversion_app, input_rule, output_rule, with_raw}
-use Rattle.pbfcut_cli.proofs.CommandLemmas.{added, rule_added}
+use Rattle.std.proofs.Common.{Ok}
+use Rattle.pbfcut_cli.specs.Words.{with_files, with_raw, with_told}
+use Rattle.pbfcut_cli.proofs.CommandLemmas.{added}
 use Rattle.pbfcut_cli.proofs.commands.convert.Goals as goal
 
 pub returns : goal.returns
 returns c =
-    let raw = added c.with_raw-command.result c.conversion.result conversion_app c.conversion.ensures (with_raw c.args.program) c.with_raw-command.ensures in
-    let first = rule_added c.with_arg-command.result c.with_raw-command.result _ raw _ input_rule c.input.ensures.is c.with_arg-command.ensures in
-    rule_added c.with_arg.result c.with_arg-command.result _ first _ output_rule c.output.ensures.is c.with_arg.ensures
+    let told = added c.with_told-command.result (Ok c.named-command.result) _ c.named-command.ensures with_told c.with_told-command.ensures in
+    let raw = added c.with_raw.result c.with_told-command.result _ told (with_raw c.args.program) c.with_raw.ensures in
+    added c.with_files.result c.with_raw.result _ raw (with_files c.args.program) c.with_files.ensures

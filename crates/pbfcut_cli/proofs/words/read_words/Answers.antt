@@ -1,8 +1,9 @@
 use Rattle.std.proofs.Common.{◌≡◌, ◌∙◌, ap, inr, subst, true}
+use Rattle.std.proofs.lemmas.Result.{err_from_is_err_and}
 use Rattle.clap.specs.Words.{App, is_simple, subcommand_of, subcommand_rows_of, takes}
 use Rattle.clap.proofs.CallerLemmas.{subcommand_required}
-use Rattle.pbfcut_cli.specs.Words.{HasBoxFault, IsRead, program_app, word_texts, command_words}
-use Rattle.pbfcut_cli.proofs.Rows.{offered, simple}
+use Rattle.pbfcut_cli.specs.Words.{HasFault, IsNoLine, IsRead, program_app, word_texts, command_words}
+use Rattle.pbfcut_cli.proofs.Rows.{offered, simple, needs_command, never_help, never_line}
 use Rattle.pbfcut_cli.proofs.words.read_words.Goals as goal
 
 pub command_in-requires : goal.command_in-requires
@@ -10,29 +11,38 @@ command_in-requires c =
     let app = c.in_ok-command_line.ensures.is in
     let words = word_texts c.args.words.now in
     let has = subcommand_required c.in_ok-command_line.command_line c.in-Ok.matches c.in-Ok.ensures.parsed
-    c.in_ok-command_line.ensures.local (ap (λ (a : App). a.top.subcommand_required) app) in
+    c.in_ok-command_line.ensures.local (ap (λ (a : App). a.top.subcommand_required) app ∙ needs_command c.args.program) in
     let rows = (c.in-Ok.ensures.matches (ap is_simple app ∙ simple c.args.program)).1
     ∙ ap (λ (a : App). subcommand_of a words) app in
     offered c.args.program c.in-Ok.matches words has rows
 
-pub returns-in-Ok-command_in-clause-read : goal.returns-in-Ok-command_in-clause-read
-returns-in-Ok-command_in-clause-read c =
+pub returns-in_ok-command_in-in-Ok-clause-read : goal.returns-in_ok-command_in-in-Ok-clause-read
+returns-in_ok-command_in-in-Ok-clause-read c =
     let app = c.in_ok-command_line.ensures.is in
     let words = word_texts c.args.words.now in
     let rows : subcommand_rows_of c.in-Ok.matches ≡ command_words c.args.program c.args.words.now =
     (c.in-Ok.ensures.matches (ap is_simple app ∙ simple c.args.program)).1 ∙ ap (λ (a : App). subcommand_of a words) app in
-    inr (subst (λ o. IsRead o c.in-Ok-command_in.command) rows c.in-Ok-command_in.ensures)
+    inr (subst (λ o. IsRead o c.in_ok-command_in-in-Ok.field-0) rows c.in_ok-command_in-in-Ok.ensures)
 
-pub returns-in-Ok-clause-fault : goal.returns-in-Ok-clause-fault
-returns-in-Ok-clause-fault c =
+pub returns-in_ok-command_in-in-Ok-clause-taken : goal.returns-in_ok-command_in-in-Ok-clause-taken
+returns-in_ok-command_in-in-Ok-clause-taken c = λ t. never_help (subcommand_rows_of c.in-Ok.matches) _ c.in_ok-command_in-in-Ok.ensures
+
+pub returns-in_err-command_in-in-Ok-clause-fault : goal.returns-in_err-command_in-in-Ok-clause-fault
+returns-in_err-command_in-in-Ok-clause-fault c =
+    let p = err_from_is_err_and c.from_residual-in_err-command_in-in-Ok.result c.from_residual-in_err-command_in-in-Ok.ensures.1 in
     let app = c.in_ok-command_line.ensures.is in
     let words = word_texts c.args.words.now in
     let rows : subcommand_rows_of c.in-Ok.matches ≡ command_words c.args.program c.args.words.now =
     (c.in-Ok.ensures.matches (ap is_simple app ∙ simple c.args.program)).1 ∙ ap (λ (a : App). subcommand_of a words) app in
-    subst (λ o. HasBoxFault o c.in-Err-command_in.fault) rows c.in-Err-command_in.ensures
+    rw (p.1, p.2) (λ taken. subst (λ o. HasFault o c.in_err-command_in-in-Ok.field-0.0) rows c.in_err-command_in-in-Ok.ensures)
 
-pub returns-clause-taken : goal.returns-clause-taken
-returns-clause-taken c = λ t.
+pub returns-in_err-command_in-in-Ok-clause-taken : goal.returns-in_err-command_in-in-Ok-clause-taken
+returns-in_err-command_in-in-Ok-clause-taken c =
+    let p = err_from_is_err_and c.from_residual-in_err-command_in-in-Ok.result c.from_residual-in_err-command_in-in-Ok.ensures.1 in
+    rw (p.1, p.2) (λ t. never_line (subcommand_rows_of c.in-Ok.matches) c.in_err-command_in-in-Ok.field-0.0 c.in_err-command_in-in-Ok.ensures)
+
+pub returns-in-Err-clause-taken : goal.returns-in-Err-clause-taken
+returns-in-Err-clause-taken c = λ t.
     let words = word_texts c.args.words.now in
     let taken : takes (program_app c.args.program) words ≡ true = t in
     let kind = c.in-Err.ensures.passes (ap (λ (a : App). takes a words) c.in_ok-command_line.ensures.is ∙ taken) in

@@ -1,0 +1,76 @@
+-- A copy that ends, and one that is too long.
+use Rattle.std.proofs.Common.{◌≡◌, ℕ, ◌+◌, ◌<◌, ◌≤◌, nat_lt, Bool, true, false, List, [], ◌∷◌, ◌++◌, length, Option, Some, None, Ok, refl, sym, ap, ◌∙◌, subst, inl, length-append, arith}
+use Rattle.std.specs.Prelude.{unwrap_or}
+use Rattle.std.proofs.lemmas.Bool.Decides.{nat_tests}
+use Rattle.pbf_wire.specs.declared.fault.Fault.{Fault}
+use Rattle.pbf_wire.specs.declared.fault.Reason.TheVariants.{DataFirst, FileLong, SecondHeader}
+use Rattle.pbf_wire.specs.Faults.{fault_where}
+use Rattle.pbf_frame.specs.declared.device.Feed as feed
+use Rattle.pbf_frame.specs.declared.frame.FrameKind.{FrameKind}
+use Rattle.pbf_frame.specs.declared.frame.TheConstants.{FILE_LIMIT}
+use Rattle.pbf_frame.specs.declared.stop.Stop.TheVariants as stop
+use Rattle.pbf_frame.specs.Frames.{FrameSpec, frame_bytes, frame_end, frame_kind, is_data, is_header, order_faults}
+use Rattle.pbf_frame.specs.Sound.{AreFrames, EndsAs, had_after, place_after}
+use Rattle.pbf_frame.specs.Frames.{next_of}
+use Rattle.pbf_frame.specs.Transfers.{SuppliedFirst}
+use Rattle.pbf_frame.specs.Verdict.{Verdict, joined_frames, judged}
+use Rattle.pbf_frame.proofs.BlobLemmas.{least_none}
+use Rattle.pbf_frame.proofs.Longest.{longest_front}
+use Rattle.pbf_frame.proofs.Parting.{next_none}
+use Rattle.pbf_pass.specs.Judged.{judged_file, sound_front}
+use Rattle.pbf_pass.specs.Unjudged.{IsFaulty}
+use Rattle.pbf_pass.proofs.SoundLemmas.{ends_well}
+use Rattle.pbfcut.specs.declared.repeat.LaterPass.{LaterPass}
+use Rattle.pbfcut.specs.Repeat.{StopsLater}
+
+-- ---- how long a file without a fault is
+
+last_none : (xs ys : List Fault) → xs ++ ys ≡ [] → ys ≡ []
+last_none [] ys e = e
+last_none (x ∷ xs) ys e = cc
+
+-- a frame that is in order ends within the limit
+ends_in_time : (h : Bool) (p : ℕ) (k : FrameKind) (last : ℕ) → order_faults (Some FILE_LIMIT) h p k last ≡ [] → last ≤ FILE_LIMIT
+ends_in_time h p k last none = cases (nat_lt FILE_LIMIT last) refl where
+  late : fault_where (nat_lt FILE_LIMIT last) p FileLong ≡ []
+  late = last_none (fault_where _ p DataFirst) _ (last_none (fault_where _ p SecondHeader) _ none)
+
+  cases : (b : Bool) → nat_lt FILE_LIMIT last ≡ b → last ≤ FILE_LIMIT
+  cases true is =
+      let some : fault_where true p FileLong ≡ [] = rw is at late in
+      (let bad : ⊥ = cc in absurd bad)
+  cases false is = grind (arith, nat_tests, is)
+
+-- frames without a fault end within it
+frames_in_time : (h : Bool) (p : ℕ) (fs : List FrameSpec) → p ≤ FILE_LIMIT → AreFrames h p fs → p + length (joined_frames fs) ≤ FILE_LIMIT
+frames_in_time h p [] low are = omega (arith, low)
+frames_in_time h p (f ∷ fs) low are =
+    let one = are.0 in
+    let rest = frames_in_time (_) (frame_end f) fs (ends_in_time h p (frame_kind f) (frame_end f) (least_none _ one.ordered)) are.1 in
+    let offset = one.offset in
+    omega (arith, rest, offset, one.prefix_long, length-append (frame_bytes f) (joined_frames fs), length-append f.prefix (f.header ++ f.blob), length-append f.header f.blob)
+
+-- no longer list of bytes is a file without a fault
+pub long_is_faulty : (bytes : List ℕ) → FILE_LIMIT < length bytes → IsFaulty (judged_file (Some bytes))
+long_is_faulty bytes long frames is =
+    let verdict = judged false 0 bytes in
+    let none : verdict.1 ≡ None = ends_well verdict.0 verdict.1 (ap (λ (o : Option Verdict). (unwrap_or o ([], None)).1) is) in
+    let front = longest_front false 0 bytes in
+    let ends : next_of (had_after false verdict.0) (place_after 0 verdict.0) front.rest ≡ Ok (None, []) = subst (EndsAs (next_of (had_after false verdict.0) (place_after 0 verdict.0) front.rest)) none front.ends in
+    let left = next_none _ _ front.rest [] ends in
+    let whole : length bytes ≡ length (joined_frames verdict.0) + length front.rest = ap length front.split ∙ length-append (joined_frames verdict.0) front.rest in
+    let empty : length front.rest ≡ 0 = ap length left.0 in
+    absurd (omega (arith, long, whole, empty, frames_in_time false 0 verdict.0 (omega arith) front.frames))
+
+-- ---- a later pass that gave more than that
+
+pub too_long : {F : Type 0} (f : feed.Ghosts F) (again : LaterPass) (old new : F) (wrote : Type 0) (bytes : List ℕ) → SuppliedFirst f old bytes new → FILE_LIMIT < length bytes → StopsLater f again old new wrote (stop.Changed again.number)
+too_long f again old new wrote bytes gave long = (
+  refl,
+  record {
+    read = bytes;
+    told = gave.told;
+    logged = gave.logged;
+    faulty = inl (λ rest same. long_is_faulty (bytes ++ rest) (omega (arith, long, length-append bytes rest)));
+  },
+)

@@ -1,9 +1,0 @@
-use Rattle.std.proofs.Common.{Ok}
-use Rattle.pbfcut_cli.specs.Words.{progress_rule, digests_rule}
-use Rattle.pbfcut_cli.proofs.CommandLemmas.{rule_added}
-use Rattle.pbfcut_cli.proofs.commands.conversion.Goals as goal
-
-pub returns : goal.returns
-returns c =
-    let first = rule_added c.with_arg-command.result (Ok c.named-command.result) _ c.named-command.ensures _ progress_rule c.progress.ensures.is c.with_arg-command.ensures in
-    rule_added c.with_arg.result c.with_arg-command.result _ first _ digests_rule c.digests.ensures.is c.with_arg.ensures
