@@ -23,5 +23,5 @@ pub use input::{
 };
 pub use packed::{convert_packed, copy_packed, extract_packed, extract_parents_packed};
 pub use parents::extract_parents_sorted_with_receipt;
-pub use showing::{list_blobs, show_with_receipt};
+pub use showing::{list_blobs, show_header, show_with_receipt};
 pub use traced::TracedFeed;

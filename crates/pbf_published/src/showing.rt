@@ -1,6 +1,6 @@
 //! `show` and `blobs` of published files.
 
-ghost use Rattle.std.specs.Prelude.{◌≡◌, ◌⊎◌, IfOk, IfErr, OnErr, Some, false};
+ghost use Rattle.std.specs.Prelude.{◌≡◌, ◌⊎◌, IfOk, IfErr, OnErr, OnOk, Some, false};
 ghost use Rattle.pbf_frame.specs.Verdict.{judged_known};
 ghost use Rattle.pbf_pass.specs.Given.{Took};
 ghost use Rattle.pbf_pass.specs.Judged.{judged_file};
@@ -10,13 +10,14 @@ ghost use Rattle.pbfcut.specs.Listing.{Lists, ListsFront, ListsToFault};
 ghost use Rattle.pbfcut.specs.Calls.{RefusedFirst};
 ghost use Rattle.pbfcut.specs.Showing.{Shown, ShowsFront};
 ghost use Rattle.pbf_pass.specs.Stops.{Caused, ReadFailed, WriteFailed, unchanged};
+ghost use Rattle.pbf_published.specs.Showing.{ShowsHeader, storage_line};
 ghost use Rattle.pbf_published.specs.Published.{ChangedOfTwo, GavePublished, UnlessChanged, raw_of};
 
 use crate::input::{
     PublishedHalt, PublishedInput, close, compare, first_digest, lacks_memory, open,
     published_outcome, stopped, two_inflaters,
 };
-use pbf_frame::{Drain, Feed};
+use pbf_frame::{Drain, Feed, Stop, write_all};
 use pbf_pass::Passes;
 use pbf_unpack::Inflater;
 use std::alloc::Global;
@@ -74,6 +75,44 @@ pub fn show_with_receipt<F: Feed, G: Feed, D: Drain>(
         input,
         raw,
     })
+}
+
+/// The line that says how a header is stored.
+fn storage_line(is_packed: bool) -> &'static [u8]
+    ensures { result.now ≡ storage_line is_packed }
+{
+    if is_packed {
+        b"H stored \"zlib\"\n"
+    } else {
+        b"H stored \"raw\"\n"
+    }
+}
+
+/// Writes the lines of the header of a published file, and then whether it is packed, and reads no further.
+///
+/// A refusal has the place of the fault in the published file. Holds one packed frame and a raw one.
+pub fn show_header<F: Feed, D: Drain>(
+    alloc: Global,
+    feed: &mut F,
+    drain: &mut D,
+) -> Result<(), PublishedHalt>
+    // The drain took the lines of the first frame of the raw file that the feed's bytes mean, and how it is stored.
+    ensures shown { OnOk result (ShowsHeader D.Drain drain.old drain.new
+        (judged_known false 0 (raw_of (F.remaining feed.old)))) }
+{
+    let mut input = open(alloc, Inflater::new(alloc)?, &mut *feed, false);
+    let outcome = pbfcut::show_first(alloc, &mut input, drain);
+    let is_packed = input.has_packed_header();
+    if let Err(stop) = outcome {
+        let halt = stopped(stop, &input, lacks_memory(&input));
+        // What is known of the feed comes back with the reference itself.
+        let (_digest, _feed) = close(input);
+        return Err(halt);
+    }
+    match write_all(drain, storage_line(is_packed)) {
+        Ok(()) => Ok(()),
+        Err(_) => Err(PublishedHalt::from(Stop::Write)),
+    }
 }
 
 /// Writes one line for each frame of the raw file that a published one means, as `list_blobs` of pbfcut does for a raw file. So the

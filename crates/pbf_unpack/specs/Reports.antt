@@ -1,6 +1,6 @@
 -- What a feed of unpacked bytes says of itself.
-use Rattle.std.specs.Prelude.{◌≡◌, ℕ, ◌+◌, ◌==◌, ◌&&◌, Bool, List, [], length, codes, Option, Some, None}
-use Rattle.std.specs.Option.{is_none}
+use Rattle.std.specs.Prelude.{◌≡◌, ℕ, ◌+◌, ◌==◌, ◌&&◌, Bool, List, [], length, codes, false, is_some, Option, Some, None}
+use Rattle.std.specs.Option.{is_none, option_map_or}
 use Rattle.pbf_frame.specs.declared.stop.Stop.{Stop}
 use Rattle.pbf_frame.specs.declared.stop.Stop.TheVariants as stop
 use Rattle.zlib.specs.Names.{fault_name}
@@ -40,3 +40,7 @@ pub record GavePacked {F : Type 0} (remaining : F → Option (List ℕ)) (has_pa
 -- the bytes held
 abbrev pub held_by_feed : {F : Type 0} → UnpackedFeed F → ℕ
 held_by_feed u = length u.buffers.front.items + length u.buffers.header.items + length u.buffers.packed.items + length u.buffers.raw.items
+
+-- the first header frame that was read had zlib data
+abbrev pub has_packed_header : {F : Type 0} → UnpackedFeed F → Bool
+has_packed_header u = option_map_or (λ origin. is_some origin.payload) u.header false

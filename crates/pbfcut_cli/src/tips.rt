@@ -5,12 +5,14 @@ use std::alloc::{AllocError, Global};
 /// What to do without an option of `osmium extract`, or `None` if it is another one.
 fn tip_of(option: &str) -> Option<&'static str> {
     match option {
-        "-b" => Some("the box is --box=WEST,SOUTH,EAST,NORTH"),
         "-o" | "--output" => Some("OUT is the last argument; leave out the option"),
         "-O" | "--overwrite" => Some("OUT has to be new: remove the old one first"),
         "-s" | "--strategy" => Some("ways are always complete; there is no other strategy"),
-        "-p" | "--polygon" => Some("only a box can be cut out"),
         "-c" | "--config" | "-d" | "--directory" => Some("a run makes one extract, into OUT"),
+        "-S" | "--option" => Some("there are no options of a strategy"),
+        "-v" | "--verbose" => Some("what a run does is shown by --progress"),
+        "--fsync" => Some("OUT of pbfcutz is on the disk before it has its name"),
+        "--clean" | "--output-header" => Some("OUT has all fields of IN, and its header"),
         "-f" | "--output-format" | "-F" | "--input-format" => {
             Some("IN and OUT are PBF files, whatever their names are")
         }

@@ -3,7 +3,10 @@
 use osm_entity::{BoundingBox, BoxFault};
 use pbf_frame::Stop;
 use pbf_wire::{Fault, Reason};
-use pbfcut_cli::{CliFault, Command, Ending, Program, line, normalize_words, read_words, status};
+use pbfcut_cli::{
+    ChoiceFault, CliFault, Command, Ending, Files, Program, Region, line, normalize_words,
+    read_words, status,
+};
 use std::alloc::{AllocError, Global};
 use std::process::Abort;
 use std::test::Fail;
@@ -51,35 +54,35 @@ fn is_check(alloc: Global, words: &[&str], input: &str, asked: (bool, bool)) -> 
     }
 }
 
+/// Whether the files are `a` and `b`, with or without progress and digests, and with neither raw blobs nor a file that is replaced.
+fn are_files(files: &Files<'_>, asked: (bool, bool)) -> bool {
+    files.input == "a"
+        && files.output == "b"
+        && !files.raw
+        && !files.overwrite
+        && (files.progress, files.digests) == asked
+}
+
 /// Whether they are a command to convert `a` to `b`, with or without progress and digests.
 fn is_convert(alloc: Global, words: &[&str], asked: (bool, bool)) -> bool {
     let read = read_words(alloc, Program::Pbfcut, words);
     match &read {
-        Ok(
-            Command::Convert {
-                input: "a",
-                output: "b",
-                progress,
-                digests,
-                raw: false,
-            },
-        ) => (*progress, *digests) == asked,
+        Ok(Command::Convert(files)) => are_files(files, asked),
         _ => false,
     }
 }
 
-/// Whether they are a command of pbfcutz to convert `a` to `b` in raw blobs.
-fn is_raw_convert(alloc: Global, words: &[&str]) -> bool {
+/// Whether they are a command of pbfcutz to convert `a` to `b`, with these flags: raw blobs, and a file that is replaced.
+fn is_convert_of_pbfcutz(alloc: Global, words: &[&str], flags: (bool, bool)) -> bool {
     let read = read_words(alloc, Program::Pbfcutz, words);
-    matches!(
-        &read,
-        Ok(Command::Convert {
-            input: "a",
-            output: "b",
-            raw: true,
-            ..
-        })
-    )
+    match &read {
+        Ok(Command::Convert(files)) => {
+            files.input == "a"
+                && files.output == "b"
+                && (files.raw, files.overwrite) == flags
+        }
+        _ => false,
+    }
 }
 
 /// Whether they are a command to cut London out of `a` into `b`, with all of parents, progress and digests, or with none of them.
@@ -88,15 +91,35 @@ fn is_extract(alloc: Global, words: &[&str], asked: bool) -> bool {
     match &read {
         Ok(
             Command::Extract {
-                area,
+                region: Region::Box(area),
                 parents,
-                input: "a",
-                output: "b",
-                progress,
-                digests,
-                raw: false,
+                files,
             },
-        ) => *area == LONDON && *parents == asked && *progress == asked && *digests == asked,
+        ) => *area == LONDON && *parents == asked && are_files(files, (asked, asked)),
+        _ => false,
+    }
+}
+
+/// Whether they are a command to cut the polygon of `p` out of `a` into `b`.
+fn is_polygon(alloc: Global, program: Program, words: &[&str]) -> bool {
+    let read = read_words(alloc, program, words);
+    match &read {
+        Ok(
+            Command::Extract {
+                region: Region::Polygon(path),
+                parents: false,
+                files,
+            },
+        ) => *path == "p" && are_files(files, (false, false)),
+        _ => false,
+    }
+}
+
+/// Whether the words are refused for this choice.
+fn is_choice(alloc: Global, program: Program, words: &[&str], choice: ChoiceFault) -> bool {
+    let read = read_words(alloc, program, words);
+    match &read {
+        Err(CliFault::Choice(found)) => *found == choice,
         _ => false,
     }
 }
@@ -135,6 +158,63 @@ fn commands_that_write(rt: HostRuntime) {
     assert!(rt; is_extract(rt.alloc(), &words, true));
     let words = ["extract", "--bbox=-0.5,51.25,0.3,51.7", "a", "b"];
     assert!(rt; is_extract(rt.alloc(), &words, false));
+    let words = ["extract", "-b=-0.5,51.25,0.3,51.7", "a", "b"];
+    assert!(rt; is_extract(rt.alloc(), &words, false));
+    let words = ["extract", "-b-0.5,51.25,0.3,51.7", "a", "b"];
+    assert!(rt; is_extract(rt.alloc(), &words, false));
+}
+
+#[test]
+fn polygons(rt: HostRuntime) {
+    for program in [Program::Pbfcut, Program::Pbfcutz] {
+        assert!(rt; is_polygon(rt.alloc(), program, &["extract", "--polygon=p", "a", "b"]));
+        assert!(rt; is_polygon(rt.alloc(), program, &["extract", "-p", "p", "a", "b"]));
+        assert!(rt;
+            is_choice(
+                rt.alloc(),
+                program,
+                &["extract", "a", "b"],
+                ChoiceFault::NoRegion
+            )
+        );
+        assert!(rt;
+            is_choice(
+                rt.alloc(),
+                program,
+                &["extract", "--box=0,0,1,1", "-p", "p", "a", "b"],
+                ChoiceFault::TwoRegions
+            )
+        );
+    }
+}
+
+#[test]
+fn output_as_an_option(rt: HostRuntime) {
+    let alloc = rt.alloc();
+    let plain = (false, false);
+    assert!(rt; is_convert_of_pbfcutz(alloc, &["convert", "a", "-o", "b"], plain));
+    assert!(rt; is_convert_of_pbfcutz(alloc, &["convert", "-ob", "a"], plain));
+    assert!(rt; is_convert_of_pbfcutz(alloc, &["convert", "--output=b", "a"], plain));
+    assert!(rt; is_convert_of_pbfcutz(alloc, &["convert", "-O", "a", "b"], (false, true)));
+    assert!(rt; is_convert_of_pbfcutz(alloc, &["convert", "-Oo", "b", "a"], (false, true)));
+    let pbfcutz = Program::Pbfcutz;
+    assert!(rt; is_choice(alloc, pbfcutz, &["convert", "a"], ChoiceFault::NoOutput));
+    let twice = ["convert", "a", "b", "-o", "c"];
+    assert!(rt; is_choice(alloc, pbfcutz, &twice, ChoiceFault::TwoOutputs));
+}
+
+/// Whether these words are a command of pbfcutz, and none of pbfcut.
+fn is_of_pbfcutz(alloc: Global, words: &[&str]) -> bool {
+    let taken = read_words(alloc, Program::Pbfcutz, words);
+    let refused = read_words(alloc, Program::Pbfcut, words);
+    taken.is_ok() && matches!(&refused, Err(CliFault::Line(_)))
+}
+
+#[test]
+fn commands_of_pbfcutz(rt: HostRuntime) {
+    assert!(rt; is_of_pbfcutz(rt.alloc(), &["pack", "a", "b"]));
+    assert!(rt; is_of_pbfcutz(rt.alloc(), &["unpack", "a", "-o", "b"]));
+    assert!(rt; is_of_pbfcutz(rt.alloc(), &["info", "a"]));
 }
 
 #[test]
@@ -160,8 +240,8 @@ fn commands_with_progress(rt: HostRuntime) {
 #[test]
 fn raw_is_an_option_of_pbfcutz(rt: HostRuntime) {
     let words = ["convert", "--raw", "a", "b"];
-    assert!(rt; is_raw_convert(rt.alloc(), &words));
-    assert!(rt; !is_raw_convert(rt.alloc(), &["convert", "a", "b"]));
+    assert!(rt; is_convert_of_pbfcutz(rt.alloc(), &words, (true, false)));
+    assert!(rt; is_convert_of_pbfcutz(rt.alloc(), &["convert", "a", "b"], (false, false)));
     let read = read_words(rt.alloc(), Program::Pbfcut, &words);
     assert!(rt; matches!(&read, Err(CliFault::Line(_))));
 }
@@ -217,6 +297,7 @@ fn boxes_that_are_words_of_their_own(rt: HostRuntime) -> Result<(), Fail> {
         ),
         (&["--box", "-.5"], &["--box=-.5"]),
         (&["--bbox", "-.5"], &["--bbox=-.5"]),
+        (&["-b", "-.5"], &["-b=-.5"]),
         (
             &["--box", "--box", "-9", "-9"],
             &["--box", "--box=-9", "-9"],
@@ -284,7 +365,7 @@ fn words_that_are_no_command(rt: HostRuntime) -> Result<(), Fail> {
         ),
         (&["show"], missing),
         (&["convert", "a"], missing),
-        (&["extract", "a", "b"], missing),
+        (&["extract", "a"], missing),
         (
             &["check", "--dates", "a"],
             "error: unexpected argument '--dates' found",
