@@ -1,6 +1,6 @@
 -- A copy that ends, and one that is too long.
 use Rattle.std.proofs.Common.{◌≡◌, ℕ, ◌+◌, ◌<◌, ◌≤◌, nat_lt, Bool, true, false, List, [], ◌∷◌, ◌++◌, length, Option, Some, None, Ok, refl, sym, ap, ◌∙◌, subst, inl, length-append, arith}
-use Rattle.std.specs.Prelude.{unwrap_or}
+use Rattle.std.specs.Prelude.{◌&&◌, ◌||◌, not, unwrap_or}
 use Rattle.std.proofs.lemmas.Bool.Decides.{nat_tests}
 use Rattle.pbf_wire.specs.declared.fault.Fault.{Fault}
 use Rattle.pbf_wire.specs.declared.fault.Reason.TheVariants.{DataFirst, FileLong, SecondHeader}
@@ -35,7 +35,7 @@ last_none (x ∷ xs) ys e = cc
 ends_in_time : (h : Bool) (p : ℕ) (k : FrameKind) (last : ℕ) → order_faults (Some FILE_LIMIT) h p k last ≡ [] → last ≤ FILE_LIMIT
 ends_in_time h p k last none = cases (nat_lt FILE_LIMIT last) refl where
   late : fault_where (nat_lt FILE_LIMIT last) p FileLong ≡ []
-  late = last_none (fault_where _ p DataFirst) _ (last_none (fault_where _ p SecondHeader) _ none)
+  late = last_none (fault_where (h && is_header k) p SecondHeader ++ fault_where (not h && is_data k) p DataFirst) (fault_where (nat_lt FILE_LIMIT last) p FileLong) none
 
   cases : (b : Bool) → nat_lt FILE_LIMIT last ≡ b → last ≤ FILE_LIMIT
   cases true is =
@@ -48,9 +48,9 @@ frames_in_time : (h : Bool) (p : ℕ) (fs : List FrameSpec) → p ≤ FILE_LIMIT
 frames_in_time h p [] low are = omega (arith, low)
 frames_in_time h p (f ∷ fs) low are =
     let one = are.0 in
-    let rest = frames_in_time (_) (frame_end f) fs (ends_in_time h p (frame_kind f) (frame_end f) (least_none _ one.ordered)) are.1 in
+    let rest = frames_in_time (h || is_header (frame_kind f)) (frame_end f) fs (ends_in_time h p (frame_kind f) (frame_end f) (least_none _ one.ordered)) are.1 in
     let offset = one.offset in
-    omega (arith, rest, offset, one.prefix_long, length-append (frame_bytes f) (joined_frames fs), length-append f.prefix (f.header ++ f.blob), length-append f.header f.blob)
+    omega (arith, rest, offset, one.prefix_long, length-append (frame_bytes f) (joined_frames fs), length-append (f.prefix ++ f.header) f.blob, length-append f.prefix f.header)
 
 -- no longer list of bytes is a file without a fault
 pub long_is_faulty : (bytes : List ℕ) → FILE_LIMIT < length bytes → IsFaulty (judged_file (Some bytes))
@@ -63,6 +63,11 @@ long_is_faulty bytes long frames is =
     let whole : length bytes ≡ length (joined_frames verdict.0) + length front.rest = ap length front.split ∙ length-append (joined_frames verdict.0) front.rest in
     let empty : length front.rest ≡ 0 = ap length left.0 in
     absurd (omega (arith, long, whole, empty, frames_in_time false 0 verdict.0 (omega arith) front.frames))
+
+-- ---- what a feed below gave
+
+pub first_as : {F : Type 0} (f : feed.Ghosts F) (first old last new : F) (bytes : List ℕ) → first ≡ old → last ≡ new → SuppliedFirst f first bytes last → SuppliedFirst f old bytes new
+first_as f first old last new bytes begins ends gave = subst (λ x. SuppliedFirst f old bytes x) ends (subst (λ x. SuppliedFirst f x bytes last) begins gave)
 
 -- ---- a later pass that gave more than that
 
@@ -87,10 +92,10 @@ known_rest (Some rest) all bytes e = (rest, refl, (let same : all ≡ bytes ++ r
 pub front_so_far : (left before now : Option (List ℕ)) (all bytes : List ℕ) → Some all ≡ prepend bytes left → now ≡ append before bytes → IsFront before now all
 front_so_far left before now all bytes gave took =
     let known = known_rest left all bytes gave in
-    subst (IsFront before now) (sym known.2.1) (front_longer before now bytes known.0 (front_whole before now bytes took))
+    subst (IsFront before now) (sym known.2) (front_longer before now bytes known.0 (front_whole before now bytes took))
 
 -- and a part of some more
 pub front_then_part : (left before mid now : Option (List ℕ)) (all bytes piece : List ℕ) → Some all ≡ prepend (bytes ++ piece) left → mid ≡ append before bytes → IsFront mid now piece → IsFront before now all
 front_then_part left before mid now all bytes piece gave took front =
     let known = known_rest left all (bytes ++ piece) gave in
-    subst (IsFront before now) (sym known.2.1) (front_longer before now (bytes ++ piece) known.0 (front_then before mid now bytes piece took front))
+    subst (IsFront before now) (sym known.2) (front_longer before now (bytes ++ piece) known.0 (front_then before mid now bytes piece took front))

@@ -1,6 +1,6 @@
 //! A file that is judged, and then copied as it is.
 
-ghost use Rattle.std.specs.Prelude.{◌≡◌, ◌×◌, Some, List, ℕ, IfOk, IfErr, OnErr};
+ghost use Rattle.std.specs.Prelude.{◌≡◌, Some, List, ℕ, IfOk, IfErr, OnErr};
 ghost use Rattle.pbf_frame.specs.Devices.{IsFront};
 ghost use Rattle.pbf_frame.specs.Keeps.{KeepsDrain, KeepsFeed};
 ghost use Rattle.pbf_pass.specs.Given.{GaveFile, Took};

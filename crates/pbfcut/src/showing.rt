@@ -1,6 +1,6 @@
 //! `show`: a line for each field of the header and for each entity.
 
-ghost use Rattle.std.specs.Prelude.{◌∷◌, ◌≡◌, ◌×◌, false, Some, IfOk, IfErr, OnOk, OnErr};
+ghost use Rattle.std.specs.Prelude.{◌∷◌, ◌≡◌, false, Some, IfOk, IfErr, OnOk, OnErr};
 ghost use Rattle.pbf_frame.specs.Keeps.{KeepsDrain, KeepsFeed};
 ghost use Rattle.pbf_frame.specs.Verdict.{judged_known};
 ghost use Rattle.std.specs.List.{flat_map};

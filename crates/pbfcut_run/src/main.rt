@@ -8,7 +8,7 @@ mod writers;
 
 use engine::Engine;
 use pbf_frame::Stop;
-use pbfcut_cli::{Command, Ending, Program, normalize_words, read_words, status};
+use pbfcut_cli::{Command, Ending, Files, Program, normalize_words, read_words, status};
 use pbfcut_files::{Asked, Failure, Input, print_help, tell_hint, tell_order};
 use readers::{run_blobs, run_check, run_info, run_show};
 use std::env::{self, Env};
@@ -77,12 +77,14 @@ fn shows_progress(rt: &HostRuntime, program: Program, asked: bool) -> bool {
     asked || program == Program::Pbfcutz && rt.stderr().is_terminal()
 }
 
+/// A command that writes these files.
+fn writing<'a>(rt: &HostRuntime, engine: Engine, files: &'a Files<'a>) -> Writing<'a> {
+    let progress = shows_progress(rt, engine.program, files.progress);
+    Writing::new(engine, files, progress)
+}
+
 /// Runs a command.
 fn run(rt: &HostRuntime, engine: Engine, command: Command<'_>) -> Result<(), Failure> {
-    let writing = |files| {
-        let progress = shows_progress(rt, engine.program, files.progress);
-        Writing::new(engine, files, progress)
-    };
     match &command {
         Command::Help(text) => print_help(rt, text.as_str()),
         Command::Blobs { input } => run_blobs(rt, engine, input),
@@ -109,13 +111,13 @@ fn run(rt: &HostRuntime, engine: Engine, command: Command<'_>) -> Result<(), Fai
             };
             run_check(rt, engine, input, *digests)
         }
-        Command::Convert(files) => writing(files).convert(rt),
-        Command::Pack(files) | Command::Unpack(files) => writing(files).copy(rt),
+        Command::Convert(files) => writing(rt, engine, files).convert(rt),
+        Command::Pack(files) | Command::Unpack(files) => writing(rt, engine, files).copy(rt),
         Command::Extract {
             region,
             parents,
             files,
-        } => writing(files).extract(rt, *region, *parents),
+        } => writing(rt, engine, files).extract(rt, *region, *parents),
     }
 }
 

@@ -1,9 +1,9 @@
-use Rattle.std.proofs.Common.{[], ◌++◌, ◌∙◌, ap, sym, refl, arith, rules, length-append, Option, List, ℕ, take, length}
+use Rattle.std.proofs.Common.{[], ◌++◌, ◌∙◌, ap, sym, refl, arith, length-append, Option, List, ℕ, take, length}
 use Rattle.std.proofs.lemmas.List.{length-take-le}
 use Rattle.pbf_frame.specs.Devices.{append}
 use Rattle.pbf_frame.proofs.KnownBytes.{append_append, append_none, prepend_more, prepend_none}
 use Rattle.pbf_frame.proofs.Passed.{passes_more, passes_none}
-use Rattle.pbfcut.proofs.CopyingLemmas.{front_so_far, front_then_part}
+use Rattle.pbfcut.proofs.CopyingLemmas.{front_then_part}
 use Rattle.pbfcut.proofs.copying.copy_rest.Goals as goal
 
 pub done-init : goal.done-init
@@ -39,8 +39,17 @@ done-preserved g c =
             logged = passes_more (g.D.Drain.has_taken c.args.drain.now) (g.D.Drain.has_taken c.done.drain) (g.D.Drain.has_taken c.write_all.new.drain) copied.bytes piece copied.took.logged wrote.logged;
           };
         },
-        omega (arith, so_far.copied.1, length-append copied.bytes piece, length-take-le c.in_ok-count.count c.read.new.buf c.in_ok-count.ensures.bound),
+        omega (arith, so_far.copied.1, length-append copied.bytes piece, length-take-le c.in_ok-count.count c.read.new.buf (omega (arith, c.in_ok-count.ensures.bound, c.read.auto.buf))),
       );
       feed = record { counts = omega (arith, so_far.feed.counts, c.read.ensures.counts); lender = c.read.ensures.lender ∙ so_far.feed.lender };
       out = record { counts = omega (arith, so_far.out.counts, c.write_all.ensures.counts); lender = c.write_all.ensures.lender ∙ so_far.out.lender };
     }
+
+pub returns-in_err-write_all-clause-front : goal.returns-in_err-write_all-clause-front
+returns-in_err-write_all-clause-front g c = λ all is.
+    let copied = c.done.invariant.copied.0 in
+    let piece = take c.in_ok-count.count c.read.new.buf in
+    front_then_part (g.F.Feed.remaining c.read.new.self) _ (g.D.Drain.taken c.done.drain) _ all copied.bytes piece (sym is ∙ prepend_more _ _ _ copied.bytes piece copied.gave.told c.in_ok-count.ensures.bytes) copied.took.told c.write_all.ensures.front
+
+pub returns-clause-copied : goal.returns-clause-copied
+returns-clause-copied g c = (c.done.invariant.copied.0, omega (arith, c.done.invariant.copied.1, c.done-test.false))
