@@ -1,4 +1,4 @@
-# Completion for pbfcut, pbfcutz and pbfcut-any in bash.
+# Completion for pbfcut and pbfcutz in bash.
 
 _pbfcut_files() {
   mapfile -t COMPREPLY < <(compgen -f -- "$1")
@@ -7,45 +7,28 @@ _pbfcut_files() {
 
 _pbfcut_words() {
   mapfile -t COMPREPLY < <(compgen -W "$2" -- "$1")
-  case ${COMPREPLY[0]-} in --box=) compopt -o nospace 2>/dev/null ;; esac
+  case ${COMPREPLY[0]-} in *=) compopt -o nospace 2>/dev/null ;; esac
 }
 
 _pbfcut() {
-  local word=${COMP_WORDS[COMP_CWORD]} command=${COMP_WORDS[1]-} raw=
-  [ "${COMP_WORDS[0]##*/}" = pbfcutz ] && raw=--raw
+  local word=${COMP_WORDS[COMP_CWORD]} command=${COMP_WORDS[1]-} commands="extract convert check show blobs" raw= files=
+  if [ "${COMP_WORDS[0]##*/}" = pbfcutz ]; then
+    commands="extract convert pack unpack check show info blobs" raw=--raw files="--output= --overwrite"
+  fi
   if [ "$COMP_CWORD" -eq 1 ]; then
-    _pbfcut_words "$word" "extract convert check show blobs help --help --version"
+    _pbfcut_words "$word" "$commands help --help --version"
     return
   fi
   case $command:$word in
-    extract:-*) _pbfcut_words "$word" "--box= --parents --progress --digests $raw --help" ;;
-    convert:-*) _pbfcut_words "$word" "--progress --digests $raw --help" ;;
+    extract:-*) _pbfcut_words "$word" "--box= --polygon= --parents --progress --digests $raw $files --help" ;;
+    convert:-*) _pbfcut_words "$word" "--progress --digests $raw $files --help" ;;
+    pack:-* | unpack:-*) _pbfcut_words "$word" "--progress --digests $files --help" ;;
     check:-*) _pbfcut_words "$word" "--progress --digests --help" ;;
     show:-*) _pbfcut_words "$word" "--dates --progress --help" ;;
-    blobs:-*) _pbfcut_words "$word" "--help" ;;
-    help:*) _pbfcut_words "$word" "extract convert check show blobs" ;;
+    blobs:-* | info:-*) _pbfcut_words "$word" "--help" ;;
+    help:*) _pbfcut_words "$word" "$commands" ;;
     *) _pbfcut_files "$word" ;;
   esac
 }
 
-_pbfcut_any() {
-  local word=${COMP_WORDS[COMP_CWORD]} command=${COMP_WORDS[1]-}
-  case $command:$word in
-    check:-* | show:-* | blobs:-*) _pbfcut ;;
-    convert:-*) _pbfcut_words "$word" "--level --tmp --json --help" ;;
-    pack:-*) _pbfcut_words "$word" "--level --json --help" ;;
-    unpack:-*) _pbfcut_words "$word" "--help" ;;
-    *:-*) _pbfcut_words "$word" "--box= --parents --level --tmp --json --help" ;;
-    *)
-      _pbfcut_files "$word"
-      if [ "$COMP_CWORD" -eq 1 ]; then
-        local files=("${COMPREPLY[@]}")
-        _pbfcut_words "$word" "extract convert check show blobs unpack pack"
-        COMPREPLY+=("${files[@]}")
-      fi
-      ;;
-  esac
-}
-
 complete -F _pbfcut pbfcut pbfcutz
-complete -F _pbfcut_any pbfcut-any

@@ -1,0 +1,325 @@
+#!/usr/bin/env python3
+"""Runs pbfcutz with what pbfcut does not have: pack, unpack and info, OUT as an option, on standard output and in place of a file, polygons;
+and looks at what a run leaves that fails, is stopped by a signal, or can't print.
+
+usage: tests/outputs.py PROGRAM
+
+Called by the name pbfcutz, the program is pbfcutz. What it packs is read here by Python's zlib.
+"""
+
+import hashlib
+import os
+import random
+import re
+import resource
+import signal
+import subprocess
+import sys
+import tempfile
+import time
+
+from published import SAMPLE, frame_at, packed, unpacked
+
+TOP = os.path.dirname(os.path.dirname(os.path.abspath(__file__)))
+CUT = ["extract", "--box=9.997,49.999,10.003,50.003"]
+COUNTS = "nodes 121 ways 23 relations 7\n"
+ALL = "nodes 272 ways 64 relations 13\n"
+ENDS = [signal.SIGTERM, signal.SIGINT, signal.SIGHUP, signal.SIGQUIT]
+SECONDS = 120
+# A ring round the same places as the box of CUT, in the form in which such files are published.
+RING = "town\n1\n   9.997E+00   4.9999E+01\n   10.003   49.999\n   10.003   50.003\n   9.997   50.003\n   9.997   49.999\nEND\nEND\n"
+COMMANDS = {"extract": ["--box", "--polygon", "--parents", "--progress", "--digests", "--raw", "--output", "--overwrite"],
+            "convert": ["--progress", "--digests", "--raw", "--output", "--overwrite"],
+            "pack": ["--progress", "--digests", "--output", "--overwrite"], "unpack": ["--progress", "--digests", "--output", "--overwrite"],
+            "check": ["--progress", "--digests"], "show": ["--dates", "--progress"], "info": [], "blobs": []}
+
+
+def shown(value) -> str:
+    """A value, or how long it is."""
+    return repr(value) if len(repr(value)) < 1_000 else f"{len(value)} bytes"
+
+
+def expect(what: str, wanted, found):
+    if wanted != found:
+        sys.exit(f"tests/outputs.py: {what}: expected {shown(wanted)}, found {shown(found)}")
+
+
+class Bench:
+    """A folder with a raw file, a compressed one and a polygon, and the program under its other name."""
+
+    def __init__(self, program: str, folder: str, elsewhere: str):
+        self.folder, self.count = folder, 0
+        self.pbfcutz = os.path.join(elsewhere, "pbfcutz")
+        os.symlink(os.path.abspath(program), self.pbfcutz)
+        with open(SAMPLE, "rb") as file:
+            self.raw = file.read()
+        # the frames of the sample in written form, as those of the compressed file mean
+        packed_sample = packed(self.raw)
+        self.raw = unpacked(packed_sample)
+        self.write("raw", self.raw)
+        self.write("in", packed_sample)
+        self.write("ring.poly", RING.encode())
+        self.start_files = set(os.listdir(folder))
+        # what OUT has to be
+        self.cut = self.made(["--raw", "in", "out"], CUT)
+
+    def path(self, name: str) -> str:
+        return os.path.join(self.folder, name)
+
+    def read(self, name: str) -> bytes:
+        with open(self.path(name), "rb") as file:
+            return file.read()
+
+    def write(self, name: str, content: bytes):
+        with open(self.path(name), "wb") as file:
+            file.write(content)
+
+    def start(self, words: list, most: int = 0, **pipes):
+        def limit():
+            # whoever runs the tests may ignore signals, as a shell does for what it runs in the background
+            for number in [*ENDS, signal.SIGXFSZ]:
+                signal.signal(number, signal.SIG_DFL if number != signal.SIGXFSZ else signal.SIG_IGN)
+            if most:
+                resource.setrlimit(resource.RLIMIT_FSIZE, (most, most))
+
+        pipes = {"stdout": subprocess.PIPE, "stderr": subprocess.PIPE, **pipes}
+        return subprocess.Popen([self.pbfcutz, *words], cwd=self.folder, preexec_fn=limit, **pipes)
+
+    def case(self, words: list, status: int = 0, out: str = "", said: str = "", left: tuple = (), **how):
+        """A run, its status, what it prints, a part of what it says, and which files are new afterwards."""
+        self.count += 1
+        before = set(os.listdir(self.folder))
+        process = self.start(words, **how)
+        found, errors = process.communicate(timeout=SECONDS)
+        name = f"{words} ({errors.decode(errors='replace')})"
+        expect(f"{name}: exit status", status, process.returncode)
+        expect(f"{name}: standard output", out, (found or b"").decode())
+        expect(f"{name}: {said!r} in standard error", True, said in errors.decode(errors="replace") if said else not errors)
+        expect(f"{name}: the folder", before | set(left), set(os.listdir(self.folder)))
+
+    def made(self, words: list, command: list, counts: str = COUNTS) -> bytes:
+        """What a run writes to 'out', which goes away."""
+        self.case([*command, *words], out=counts, left=("out",))
+        content = self.read("out")
+        os.unlink(self.path("out"))
+        return content
+
+
+def copies(bench: Bench):
+    """The bytes of a file in other blobs, there and back."""
+    long = bench.made(["raw", "out"], ["pack"], ALL)
+    expect("what is packed means the raw file", bench.raw, unpacked(long))
+    expect("what is unpacked", bench.raw, bench.made(["in", "out"], ["unpack"], ALL))
+    bench.write("packed", long)
+    expect("unpacked again", bench.raw, bench.made(["packed", "out"], ["unpack"], ALL))
+    expect("packed again", long, bench.made(["packed", "out"], ["pack"], ALL))
+    os.unlink(bench.path("packed"))
+    # One block of many nodes, which gets shorter.
+    wide = bench.made(["raw", "out"], ["convert", "--raw"], ALL)
+    bench.write("wide", wide)
+    short = bench.made(["wide", "out"], ["pack"], ALL)
+    expect("it gets shorter", True, len(short) < len(wide) * 0.8)
+    expect("what is short means the same", wide, unpacked(short))
+    os.unlink(bench.path("wide"))
+    bench.write("bad", bench.raw[:-1])
+    for command in "pack", "unpack":
+        bench.case([command, "bad", "out"], status=1, said="pbfcutz: refused at")
+        bench.case([command, "absent", "out"], status=3, said="pbfcutz: cannot open\n")
+        bench.case([command, "/dev/stdin", "out"], status=3, said="IN must be a file, not a pipe", stdin=subprocess.PIPE)
+        bench.count += 1
+        done = subprocess.run([bench.pbfcutz, command, "--digests", "in", "out"], cwd=bench.folder, capture_output=True, timeout=SECONDS)
+        lines = done.stdout.decode().splitlines()
+        of = {name: hashlib.sha256(bench.read(name)).hexdigest() for name in ("in", "out")}
+        raw = hashlib.sha256(bench.raw).hexdigest()
+        expect(f"digests of {command}", [ALL.strip(), f"{of['in']}  in", f"# unpacked {raw}", f"{of['out']}  out"], lines)
+        os.unlink(bench.path("out"))
+    os.unlink(bench.path("bad"))
+
+
+def headers(bench: Bench):
+    """What a file says of itself."""
+    shown = subprocess.run([bench.pbfcutz, "show", "in"], cwd=bench.folder, capture_output=True, check=True).stdout.decode()
+    lines = "".join(line for line in shown.splitlines(True) if line.startswith("H "))
+    bench.case(["info", "in"], out=lines + 'H stored "zlib"\n')
+    bench.case(["info", "raw"], out=lines + 'H stored "raw"\n')
+    # Nothing after the header is read.
+    header, _, end = frame_at(bench.raw, 0)
+    expect("the first frame", (b"OSMHeader", True), (header, end < len(bench.raw) // 4))
+    bench.write("cut", bench.raw[:end])
+    bench.case(["info", "cut"], out=lines + 'H stored "raw"\n')
+    bench.write("cut", bench.raw[:end - 1])
+    bench.case(["info", "cut"], status=1, said="pbfcutz: refused at")
+    bench.case(["info", "/dev/stdin"], out=lines + 'H stored "raw"\n', stdin=open(bench.path("raw"), "rb"))
+    bench.write("cut", b"<osm>")
+    bench.case(["info", "cut"], status=1, said="pbfcutz: refused at 0: ")
+    bench.write("cut", b"")
+    bench.case(["info", "cut"], status=1, said="pbfcutz: refused at 0: ")
+    os.unlink(bench.path("cut"))
+
+
+def options(bench: Bench):
+    """OUT as an option, in place of a file, and on standard output; the names that the options have elsewhere."""
+    box = CUT[1].split("=")[1]
+    for words in [["-b", box, "in", "-o", "out"], ["-b", box, "-oout", "in"], [f"--bbox={box}", "--output=out", "in"],
+                  ["-o", "out", "-b", box, "--", "in"], ["-p", "ring.poly", "in", "out"], ["--polygon=ring.poly", "in", "-o", "out"]]:
+        expect(f"{words}", bench.cut, bench.made(["--raw", *words], ["extract"]))
+    for words, said in [(["in"], "  <OUT>\n"), (["in", "out", "-o", "other"], "'--output <OUT>' cannot be used with '[OUT]'"),
+                        (["in", "-o"], "a value is required"), (["in", "-o", "a", "-o", "b"], "cannot be used multiple times")]:
+        bench.case([*CUT, *words], status=2, said=said)
+    bench.case(["extract", "in", "out"], status=2, said="  --box <WEST,SOUTH,EAST,NORTH>\n")
+    bench.case([*CUT, "-p", "ring.poly", "in", "out"], status=2, said="cannot be used with '--polygon <FILE>'")
+    bench.case(["extract", "-p", "absent", "in", "out"], status=3, said="pbfcutz: cannot open\n")
+    bench.case(["extract", "-p", "in", "in", "out"], status=3, said="pbfcutz: cannot open\n")
+    for text, fault in [("", "line 1: 1 Ended"), ("a\n1\nx\n", "line 3: 2 Number"), ("a\n1\n200 0\n", "line 3: 3 Range"),
+                        ("a\n1\n0 0\n1 1\nEND\nEND\n", "line 5: 4 Short"), ("a\nEND\n", "line 3: 5 Empty"), (RING + "b\n", "line 10: 6 Rest")]:
+        bench.write("bad.poly", text.encode())
+        bench.case(["extract", "-p", "bad.poly", "in", "out"], status=2, said=f"pbfcutz: polygon: {fault}\n")
+    os.unlink(bench.path("bad.poly"))
+
+    bench.write("out", b"kept")
+    bench.case([*CUT, "in", "out"], status=3, said="pbfcutz: OUT exists\n")
+    expect("the file that was there", b"kept", bench.read("out"))
+    bench.case([*CUT, "-O", "absent", "out"], status=3, said="pbfcutz: cannot open\n")
+    expect("after a run that failed", b"kept", bench.read("out"))
+    bench.case([*CUT, "--raw", "-O", "in", "out"], out=COUNTS)
+    expect("after one that replaced it", bench.cut, bench.read("out"))
+    bench.write("out", bench.read("in"))
+    bench.case([*CUT, "--raw", "--overwrite", "out", "-o", "out"], out=COUNTS)
+    expect("IN, replaced by its extract", bench.cut, bench.read("out"))
+    os.unlink(bench.path("out"))
+    os.symlink("raw", bench.path("link"))
+    os.mkdir(bench.path("room"))
+    for name in "link", "room", "/dev/null":
+        bench.case([*CUT, "-O", "in", name], status=3, said="pbfcutz: OUT exists\n")
+    os.unlink(bench.path("link"))
+    os.rmdir(bench.path("room"))
+    expect("what a link names", bench.raw, bench.read("raw"))
+
+    for name in "-", "/dev/stdout":
+        bench.count += 1
+        done = subprocess.run([bench.pbfcutz, *CUT, "--raw", "--digests", "in", name], cwd=bench.folder, capture_output=True, timeout=SECONDS)
+        expect(f"OUT on {name}", (0, bench.cut), (done.returncode, done.stdout))
+        lines = done.stderr.decode().splitlines()
+        expect("counts on standard error", (COUNTS.strip(), f"{hashlib.sha256(bench.cut).hexdigest()}  {name}"), (lines[0], lines[-1]))
+    bench.write("bad", bench.raw[:-1])
+    bench.case([*CUT, "bad", "-"], status=1, said="pbfcutz: refused at")
+    os.unlink(bench.path("bad"))
+
+
+def names(bench: Bench):
+    """Names that OUT can't have, and odd ones that it can."""
+    os.mkdir(bench.path("folder"))
+    for name in ["", "o/", "folder/", ".", "folder/..", "nowhere/out", "raw/out", "o" * 256]:
+        bench.case([*CUT, "in", name], status=3, said="pbfcutz: ")
+    bench.case([*CUT, "in", "folder"], status=3, said="pbfcutz: OUT exists\n")
+    os.rmdir(bench.path("folder"))
+    for name in ["na\u00efve out", "-out", "o" * 240]:
+        bench.case([*CUT, "--raw", "--", "in", name], out=COUNTS, left=(name,))
+        expect(f"OUT {name!r}", bench.cut, bench.read(name))
+        os.unlink(bench.path(name))
+
+
+def closed(bench: Bench):
+    """Standard output and standard error may be full or closed: OUT is whole, and the status says that something failed."""
+    def shell(script: str, *words):
+        bench.count += 1
+        return subprocess.run(["sh", "-c", script, "sh", bench.pbfcutz, *words], cwd=bench.folder, capture_output=True, timeout=SECONDS)
+
+    for way in ">/dev/full", ">&-":
+        done = shell(f'exec "$@" {way}', *CUT, "--raw", "in", "out")
+        expect(f"{way}: status and line", (3, b"pbfcutz: write failed\n"), (done.returncode, done.stderr))
+        expect(f"{way}: OUT", bench.cut, bench.read("out"))
+        os.unlink(bench.path("out"))
+        done = shell(f'exec "$@" {way}', *CUT, "--raw", "in", "-")
+        expect(f"{way}: OUT on it", (3, b"pbfcutz: write failed\n"), (done.returncode, done.stderr))
+    for way in "2>/dev/full", "2>&-", "2>&- <&-", "<&-":
+        done = shell(f'exec "$@" {way}', *CUT, "--raw", "in", "out")
+        expect(f"{way}: status, counts and OUT", (0, COUNTS.encode(), bench.cut), (done.returncode, done.stdout, bench.read("out")))
+        os.unlink(bench.path("out"))
+        done = shell(f'exec "$@" {way}', *CUT, "--raw", "in", "-")
+        expect(f"{way}: OUT on standard output", (0, bench.cut), (done.returncode, done.stdout))
+        done = shell(f'exec "$@" {way}', "check", "ring.poly")
+        expect(f"{way}: a refusal", 1, done.returncode)
+    reading, writing = os.pipe()
+    os.close(reading)
+    bench.case([*CUT, "in", "-"], status=3, said="pbfcutz: write failed\n", stdout=writing)
+    os.close(writing)
+    expect("no file is left", bench.start_files, set(os.listdir(bench.folder)))
+
+
+def disks(bench: Bench):
+    """A full disk: nothing is left."""
+    for words in [[*CUT, "--raw"], ["convert", "--raw"], ["unpack"], ["pack"]]:
+        bench.case([*words, "raw", "out"], status=3, said="pbfcutz: write failed\n", most=len(bench.cut) // 4)
+        bench.write("out", b"kept")
+        bench.case([*words, "-O", "raw", "out"], status=3, said="pbfcutz: write failed\n", most=len(bench.cut) // 4)
+        expect("the file that was there", b"kept", bench.read("out"))
+        os.unlink(bench.path("out"))
+
+
+def nodes_of(raw: bytes) -> bytes:
+    """The second frame of a file."""
+    begin = frame_at(raw, 0)[2]
+    return raw[begin:frame_at(raw, begin)[2]]
+
+
+def signals(bench: Bench):
+    """Signals at any time: OUT is whole, or there is none; what a run had written has a name that says so."""
+    choice = random.Random(time.time())
+    # A file that takes some tenths of a second: many blocks of nodes.
+    bench.write("long", bench.raw[:frame_at(bench.raw, 0)[2]] + nodes_of(bench.raw) * 3_000)
+    begun = time.monotonic()
+    bench.case(["convert", "long", "whole"], out=f"nodes {64 * 3_000} ways 0 relations 0\n", left=("whole",))
+    span, whole, before = time.monotonic() - begun, bench.read("whole"), set(os.listdir(bench.folder))
+    ended = {True: 0, False: 0}
+    for turn in range(40):
+        bench.count += 1
+        process = bench.start(["convert", "long", "out"])
+        time.sleep(choice.uniform(0, 1.2) * span)
+        process.send_signal(choice.choice([*ENDS, signal.SIGKILL]))
+        process.communicate(timeout=SECONDS)
+        left = set(os.listdir(bench.folder)) - before
+        is_whole = process.returncode == 0
+        ended[is_whole] += 1
+        expect(f"turn {turn}: {process.returncode} and {left}", True, left == {"out"} if is_whole else left <= {"out", "out.0.part"})
+        if "out" in left:
+            expect("OUT", whole, bench.read("out"))
+        for name in left:
+            os.unlink(bench.path(name))
+    expect(f"runs that ended, and that were stopped: {ended}", True, ended[False] > 0)
+    for name in "long", "whole":
+        os.unlink(bench.path(name))
+
+
+def pages(bench: Bench):
+    """Help, the manual page and the completions name each command and each option."""
+    with open(os.path.join(TOP, "docs", "pbfcutz.1"), encoding="utf-8") as file:
+        manual = file.read()
+    for command, named in COMMANDS.items():
+        text = subprocess.run([bench.pbfcutz, command, "--help"], capture_output=True, check=True).stdout.decode()
+        listed = re.findall(r"^ +(?:-[a-zA-Z], )?(--[a-z]+)", text, re.M)
+        expect(f"the options of {command}", {*named, "--help"}, set(listed))
+        expect(f"long lines of {command}'s help", [], [line for line in text.splitlines() if len(line) > 90])
+        expect(f"the manual has {command}", True, f"Cm {command}\n" in manual)
+        for option in named:
+            expect(f"the manual has {option}", True, f"Fl {option[1:]}" in manual)
+    for name in "pbfcut.bash", "_pbfcut", "pbfcut.fish":
+        with open(os.path.join(TOP, "completions", name), encoding="utf-8") as file:
+            text = file.read().replace("-l ", "--")
+        for word in {*COMMANDS, *(option for named in COMMANDS.values() for option in named)}:
+            expect(f"{name} has {word}", True, word in text)
+    bench.count += 1
+
+
+def main():
+    if len(sys.argv) != 2 or not os.access(sys.argv[1], os.X_OK):
+        sys.exit(__doc__)
+    with tempfile.TemporaryDirectory(prefix="pbfcut-outputs-") as folder, tempfile.TemporaryDirectory() as elsewhere:
+        bench = Bench(sys.argv[1], folder, elsewhere)
+        for part in [copies, headers, options, names, closed, disks, signals, pages]:
+            part(bench)
+    print(f"tests/outputs.py: {bench.count} cases as they have to be")
+
+
+if __name__ == "__main__":
+    main()
