@@ -124,25 +124,25 @@ def written(folder: str, name: str, text: str) -> str:
 def expected_failures(folder: str):
     """A case of the list doesn't fail the run, one that passes is named, and a name that no case has is refused."""
     listed = written(folder, "known.txt", "# a comment\n\nthree_dense_nodes_as_extracted  # its latitude\nzlib_plain\n")
-    bad, good = (reader_script(folder, ONCE, change) for change in ("entity['lat'] += 1000", "pass"))
-    done = run("reader", "--list", "--known", listed, *FEW, *reader_script(folder, ONCE, "entity['lat'] += 1000"))
+    command = reader_script(folder, ONCE, "entity['lat'] += 1000")
+    done = run("reader", "--list", "--known", listed, *FEW, *command)
     require(done.returncode == 0 and f"{listed}: 1 of these cases, 0 pass\n" in done.stdout, f"--known: {done.stdout}{done.stderr}")
     require("place is" not in done.stdout, "--list names an expected failure")
     reports = {name: os.path.join(folder, "known." + name) for name in ("json", "tap", "junit")}
     words = [word for name, place in reports.items() for word in ("--" + name, place)]
-    require(run("reader", "--known", listed, *words, *FEW, *bad).returncode == 0, "reports of expected failures")
+    require(run("reader", "--known", listed, *words, *FEW, *command).returncode == 0, "reports of expected failures")
     text = {name: open(place, encoding="utf-8").read() for name, place in reports.items()}
     require("not ok 1 - three_dense_nodes_as_extracted # TODO" in text["tap"], "--tap of an expected failure")
     require('failures="0"' in text["junit"] and "<skipped/>" in text["junit"], "--junit of an expected failure")
     require(json.loads(text["json"])[0]["results"][0]["known"] is True, "--json of an expected failure")
-    reader_script(folder, ONCE)
+    reader_script(folder, ONCE)  # from here on the command reads all as meant
     named = f"passes, and {listed} expects a failure: three_dense_nodes_as_extracted\n"
     for strict, status in (([], 0), (["--strict-known"], 1)):
-        done = run("reader", "--known", listed, *strict, *FEW, *good)
+        done = run("reader", "--known", listed, *strict, *FEW, *command)
         require(done.returncode == status and named in done.stdout, f"an expected failure that passes: {done.returncode} {done.stdout}")
     wrong = written(folder, "wrong.txt", "three_dense_nodes_as_extracted\nnobody  # no case\n")
     for file, said in ((wrong, f"run.py: {wrong}, line 2: no case is named 'nobody'\n"), (folder, f"run.py: {folder} can't be read: Is a directory\n")):
-        done = run("reader", "--known", file, *FEW, *good)
+        done = run("reader", "--known", file, *FEW, *command)
         require((done.returncode, done.stdout, done.stderr) == (2, "", said), f"--known {file}: {done.returncode} {done.stdout}{done.stderr}")
 
 
