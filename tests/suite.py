@@ -159,6 +159,8 @@ def written_failures(folder: str):
     rows = {line[:26].strip(): line[26:].split() for line in done.stdout.splitlines()[1:5]}
     require(done.returncode == 1 and f"{len(names)} pass" in done.stdout, f"a reader that reads all: {done.stdout}")
     require(rows["broken, gives wrong data"][1] == "24" and rows["broken, no harm"][1] == "2", f"broken cases without harm: {done.stdout}")
+    done = run("reader", "--set", "all", "--only", "zlib_plain", "--only", "three_dense_nodes_as", "--form", "status", "--", "true")
+    require(done.returncode == 0 and done.stdout.splitlines()[1].split()[1] == "2", f"--set all: {done.stdout}")
 
 
 def progress(folder: str):
