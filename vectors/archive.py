@@ -13,6 +13,13 @@ PAGES = ("docs/FORMAT.md", "docs/CONFORMANCE.md")
 ENDING = ".tar.gz"
 # the time of each file: 1980-01-01, the first that every archive can hold
 TIME = 315_532_800
+# the page at the top of the archive
+README = b"""Test files for readers of OpenStreetMap's PBF. They need Python 3.9 and nothing more. Begin with vectors/README.md, or try
+
+    vectors/run.py reader --only way --batch -- vectors/adapters/reference_lines.py
+
+which runs the suite's own reference over some of them. There is no licence yet.
+"""
 LINK = re.compile(r"\[([^\]]*)\]\(([^)#]+)(#[^)]*)?\)")
 
 
@@ -46,13 +53,13 @@ def content(name: str, names: set) -> bytes:
 def archived(folder: str) -> bytes:
     """The archive's bytes; each file is below `folder`."""
     names = suite_files()
+    contents = {"README": README, **{name: content(name, set(names)) for name in names}}
     packed = io.BytesIO()
     with gzip.GzipFile("", "wb", 9, packed, mtime=0) as stream, tarfile.open(fileobj=stream, mode="w", format=tarfile.USTAR_FORMAT) as archive:
-        for name in names:
-            data = content(name, set(names))
+        for name, data in contents.items():
             entry = tarfile.TarInfo(f"{folder}/{name}")
             entry.size, entry.mtime = len(data), TIME
-            entry.mode = 0o755 if os.access(os.path.join(TOP, name), os.X_OK) else 0o644
+            entry.mode = 0o755 if name in names and os.access(os.path.join(TOP, name), os.X_OK) else 0o644
             archive.addfile(entry, io.BytesIO(data))
     return packed.getvalue()
 
