@@ -128,12 +128,13 @@ def expected_failures(folder: str):
     done = run("reader", "--list", "--known", listed, *FEW, *command)
     require(done.returncode == 0 and f"{listed}: 1 of these cases, 0 pass\n" in done.stdout, f"--known: {done.stdout}{done.stderr}")
     require("place is" not in done.stdout, "--list names an expected failure")
-    reports = {name: os.path.join(folder, "known." + name) for name in ("json", "tap", "junit")}
+    reports = {name: os.path.join(folder, "known." + name) for name in ("json", "tap", "junit", "html")}
     words = [word for name, place in reports.items() for word in ("--" + name, place)]
     require(run("reader", "--known", listed, *words, *FEW, *command).returncode == 0, "reports of expected failures")
     text = {name: open(place, encoding="utf-8").read() for name, place in reports.items()}
     require("not ok 1 - three_dense_nodes_as_extracted # TODO" in text["tap"], "--tap of an expected failure")
-    require('failures="0"' in text["junit"] and "<skipped/>" in text["junit"], "--junit of an expected failure")
+    require('failures="0"' in text["junit"] and '<skipped message="an expected failure"/>' in text["junit"], "--junit of an expected failure")
+    require("(an expected failure)" in text["html"], "--html of an expected failure")
     require(json.loads(text["json"])[0]["results"][0]["known"] is True, "--json of an expected failure")
     reader_script(folder, ONCE)  # from here on the command reads all as meant
     named = f"passes, and {listed} expects a failure: three_dense_nodes_as_extracted\n"

@@ -59,8 +59,8 @@ def as_junit(results: list) -> str:
         name, topic = (saxutils.quoteattr(word) for word in (result.case.name, result.case.told["topic"]))
         text += f"  <testcase name={name} classname={topic}"
         if not result.is_failure():
-            skipped = result.outcome == LEFT or not result.is_good()
-            text += "><skipped/></testcase>\n" if skipped else "/>\n"
+            skipped = "<skipped/>" if result.outcome == LEFT else "" if result.is_good() else '<skipped message="an expected failure"/>'
+            text += f">{skipped}</testcase>\n" if skipped else "/>\n"
             continue
         kind = "error" if result.outcome == CRASHED else "failure"
         said = saxutils.quoteattr(printable(f"{result.case.sort()} file {result.outcome}: {result.note}"))

@@ -83,7 +83,7 @@ def meant_lines(case) -> list:
 
 
 def detail(result: dict, case) -> str:
-    note = result.get("note", "")
+    note = result.get("note", "") + (" (an expected failure)" if result.get("known") else "")
     text = f'<details><summary><code>{safe(case.name)}</code> <span class="what">{spelled_code(case.told["odd"])}</span></summary><div>'
     text += f"<p>{safe(note)}</p>"
     if "read" in result:
