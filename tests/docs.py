@@ -38,7 +38,7 @@ n2 v2 dD c3 t2012-01-01T00:00:00Z i1 ua
 # what a command line begins with that is not run here, and what runs it or what it needs
 ELSEWHERE = {
     "apt-get install": "a network",
-    "vectors/run.py known": "the readers of docs/CONFORMANCE.md",
+    "vectors/run.py debian": "the readers of docs/CONFORMANCE.md",
     "vectors/run.py pbfcut": "run by tests/run",
     "PBFCUTZ=": "run by tests/suite.py",
     "bench/": "a large file",

@@ -24,6 +24,8 @@ CALLS = {
 PROMISE = "promise"
 PROMISED = ("extract", "extract_parents", "convert")
 MODIFIERS = ("abbrev", "unfoldable", "pub", "record")
+# how long the equations of a definition without a comment may be to be shown
+MOST_SHOWN = 240
 
 
 def read(*parts: str) -> str:
@@ -85,6 +87,17 @@ class Definition:
     @property
     def size(self) -> int:
         return len(self.lines)
+
+    def words(self) -> str:
+        """The comment; if there is none, what the definition says itself: the fields of a record, or its equations."""
+        if self.comment:
+            return self.comment
+        if "record" in self.lines[0].split()[:2]:
+            fields = [found[1] for line in self.lines[1:] if (found := re.match(r"\s+pub (\w+) :", line))]
+            return "a record of " + ", ".join(f"`{name}`" for name in fields)
+        # a line that is indented goes on with the equation before it
+        equations = re.sub(r"\s*\n\s+", " ", "\n".join(filter(str.strip, self.lines[1:]))).replace("\n", "; ")
+        return f"`{equations}`" if len(equations) <= MOST_SHOWN else "its equations, in the file"
 
 
 def begun(line: str):
@@ -163,7 +176,11 @@ def laws(sources: Sources):
 
 
 def marks(definition: Definition) -> str:
-    return "all" if definition.under == set(CALLS) else ", ".join(f"`{call}`" for call in CALLS if call in definition.under)
+    """The calls that a definition is under, or those that it isn't under, if they are fewer."""
+    named, others = (", ".join(f"`{call}`" for call in CALLS if (call in definition.under) == is_under) for is_under in (True, False))
+    if not others:
+        return "all"
+    return f"all but {others}" if len(definition.under) * 2 > len(CALLS) else named
 
 
 def crate_part(crate: str, found: list):
@@ -173,8 +190,8 @@ def crate_part(crate: str, found: list):
         if definition.module != module:
             module = definition.module
             file = module.split(".")[-1]
-            yield f"\n**[{file}](../crates/{crate}/specs/{file}.antt)**\n\n| Definition | In words | Under | Laws |\n|---|---|---|---|"
-        says = definition.comment.replace("|", "\\|")
+            yield f"\n**[{file}](../crates/{crate}/specs/{file}.antt)**\n\n| Definition | In words, or its equations | Under | Laws |\n|---|---|---|---|"
+        says = definition.words().replace("|", "\\|")
         name = f"`{definition.name}`".replace("|", "\\|")
         name = f"**{name}**" if definition.promised else name
         named = ", ".join(f"`{law.split('::')[-1]}`" for law in sorted(definition.laws))
@@ -202,6 +219,13 @@ def sources_used(sources: Sources, found: list) -> list:
     return [crate for crate in reversed(sources.crates) if any(definition.crate == crate for definition in found)]
 
 
+def message_with(lines: list, at: int) -> str:
+    """The message whose field numbers are around this line: a comment above them names it, or that of its table."""
+    above = re.findall(r"^// The fields of (an? \w+(?:, and of an? \w+)?)", "\n".join(lines[:at]), re.M)
+    tables = re.findall(r"How the fields of (an? \w+) are stored", "\n".join(lines))
+    return (above or tables or ["a node, a way or a relation"])[-1]
+
+
 def constant_row(module: str, name: str) -> str:
     """A constant, with the comment above it and its value."""
     crate, path = re.fullmatch(r"(\w+)\.specs\.declared\.(.+)\.TheConstants", module).groups()
@@ -209,9 +233,9 @@ def constant_row(module: str, name: str) -> str:
     lines = read("crates", crate, "src", file + ".rt").splitlines()
     at = next(number for number, line in enumerate(lines) if re.match(rf"pub(\(crate\))? const {name}:", line))
     first = at
-    while lines[first - 1].startswith("//"):
+    while lines[first - 1].startswith("///"):
         first -= 1
-    says = " ".join(re.sub(r"///? ?", "", line) for line in lines[first:at])
+    says = " ".join(line[3:].strip() for line in lines[first:at]) or f"The number of this field of {message_with(lines, at)}."
     value = re.search(r"= (.*);$", lines[at])
     return f"| `{name}` | {says} | {f'`{value[1]}`' if value else 'a table'} | [{crate}](../crates/{crate}/src/{file}.rt) |"
 
@@ -264,11 +288,11 @@ def page() -> str:
 INTRODUCTION = """# What one must believe
 
 To believe what a public call promises, read its contract and the definitions under it; no proof and no code has to be read. This page
-lists these definitions, from the calls down to the bytes, with the comment above each. `tests/statement.py --write` generates it
-from the sources, and the gate compares it. [PROMISES.md](PROMISES.md) says in words what each clause says.
+lists these definitions, from the calls down to the bytes, with the comment above each, or its equations if they need none. [PROMISES.md](PROMISES.md)
+says in words what each clause says. `tests/statement.py --write` generates this page from the sources, and the gate compares it.
 
-`Laws` names the laws (functions in `src/laws.rt`) whose contract names the definition: there it is compared with a second one, as reading is
-with writing. [The examples](../crates/pbf_examples/README.md) compare the definitions with files that are spelled out. Types of the code (structs
+`Laws` names the laws (functions in `src/laws.rt`) whose contract names the definition. A law compares it with a second definition, such as reading with
+writing. [The examples](../crates/pbf_examples/README.md) compare the definitions with files that are spelled out. Types of the code (structs
 and enums) are not listed, nor are `Feed` and `Drain` of [device](../crates/pbf_frame/src/device.rt), whose contracts say what a device is.
 
 Begin with [Theorem](../crates/pbfcut/specs/Theorem.antt). The clause `promise` of a call says what the answer means, and what is refused; the

@@ -6,8 +6,11 @@ usage: tests/suite.py PROGRAM
 
 import json
 import os
+import pty
+import re
 import subprocess
 import sys
+import tarfile
 import tempfile
 import xml.etree.ElementTree as ElementTree
 
@@ -18,7 +21,9 @@ FEW = ["--only", "three_dense_nodes_as", "--only", "three_dense_nodes_with_a_lon
 sys.dont_write_bytecode = True
 sys.path.insert(0, VECTORS)
 
+import archive
 import forms
+import known
 import reference
 from make import written_files
 from packing import frames, packed
@@ -109,10 +114,128 @@ def reports(folder: str):
     require(run("reader", "--tap", "-", *FEW, *command).stdout == text["tap"], "a report to standard output")
 
 
+def written(folder: str, name: str, text: str) -> str:
+    place = os.path.join(folder, name)
+    with open(place, "w", encoding="utf-8") as file:
+        file.write(text)
+    return place
+
+
+def expected_failures(folder: str):
+    """A case of the list doesn't fail the run, one that passes is named, and a name that no case has is refused."""
+    listed = written(folder, "known.txt", "# a comment\n\nthree_dense_nodes_as_extracted  # its latitude\nzlib_plain\n")
+    command = reader_script(folder, ONCE, "entity['lat'] += 1000")
+    done = run("reader", "--list", "--known", listed, *FEW, *command)
+    require(done.returncode == 0 and f"{listed}: 1 of these cases, 0 pass\n" in done.stdout, f"--known: {done.stdout}{done.stderr}")
+    require("place is" not in done.stdout, "--list names an expected failure")
+    reports = {name: os.path.join(folder, "known." + name) for name in ("json", "tap", "junit", "html")}
+    words = [word for name, place in reports.items() for word in ("--" + name, place)]
+    require(run("reader", "--known", listed, *words, *FEW, *command).returncode == 0, "reports of expected failures")
+    text = {name: open(place, encoding="utf-8").read() for name, place in reports.items()}
+    require("not ok 1 - three_dense_nodes_as_extracted # TODO" in text["tap"], "--tap of an expected failure")
+    require('failures="0"' in text["junit"] and '<skipped message="an expected failure"/>' in text["junit"], "--junit of an expected failure")
+    require("(an expected failure)" in text["html"], "--html of an expected failure")
+    require(json.loads(text["json"])[0]["results"][0]["known"] is True, "--json of an expected failure")
+    reader_script(folder, ONCE)  # from here on the command reads all as meant
+    named = f"passes, and {listed} expects a failure: three_dense_nodes_as_extracted\n"
+    for strict, status in (([], 0), (["--strict-known"], 1)):
+        done = run("reader", "--known", listed, *strict, *FEW, *command)
+        require(done.returncode == status and named in done.stdout, f"an expected failure that passes: {done.returncode} {done.stdout}")
+    wrong = written(folder, "wrong.txt", "three_dense_nodes_as_extracted\nnobody  # no case\n")
+    for file, said in ((wrong, f"run.py: {wrong}, line 2: no case is named 'nobody'\n"), (folder, f"run.py: {folder} can't be read: Is a directory\n")):
+        done = run("reader", "--known", file, *FEW, *command)
+        require((done.returncode, done.stdout, done.stderr) == (2, "", said), f"--known {file}: {done.returncode} {done.stdout}{done.stderr}")
+
+
+def written_failures(folder: str):
+    """--write-known writes a file that --known takes: a reader that refuses all files fails by the sound ones, and by no other."""
+    listed = os.path.join(folder, "written.txt")
+    packed_cases = ["reader", "--set", "zlib", "--jobs", "2"]
+    require(run(*packed_cases, "--write-known", listed, "--", "false").returncode == 0, "--write-known")
+    names = known.known_names(listed)
+    require(names == {case.name for case in zlib_cases([]) if case.sort() == "sound"}, f"--write-known: {names}")
+    require("zlib_plain  # sound, refused" in open(listed, encoding="utf-8").read(), "the comments of --write-known")
+    require(run(*packed_cases, "--known", listed, "--", "false").returncode == 0, "what --write-known wrote")
+    done = run(*packed_cases, "--known", listed, "--form", "status", "--", "true")
+    rows = {line[:26].strip(): line[26:].split() for line in done.stdout.splitlines()[1:5]}
+    require(done.returncode == 1 and f"{len(names)} pass" in done.stdout, f"a reader that reads all: {done.stdout}")
+    require(rows["broken, gives wrong data"][1] == "24" and rows["broken, no harm"][1] == "2", f"broken cases without harm: {done.stdout}")
+    done = run("reader", "--set", "all", "--only", "zlib_plain", "--only", "three_dense_nodes_as", "--form", "status", "--", "true")
+    require(done.returncode == 0 and done.stdout.splitlines()[1].split()[1] == "2", f"--set all: {done.stdout}")
+
+
+def progress(folder: str):
+    """A terminal shows how many cases are done; a pipe gets nothing."""
+    command = [*RUN, "reader", *FEW, *reader_script(folder, ONCE, "entity['id'] += 1")]
+    ours, theirs = pty.openpty()
+    done = subprocess.run(command, stdout=subprocess.DEVNULL, stderr=theirs, check=False)
+    os.close(theirs)
+    said = os.read(ours, 4096)
+    os.close(ours)
+    require(done.returncode == 1 and b"\r2 of 2 cases, 1 failed" in said, f"the line on a terminal: {said}")
+    require(run(*command[len(RUN):]).stderr == "", "a line of progress on a pipe")
+
+
+def the_archive(folder: str):
+    """It is the same each time, and runs where nothing of the repository is: here the reference reads cases of ways."""
+    places = [os.path.join(folder, name, "pbf-vectors.tar.gz") for name in ("first", "second")]
+    for place in places:
+        os.mkdir(os.path.dirname(place))
+        require(run("archive", place).returncode == 0, "run.py archive")
+    first, second = (open(place, "rb").read() for place in places)
+    require(first == second, "two archives differ")
+    empty = os.path.join(folder, "empty")
+    with tarfile.open(places[0]) as found:
+        entries = found.getmembers()
+        require(all((entry.uid, entry.gid, entry.mtime) == (0, 0, archive.TIME) for entry in entries), "the archive's owners and times")
+        names = [entry.name for entry in entries]
+        require(names == sorted(names) and not any("__pycache__" in name for name in names), "the archive's names")
+        found.extractall(empty)
+    links_lead_somewhere(os.path.join(empty, "pbf-vectors"))
+    words = ["pbf-vectors/vectors/run.py", "reader", "--batch", "--only", "way_id", "--only", "group_of_", "--list", "--"]
+    done = subprocess.run([sys.executable, *words, "pbf-vectors/vectors/adapters/reference_lines.py"], cwd=empty, capture_output=True, text=True,
+                          env={"PATH": os.environ["PATH"]}, check=False)
+    require(done.returncode == 0 and "broken, no harm" in done.stdout, f"the suite by itself: {done.stdout}{done.stderr}")
+    again = os.path.join(folder, "third", "pbf-vectors.tar.gz")
+    os.mkdir(os.path.dirname(again))
+    subprocess.run([sys.executable, words[0], "archive", again], cwd=empty, check=True)
+    require(open(again, "rb").read() == first, "the archive of an archive")
+
+
+def links_lead_somewhere(folder: str):
+    """Each link of a page leads to a file of the archive or the web."""
+    pages = [os.path.join(place, name) for place, _, names in os.walk(folder) for name in names if name.endswith(".md")]
+    require(len(pages) > 20, f"{len(pages)} pages in the archive")
+    for page in pages:
+        for link in re.findall(r"\]\(([^)#]+)\)", open(page, encoding="utf-8").read()):
+            found = link.startswith("http") or os.path.exists(os.path.join(os.path.dirname(page), link))
+            require(found, f"{page} links to '{link}', which is not in the archive")
+
+
+def prepared_reports():
+    """Each report names a case, says what should be read of it as the case does, and quotes docs/FORMAT.md."""
+    with open(os.path.join(TOP, "docs", "FORMAT.md"), encoding="utf-8") as file:
+        rules = " ".join(file.read().split())
+    packed_ones = {case.name: case for case in zlib_cases([])}
+    folder = os.path.join(VECTORS, "reports")
+    for name in sorted(set(os.listdir(folder)) - {"README.md"}):
+        text = open(os.path.join(folder, name), encoding="utf-8").read()
+        of = re.search(r"^Case: \[?`?(\w+)", text, re.M)[1]
+        case = packed_ones.get(of) or Case(of)
+        meant = forms.meant_entities(case)
+        block = "".join(forms.shown_entity(entity) + "\n" for entity in meant or [])
+        said = "the file is refused." if meant is None else "no entity." if not meant else f"\n\n```text\n{block}```\n"
+        require(f"Expected:{'' if said.startswith(chr(10)) else ' '}{said}" in text, f"reports/{name}: what is expected of {case.name}")
+        require(" ".join(re.search(r'^The rule: .*?: "(.*)"$', text, re.M)[1].split()) in rules, f"reports/{name}: the rule")
+        require(f"--only {case.name} " in text, f"reports/{name}: the command")
+
+
 def wrong_words():
     require(run("--help").returncode == 0, "--help")
-    for words in ([], ["reader"], ["reader", "--form", "none", "--", "true"], ["reader", "--jobs", "0", "--", "true"], ["known", "nobody"],
-                  ["reader", "--", "no-such-program"], ["write"], ["reader", "--unheard-of", "--", "true"]):
+    for words in ([], ["reader"], ["reader", "--form", "none", "--", "true"], ["reader", "--jobs", "0", "--", "true"], ["debian", "nobody"],
+                  ["reader", "--", "no-such-program"], ["write"], ["reader", "--unheard-of", "--", "true"], ["archive"], ["archive", "suite.zip"],
+                  ["reader", "--strict-known", "--", "true"], ["reader", "--write-known", "-", "--only", "way", "--", "true"],
+                  ["debian", "--known", "known.txt"], ["reader", "--set", "none", "--", "true"], ["known"]):
         done = run(*words)
         require(done.returncode == 2 and done.stderr, f"{words}: status {done.returncode}")
 
@@ -153,7 +276,7 @@ def packed_files(program: str, folder: str):
     os.environ["PBFCUTZ"] = os.path.join(folder, "pbfcutz")
     os.symlink(os.path.abspath(program), os.environ["PBFCUTZ"])
     adapter = os.path.join(VECTORS, "adapters", "pbfcut_lines.py")
-    done = run("reader", "--set", "zlib", "--batch", "--list", "--jobs", "4", "--", sys.executable, adapter)
+    done = run("reader", "--set", "zlib", "--batch", "--list", "--", sys.executable, adapter)
     require(done.returncode == 0, f"pbfcutz over the packed cases:\n{done.stdout}{done.stderr}")
     written = run("write", "--set", "zlib", os.path.join(folder, "files"))
     require(written.returncode == 0 and len(os.listdir(os.path.join(folder, "files"))) == 90, "run.py write")
@@ -164,6 +287,11 @@ def main(program: str):
         a_good_reader(folder)
         bad_readers(folder)
         reports(folder)
+        expected_failures(folder)
+        written_failures(folder)
+        progress(folder)
+        the_archive(folder)
+        prepared_reports()
         wrong_words()
         the_forms()
         packed_twins()

@@ -51,16 +51,10 @@ pack_folder() {
   tar --sort=name --owner=0 --group=0 --numeric-owner --mtime="$date" -C "$(dirname "$1")" -c "$(basename "$1")" | gzip -9n >"$2"
 }
 
-# The suite by itself: vectors/ and the two pages that it links to.
-copy_vectors() {
-  mkdir -p "$1/docs"
-  git archive HEAD:vectors --prefix=vectors/ | tar -x -C "$1"
-  cp docs/FORMAT.md docs/CONFORMANCE.md "$1/docs"
-}
-
 make_archive() {
   local version name suite
   is_handed_over "$(tools/sources.sh)" || fail "release/ has the program of other sources"
+  [ -z "$(git status --porcelain -- vectors docs)" ] || fail "vectors/ or docs/ has changes that are not committed"
   version=$(manifest_value program | cut -d ' ' -f 2)
   name=pbfcut-$version-x86_64-linux
   folder=$(mktemp -d)
@@ -82,10 +76,9 @@ The program is proved: MANIFEST says of which sources it was built, by which too
 theorem and its proof.
 TEXT
   suite=pbf-vectors-$version
-  copy_vectors "$folder/$suite"
   mkdir -p "$1"
   pack_folder "$folder/$name" "$1/$name.tar.gz"
-  pack_folder "$folder/$suite" "$1/$suite.tar.gz"
+  python3 vectors/run.py archive "$1/$suite.tar.gz"
   (cd "$1" && sha256sum "$name.tar.gz" "$suite.tar.gz" >SHA256SUMS)
   printf '%s\n' "$1/$name.tar.gz" "$1/$suite.tar.gz"
 }

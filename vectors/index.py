@@ -1,11 +1,12 @@
-"""The page of the cases, and the list that crates/pbf_vectors reads: both are made of the cases alone."""
+"""CASES.md, the page of the cases, and the list that crates/pbf_vectors reads: both are made of nothing but the cases."""
 
 import os
 
 from make import run_make
-from suite import CALLS, HERE, Case, cases, nanodegrees
+from suite import BROKEN, CALLS, CHOICE, HARMLESS, HERE, SOUND, Case, cases, count_of_sorts, nanodegrees
 
-ABOUT = os.path.join(HERE, "about.md")
+# what a sort of case is in the tables
+KINDS = {SOUND: "sound", BROKEN: "broken", HARMLESS: "broken, no harm", CHOICE: "choice"}
 
 
 def mark(case: Case) -> str:
@@ -16,21 +17,21 @@ def mark(case: Case) -> str:
 
 
 def page(found: list) -> str:
-    """README.md: what the suite is, and its cases by what they test."""
+    """CASES.md: the cases by what they test."""
     topics = {}
     for case in found:
         topics.setdefault(case.told["topic"], []).append(case)
-    count = {verdict: sum(1 for case in found if case.told["verdict"] == verdict) for verdict in ("sound", "broken", "choice")}
-    with open(ABOUT, encoding="utf-8") as file:
-        text = file.read()
-    text += f"\n## The cases\n\n{len(found):,} cases: {count['sound']} sound, {count['broken']} broken, and {count['choice']} where the"
-    text += " format leaves a choice.\n"
+    count = count_of_sorts(found)
+    text = "# The cases\n\nFor authors of readers who look for a case. [README.md](README.md) says how to run them. `run.py index` writes this page.\n\n"
+    text += f"{len(found):,} cases: {count[SOUND]} sound; {count[BROKEN] + count[HARMLESS]} broken, {count[BROKEN]} of them with wrong data for a reader that"
+    text += f" reads them and {count[HARMLESS]} without harm; and {count[CHOICE]} where the format leaves a choice. `case.json` says why a file does no"
+    text += " harm, or what is left to choose.\n"
     text += "".join(f"\n- [{topic}](#{topic.replace(' ', '-')}): {len(topics[topic])}" for topic in sorted(topics)) + "\n"
     for topic in sorted(topics):
-        text += f"\n### {topic}\n\n| Case | What is odd | Kind | pbfcut |\n|---|---|---|---|\n"
+        text += f"\n## {topic}\n\n| Case | What is odd | Kind | pbfcut |\n|---|---|---|---|\n"
         for case in topics[topic]:
             odd = case.told["odd"].replace("|", "\\|")
-            text += f"| [{case.name}]({case.name}/case.json) | {odd} | {case.told['verdict']} | {mark(case)} |\n"
+            text += f"| [{case.name}]({case.name}/case.json) | {odd} | {KINDS[case.sort()]} | {mark(case)} |\n"
     return text
 
 
@@ -66,7 +67,7 @@ def missing(fault: dict) -> int:
 def run_index(check: bool) -> int:
     """Writes both, or says which of them isn't as the cases are."""
     found = cases([])
-    wanted = {"README.md": page(found), "list": "".join(row(case) + "\n" for case in found)}
+    wanted = {"CASES.md": page(found), "list": "".join(row(case) + "\n" for case in found)}
     stale = run_make(True)
     for name, text in wanted.items():
         path = os.path.join(HERE, name)

@@ -1,95 +1,55 @@
-"""The readers that are known: the Debian package of each, its command, and what of its output is compared."""
+"""Expected failures: the cases that a reader is known to fail, one a line in a file, so that a run in continuous integration fails only
+by what is new."""
 
 import os
-import subprocess
-import sys
-import tempfile
-from typing import NamedTuple
 
-import report
-from readers import is_here, results_of
+from report import printable
 from suite import HERE
+from zlib_cases import zlib_cases
 
-ADAPTERS = os.path.join(HERE, "adapters")
-
-
-class Known(NamedTuple):
-    """A reader. In its commands {here} is the folder of the adapters, {built} that of what `build` makes, and {} the file."""
-
-    name: str
-    title: str
-    package: str
-    command: str
-    options: dict = {}
-    build: str = ""
-
-    def words(self, command: str, built: str) -> list:
-        return [word.replace("{here}", ADAPTERS).replace("{built}", built) for word in command.split()]
-
-    def version(self) -> str:
-        """The version of its Debian package, or nothing where there is none."""
-        try:
-            asked = ["dpkg-query", "-W", "-f", "${Version}", self.package]
-            return subprocess.run(asked, capture_output=True, text=True, check=False).stdout
-        except FileNotFoundError:
-            return ""
-
-    def is_ready(self, built: str) -> bool:
-        """Whether the package is installed, and what must be built could be."""
-        if not self.version():
-            return False
-        build = self.words(self.build, built)
-        if build and (not is_here(build) or subprocess.run(build, check=False).returncode):
-            return False
-        return is_here(self.words(self.command, built))
+HEAD = "# The cases that this reader fails, one a line. What follows a # is a comment.\n"
 
 
-JAVA = "java -XX:TieredStopAtLevel=1 -XX:+UseSerialGC"
-SHARE = "/usr/share/java"
-OSMOSIS = f"/usr/share/osmosis/*:{SHARE}/protobuf.jar:{SHARE}/guava.jar:{SHARE}/commons-compress.jar:{SHARE}/jpf.jar"
-MKGMAP = f"/usr/share/mkgmap/mkgmap.jar:{SHARE}/osmpbf.jar:{SHARE}/protobuf.jar:{SHARE}/fastutil.jar"
-CXX = "c++ -O1 -o {built}/osmpbf_lines {here}/osmpbf_lines.cc -losmpbf -lprotobuf -lz"
-JAVAC_OSMOSIS = f"javac -cp {OSMOSIS} -d {{built}} {{here}}/OsmosisLines.java"
-JAVAC_MKGMAP = f"javac -cp {MKGMAP} -d {{built}} {{here}}/MkgmapLines.java"
-
-LINES = {"form": "lines"}
-BATCH = {**LINES, "batch": True}
-NODES = {**BATCH, "kinds": ["node"]}
-REFS = {**BATCH, "without": ["locations"]}
-COARSE = {**BATCH, "without": ["version", "time", "changeset", "uid", "user", "tags", "place", "locations"]}
-KNOWN = (
-    Known("protobuf", "protobuf with OSM-binary's .proto files", "libosmpbf-dev", "{built}/osmpbf_lines {}", LINES, CXX),
-    Known("osmium", "Osmium", "osmium-tool", "osmium cat -f opl,locations_on_ways=true {}", {"form": "opl"}),
-    Known("pyosmium", "pyosmium", "python3-pyosmium", "{here}/pyosmium_lines.py", BATCH),
-    Known("osmosis", "Osmosis, --read-pbf", "osmosis", f"{JAVA} -cp {OSMOSIS}:{{built}} OsmosisLines", REFS, JAVAC_OSMOSIS),
-    Known("osmosis-fast", "Osmosis, --read-pbf-fast", "osmosis", f"{JAVA} -cp {OSMOSIS}:{{built}} OsmosisLines fast", REFS, JAVAC_OSMOSIS),
-    Known("mkgmap", "mkgmap", "mkgmap", f"{JAVA} -cp {MKGMAP}:{{built}} MkgmapLines", COARSE, JAVAC_MKGMAP),
-    Known("gdal", "GDAL", "python3-gdal", "{here}/gdal_lines.py", NODES),
-    Known("readosm", "ReadOSM", "libreadosm1", "{here}/readosm_lines.py", REFS),
-    Known("routino", "Routino", "routino", "planetsplitter --dir=. --parse-only {}", {"form": "counts"}),
-    Known("osmconvert", "osmconvert", "osmctools", "osmconvert {} --out-osm", {"form": "xml", "packed": True}),
-    Known("osmpbf-outline", "osmpbf-outline", "osmpbf-bin", "{here}/outline_counts.py {}", {"form": "counts", "packed": True}),
-    Known("maptool", "Navit's maptool", "maptool", "maptool --protobuf -i {} out.bin", {"form": "status", "packed": True}),
-)
+class WrongFile(Exception):
+    """A file of expected failures that can't be read, or has a name that no case has."""
 
 
-def measured(reader: Known, built: str, chosen: list, options: dict) -> dict:
-    """The report of a reader's results."""
-    results = results_of(reader.words(reader.command, built), chosen, {**options, **reader.options})
-    told = {"name": reader.name, "package": reader.package, "version": reader.version(), "options": reader.options}
-    return {**told, **report.told_of(reader.title, reader.command, results)}
+def unknown_names(names: set) -> set:
+    """Those that no case of either set has. The cases of zlib are made for it only if there are such names, since that takes a second."""
+    others = {name for name in names if not os.path.exists(os.path.join(HERE, name, "case.json"))}
+    return others - {case.name for case in zlib_cases([])} if others else others
 
 
-def run_known(names: list, chosen: list, options: dict) -> list:
-    """The reports of the readers of these names, or of all, that are here."""
-    found = []
-    with tempfile.TemporaryDirectory() as built:
-        for reader in KNOWN:
-            if names and reader.name not in names:
-                continue
-            if not reader.is_ready(built):
-                print(f"{reader.name} is not here: apt-get install {reader.package}", file=sys.stderr)
-                continue
-            found.append(measured(reader, built, chosen, options))
-            print(f"{reader.name}: done", file=sys.stderr, flush=True)
-    return found
+def known_names(path: str) -> set:
+    """The names in a file of expected failures."""
+    try:
+        with open(path, encoding="utf-8") as file:
+            lines = file.read().splitlines()
+    except (OSError, UnicodeDecodeError) as error:
+        raise WrongFile(f"{path} can't be read: {getattr(error, 'strerror', None) or error}") from error
+    found = [line.partition("#")[0].strip() for line in lines]
+    unknown = unknown_names(set(filter(None, found)))
+    for number, name in enumerate(found, 1):
+        if name in unknown:
+            raise WrongFile(f"{path}, line {number}: no case is named '{name}'")
+    return set(filter(None, found))
+
+
+def mark_known(results: list, known: set):
+    for result in results:
+        result.is_known = result.case.name in known
+
+
+def as_known(results: list) -> str:
+    """The file of expected failures of these results."""
+    bad = [result for result in results if not result.is_good()]
+    lines = [f"{result.case.name}  # {result.case.sort()}, {result.outcome}: {result.note}".rstrip(": ") for result in bad]
+    return HEAD + "".join(printable(line) + "\n" for line in lines)
+
+
+def known_lines(results: list, path: str) -> str:
+    """What a run says of them: how many failed as expected, and the name of each that passes."""
+    known = [result for result in results if result.is_known]
+    passed = [result.case.name for result in results if result.passes_now()]
+    text = f"expected failures in {path}: {len(known)} of these cases, {len(passed)} pass\n"
+    return text + "".join(f"passes, and {path} expects a failure: {name}\n" for name in passed)

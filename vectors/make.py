@@ -7,7 +7,7 @@ from recipes import RECIPES, Recipe
 from reference import expected
 from suite import CALLS, HERE
 
-ORDER = ("title", "odd", "rule", "topic", "verdict", "choice", "box", "header", "all", "counts", "writes", "refused", "unwritten", "entities")
+ORDER = ("title", "odd", "rule", "topic", "verdict", "harmless", "choice", "box", "header", "all", "counts", "writes", "refused", "unwritten", "entities")
 ORDER += ("blobs", "blobs_refused")
 
 
@@ -36,7 +36,7 @@ def files_of(recipe: Recipe) -> dict:
             same = next((name for name, data in files.items() if data == written[call]), f"{call}.osm.pbf")
             files[same] = written[call]
             told["writes"][call] = same
-    for name in ("odd", "rule", "topic", "verdict", "choice", "box"):
+    for name in ("odd", "rule", "topic", "verdict", "harmless", "choice", "box"):
         if getattr(recipe, name):
             told[name] = getattr(recipe, name)
     told["title"] = recipe.name.replace("_", " ").capitalize()

@@ -7,7 +7,7 @@ import subprocess
 import tempfile
 import time
 
-from suite import CALLS, Case, digest, shown
+from suite import CALLS, Case, digest, processors, shown
 
 SECONDS = 120
 READING = (("blobs",), ("check",), ("show",), ("show", "--dates"))
@@ -136,7 +136,7 @@ def run_case(program: str, case: Case) -> Runs:
 def run_program(program: str, chosen: list) -> int:
     """All of it, as many cases at a time as there are processors; answers the exit status."""
     began = time.monotonic()
-    with concurrent.futures.ThreadPoolExecutor(os.cpu_count()) as pool:
+    with concurrent.futures.ThreadPoolExecutor(processors()) as pool:
         done = list(pool.map(lambda case: run_case(program, case), chosen))
     differences = [line for runs in done for line in runs.differences]
     for line in differences:

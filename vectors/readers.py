@@ -14,17 +14,19 @@ import xml.etree.ElementTree as ElementTree
 
 from forms import FORMS, difference, meant_entities, shown_entity
 from packing import packed
-from suite import Case
+from suite import BROKEN, CHOICE, HARMLESS, SORTS, SOUND, Case, processors
 
 SECONDS = 20
 READ, OTHERWISE, REFUSED, CRASHED, LEFT = "read as meant", "read otherwise", "refused", "crashed", "left out"
 OUTCOMES = (READ, OTHERWISE, REFUSED, CRASHED, LEFT)
-VERDICTS = ("sound", "broken", "choice")
 KEPT = 20
 
 
 class Result:
     """What a reader makes of a case: one of OUTCOMES, a sentence about it, and the entities it printed where they differ."""
+
+    # whether the caller's list of expected failures has the case
+    is_known = False
 
     def __init__(self, case: Case, outcome: str, note: str = "", read=None):
         self.case = case
@@ -34,15 +36,26 @@ class Result:
 
     def is_good(self) -> bool:
         """Whether a reader should do this. A file where the format leaves a choice is never wrong, unless the reader crashes."""
-        wanted = {"sound": (READ, LEFT), "broken": (REFUSED, LEFT), "choice": (READ, OTHERWISE, REFUSED, LEFT)}
-        return self.outcome in wanted[self.case.told["verdict"]]
+        refused = (REFUSED, LEFT)
+        wanted = {SOUND: (READ, LEFT), BROKEN: refused, HARMLESS: refused, CHOICE: (READ, OTHERWISE, REFUSED, LEFT)}
+        return self.outcome in wanted[self.case.sort()]
+
+    def is_failure(self) -> bool:
+        """Whether the run fails by it: it is not good, and nobody expected that."""
+        return not self.is_good() and not self.is_known
+
+    def passes_now(self) -> bool:
+        """Whether it is good, and the list of expected failures has it."""
+        return self.is_known and self.is_good() and self.outcome != LEFT
 
     def is_plain(self) -> bool:
         """Whether there is nothing to tell: a sound file read as meant, or a broken one refused."""
-        return self.outcome == {"sound": READ, "broken": REFUSED, "choice": READ}[self.case.told["verdict"]]
+        return self.outcome == {SOUND: READ, BROKEN: REFUSED, HARMLESS: REFUSED, CHOICE: READ}[self.case.sort()]
 
     def as_json(self) -> dict:
-        told = {"case": self.case.name, "verdict": self.case.told["verdict"], "outcome": self.outcome, "good": self.is_good()}
+        told = {"case": self.case.name, "verdict": self.case.sort(), "outcome": self.outcome, "good": self.is_good()}
+        if self.is_known:
+            told["known"] = True
         if self.note:
             told["note"] = self.note
         if self.read is not None:
@@ -155,17 +168,32 @@ class Reader:
         return Result(case, OTHERWISE, what[:200]) if what else Result(case, READ)
 
 
+class Progress:
+    """A line on a terminal: how many cases are done, and how many of them failed. Standard error that is no terminal gets nothing."""
+
+    def __init__(self, total: int):
+        self.total, self.done, self.failed = total, 0, 0
+        self.shows = sys.stderr.isatty()
+
+    def add(self, result: Result):
+        self.done += 1
+        self.failed += not result.is_good()
+        if self.shows:
+            print(f"\r{self.done:,} of {self.total:,} cases, {self.failed:,} failed", end="", file=sys.stderr, flush=True)
+
+    def end(self):
+        if self.shows:
+            print(file=sys.stderr)
+
+
 def results_of(command: list, chosen: list, options: dict) -> list:
-    """The reader's results, in the order of the cases; `jobs` of them are worked out at a time. A terminal shows how many there are."""
-    reader, results = Reader(command, options), []
-    shows = sys.stderr.isatty()
-    with concurrent.futures.ThreadPoolExecutor(options.get("jobs") or os.cpu_count() or 1) as pool:
+    """The reader's results, in the order of the cases; `jobs` of them are worked out at a time."""
+    reader, results, progress = Reader(command, options), [], Progress(len(chosen))
+    with concurrent.futures.ThreadPoolExecutor(options.get("jobs") or processors()) as pool:
         for result in pool.map(reader.result, chosen):
             results.append(result)
-            if shows:
-                print(f"\r{len(results)} of {len(chosen)} cases", end="", file=sys.stderr, flush=True)
-    if shows:
-        print(file=sys.stderr)
+            progress.add(result)
+    progress.end()
     return results
 
 
@@ -174,8 +202,8 @@ def is_here(command: list) -> bool:
 
 
 def counts(results: list) -> dict:
-    """How many cases of each verdict have each outcome."""
-    table = {verdict: dict.fromkeys(OUTCOMES, 0) for verdict in VERDICTS}
+    """How many cases of each sort have each outcome."""
+    table = {sort: dict.fromkeys(OUTCOMES, 0) for sort in SORTS}
     for result in results:
-        table[result.case.told["verdict"]][result.outcome] += 1
+        table[result.case.sort()][result.outcome] += 1
     return table

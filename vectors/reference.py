@@ -10,7 +10,7 @@ from reference_entities import Entity, Header, decode_block, decode_header
 from reference_judge import Frame, Judged, judge
 from reference_wire import KEPT_LIMIT, REASON, Fault
 from reference_written import Box, extract, header_out, write_file
-from suite import CALLS, Case, digest, entity_lines, nanodegrees, quoted
+from suite import CALLS, Case, digest, entity_lines, nanodegrees, processors, quoted
 
 KINDS = {"N": "node", "W": "way", "R": "relation"}
 
@@ -150,7 +150,7 @@ def differences(case: Case) -> list:
 
 def run_reference(chosen: list) -> int:
     """Compares the cases with the reference, as many at a time as there are processors; answers the exit status."""
-    with concurrent.futures.ProcessPoolExecutor() as pool:
+    with concurrent.futures.ProcessPoolExecutor(processors()) as pool:
         found = [line for lines in pool.map(differences, chosen, chunksize=8) for line in lines]
     for line in found:
         print(line)

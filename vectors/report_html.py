@@ -5,7 +5,9 @@ import itertools
 import re
 
 from forms import meant_entities, shown_entity
-from readers import CRASHED, KEPT, OTHERWISE, READ, REFUSED
+from readers import CRASHED, KEPT, OTHERWISE, REFUSED
+from report import HEADS, cells
+from suite import BROKEN, CHOICE, HARMLESS, SOUND, count_of_sorts
 
 STYLE = """
 :root { color-scheme: light dark; --line: #8884; --soft: #8881; --bad: #d84343; --mark: #f9a82540; }
@@ -23,15 +25,17 @@ details > div { padding: 0 .9rem .8rem; } .what { opacity: .8; }
 .sides pre { margin: 0; padding: .35rem .5rem; background: var(--soft); white-space: pre-wrap; overflow-wrap: anywhere; min-height: 1.5em; }
 pre.differs { background: var(--mark); } mark { background: var(--mark); color: inherit; }
 """
-HEADS = ("Reader", "Sound: read as meant", "Sound: read otherwise", "Sound: refused", "Sound: crashed")
-HEADS += ("Broken: refused", "Broken: read", "Broken: crashed")
 OUTCOME_TITLES = (
-    ("sound", OTHERWISE, "Sound files read otherwise, without a word"),
-    ("sound", CRASHED, "Sound files that end the reader by a signal, or that it doesn't end"),
-    ("sound", REFUSED, "Sound files refused"),
-    ("broken", CRASHED, "Broken files that end the reader by a signal, or that it doesn't end"),
-    ("broken", OTHERWISE, "Broken files read, without a word"),
+    (SOUND, OTHERWISE, "Sound files read otherwise, without a word"),
+    (SOUND, CRASHED, "Sound files that end the reader by a signal, or that it doesn't end"),
+    (SOUND, REFUSED, "Sound files refused"),
+    (BROKEN, CRASHED, "Broken files that end the reader by a signal, or that it doesn't end"),
+    (BROKEN, OTHERWISE, "Broken files read, with wrong data and without a word"),
+    (HARMLESS, CRASHED, "Broken files without harm that end the reader by a signal, or that it doesn't end"),
+    (HARMLESS, OTHERWISE, "Broken files read, without harm"),
 )
+# the columns of the table whose numbers are wrong data without a word
+SILENT = (1, 5)
 
 
 def safe(text: str) -> str:
@@ -43,17 +47,12 @@ def spelled_code(text: str) -> str:
     return re.sub(r"`([^`]*)`", r"<code>\1</code>", safe(text))
 
 
-def cells(reader: dict) -> list:
-    sound, broken = reader["counts"]["sound"], reader["counts"]["broken"]
-    return [sound[READ], sound[OTHERWISE], sound[REFUSED], sound[CRASHED], broken[REFUSED], broken[OTHERWISE] + broken[READ], broken[CRASHED]]
-
-
 def summary_table(measured: list) -> str:
-    text = "<table><tr>" + "".join(f"<th>{head}</th>" for head in HEADS) + "</tr>\n"
+    text = "<table><tr>" + "".join(f"<th>{head}</th>" for head in ("Reader", *HEADS)) + "</tr>\n"
     for number, reader in enumerate(measured):
         text += f'<tr><td><a href="#reader{number}">{safe(reader["title"])}</a> {safe(reader.get("version", ""))}</td>'
-        for place, count in enumerate(cells(reader)):
-            text += f'<td{" class=silent" if place in (1, 5) and count else ""}>{count:,}</td>'
+        for place, count in enumerate(cells(reader["counts"])):
+            text += f'<td{" class=silent" if place in SILENT and count else ""}>{count:,}</td>'
         text += "</tr>\n"
     return text + "</table>\n"
 
@@ -84,7 +83,7 @@ def meant_lines(case) -> list:
 
 
 def detail(result: dict, case) -> str:
-    note = result.get("note", "")
+    note = result.get("note", "") + (" (an expected failure)" if result.get("known") else "")
     text = f'<details><summary><code>{safe(case.name)}</code> <span class="what">{spelled_code(case.told["odd"])}</span></summary><div>'
     text += f"<p>{safe(note)}</p>"
     if "read" in result:
@@ -99,7 +98,7 @@ def section(number: int, reader: dict, cases: dict) -> str:
         found = [result for result in reader["results"] if (result["verdict"], result["outcome"]) == (verdict, outcome)]
         if found:
             text += f"<h3>{title}: {len(found)}</h3>\n" + "".join(detail(result, cases[result["case"]]) for result in found)
-    if not any(result["verdict"] != "choice" for result in reader["results"] if not result["good"]):
+    if not any(result["verdict"] != CHOICE for result in reader["results"] if not result["good"]):
         text += "<p>Every sound file is read as meant, and every broken one refused.</p>\n"
     return text
 
@@ -107,11 +106,11 @@ def section(number: int, reader: dict, cases: dict) -> str:
 def as_html(measured: list, chosen: list) -> str:
     """The page. `measured` is a list of what `--json` writes for a reader."""
     cases = {case.name: case for case in chosen}
-    count = {verdict: sum(1 for case in chosen if case.told["verdict"] == verdict) for verdict in ("sound", "broken", "choice")}
+    count = count_of_sorts(chosen)
     text = '<!doctype html>\n<html lang="en"><head><meta charset="utf-8"><meta name="viewport" content="width=device-width, initial-scale=1">\n'
     text += f"<title>Readers of OpenStreetMap's PBF</title><style>{STYLE}</style></head><body>\n"
-    text += f"<h1>Readers of OpenStreetMap's PBF</h1>\n<p>{len(chosen):,} files: {count['sound']:,} sound ones, which a reader should read as"
-    text += f" meant, and {count['broken']:,} broken ones, which it should refuse. Where the format leaves a choice ({count['choice']:,}),"
-    text += " nothing is counted. Below, each case that differs opens to what is to be read beside what was read.</p>\n"
+    text += f"<h1>Readers of OpenStreetMap's PBF</h1>\n<p>{len(chosen):,} files: {count[SOUND]:,} sound ones, which a reader should read as"
+    text += f" meant, and {count[BROKEN] + count[HARMLESS]:,} broken ones, which it should refuse; {count[HARMLESS]:,} of these do no harm if they are"
+    text += f" read. Where the format leaves a choice ({count[CHOICE]:,}), nothing is counted. Below, each case that differs opens to what is to be read beside what was read.</p>\n"
     text += summary_table(measured)
     return text + "".join(section(number, reader, cases) for number, reader in enumerate(measured)) + "</body></html>\n"

@@ -7,6 +7,8 @@ import os
 
 HERE = os.path.dirname(os.path.abspath(__file__))
 CALLS = ("convert", "extract", "parents")
+# what a case is: HARMLESS is a broken file that gives no wrong data to a reader that reads it
+SOUND, BROKEN, HARMLESS, CHOICE = SORTS = ("sound", "broken", "harmless", "choice")
 
 
 class Case:
@@ -24,6 +26,10 @@ class Case:
         if os.path.exists(rule):
             with open(rule, encoding="utf-8") as file:
                 self.made = json.load(file)
+
+    def sort(self) -> str:
+        """One of SORTS."""
+        return HARMLESS if HARMLESS in self.told else self.told["verdict"]
 
     def bytes_of(self, file: str) -> bytes:
         """The bytes of one of the case's files, from the folder or by the rule."""
@@ -49,6 +55,16 @@ def nanodegrees(degrees: str) -> int:
     whole, _, fraction = degrees.lstrip("-").partition(".")
     value = int(whole) * 1_000_000_000 + int((fraction + "000000000")[:9])
     return -value if degrees.startswith("-") else value
+
+
+def processors() -> int:
+    """How many processors this program may use."""
+    return len(os.sched_getaffinity(0)) if hasattr(os, "sched_getaffinity") else os.cpu_count() or 1
+
+
+def count_of_sorts(cases: list) -> dict:
+    """How many cases there are of each of SORTS."""
+    return {sort: sum(1 for case in cases if case.sort() == sort) for sort in SORTS}
 
 
 def names() -> list:
