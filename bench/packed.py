@@ -3,8 +3,8 @@
 
 usage: bench/packed.py PROGRAM FILE [--times N] BOX..
 
-FILE is compressed: `pbfcutz convert` makes one of what bench/make.py makes. In turn, N times (3), for each box: PROGRAM as pbfcutz,
-tools/pbfcut-any with it, and Osmium's complete-ways extract with its default threads, all on all processors. It prints the least and the
+FILE is compressed: `pbfcutz pack` makes one of what bench/make.py makes. In turn, N times (3), for each box: PROGRAM as pbfcutz,
+and Osmium's complete-ways extract with its default threads, on all processors. It prints the least and the
 median of the seconds by the clock, the least beside Osmium's, and the greatest memory of a process. First come `check` by pbfcut of
 the raw file, which is made for it, and by pbfcutz of FILE, on one processor each, without digests and with them.
 """
@@ -17,18 +17,16 @@ import sys
 import tempfile
 import time
 
-TOP = os.path.dirname(os.path.dirname(os.path.abspath(__file__)))
-COMPANION = os.path.join(TOP, "tools", "pbfcut-any")
 
 
-def measured(words: list, environment: dict, processors) -> tuple:
+def measured(words: list, processors) -> tuple:
     """The seconds of a command by the clock, and the greatest memory of one of its processes in MB."""
     reading, writing = os.pipe()
     child = os.fork()
     if child == 0:
         os.sched_setaffinity(0, processors)
         began = time.monotonic()
-        done = subprocess.run(words, env={**os.environ, **environment}, stdout=subprocess.DEVNULL, stderr=subprocess.PIPE, check=False)
+        done = subprocess.run(words, stdout=subprocess.DEVNULL, stderr=subprocess.PIPE, check=False)
         seconds = time.monotonic() - began
         if done.returncode:
             os.write(2, done.stderr)
@@ -53,14 +51,14 @@ def show(name: str, runs: list, beside=None):
 
 def compare_checks(pbfcut: str, pbfcutz: str, file: str, folder: str, times: int):
     raw = os.path.join(folder, "raw.osm.pbf")
-    subprocess.run([COMPANION, "unpack", file, raw], env={**os.environ, "PBFCUTZ": pbfcutz}, check=True)
+    subprocess.run([pbfcutz, "unpack", file, raw], stdout=subprocess.DEVNULL, check=True)
     one = {max(os.sched_getaffinity(0))}
     pairs = [[("check" + flags + " of the " + kind + " file", [program, *("check" + flags).split(), name])
               for kind, program, name in (("raw", pbfcut, raw), ("compressed", pbfcutz, file))] for flags in ("", " --digests")]
     found = {name: [] for pair in pairs for name, _ in pair}
     for _ in range(times):
         for name, words in (run for pair in pairs for run in pair):
-            found[name].append(measured(words, {}, one))
+            found[name].append(measured(words, one))
     os.unlink(raw)
     for (of_raw, _), (of_packed, _) in pairs:
         beside = show(of_raw, found[of_raw])
@@ -71,20 +69,18 @@ def compare_cuts(pbfcutz: str, file: str, box: str, folder: str, times: int):
     out = os.path.join(folder, "out.osm.pbf")
     commands = {
         "osmium extract": ["osmium", "extract", "-s", "complete_ways", "-b", box, file, "-o", out],
-        "pbfcut-any": [COMPANION, f"--box={box}", file, out],
         "pbfcutz extract": [pbfcutz, "extract", f"--box={box}", file, out],
     }
     processors = os.sched_getaffinity(0)
     found, size = {name: [] for name in commands}, 0
     for _ in range(times):
         for name, words in commands.items():
-            found[name].append(measured(words, {"PBFCUTZ": pbfcutz}, processors))
+            found[name].append(measured(words, processors))
             size = os.path.getsize(out)
             os.unlink(out)
     print(f"box {box}, OUT {size / 1e6:.1f} MB")
     beside = show("  osmium extract", found["osmium extract"])
-    for name in ("pbfcut-any", "pbfcutz extract"):
-        show(f"  {name}", found[name], beside)
+    show("  pbfcutz extract", found["pbfcutz extract"], beside)
 
 
 def main(words: list):

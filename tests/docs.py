@@ -142,7 +142,7 @@ class Pages:
         for span in SPAN.findall(BLOCK.sub("", read(name))):
             words = span.split(" ")
             names_file = any(word in GIVEN or word.endswith((".pbf", ".1")) for word in words)
-            known = words[0] in ("./pbfcut", "./pbfcutz", "tools/pbfcut-any", "osmium", "man") or "&& ./pbfcut" in span
+            known = words[0] in ("./pbfcut", "./pbfcutz", "osmium", "man") or "&& ./pbfcut" in span
             if known and (names_file or "--help" in words):
                 self.command(name, filled(words), self.room())
 
@@ -184,7 +184,7 @@ class Pages:
 def inputs(pages: Pages):
     """The files that the pages speak of, all of the sample."""
     for name in ["england", "one", "two"]:
-        pages.make(f"tools/pbfcut-any pack sample/town.osm.pbf {name}.osm.pbf")
+        pages.make(f"./pbfcutz convert sample/town.osm.pbf {name}.osm.pbf")
     pages.make("cp sample/town.osm.pbf given.raw.osm.pbf")
     if shutil.which("osmium"):
         with open(os.path.join(pages.model, "history.opl"), "w", encoding="utf-8") as file:
@@ -242,7 +242,7 @@ def main():
         for name in names:
             if name not in [*users, "sample/README.md"]:
                 pages.blocks(name, pages.room())
-        for name in ["docs/pbfcut.1", "docs/pbfcutz.1", "docs/pbfcut-any.1"]:
+        for name in ["docs/pbfcut.1", "docs/pbfcutz.1"]:
             pages.manual(name)
         for words in [[name, *command] for name in ("pbfcut", "pbfcutz") for command in [[], *([command] for command in COMMANDS)]]:
             pages.help(words)

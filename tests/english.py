@@ -14,7 +14,7 @@ import sys
 
 TOP = os.path.dirname(os.path.dirname(os.path.abspath(__file__)))
 USERS = ["README.md", "CHANGELOG.md", "CONTRIBUTING.md", "docs/USING.md", "docs/FORMAT.md", "docs/pbfcut.1", "docs/pbfcutz.1",
-         "docs/pbfcut-any.1", "sample/README.md", "crates/pbfcut_cli/src/help.rt"]
+         "sample/README.md", "crates/pbfcut_cli/src/help.rt"]
 # made of other files
 MADE = ["docs/STATEMENT.md", "docs/PROMISES.md", "vectors/CASES.md"]
 MOST_ELSEWHERE = 1

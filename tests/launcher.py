@@ -63,7 +63,7 @@ class Copy:
         os.mkdir(self.bin)
         for name in TOOLS:
             os.symlink(shutil.which(name), os.path.join(self.bin, name))
-        for name in ["pbfcut", "install", "tools", "completions", "docs/pbfcut.1", "docs/pbfcutz.1", "docs/pbfcut-any.1"]:
+        for name in ["pbfcut", "install", "tools", "completions", "docs/pbfcut.1", "docs/pbfcutz.1"]:
             copy = shutil.copytree if os.path.isdir(os.path.join(TOP, name)) else shutil.copy
             os.makedirs(os.path.dirname(self.path(name)), exist_ok=True)
             copy(os.path.join(TOP, name), self.path(name))
@@ -241,11 +241,9 @@ def files_below(folder: str) -> set:
     return {os.path.relpath(os.path.join(at, name), folder) for at, _, names in os.walk(folder) for name in names}
 
 
-INSTALLED = {"bin/pbfcut", "bin/pbfcutz", "bin/pbfcut-any", "share/man/man1/pbfcut.1", "share/man/man1/pbfcutz.1",
-             "share/man/man1/pbfcut-any.1", "share/bash-completion/completions/pbfcut", "share/bash-completion/completions/pbfcutz",
-             "share/bash-completion/completions/pbfcut-any", "share/zsh/site-functions/_pbfcut",
-             "share/fish/vendor_completions.d/pbfcut.fish", "share/fish/vendor_completions.d/pbfcutz.fish",
-             "share/fish/vendor_completions.d/pbfcut-any.fish"}
+INSTALLED = {"bin/pbfcut", "bin/pbfcutz", "share/man/man1/pbfcut.1", "share/man/man1/pbfcutz.1",
+             "share/bash-completion/completions/pbfcut", "share/bash-completion/completions/pbfcutz", "share/zsh/site-functions/_pbfcut",
+             "share/fish/vendor_completions.d/pbfcut.fish", "share/fish/vendor_completions.d/pbfcutz.fish"}
 
 
 def installs(folder: str, program: bytes):
@@ -260,8 +258,8 @@ def installs(folder: str, program: bytes):
     status, out, _ = copy.run([os.path.join(root, "opt/x/bin/pbfcut"), "--version"])
     expect("the installed program", (0, True), (status, out.startswith("pbfcut 1.0.0")))
     town = os.path.join(TOP, "sample", "town.osm.pbf")
-    any_of = [sys.executable, os.path.join(root, "opt/x/bin/pbfcut-any"), "--box=9.997,49.999,10.003,50.003", town, "cut"]
-    expect("the installed companion finds the program beside it", (0, "nodes 121 ways 23 relations 7\n", ""), copy.run(any_of))
+    cut = [os.path.join(root, "opt/x/bin/pbfcutz"), "extract", "--box=9.997,49.999,10.003,50.003", town, "cut"]
+    expect("the installed program by its other name", (0, "nodes 121 ways 23 relations 7\n", ""), copy.run(cut))
     expect("uninstall", 0, copy.run([install, "--uninstall", "/opt/x"], DESTDIR=root)[0])
     expect("what is left", {"bin/another"}, files_below(os.path.join(root, "opt/x")))
     home = os.path.join(copy.folder, "home")
@@ -291,7 +289,7 @@ def completions():
             expect(f"zsh names {option}", True, option in zsh)
             expect(f"fish names {option}", True, f"-l {option[2:]} " in fish)
     expect("bash can read its file", 0, subprocess.run(["bash", "-n", "-c", bash], timeout=SECONDS).returncode)
-    for shell, name in [("zsh", "_pbfcut"), ("fish", "pbfcut.fish"), ("fish", "pbfcut-any.fish")]:
+    for shell, name in [("zsh", "_pbfcut"), ("fish", "pbfcut.fish")]:
         if shutil.which(shell):
             path = os.path.join(TOP, "completions", name)
             expect(f"{shell} can read {name}", 0, subprocess.run([shell, "-n", path], timeout=SECONDS).returncode)

@@ -62,13 +62,13 @@ make_archive() {
   mkdir "$folder/$name"
   unpack_to "$folder/$name/pbfcut" || fail "${packed#"$top"/} is not what MANIFEST says"
   ln -s pbfcut "$folder/$name/pbfcutz"
-  cp --parents -r install tools/pbfcut-any docs/pbfcut.1 docs/pbfcutz.1 docs/pbfcut-any.1 completions "$folder/$name"
+  cp --parents -r install docs/pbfcut.1 docs/pbfcutz.1 completions "$folder/$name"
   cp "$manifest" CHANGELOG.md "$folder/$name"
   cat >"$folder/$name/README" <<'TEXT'
-pbfcut cuts a bounding box out of an OpenStreetMap PBF file. pbfcutz, the same program under another name, reads compressed files, as they are
-published, and pbfcut-any writes them too.
+pbfcut cuts a box or a polygon out of an OpenStreetMap PBF file. pbfcutz, the same program under another name, reads and writes compressed
+files, as they are published.
 
-  ./install                installs all three, with manual pages and completions, below /usr/local
+  ./install                installs both, with manual pages and completions, below /usr/local
   ./install $HOME/.local   ... or below another folder
   ./pbfcut --help          runs pbfcut from here
 
