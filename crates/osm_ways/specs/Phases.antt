@@ -94,10 +94,9 @@ pub record PassesOver {S : Type 0} (step : S → Seen → S) : Type 0 where
   pub before : (s : S) (id other : ℤ) (inside : Bool) → step (step s (a_node id false)) (a_node other inside) ≡ step s (a_node other inside)
   pub after : (s : S) (id other : ℤ) (inside : Bool) → step (step s (a_node id inside)) (a_node other false) ≡ step s (a_node id inside)
 
--- relations change nothing, nor do ways unless they are taken
-pub record TakesWays {S : Type 0} (takes : Bool) (step : S → Seen → S) : Type 0 where
-  pub ways : takes ≡ false → (s : S) (id : ℤ) (refs : List ℤ) → step s (a_way id refs) ≡ s
-  pub relations : (s : S) (id : ℤ) (members : List MemberSeen) → step s (a_relation id members) ≡ s
+-- ways change nothing unless they are taken
+abbrev pub TakesWays : {S : Type 0} → Bool → (S → Seen → S) → Type 0
+TakesWays {S} takes step = takes ≡ false → (s : S) (id : ℤ) (refs : List ℤ) → step s (a_way id refs) ≡ s
 
 abbrev pub way_step : WaySets → Seen → WaySets
 way_step sets (a_way id refs) = sets_with_way sets id refs
