@@ -43,11 +43,7 @@ fn copy_rest<F: Feed, D: Drain>(feed: &mut F, drain: &mut D) -> Result<bool, Sto
 }
 
 /// Copies what a later feed has, whose bytes have to be those of the first pass.
-fn copy_again<F: Feed, D: Drain>(
-    again: LaterPass,
-    feed: &mut F,
-    drain: &mut D,
-) -> Result<(), Stop>
+fn copy_again<F: Feed, D: Drain>(again: LaterPass, feed: &mut F, drain: &mut D) -> Result<(), Stop>
     ensures { CopiesAgain F.Feed feed.old feed.new D.Drain drain.old drain.new again result }
 {
     let mut passing = PassFeed::new(&mut *feed, again.passes.hashes);

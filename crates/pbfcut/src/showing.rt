@@ -155,11 +155,7 @@ fn write_text<F: Feed, D: Drain>(
 }
 
 /// Writes the lines of the first frame of a file, which is its header, and reads no further. A first frame of another type has no lines.
-pub fn show_first<F: Feed, D: Drain>(
-    alloc: Global,
-    feed: &mut F,
-    drain: &mut D,
-) -> Result<(), Stop>
+pub fn show_first<F: Feed, D: Drain>(alloc: Global, feed: &mut F, drain: &mut D) -> Result<(), Stop>
     // The drain took exactly the lines of the first frame, which has no fault.
     ensures shown { OnOk result (ShowsFirst D.Drain drain.old drain.new
         (judged_known false 0 (F.remaining feed.old))) }

@@ -235,12 +235,7 @@ fn with_both_files<'a>(command: Made<'a>, alloc: Global, help: &'a Help) -> Made
 }
 
 /// A command that writes a file, with its files.
-fn with_files<'a>(
-    command: Made<'a>,
-    alloc: Global,
-    program: Program,
-    help: &'a Help,
-) -> Made<'a>
+fn with_files<'a>(command: Made<'a>, alloc: Global, program: Program, help: &'a Help) -> Made<'a>
     requires local { IfOk command HasNoGlobals }
     ensures { IfOk result (IsWith (with_files program) command.entry) }
 {
@@ -290,34 +285,21 @@ fn convert<'a>(alloc: Global, program: Program, help: &'a Help) -> Made<'a>
 {
     let command = named(alloc, "convert", help::CONVERT, help.convert);
     let command = with_told(Ok(command), alloc, help.digests);
-    with_files(
-        with_raw(command, alloc, program),
-        alloc,
-        program,
-        help,
-    )
+    with_files(with_raw(command, alloc, program), alloc, program, help)
 }
 
 fn pack<'a>(alloc: Global, help: &'a Help) -> Made<'a>
     ensures { IfOk result (IsCommand pack_app) }
 {
     let command = named(alloc, "pack", help::PACK, help::AFTER_PACK);
-    with_any_files(
-        with_told(Ok(command), alloc, help.digests),
-        alloc,
-        help,
-    )
+    with_any_files(with_told(Ok(command), alloc, help.digests), alloc, help)
 }
 
 fn unpack<'a>(alloc: Global, help: &'a Help) -> Made<'a>
     ensures { IfOk result (IsCommand unpack_app) }
 {
     let command = named(alloc, "unpack", help::UNPACK, help::AFTER_UNPACK);
-    with_any_files(
-        with_told(Ok(command), alloc, help.digests),
-        alloc,
-        help,
-    )
+    with_any_files(with_told(Ok(command), alloc, help.digests), alloc, help)
 }
 
 fn info<'a>(alloc: Global, help: &'a Help) -> Made<'a>
@@ -391,12 +373,7 @@ fn writers<'a>(alloc: Global, program: Program, help: &'a Help) -> Made<'a>
 }
 
 /// The command line with the commands that write the same bytes in other blobs, if the program has them.
-fn with_packing<'a>(
-    command: Made<'a>,
-    alloc: Global,
-    program: Program,
-    help: &'a Help,
-) -> Made<'a>
+fn with_packing<'a>(command: Made<'a>, alloc: Global, program: Program, help: &'a Help) -> Made<'a>
     requires local { IfOk command HasNoGlobals }
     ensures { IfOk result (IsWith (with_packing program) command.entry) }
 {
@@ -410,12 +387,7 @@ fn with_packing<'a>(
 }
 
 /// The command line with `info`, if the program has it.
-fn with_info<'a>(
-    command: Made<'a>,
-    alloc: Global,
-    program: Program,
-    help: &'a Help,
-) -> Made<'a>
+fn with_info<'a>(command: Made<'a>, alloc: Global, program: Program, help: &'a Help) -> Made<'a>
     requires local { IfOk command HasNoGlobals }
     ensures { IfOk result (IsWith (with_info program) command.entry) }
 {
@@ -433,12 +405,7 @@ pub(crate) fn command_line<'a>(
 ) -> Result<Command<'a>, AllocError>
     ensures { IfOk result (IsCommand (program_app program)) }
 {
-    let command = with_packing(
-        writers(alloc, program, help),
-        alloc,
-        program,
-        help,
-    );
+    let command = with_packing(writers(alloc, program, help), alloc, program, help);
     let command = with_command(command, check(alloc, help));
     let command = with_command(command, show(alloc, help));
     let command = with_command(command, blobs(alloc, help));

@@ -36,12 +36,7 @@ fn choice_usage(fault: ChoiceFault) -> &'static str
 }
 
 /// The lines of an error of the command line, by its parts.
-fn error_lines(
-    alloc: Global,
-    program: &str,
-    error: &str,
-    usage: &str,
-) -> Result<String, AllocError>
+fn error_lines(alloc: Global, program: &str, error: &str, usage: &str) -> Result<String, AllocError>
     ensures { IfOk result (λ text. string_bytes text ≡ codes "error: " ++ error.now
         ++ codes "\n\nUsage: " ++ program.now ++ codes " " ++ usage.now
         ++ codes "\n\nFor more information, try '--help'.\n") }
@@ -59,12 +54,7 @@ pub(crate) fn choice_message(
 ) -> Result<String, AllocError>
     ensures { IfOk result (λ text. string_bytes text ≡ choice_text program.now fault) }
 {
-    error_lines(
-        alloc,
-        program,
-        choice_error(fault),
-        choice_usage(fault),
-    )
+    error_lines(alloc, program, choice_error(fault), choice_usage(fault))
 }
 
 /// A reason's number and name.

@@ -222,8 +222,7 @@ pub(crate) const OPTION: &str = "The file to write, in place of the last argumen
 
 pub(crate) const OVERWRITE: &str = "Replace OUT if it exists";
 
-pub(crate) const EXTRACT: &str =
-    "Cut a box or a polygon out of IN and write it to OUT, with complete ways";
+pub(crate) const EXTRACT: &str = "Cut a box or a polygon out of IN into OUT, with complete ways";
 
 pub(crate) const CONVERT: &str =
     "Write the header and all entities of IN to OUT, in one fixed form";

@@ -6,6 +6,9 @@ use pbfcut_cli::Ending;
 use std::fs::{self, File};
 use std::os::unix::fs::FileTypeExt;
 
+/// How many bytes a file has whose progress is shown on a terminal: ten million.
+const LONG: u64 = 10_000_000;
+
 /// IN, and whether the run reports how far it has come.
 #[derive(Clone, Copy)]
 pub struct Input<'a> {
@@ -27,6 +30,14 @@ fn length_of(file: &File) -> u64 {
     match file.metadata() {
         Ok(metadata) => metadata.len(),
         Err(_) => 0,
+    }
+}
+
+/// Whether a run over IN takes so long that its progress is shown on a terminal: some tenths of a second.
+pub fn is_long(rt: &HostRuntime, input: &str) -> bool {
+    match fs::metadata(rt, input) {
+        Ok(metadata) => metadata.len() >= LONG,
+        Err(_) => false,
     }
 }
 

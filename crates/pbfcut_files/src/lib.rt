@@ -11,9 +11,9 @@ mod polygon;
 mod progress;
 
 pub use failure::{Failure, Noted, Target};
-pub use files::{Input, open_pass};
+pub use files::{Input, is_long, open_pass};
 pub use hints::{Asked, tell_empty, tell_hint, tell_order};
-pub use polygon::read_polygon;
 pub use out::{OUTPUT_BUFFER, Output, Place, create_output, refuse_existing};
 pub use output::{Screen, print_help, report_refusal};
+pub use polygon::read_polygon;
 pub use progress::{Line, Watched, end_line};

@@ -35,7 +35,7 @@ impl Write for Sink {
     }
 }
 
-/// Where OUT is.
+/// The place of OUT.
 #[derive(Clone, Copy)]
 pub struct Place<'a> {
     pub program: Program,

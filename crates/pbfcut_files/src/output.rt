@@ -74,11 +74,7 @@ impl Screen {
     }
 
     /// Prints the digest of IN unpacked, if it is. The line is a comment to `sha256sum -c`, since there is no such file.
-    pub fn print_unpacked(
-        self,
-        rt: &HostRuntime,
-        digest: Option<[u8; 32]>,
-    ) -> Result<(), Failure> {
+    pub fn print_unpacked(self, rt: &HostRuntime, digest: Option<[u8; 32]>) -> Result<(), Failure> {
         let Some(digest) = digest else {
             return Ok(());
         };

@@ -3,8 +3,7 @@
 use osm_polygon::{Polygon, read_poly};
 use pbf_frame::Stop;
 use pbfcut_cli::Ending;
-use std::fs;
-use std::io;
+use std::{fs, io};
 
 /// The polygon of a `.poly` file.
 pub fn read_polygon(rt: &HostRuntime, path: &str) -> Result<Polygon, Ending> {

@@ -9,7 +9,7 @@ mod writers;
 use engine::Engine;
 use pbf_frame::Stop;
 use pbfcut_cli::{Command, Ending, Files, Program, normalize_words, read_words, status};
-use pbfcut_files::{Asked, Failure, Input, print_help, tell_hint, tell_order};
+use pbfcut_files::{Asked, Failure, Input, is_long, print_help, tell_hint, tell_order};
 use readers::{run_blobs, run_check, run_info, run_show};
 use std::env::{self, Env};
 use std::fs::File;
@@ -61,7 +61,7 @@ fn prints_digests(command: &Command<'_>) -> bool {
     }
 }
 
-/// Whether a command writes zlib blobs: of pbfcutz, unless raw ones are asked for.
+/// Whether a command writes zlib blobs: of pbfcutz, unless raw ones are wanted.
 fn packs(program: Program, command: &Command<'_>) -> bool {
     let raw = match command {
         Command::Convert(files) => files.raw,
@@ -72,14 +72,14 @@ fn packs(program: Program, command: &Command<'_>) -> bool {
     program == Program::Pbfcutz && !raw
 }
 
-/// Whether the progress of a run is shown: if that is asked for, and by pbfcutz also on a terminal.
-fn shows_progress(rt: &HostRuntime, program: Program, asked: bool) -> bool {
-    asked || program == Program::Pbfcutz && rt.stderr().is_terminal()
+/// Whether the progress of a run is shown: with `--progress`, and by pbfcutz also on a terminal, if IN is long.
+fn shows_progress(rt: &HostRuntime, program: Program, asked: bool, input: &str) -> bool {
+    asked || program == Program::Pbfcutz && rt.stderr().is_terminal() && is_long(rt, input)
 }
 
 /// A command that writes these files.
 fn writing<'a>(rt: &HostRuntime, engine: Engine, files: &'a Files<'a>) -> Writing<'a> {
-    let progress = shows_progress(rt, engine.program, files.progress);
+    let progress = shows_progress(rt, engine.program, files.progress, files.input);
     Writing::new(engine, files, progress)
 }
 
@@ -107,7 +107,7 @@ fn run(rt: &HostRuntime, engine: Engine, command: Command<'_>) -> Result<(), Fai
         } => {
             let input = Input {
                 path: *path,
-                progress: shows_progress(rt, engine.program, *progress),
+                progress: shows_progress(rt, engine.program, *progress, path),
             };
             run_check(rt, engine, input, *digests)
         }

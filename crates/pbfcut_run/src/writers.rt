@@ -99,13 +99,8 @@ struct Outcome {
     output: Option<[u8; 32]>,
 }
 
-/// Does a job, and hashes what it writes if that is asked for.
-fn write_out(
-    engine: Engine,
-    job: Job,
-    output: &mut Output,
-    hasher: RandomState,
-) -> Outcome {
+/// Does a job, and hashes what it writes if digests are wanted.
+fn write_out(engine: Engine, job: Job, output: &mut Output, hasher: RandomState) -> Outcome {
     let drain = &mut ToWrite::new(output.writer());
     if !engine.digests {
         return Outcome {
@@ -121,7 +116,7 @@ fn write_out(
     }
 }
 
-/// A command that writes: its program, its files, and where OUT goes.
+/// A command that writes: its program, its files, and the place of OUT.
 #[derive(Clone, Copy)]
 pub(crate) struct Writing<'a> {
     engine: Engine,
@@ -154,12 +149,7 @@ impl<'a> Writing<'a> {
 
     /// Writes to OUT what is left in its buffer, even after a stop, and prints what the call reports if it didn't stop: then OUT has its
     /// name. Returns the counts.
-    fn end(
-        self,
-        rt: &HostRuntime,
-        output: Output,
-        outcome: Outcome,
-    ) -> Result<Counts, Failure> {
+    fn end(self, rt: &HostRuntime, output: Output, outcome: Outcome) -> Result<Counts, Failure> {
         let mut output = output;
         end_line(rt, self.input.progress);
         let flushed = output.flush();
@@ -169,12 +159,7 @@ impl<'a> Writing<'a> {
             Err(halted) => {
                 output.discard(rt);
                 if self.engine.digests {
-                    report_refusal(
-                        rt,
-                        self.engine.program,
-                        halted.refusal,
-                        self.files.input,
-                    )?;
+                    report_refusal(rt, self.engine.program, halted.refusal, self.files.input)?;
                 }
                 return Err(Failure::from(halted.ending).noting(Target::Out, code));
             }
