@@ -12,6 +12,7 @@ import os
 import random
 import re
 import resource
+import shutil
 import signal
 import subprocess
 import sys
@@ -28,6 +29,9 @@ ENDS = [signal.SIGTERM, signal.SIGINT, signal.SIGHUP, signal.SIGQUIT]
 SECONDS = 120
 # A ring round the same places as the box of CUT, in the form in which such files are published.
 RING = "town\n1\n   9.997E+00   4.9999E+01\n   10.003   49.999\n   10.003   50.003\n   9.997   50.003\n   9.997   49.999\nEND\nEND\n"
+# Other programs, and how each prints what it reads.
+READERS = {"osmium": ["cat", "--no-progress", "-f", "opl", "FILE"], "ogrinfo": ["-ro", "-al", "FILE"],
+           "osmosis": ["-q", "--read-pbf", "FILE", "--write-xml", "-"]}
 COMMANDS = {"extract": ["--box", "--polygon", "--parents", "--progress", "--digests", "--raw", "--output", "--overwrite"],
             "convert": ["--progress", "--digests", "--raw", "--output", "--overwrite"],
             "pack": ["--progress", "--digests", "--output", "--overwrite"], "unpack": ["--progress", "--digests", "--output", "--overwrite"],
@@ -291,6 +295,21 @@ def signals(bench: Bench):
         os.unlink(bench.path(name))
 
 
+def readers(bench: Bench):
+    """Other programs read the same in a compressed extract as in its raw twin."""
+    bench.write("raw.osm.pbf", bench.cut)
+    bench.case([*CUT, "in", "packed.osm.pbf"], out=COUNTS, left=("packed.osm.pbf",))
+    for program, words in READERS.items():
+        if shutil.which(program):
+            bench.count += 1
+            read = [subprocess.run([program, *(word.replace("FILE", name) for word in words)], cwd=bench.folder, capture_output=True, check=True,
+                                   timeout=SECONDS).stdout.replace(name.encode(), b"FILE") for name in ("raw.osm.pbf", "packed.osm.pbf")]
+            expect(f"what {program} reads", read[0], read[1])
+            expect(f"{program} reads something", True, len(read[0]) > 500)
+    for name in "raw.osm.pbf", "packed.osm.pbf":
+        os.unlink(bench.path(name))
+
+
 def pages(bench: Bench):
     """Help, the manual page and the completions name each command and each option."""
     with open(os.path.join(TOP, "docs", "pbfcutz.1"), encoding="utf-8") as file:
@@ -316,7 +335,7 @@ def main():
         sys.exit(__doc__)
     with tempfile.TemporaryDirectory(prefix="pbfcut-outputs-") as folder, tempfile.TemporaryDirectory() as elsewhere:
         bench = Bench(sys.argv[1], folder, elsewhere)
-        for part in [copies, headers, options, names, closed, disks, signals, pages]:
+        for part in [copies, headers, options, names, closed, disks, signals, readers, pages]:
             part(bench)
     print(f"tests/outputs.py: {bench.count} cases as they have to be")
 

@@ -1,3 +1,4 @@
 pub mod PublishedLemmas
 pub mod TracedLemmas
 pub mod PackingLemmas
+mod ShowingLemmas
