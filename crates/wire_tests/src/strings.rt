@@ -71,26 +71,36 @@ fn empty_texts(alloc: Global, count: usize) -> Result<Vec<u8>, AllocError> {
     Ok(message)
 }
 
-#[test]
-fn as_many_texts_as_may_be(rt: HostRuntime) -> Result<(), Fail> {
-    let most = empty_texts(rt.alloc(), MOST_TEXTS)?;
-    assert!(rt; most.len() < 33_554_432);
-    match Table::read(rt.alloc(), &most, 42, 40) {
-        Ok(table) => {
-            assert_eq!(rt; table.len(), 1_048_576);
-            assert_eq!(rt; table.held(), 4_194_304);
-        }
-        Err(_) => panic!(rt; "the table is refused"),
-    }
-    let more = empty_texts(rt.alloc(), MOST_TEXTS + 1)?;
-    assert!(rt; more.len() < 33_554_432);
+/// Whether a table of as many texts as may be is read.
+fn reads_most(alloc: Global, most: &[u8]) -> bool {
+    most.len() < 33_554_432
+        && matches!(Table::read(alloc, most, 42, 40), Ok(table) if table.len() == 1_048_576 && table.held() == 4_194_304)
+}
+
+/// Whether one of so many texts is refused, by the reader and by the judge.
+fn refuses_more(alloc: Global, more: &[u8]) -> bool {
     let many = Fault {
         offset: 40,
         reason: Reason::TooManyStrings,
     };
-    let read = Table::read(rt.alloc(), &more, 42, 40);
-    assert!(rt; matches!(read, Err(ReadFault::Refused(fault)) if fault == many));
-    assert_eq!(rt; Table::judge_count(&more, 40), Err(many));
+    more.len() < 33_554_432
+        && matches!(Table::read(alloc, more, 42, 40), Err(ReadFault::Refused(fault)) if fault == many)
+        && Table::judge_count(more, 40) == Err(many)
+}
+
+fn most_are_read(alloc: Global) -> Result<bool, AllocError> {
+    let most = empty_texts(alloc, MOST_TEXTS)?;
+    Ok(reads_most(alloc, &most))
+}
+
+fn more_are_refused(alloc: Global) -> Result<bool, AllocError> {
+    let more = empty_texts(alloc, MOST_TEXTS + 1)?;
+    Ok(refuses_more(alloc, &more))
+}
+
+#[test]
+fn as_many_texts_as_may_be(rt: HostRuntime) -> Result<(), Fail> {
+    assert!(rt; most_are_read(rt.alloc())? && more_are_refused(rt.alloc())?);
     Ok(())
 }
 
@@ -117,28 +127,46 @@ fn written(
     Ok(out)
 }
 
-/// Whether the table has the four texts, once it has numbered them, and numbers them again after it is cleared.
-fn numbers_four_texts(alloc: Global) -> Result<bool, AllocError> {
+/// Whether the table numbers the four texts, and writes them so.
+fn numbers_four_texts(
+    alloc: Global,
+    table: &mut TableOut<BuildHasherDefault<FoldHasher>>,
+) -> Result<bool, AllocError> {
     const GIVEN: [(&'static [u8], u32); 4] = [
         (b"highway", 1),
         (b"stop", 2),
         (b"highway", 1),
         (b"ann", 3),
     ];
-    let mut table = writer(alloc);
-    if !gives(&mut table, &GIVEN)? || table.len() != 3 || table.held() != 26 {
-        return Ok(false);
-    }
-    if written(alloc, &table)?.as_slice() != FOUR_TEXTS.as_slice() {
-        return Ok(false);
-    }
+    Ok(
+        gives(table, &GIVEN)?
+            && table.len() == 3
+            && table.held() == 26
+            && written(alloc, table)?.as_slice() == FOUR_TEXTS.as_slice(),
+    )
+}
+
+/// Whether it numbers them again after it is cleared.
+fn numbers_again(table: &mut TableOut<BuildHasherDefault<FoldHasher>>) -> Result<bool, AllocError> {
     table.clear();
-    Ok(table.is_empty() && gives(&mut table, &[(b"stop", 1)])?)
+    Ok(table.is_empty() && gives(table, &[(b"stop", 1)])?)
+}
+
+fn numbers_twice(
+    alloc: Global,
+    table: &mut TableOut<BuildHasherDefault<FoldHasher>>,
+) -> Result<bool, AllocError> {
+    Ok(numbers_four_texts(alloc, table)? && numbers_again(table)?)
+}
+
+fn numbers_texts(alloc: Global) -> Result<bool, AllocError> {
+    let mut table = writer(alloc);
+    numbers_twice(alloc, &mut table)
 }
 
 #[test]
 fn texts_in_order_of_first_use(rt: HostRuntime) -> Result<(), Fail> {
-    assert!(rt; numbers_four_texts(rt.alloc())?);
+    assert!(rt; numbers_texts(rt.alloc())?);
     Ok(())
 }
 
