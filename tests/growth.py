@@ -15,7 +15,10 @@ NAME runs the shapes whose names begin so; --table prints what each run took.
 """
 
 import ast
+import math
 import os
+import random
+import shutil
 import struct
 import sys
 import tempfile
@@ -319,6 +322,46 @@ ZLIB_SHAPES = {
     "a blob without raw_size": (lambda size: [block(nodes(40_000 * size))], lambda frames, size: zlib_file(frames, has_size=False), True),
 }
 
+# ---- polygons
+
+
+def scattered(count: int) -> list:
+    """Nodes all over a square of a degree."""
+    chance = random.Random(1)
+    place = [[chance.randrange(10_000_000) for _ in range(count)] for _ in range(2)]
+    return [block(dense(growing(count), deltas(place[0]), deltas(place[1])))]
+
+
+def ring(edges: int, inner: float) -> bytes:
+    """A ring round the middle of that square, of which each second place lies this far from it."""
+    lines = []
+    for number in range(edges):
+        angle, far = 2 * math.pi * number / edges, 0.45 if number % 2 else inner
+        lines.append(f" {0.5 + far * math.cos(angle):.9f} {0.5 + far * math.sin(angle):.9f}\n")
+    return ("ring\n1\n" + "".join(lines) + "END\nEND\n").encode()
+
+
+# by the size: the nodes, and the ring. An edge of a coast crosses few latitudes, and each edge of a star nearly all; so a star takes as long as
+# its edges and the nodes, multiplied
+POLYGONS = {
+    "coast of more edges": (lambda size: scattered(10_000), lambda size: ring(8_000 * size, 0.4499)),
+    "coast with more nodes": (lambda size: scattered(40_000 * size), lambda size: ring(10_000, 0.4499)),
+    "star of more edges": (lambda size: scattered(10_000), lambda size: ring(200 * size, 0.01)),
+    "star with more nodes": (lambda size: scattered(10_000 * size), lambda size: ring(200, 0.01)),
+}
+# an edge of a ring may cost as much as hashing so many bytes, and each node that a star is asked for so many for each of its edges
+EDGE, ASKED = 1_500, 2
+
+
+def polygon_files(shape: str, size: int) -> dict:
+    make_nodes, make_ring = POLYGONS[shape]
+    text = make_ring(size)
+    raw = raw_file(make_nodes(size))
+    edges = text.count(b"\n")
+    asked = len(raw) // 8 * edges * ASKED if shape.startswith("star") else 0
+    return {"pbfcut": (raw, edges * EDGE + asked), "ring": (text, 0)}
+
+
 # ---- the runs
 
 # what follows the program, and how often it reads IN at most
@@ -328,13 +371,20 @@ COMMANDS = {
     "convert": (["convert", "in", "out"], 2),
     "extract": (["extract", "--box=0,0,1,1", "in", "out"], 3),
     "extract --parents": (["extract", "--parents", "--box=0,0,1,1", "in", "out"], 4),
+    "extract --polygon": (["extract", "--polygon=ring", "in", "out"], 3),
+    "pack": (["pack", "in", "out"], 2),
+    "unpack": (["unpack", "in", "out"], 2),
 }
+# those of any file, and those that only pbfcutz has
+ANY, ZLIB_ONLY = ("check", "show", "convert", "extract", "extract --parents"), ("pack", "unpack")
 # what these say in full is longer than the file by far
 NOT_SHOWN = {nodes_of_a_long_user, a_long_key_in_each_node, a_long_key_in_each_way}
 
 
 def files_of(shape, size: int) -> dict:
     """The files of a shape, each with how many bytes it unpacks to: for pbfcut and for pbfcutz, or for pbfcutz alone and in the usual form."""
+    if shape in POLYGONS:
+        return polygon_files(shape, size)
     if callable(shape):
         frames = shape(size)
         raw = raw_file(frames)
@@ -429,6 +479,8 @@ class Row:
         second_per_byte = run("pbfcut", ["check", "--digests", "in"], "passed.over")[0] / PASSED_OVER
         last = memory_last = None
         for size in SIZES:
+            if "--polygon=ring" in self.words:
+                shutil.copyfile(f"ring.{size}", "ring")
             seconds, memory, written = run(self.file, self.words, f"{self.file}.{size}")
             self.least(self.seconds, size, seconds)
             self.least(self.memory, size, memory)
@@ -466,9 +518,9 @@ def rows_of(shape) -> list:
     for size in SIZES:
         read.update(made_apart(lambda: {f"{name}.{size}": made for name, made in files_of(shape, size).items()}))
     name = shape.__name__.replace("_", " ") if callable(shape) else shape
-    commands = [command for command in COMMANDS if not (shape in NOT_SHOWN and command == "show")]
+    commands = ["extract --polygon"] if shape in POLYGONS else [command for command in ANY if not (shape in NOT_SHOWN and command == "show")]
     programs = [program for program in ("pbfcut", "pbfcutz") if f"{program}.{SIZES[0]}" in read]
-    rows = [Row(name, program, command, read) for program in programs for command in commands]
+    rows = [Row(name, program, command, read) for program in programs for command in commands + list(ZLIB_ONLY if program == "pbfcutz" else ())]
     for row in rows:
         row.run()
         for _ in range(TRIES):
@@ -488,7 +540,7 @@ def main():
         for name in ("pbfcut", "pbfcutz"):
             os.symlink(program, name)
         made_apart(lambda: {"passed.over": (EMPTY_HEADER + framed(b"Other", bytes(PASSED_OVER)), 0)})
-        for shape in SHAPES + list(ZLIB_SHAPES):
+        for shape in SHAPES + list(ZLIB_SHAPES) + list(POLYGONS):
             if names and not (shape.__name__ if callable(shape) else shape).startswith(names):
                 continue
             try:
