@@ -13,8 +13,7 @@ use Rattle.osm_ids.specs.Pages.{Rises, IsRising}
 use Rattle.osm_ids.specs.Order.{AreLate}
 use Rattle.osm_ids.specs.Merging.{merged, AreApart, IsMerging}
 use Rattle.osm_ids.proofs.Sets.{Ids, ids_of, contains-ids_of, ids_of-insert_key, or_swap}
-use Rattle.osm_ids.proofs.Rising.{rising_tail, insert_rises, insert_rising, or_none}
-use Rattle.osm_ids.proofs.Found.{rises_from}
+use Rattle.osm_ids.proofs.Rising.{rising_tail, rises_from, insert_rises, insert_rising, or_none}
 use Rattle.osm_ids.proofs.OrderLemmas.{with_late, contains-with_late, same_ids, none_late, or_assoc}
 
 -- ---- if an id is inserted

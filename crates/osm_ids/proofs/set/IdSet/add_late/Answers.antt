@@ -13,14 +13,14 @@ use Rattle.osm_ids.proofs.set.IdSet.add_late.Goals as goal
 
 pub has-requires : goal.has-requires
 has-requires c =
-    let laid = c.self.inside.laid in
+    let laid = c.self.inside.pages in
     let id = c.args.id in
     subst (IsReached laid) (sym (to_z-of_z w64 id c.ranges.id))
     (reached_laid laid c.self.inside.late.keys id c.self.invariant (subst (λ (s : Ids). IsReached s id) (sym c.self.view_is) c.requires))
 
 pub returns-then-has-clause-new : goal.returns-then-has-clause-new
 returns-then-has-clause-new c =
-    let laid = c.self.inside.laid in
+    let laid = c.self.inside.pages in
     let id = c.args.id in
     let same = to_z-of_z w64 id c.ranges.id in
     let here : set.contains laid id ≡ true = sym (c.has.ensures.found ∙ ap (set.contains laid) same) ∙ c.if-has.true in
@@ -28,7 +28,7 @@ returns-then-has-clause-new c =
 
 pub returns-then-has-clause-ok : goal.returns-then-has-clause-ok
 returns-then-has-clause-ok c =
-    let laid = c.self.inside.laid in
+    let laid = c.self.inside.pages in
     let id = c.args.id in
     let same = to_z-of_z w64 id c.ranges.id in
     let here : set.contains laid id ≡ true = sym (c.has.ensures.found ∙ ap (set.contains laid) same) ∙ c.if-has.true in
@@ -38,7 +38,7 @@ returns-then-has-clause-ok c =
 
 pub invariant_of-self-2 : goal.invariant_of-self-2
 invariant_of-self-2 c =
-    let laid = c.self.inside.laid in
+    let laid = c.self.inside.pages in
     let late = c.self.inside.late.keys in
     let id = c.args.id in
     let same = to_z-of_z w64 id c.ranges.id in
@@ -49,7 +49,7 @@ invariant_of-self-2 c =
 
 pub returns-clause-new : goal.returns-clause-new
 returns-clause-new c =
-    let laid = c.self.inside.laid in
+    let laid = c.self.inside.pages in
     let late = c.self.inside.late.keys in
     let id = c.args.id in
     let same = to_z-of_z w64 id c.ranges.id in
@@ -60,7 +60,7 @@ returns-clause-new c =
 
 pub returns-clause-ok : goal.returns-clause-ok
 returns-clause-ok c =
-    let laid = c.self.inside.laid in
+    let laid = c.self.inside.pages in
     let late = c.self.inside.late.keys in
     let same = to_z-of_z w64 c.args.id c.ranges.id in
     ap (λ (s : Ids). with_late s c.insert.new.self.keys) c.has.ensures.same

@@ -6,14 +6,14 @@ use Rattle.osm_ids.proofs.MergeLemmas.{late_apart, ids_of-merged, merged_rising}
 use Rattle.osm_ids.proofs.set.IdSet.rising.Goals as goal
 
 pub new-requires-clause-apart : goal.new-requires-clause-apart
-new-requires-clause-apart c = late_apart c.self.inside.laid c.self.inside.late.keys c.walk.result c.self.invariant (c.walk.ensures.same ∙ c.ids.ensures)
+new-requires-clause-apart c = late_apart c.self.inside.pages c.self.inside.late.keys c.walk.result c.self.invariant (c.walk.ensures.same ∙ refl)
 
 pub returns-clause-same : goal.returns-clause-same
 returns-clause-same c =
     let late = c.self.inside.late.keys in
     ap ids_of c.new.ensures
     ∙ ids_of-merged late c.walk.result
-    ∙ ap (λ (s : Ids). with_late s late) (c.walk.ensures.same ∙ c.ids.ensures)
+    ∙ ap (λ (s : Ids). with_late s late) (c.walk.ensures.same ∙ refl)
     ∙ c.self.view_is
 
 pub returns-clause-rising : goal.returns-clause-rising
