@@ -1,5 +1,5 @@
 -- The page that an id can be in.
-use Rattle.std.proofs.Common.{◌≡◌, ℕ, zero, suc, ◌+◌, ◌-◌, ◌*◌, ◌<◌, ◌≤◌, ◌⊎◌, true, false, List, [], ◌∷◌, ◌++◌, length, take, drop, get_or, ℤ, pos, ◌+ℤ◌, ◌<ℤ◌, ◌≤ℤ◌, int_le, inl, inr, refl, sym, ap, subst, ◌∙◌, arith, length-append}
+use Rattle.std.proofs.Common.{◌≡◌, ℕ, zero, suc, ◌+◌, ◌-◌, ◌*◌, ◌<◌, ◌≤◌, ◌⊎◌, true, false, List, [], ◌∷◌, ◌++◌, length, take, drop, get_or, ℤ, pos, ◌+ℤ◌, ◌<ℤ◌, ◌≤ℤ◌, int_le, inl, inr, refl, sym, ap, subst, ◌∙◌, arith, length-append, append_assoc, true≢false, Bool, ◌||◌}
 use Rattle.std.specs.List.{list_any}
 use Rattle.std.specs.List.Sorted.{IsPartitionedBy}
 use Rattle.std.specs.Ordering.{int_eq}
@@ -8,15 +8,16 @@ use Rattle.std.proofs.lemmas.Int.{ints}
 use Rattle.std.proofs.lemmas.Bool.{false_from_ne_true}
 use Rattle.std.proofs.lemmas.Grind.{flat_map-append}
 use Rattle.std.proofs.lemmas.List.{get_or_default, get_or-take, append-nil, take_all}
+use Rattle.std.proofs.lemmas.List.Folds.{list_any-append}
 use Rattle.std.proofs.Math.Seq.{drop-append_seam, take-append_seam}
 use Rattle.osm_ids.specs.declared.index.PageStart.{PageStart}
 use Rattle.osm_ids.specs.declared.page.PageIds.{PageIds}
 use Rattle.osm_ids.specs.Index.{IsPassedAt, BeginFrom, IsRead, set_in}
-use Rattle.osm_ids.specs.Windows.{IsKept, IsPageOf, held, first_held}
+use Rattle.osm_ids.specs.Windows.{IsKept, IsNext, IsPageOf, held, first_held}
 use Rattle.osm_ids.specs.Pages.{Page, page_ids, page_bytes, last_of, ids_of_pages, bytes_of_pages, starts_from, Rises, IsRising, AllFit, HasFullPages, IsSealed, IsSpelled, ids_in}
 use Rattle.osm_ids.proofs.Sets.{contains-ids_of}
 use Rattle.osm_ids.proofs.Laid.{ids_in_sealed, fits_front, fits_back}
-use Rattle.osm_ids.proofs.Rising.{other_above, rises_front, rises_skip, rising_back, rising_tail, none_below, none_above, any_in_middle, any_of_middle, any_in_last, first_among, last_among}
+use Rattle.osm_ids.proofs.Rising.{other_above, rises_front, rises_skip, rising_back, rising_tail, none_below, none_above, any_in_middle, any_of_middle, any_in_last, first_among, last_among, all_last, cases_order}
 
 pub le_true : (a b : ℤ) → int_le a b ≡ true → a ≤ℤ b
 le_true a b e = grind (arith, ints)
@@ -131,12 +132,6 @@ none_at_all index bytes pages id n sealed point zero_is =
     let first : (get_or index 0 d).first ≡ page.first = ap (λ (i : List PageStart). (get_or i 0 d).first) starts in
     le_false page.first id (ap (λ z. int_le z id) (sym first) ∙ point.1 0 d (omega arith) (omega (arith, ap length starts))) in
     ap (list_any (int_eq id)) (ids_in_sealed index bytes pages sealed) ∙ none_in pages id sealed.rising above
-
--- each page but the last has 128 ids
-pub filled_at : (before : List Page) (page later : Page) (rest : List Page) → HasFullPages (before ++ page ∷ later ∷ rest) → length page.others ≡ 127
-filled_at [] page later rest h = h.0
-filled_at (p ∷ []) page later rest h = h.1.0
-filled_at (p ∷ q ∷ before) page later rest h = filled_at (q ∷ before) page later rest h.1
 
 -- where the bytes of the page end
 abbrev pub EndsAt : List PageStart → List ℕ → ℕ → ℕ → Type 0
@@ -284,12 +279,30 @@ module _ (index : List PageStart) (bytes : List ℕ) (pages : List Page) (sealed
       let next = next_first later rest e in
       le_false later.first id (ap (λ z. int_le z id) (sym (next.1 d)) ∙ point.1 (suc j) d (omega arith) next.0)
 
+not_either : (a b : Bool) → b ≡ true → (a || b) ≡ false → ⊥
+not_either true b e h = true≢false h
+not_either false b e h = true≢false (sym e ∙ h)
+
+-- and less than one that comes after them
+pub all_below : (front ids : List ℤ) (low x : ℤ) (back : List ℤ) → IsRising (front ++ (ids ++ low ∷ back)) → list_any (int_eq x) ids ≡ true → x <ℤ low
+all_below front ids low x back rising there =
+    elim (cases_order x low) [
+      | inl below ↦ below
+      | inr more ↦
+          let high : low ≤ℤ x = elim more [
+            | inl above ↦ omega (arith, ints)
+            | inr same ↦ omega (arith, ints)
+          ] in
+          let none = none_below (front ++ ids) low back x (subst IsRising (sym (append_assoc front ids (low ∷ back))) rising) high in
+          absurd (not_either _ _ there (sym (list_any-append (int_eq x) front ids) ∙ none))
+    ]
+
 -- ---- a page that was read
 
 -- which number it reaches to
 pub record Reaches (index : List PageStart) (j : ℕ) (first : ℤ) (others : List ℤ) (below : ℤ) : Type 0 where
   pub next : suc j < length index → (d : PageStart) → below ≡ (get_or index (suc j) d).first
-  pub last : length index ≤ suc j → below ≤ℤ (last_of first others +ℤ pos 1)
+  pub last : length index ≤ suc j → IsNext (last_of first others) below
 
 first_is : (page : PageIds) (ids : List ℤ) (first : ℤ) → 0 < page.count → held page ≡ first ∷ ids → first_held page ≡ first
 first_is page ids first some e = sym (get_or-take page.count page.ids 0 (pos 0) some) ∙ ap (λ (l : List ℤ). get_or l 0 (pos 0)) e
@@ -304,6 +317,18 @@ is_kept index bytes pages sealed j lt p some few e reach =
       rising = subst IsRising (sym e) rises;
       within = few;
       some = λ _. some;
+      top = λ id there.
+          let among = ap (list_any (int_eq id)) (sym e) ∙ there in
+          elim at.next [
+            | inl end ↦ let up = (reach.last (omega (arith, end.1, ap length sealed.starts))).low in let most = all_last this.first this.others id rises among in omega (arith, ints, up, most)
+            | inr more ↦
+                let d : PageStart = record { first = more.0.first; place = 0 } in
+                let next = next_first index bytes pages sealed j lt more.0 more.1 more.2 in
+                let up : p.below ≡ more.0.first = reach.next next.0 d ∙ next.1 d in
+                let order = subst (λ (l : List Page). IsRising (ids_of_pages at.before ++ (page_ids this ++ ids_of_pages l))) more.2 (subst IsRising (parts index bytes pages sealed j lt) sealed.rising) in
+                let less = all_below (ids_of_pages at.before) (page_ids this) more.0.first id _ order among in
+                omega (arith, ints, up, less)
+          ];
       inside = λ id there. among index bytes pages sealed j lt id (ap (list_any (int_eq id)) (sym e) ∙ there);
       answer = λ id low high.
           answered index bytes pages sealed j lt id (omega (arith, ints, first, low)) (λ later rest is.
@@ -317,7 +342,7 @@ is_kept index bytes pages sealed j lt p some few e reach =
             | inl end ↦ (
               last_of this.first this.others,
               among index bytes pages sealed j lt _ (last_among this.first this.others),
-              let up = reach.last (omega (arith, end.1, ap length sealed.starts)) in omega (arith, ints, up, high),
+              let up = (reach.last (omega (arith, end.1, ap length sealed.starts))).high in omega (arith, ints, up, high),
             )
             | inr more ↦
                 let d : PageStart = record { first = more.0.first; place = 0 } in
@@ -341,7 +366,7 @@ is_page_of index bytes pages sealed j lt p id some few e reach point =
     let low = passed_low index bytes pages sealed j lt id point in
     record {
       kept = is_kept index bytes pages sealed j lt p some few e reach;
-      begun = record { some = some; within = few; low = omega (arith, ints, first, low) };
+      begun = record { rising = subst IsRising (sym e) (rises_front this.first this.others (after index bytes pages sealed j lt) (rising index bytes pages sealed j lt)); some = some; within = few; low = omega (arith, ints, first, low) };
       answer = answered index bytes pages sealed j lt id low (passed_above index bytes pages sealed j lt id point) ∙ ap (list_any (int_eq id)) (sym e);
     }
 

@@ -11,3 +11,6 @@ pub mod Laying
 pub mod Found
 pub mod Whole
 pub mod Reading
+pub mod Rounds
+pub mod Remembering
+pub mod Walking

@@ -1,5 +1,5 @@
 -- What look-ups in a set learnt.
-use Rattle.std.specs.Prelude.{◌≡◌, ℕ, ◌<◌, ◌≤◌, ◌-◌, List, take, get_or, ℤ, pos, ◌<ℤ◌, ◌≤ℤ◌, ◌-ℤ◌, nat_abs, true, false}
+use Rattle.std.specs.Prelude.{◌≡◌, ℕ, ◌<◌, ◌≤◌, ◌-◌, List, take, get_or, ℤ, pos, ◌<ℤ◌, ◌≤ℤ◌, ◌+ℤ◌, ◌-ℤ◌, nat_abs, true, false}
 use Rattle.std.specs.List.{list_any, AllByRecursion}
 use Rattle.std.specs.Ordering.{int_eq, int_cmp}
 use Rattle.std.specs.FinSet as set
@@ -44,12 +44,14 @@ pub record IsKept (ids : set.FinSet int_cmp) (page : PageIds) : Type 0 where
   pub rising : IsRising (held page)
   pub within : page.count ≤ 128
   pub some : first_held page <ℤ page.below → 0 < page.count
+  pub top : (id : ℤ) → list_any (int_eq id) (held page) ≡ true → id ≤ℤ page.below
   pub inside : (id : ℤ) → list_any (int_eq id) (held page) ≡ true → set.contains ids id ≡ true
   pub answer : (id : ℤ) → first_held page ≤ℤ id → id <ℤ page.below → set.contains ids id ≡ list_any (int_eq id) (held page)
   pub reached : (id : ℤ) → first_held page ≤ℤ id → id <ℤ page.below → IsReached ids id
 
 -- the page has ids, and the first of them isn't above this one
 pub record IsBegun (page : PageIds) (id : ℤ) : Type 0 where
+  pub rising : IsRising (held page)
   pub some : 0 < page.count
   pub within : page.count ≤ 128
   pub low : first_held page ≤ℤ id
@@ -59,6 +61,11 @@ pub record IsPageOf (ids : set.FinSet int_cmp) (id : ℤ) (page : PageIds) : Typ
   pub kept : IsKept ids page
   pub begun : IsBegun page id
   pub answer : set.contains ids id ≡ list_any (int_eq id) (held page)
+
+-- the number after another, or the same
+pub record IsNext (number next : ℤ) : Type 0 where
+  pub low : number ≤ℤ next
+  pub high : next ≤ℤ (number +ℤ pos 1)
 
 -- between two places of a list lie as many steps as numbers
 abbrev pub IsRun : List ℤ → ℕ → ℕ → Type 0

@@ -1,11 +1,11 @@
 //! The ids of one page, as numbers.
 
-ghost use Rattle.std.specs.Prelude.{◌≡◌, ◌<◌, ◌≤◌, ◌<ℤ◌, ◌≤ℤ◌, ◌+ℤ◌, pos, int_lt, length, List, [], ◌∷◌, ℤ, IsTrue};
+ghost use Rattle.std.specs.Prelude.{◌≡◌, ◌<◌, ◌≤◌, ◌<ℤ◌, ◌≤ℤ◌, int_lt, length, List, [], ◌∷◌, ℤ, IsTrue};
 ghost use Rattle.std.specs.List.{list_any};
 ghost use Rattle.std.specs.Ordering.{int_eq, int_cmp};
 ghost use Rattle.std.specs.FinSet as set;
-ghost use Rattle.osm_ids.specs.Pages.{IsRising, IsSpelled, last_of};
-ghost use Rattle.osm_ids.specs.Windows.{IsBegun, IsKept, IsKnown, IsRun, Tells, held, first_held};
+ghost use Rattle.osm_ids.specs.Pages.{IsSpelled, last_of};
+ghost use Rattle.osm_ids.specs.Windows.{IsBegun, IsKept, IsKnown, IsNext, IsRun, Tells, held, first_held};
 
 use crate::pages::SealedIds;
 use pbf_wire::{Span, get_varint};
@@ -75,8 +75,7 @@ impl PageIds {
     /// Whether an id that isn't below the first is one of these, and ids round it of which the same holds.
     fn round(&self, id: i64) -> Known
         requires { IsBegun self.now id }
-        ensures there { IsRising (held self.now)
-            → result.there ≡ list_any (int_eq id) (held self.now) }
+        ensures there { result.there ≡ list_any (int_eq id) (held self.now) }
         ensures known { (ids : set.FinSet int_cmp) → IsKept ids self.now → IsKnown ids result }
     {
         let ids = &self.ids[..self.count];
@@ -89,7 +88,7 @@ impl PageIds {
         }
         let from = run_before(ids, at);
         let to = run_after(ids, at);
-        told(true, ids[from].saturating_sub(1), ids[to].saturating_add(1))
+        told(true, before(ids[from]), after(ids[to]))
     }
 }
 
@@ -98,6 +97,28 @@ fn is_below(other: &i64, id: i64) -> bool
     ensures { result ≡ int_lt other.now id }
 {
     *other < id
+}
+
+/// The number before another, if there is one.
+fn before(number: i64) -> i64
+    ensures { (x : ℤ) → result <ℤ x → number ≤ℤ x }
+{
+    if number == i64::MIN {
+        number
+    } else {
+        number - 1
+    }
+}
+
+/// The number after another, if there is one.
+fn after(number: i64) -> i64
+    ensures { IsNext number result }
+{
+    if number == i64::MAX {
+        number
+    } else {
+        number + 1
+    }
 }
 
 /// The place of the first of the ids that rise by one up to a place.
@@ -132,7 +153,7 @@ pub(crate) fn read_page(first: i64, bytes: &[u8]) -> PageIds
     ensures ids { (others : List ℤ) → IsSpelled first others bytes.now
         → held result ≡ first ∷ others }
     ensures below { (others : List ℤ) → IsSpelled first others bytes.now
-        → result.below ≤ℤ (last_of first others +ℤ pos 1) }
+        → IsNext (last_of first others) result.below }
 {
     let mut ids = [0; 128];
     ids[0] = first;
@@ -152,6 +173,6 @@ pub(crate) fn read_page(first: i64, bytes: &[u8]) -> PageIds
     PageIds {
         ids,
         count,
-        below: last.saturating_add(1),
+        below: after(last),
     }
 }

@@ -1,9 +1,10 @@
-use Rattle.std.proofs.Common.{◌≡◌, ◌<◌, ◌≤◌, ◌-◌, ◌+ℤ◌, ◌≤ℤ◌, suc, List, ℤ, pos, ◌∷◌, length, get_or, take, drop, to_z, of_z, ap, sym, subst, ◌∙◌, arith, rules, w64}
+use Rattle.std.proofs.Common.{◌≡◌, ◌<◌, ◌≤◌, ◌-◌, suc, List, ℤ, pos, ◌∷◌, length, get_or, take, drop, to_z, of_z, ap, sym, subst, ◌∙◌, arith, rules, w64}
 use mir.Val.{SFits}
 use Rattle.std.proofs.lemmas.Int.{to_z-of_z}
 use Rattle.std.proofs.lemmas.List.{get_or_default}
 use Rattle.osm_ids.specs.declared.index.PageStart.{PageStart}
 use Rattle.osm_ids.specs.Pages.{IsSpelled, last_of}
+use Rattle.osm_ids.specs.Windows.{IsNext}
 use Rattle.osm_ids.proofs.Found.{page, cut_ids, same_page, Reaches, is_read}
 use Rattle.osm_ids.proofs.index.read_before.Goals as goal
 
@@ -45,9 +46,9 @@ returns-else-begun-index c =
     let ids = c.read_page-page.ensures.ids held.0 spelled ∙ ap (λ z. z ∷ held.0) same ∙ held.2 in
     let this = page index bytes _ sealed (begun - 1) lt in
     let alike = same_page this start.first held.0 (held.2 ∙ cut_ids index bytes _ sealed (begun - 1) lt) in
-    let low = subst (λ z. c.read_page-page.result.below ≤ℤ (last_of z held.0 +ℤ pos 1)) (same ∙ alike.0) (c.read_page-page.ensures.below held.0 spelled) in
+    let low = subst (λ z. IsNext (last_of z held.0) c.read_page-page.result.below) (same ∙ alike.0) (c.read_page-page.ensures.below held.0 spelled) in
     let reach : Reaches index (begun - 1) this.first this.others c.read_page-page.result.below = record {
       next = λ more d. absurd (omega (arith, more, c.requires.begins.some, c.if-begun-index.false));
-      last = λ le. subst (λ l. c.read_page-page.result.below ≤ℤ (last_of this.first l +ℤ pos 1)) alike.1 low;
+      last = λ le. subst (λ l. IsNext (last_of this.first l) c.read_page-page.result.below) alike.1 low;
     } in
     is_read index bytes _ sealed begun lt _ c.requires.begins.some c.read_page-page.ensures.count.0 c.read_page-page.ensures.count.1 ids reach
