@@ -4,7 +4,10 @@
 //! in a function without clauses: with both in the tests their proof takes ten times as long.
 
 use osm_entity::{BoundingBox, Member, MemberKind, Meta, Node, Relation, Scale, Way};
-use osm_ways::{Chooser, Chosen, ChosenParents, FirstPhase, NodePhase, RelationPhase, WayPhase};
+use osm_ways::{
+    Chooser, Chosen, ChosenParents, FirstPhase, InArea, NodePhase, NodeTaker, RelationPhase,
+    SeenWay, WayPhase,
+};
 use std::alloc::{AllocError, Global};
 
 /// From 0 to 1 degree both ways.
@@ -109,23 +112,25 @@ fn chosen(alloc: Global, nodes: &[NodeRow], ways: &[WayRow<'_>]) -> Result<Chose
 }
 
 fn take_first_nodes(
-    phase: &mut FirstPhase,
+    first: &mut InArea<BoundingBox, FirstPhase>,
     alloc: Global,
     rows: &[NodeRow],
 ) -> Result<(), AllocError> {
     for row in rows {
-        phase.take_node(&node(alloc, *row).view())?;
+        first.take_node(&node(alloc, *row).view())?;
     }
     Ok(())
 }
 
 fn take_first_ways(
-    phase: &mut FirstPhase,
+    first: &mut InArea<BoundingBox, FirstPhase>,
     alloc: Global,
     rows: &[WayRow<'_>],
 ) -> Result<(), AllocError> {
     for row in rows {
-        phase.take_way(&way(alloc, *row)?.view())?;
+        first
+            .phase
+            .take_refs(SeenWay::of(&way(alloc, *row)?.view()))?;
     }
     Ok(())
 }
@@ -154,12 +159,15 @@ fn chosen_first(
     ways: &[WayRow<'_>],
     late: &[NodeRow],
 ) -> Result<(bool, Chosen), AllocError> {
-    let mut phase = FirstPhase::new(alloc, AREA);
-    take_first_nodes(&mut phase, alloc, nodes)?;
-    take_first_ways(&mut phase, alloc, ways)?;
-    take_first_nodes(&mut phase, alloc, late)?;
-    let in_order = phase.is_in_order();
-    Ok((in_order, chosen_after(phase, alloc, ways)?))
+    let mut first = InArea {
+        area: AREA,
+        phase: FirstPhase::new(alloc),
+    };
+    take_first_nodes(&mut first, alloc, nodes)?;
+    take_first_ways(&mut first, alloc, ways)?;
+    take_first_nodes(&mut first, alloc, late)?;
+    let in_order = first.phase.is_in_order();
+    Ok((in_order, chosen_after(first.phase, alloc, ways)?))
 }
 
 /// With all parents, of a list with node 1 in the box and these relations.

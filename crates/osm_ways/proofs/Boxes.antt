@@ -1,7 +1,8 @@
--- What the selection sees by a box is within what it sees by a larger one.
+-- What the selection sees by an area is within what it sees by a larger one, as of boxes.
 use Rattle.std.proofs.Common.{◌≡◌, ℤ, ◌≤ℤ◌, true, refl, arith, rules}
 use Rattle.std.proofs.lemmas.Int.{ints}
 use Rattle.std.proofs.lemmas.Bool.{and_parts}
+use Rattle.osm_area.specs.Area.{AreaSpec, IsAreaWithin, box_area}
 use Rattle.osm_box.specs.declared.bounding_box.BoundingBox.{BoundingBox}
 use Rattle.osm_box.specs.BoundingBox.{is_between, is_inside, is_box_within}
 use Rattle.osm_entity.specs.Entity.{node_at, way_through, relation_among, decoded}
@@ -21,7 +22,7 @@ between_wider low high least most n first last e =
     let own = ends low high n e in
     between least most n (omega (arith, ints, (ends least most low first).0, own.0)) (omega (arith, ints, (ends least most high last).1, own.1))
 
-inside_wider : (small large : BoundingBox) → is_box_within small large ≡ true → (lat lon : ℤ) → is_inside small lat lon ≡ true → is_inside large lat lon ≡ true
+pub inside_wider : (small large : BoundingBox) → is_box_within small large ≡ true → IsAreaWithin (box_area small) (box_area large)
 inside_wider small large h lat lon e =
     let corners = and_parts (is_inside large small.bottom small.left) (is_inside large small.top small.right) h in
     let low = and_parts (is_between large.bottom large.top small.bottom) (is_between large.left large.right small.left) corners.0 in
@@ -29,10 +30,10 @@ inside_wider small large h lat lon e =
     let place = and_parts (is_between small.bottom small.top lat) (is_between small.left small.right lon) e in
     and_true _ _ (between_wider small.bottom small.top large.bottom large.top lat low.0 high.0 place.0) (between_wider small.left small.right large.left large.right lon low.1 high.1 place.1)
 
-pub seen_decoded-within : (small large : BoundingBox) → is_box_within small large ≡ true → IsWithin (seen_decoded small) (seen_decoded large)
-seen_decoded-within small large h (node_at id lat lon meta tags) = (refl, inside_wider small large h lat lon)
+pub seen_decoded-within : (small large : AreaSpec) → IsAreaWithin small large → IsWithin (seen_decoded small) (seen_decoded large)
+seen_decoded-within small large h (node_at id lat lon meta tags) = (refl, h lat lon)
 seen_decoded-within small large h (way_through id meta tags refs locations) = refl
 seen_decoded-within small large h (relation_among id meta tags members) = refl
 
-pub seen_entity-within : (small large : BoundingBox) → is_box_within small large ≡ true → IsWithin (seen_entity small) (seen_entity large)
+pub seen_entity-within : (small large : AreaSpec) → IsAreaWithin small large → IsWithin (seen_entity small) (seen_entity large)
 seen_entity-within small large h e = seen_decoded-within small large h (decoded e)

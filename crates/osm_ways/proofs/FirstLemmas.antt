@@ -1,12 +1,11 @@
 -- Nodes and ways in one pass: the sets are those of the two passes, if no node comes after a way.
-use Rattle.std.proofs.Common.{◌≡◌, Bool, true, false, ◌&&◌, not, cond, List, [], ◌∷◌, refl, sym, ap, ap₂, ◌∙◌, true≢false}
+use Rattle.std.proofs.Common.{◌≡◌, Bool, true, false, ◌&&◌, not, cond, List, [], ◌∷◌, refl, sym, ap, ◌∙◌, true≢false}
 use Rattle.std.specs.List.{fold}
 use Rattle.std.specs.FinSet as set
 use Rattle.osm_ways.specs.Selection.{Seen, a_node, a_way, a_relation, is_kept_way}
-use Rattle.osm_ways.specs.Phases.{Ids, WaySets, sets_of, start_ways, node_step, way_step, node_pass, way_pass}
+use Rattle.osm_ways.specs.Phases.{Ids, WaySets, PassesOver, sets_of, start_ways, node_step, way_step, node_pass, way_pass}
 use Rattle.osm_ways.specs.First.{FirstSets, IsWayless, start_first, before_node, first_step, first_pass}
 use Rattle.osm_ways.proofs.Shown.{shown_start}
-use Rattle.osm_box.specs.declared.bounding_box.BoundingBox.{BoundingBox}
 
 -- ---- the nodes
 
@@ -28,56 +27,56 @@ nodes_in_first sets (a_relation id members ∷ seen) = nodes_in_first sets seen
 -- ---- the ways
 
 -- a node came after a way
-abbrev broken : BoundingBox → Bool → Ids → FirstSets
-broken area has_ways ids = record { area = area; has_ways = has_ways; in_order = false; ways = start_ways ids }
+abbrev broken : Bool → Ids → FirstSets
+broken has_ways ids = record { has_ways = has_ways; in_order = false; ways = start_ways ids }
 
-pub broken_stays : (area : BoundingBox) (has_ways : Bool) (ids : Ids) (seen : List Seen) → ((fold first_step (broken area has_ways ids) seen).in_order ≡ false) × ((fold first_step (broken area has_ways ids) seen).ways ≡ start_ways (fold node_step ids seen))
-broken_stays area has_ways ids [] = (refl, refl)
-broken_stays area has_ways ids (a_node id inside ∷ seen) = broken_stays area has_ways (node_step ids (a_node id inside)) seen
-broken_stays area has_ways ids (a_way id refs ∷ seen) = broken_stays area true ids seen
-broken_stays area has_ways ids (a_relation id members ∷ seen) = broken_stays area has_ways ids seen
+pub broken_stays : (has_ways : Bool) (ids : Ids) (seen : List Seen) → ((fold first_step (broken has_ways ids) seen).in_order ≡ false) × ((fold first_step (broken has_ways ids) seen).ways ≡ start_ways (fold node_step ids seen))
+broken_stays has_ways ids [] = (refl, refl)
+broken_stays has_ways ids (a_node id inside ∷ seen) = broken_stays has_ways (node_step ids (a_node id inside)) seen
+broken_stays has_ways ids (a_way id refs ∷ seen) = broken_stays true ids seen
+broken_stays has_ways ids (a_relation id members ∷ seen) = broken_stays has_ways ids seen
 
 -- there were ways, and no node after one
-abbrev going : BoundingBox → WaySets → FirstSets
-going area ways = record { area = area; has_ways = true; in_order = true; ways = ways }
+abbrev going : WaySets → FirstSets
+going ways = record { has_ways = true; in_order = true; ways = ways }
 
-pub going_on : (area : BoundingBox) (ways : WaySets) (ids : Ids) (seen : List Seen) → (fold first_step (going area ways) seen).in_order ≡ true → ((fold first_step (going area ways) seen).ways ≡ fold way_step ways seen) × (fold node_step ids seen ≡ ids)
-going_on area ways ids [] e = (refl, refl)
-going_on area ways ids (a_node id inside ∷ seen) e = absurd (true≢false (sym e ∙ (broken_stays area true (node_step ways.box_ids (a_node id inside)) seen).0))
-going_on area ways ids (a_way id refs ∷ seen) e = going_on area (way_step ways (a_way id refs)) ids seen e
-going_on area ways ids (a_relation id members ∷ seen) e = going_on area ways ids seen e
+pub going_on : (ways : WaySets) (ids : Ids) (seen : List Seen) → (fold first_step (going ways) seen).in_order ≡ true → ((fold first_step (going ways) seen).ways ≡ fold way_step ways seen) × (fold node_step ids seen ≡ ids)
+going_on ways ids [] e = (refl, refl)
+going_on ways ids (a_node id inside ∷ seen) e = absurd (true≢false (sym e ∙ (broken_stays true (node_step ways.box_ids (a_node id inside)) seen).0))
+going_on ways ids (a_way id refs ∷ seen) e = going_on (way_step ways (a_way id refs)) ids seen e
+going_on ways ids (a_relation id members ∷ seen) e = going_on ways ids seen e
 
 -- there was no way
-abbrev fresh : BoundingBox → Ids → FirstSets
-fresh area ids = record { area = area; has_ways = false; in_order = true; ways = start_ways ids }
+abbrev fresh : Ids → FirstSets
+fresh ids = record { has_ways = false; in_order = true; ways = start_ways ids }
 
-fresh_on : (area : BoundingBox) (ids : Ids) (seen : List Seen) → (fold first_step (fresh area ids) seen).in_order ≡ true → (fold first_step (fresh area ids) seen).ways ≡ fold way_step (start_ways (fold node_step ids seen)) seen
-fresh_on area ids [] e = refl
-fresh_on area ids (a_node id inside ∷ seen) e = fresh_on area (node_step ids (a_node id inside)) seen e
-fresh_on area ids (a_way id refs ∷ seen) e =
-    let on = going_on area (way_step (start_ways ids) (a_way id refs)) ids seen e in
+fresh_on : (ids : Ids) (seen : List Seen) → (fold first_step (fresh ids) seen).in_order ≡ true → (fold first_step (fresh ids) seen).ways ≡ fold way_step (start_ways (fold node_step ids seen)) seen
+fresh_on ids [] e = refl
+fresh_on ids (a_node id inside ∷ seen) e = fresh_on (node_step ids (a_node id inside)) seen e
+fresh_on ids (a_way id refs ∷ seen) e =
+    let on = going_on (way_step (start_ways ids) (a_way id refs)) ids seen e in
     on.0 ∙ ap (λ (ids : Ids). fold way_step (way_step (start_ways ids) (a_way id refs)) seen) (sym on.1)
-fresh_on area ids (a_relation id members ∷ seen) e = fresh_on area ids seen e
+fresh_on ids (a_relation id members ∷ seen) e = fresh_on ids seen e
 
 -- ---- the whole list
 
-pub first_in_order : (area : BoundingBox) (seen : List Seen) → (first_pass area seen).in_order ≡ true → (first_pass area seen).ways ≡ way_pass seen
-first_in_order area seen e = fresh_on area set.empty seen e
+pub first_in_order : (seen : List Seen) → (first_pass seen).in_order ≡ true → (first_pass seen).ways ≡ way_pass seen
+first_in_order seen e = fresh_on set.empty seen e
 
-going_broken : (area : BoundingBox) (ways : WaySets) (seen : List Seen) → (fold first_step (going area ways) seen).in_order ≡ false → (fold first_step (going area ways) seen).ways ≡ start_ways (fold node_step ways.box_ids seen)
-going_broken area ways [] e = absurd (true≢false e)
-going_broken area ways (a_node id inside ∷ seen) e = (broken_stays area true (node_step ways.box_ids (a_node id inside)) seen).1
-going_broken area ways (a_way id refs ∷ seen) e = going_broken area (way_step ways (a_way id refs)) seen e ∙ ap (λ (ids : Ids). start_ways (fold node_step ids seen)) (box_ids-way ways (a_way id refs))
-going_broken area ways (a_relation id members ∷ seen) e = going_broken area ways seen e
+going_broken : (ways : WaySets) (seen : List Seen) → (fold first_step (going ways) seen).in_order ≡ false → (fold first_step (going ways) seen).ways ≡ start_ways (fold node_step ways.box_ids seen)
+going_broken ways [] e = absurd (true≢false e)
+going_broken ways (a_node id inside ∷ seen) e = (broken_stays true (node_step ways.box_ids (a_node id inside)) seen).1
+going_broken ways (a_way id refs ∷ seen) e = going_broken (way_step ways (a_way id refs)) seen e ∙ ap (λ (ids : Ids). start_ways (fold node_step ids seen)) (box_ids-way ways (a_way id refs))
+going_broken ways (a_relation id members ∷ seen) e = going_broken ways seen e
 
-fresh_broken : (area : BoundingBox) (ids : Ids) (seen : List Seen) → (fold first_step (fresh area ids) seen).in_order ≡ false → (fold first_step (fresh area ids) seen).ways ≡ start_ways (fold node_step ids seen)
-fresh_broken area ids [] e = absurd (true≢false e)
-fresh_broken area ids (a_node id inside ∷ seen) e = fresh_broken area (node_step ids (a_node id inside)) seen e
-fresh_broken area ids (a_way id refs ∷ seen) e = going_broken area (way_step (start_ways ids) (a_way id refs)) seen e ∙ ap (λ (ids : Ids). start_ways (fold node_step ids seen)) (box_ids-way (start_ways ids) (a_way id refs))
-fresh_broken area ids (a_relation id members ∷ seen) e = fresh_broken area ids seen e
+fresh_broken : (ids : Ids) (seen : List Seen) → (fold first_step (fresh ids) seen).in_order ≡ false → (fold first_step (fresh ids) seen).ways ≡ start_ways (fold node_step ids seen)
+fresh_broken ids [] e = absurd (true≢false e)
+fresh_broken ids (a_node id inside ∷ seen) e = fresh_broken (node_step ids (a_node id inside)) seen e
+fresh_broken ids (a_way id refs ∷ seen) e = going_broken (way_step (start_ways ids) (a_way id refs)) seen e ∙ ap (λ (ids : Ids). start_ways (fold node_step ids seen)) (box_ids-way (start_ways ids) (a_way id refs))
+fresh_broken ids (a_relation id members ∷ seen) e = fresh_broken ids seen e
 
-pub first_broken : (area : BoundingBox) (seen : List Seen) → (first_pass area seen).in_order ≡ false → (first_pass area seen).ways ≡ start_ways (node_pass seen)
-first_broken area seen e = fresh_broken area set.empty seen e
+pub first_broken : (seen : List Seen) → (first_pass seen).in_order ≡ false → (first_pass seen).ways ≡ start_ways (node_pass seen)
+first_broken seen e = fresh_broken set.empty seen e
 
 -- ---- what the phase's fields show
 
@@ -86,32 +85,38 @@ wayless true true = refl
 wayless true false = refl
 wayless false o = refl
 
-abbrev first_of : BoundingBox → Bool → Bool → WaySets → FirstSets
-first_of area h o ways = record { area = area; has_ways = h; in_order = o; ways = ways }
+abbrev first_of : Bool → Bool → WaySets → FirstSets
+first_of h o ways = record { has_ways = h; in_order = o; ways = ways }
 
-pub fresh_first : (area : BoundingBox) (box refs ways : Ids) → box ≡ set.empty → refs ≡ set.empty → ways ≡ set.empty → first_of area false true (sets_of box refs ways) ≡ start_first area
-fresh_first area box refs ways e f g = ap (λ (w : WaySets). first_of area false true w) (shown_start set.empty box refs ways e f g)
+pub fresh_first : (box refs ways : Ids) → box ≡ set.empty → refs ≡ set.empty → ways ≡ set.empty → first_of false true (sets_of box refs ways) ≡ start_first
+fresh_first box refs ways e f g = ap (λ (w : WaySets). first_of false true w) (shown_start set.empty box refs ways e f g)
 
 and_true : (b : Bool) → b ≡ (b && true)
 and_true true = refl
 and_true false = refl
 
 -- there is nothing to forget
-pub before_same : (area : BoundingBox) (h o : Bool) (box refs ways : Ids) → IsWayless h o refs ways → (h && o) ≡ false → first_of area h o (sets_of box refs ways) ≡ before_node (first_of area h o (sets_of box refs ways))
-before_same area true true box refs ways none e = absurd (true≢false e)
-before_same area true false box refs ways none e = ap (λ (w : WaySets). first_of area true false w) (shown_start box box refs ways refl (none e).0 (none e).1)
-before_same area false o box refs ways none e = ap (λ (w : WaySets). first_of area false o w) (shown_start box box refs ways refl (none e).0 (none e).1) ∙ ap (λ b. first_of area false b (start_ways box)) (and_true o)
+pub before_same : (h o : Bool) (box refs ways : Ids) → IsWayless h o refs ways → (h && o) ≡ false → first_of h o (sets_of box refs ways) ≡ before_node (first_of h o (sets_of box refs ways))
+before_same true true box refs ways none e = absurd (true≢false e)
+before_same true false box refs ways none e = ap (λ (w : WaySets). first_of true false w) (shown_start box box refs ways refl (none e).0 (none e).1)
+before_same false o box refs ways none e = ap (λ (w : WaySets). first_of false o w) (shown_start box box refs ways refl (none e).0 (none e).1) ∙ ap (λ b. first_of false b (start_ways box)) (and_true o)
 
-pub before_new : (area : BoundingBox) (h o : Bool) (box refs ways new newer : Ids) → h ≡ true → new ≡ set.empty → newer ≡ set.empty → first_of area h false (sets_of box new newer) ≡ before_node (first_of area h o (sets_of box refs ways))
-before_new area h o box refs ways new newer e f g =
-    ap (λ (w : WaySets). first_of area h false w) (shown_start box box new newer refl f g) ∙ ap (λ b. first_of area h b (start_ways box)) (sym (and_false o) ∙ ap (λ b. o && not b) (sym e)) where
+pub before_new : (h o : Bool) (box refs ways new newer : Ids) → h ≡ true → new ≡ set.empty → newer ≡ set.empty → first_of h false (sets_of box new newer) ≡ before_node (first_of h o (sets_of box refs ways))
+before_new h o box refs ways new newer e f g =
+    ap (λ (w : WaySets). first_of h false w) (shown_start box box new newer refl f g) ∙ ap (λ b. first_of h b (start_ways box)) (sym (and_false o) ∙ ap (λ b. o && not b) (sym e)) where
       and_false : (b : Bool) → (b && false) ≡ false
       and_false true = refl
       and_false false = refl
 
--- a node of the box is added
-pub placed : (now : FirstSets) (area : BoundingBox) (h o : Bool) (box refs ways new all : Ids) → first_of area h o (sets_of box refs ways) ≡ before_node now → IsWayless h o refs ways → new ≡ all → first_of area h o (sets_of new refs ways) ≡ record (before_node now) { ways = start_ways all }
-placed now area h o box refs ways new all same none is =
-    let w = none (ap₂ (λ (a b : Bool). a && b) (ap (λ (s : FirstSets). s.has_ways) same) (ap (λ (s : FirstSets). s.in_order) same) ∙ wayless now.has_ways now.in_order) in
-    ap (λ (w : WaySets). first_of area h o w) (shown_start all new refs ways is w.0 w.1)
-    ∙ ap (λ (s : FirstSets). record s { ways = start_ways all }) same
+-- a node comes, and then another: that is as one
+once : (h o : Bool) → ((o && not h) && not h) ≡ (o && not h)
+once true true = refl
+once true false = refl
+once false true = refl
+once false false = refl
+
+pub first_step-passes_over : PassesOver first_step
+first_step-passes_over = record {
+  before = λ sets id other inside. ap (λ b. record (first_step sets (a_node other inside)) { in_order = b }) (once sets.has_ways sets.in_order);
+  after = λ sets id other inside. ap (λ b. record (first_step sets (a_node id inside)) { in_order = b }) (once sets.has_ways sets.in_order);
+}

@@ -2,4 +2,5 @@ pub mod Selection
 pub mod Parents
 pub mod Phases
 pub mod First
+pub mod InArea
 pub mod Seen

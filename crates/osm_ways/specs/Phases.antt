@@ -1,10 +1,9 @@
 -- What the passes do with each entity of a list, and the sets that they gather.
-use Rattle.std.specs.Prelude.{◌≡◌, ℤ, Bool, ◌&&◌, if◌then◌else◌, List, refl, Option, Some, None, Result, OnOk, OnErr}
+use Rattle.std.specs.Prelude.{◌≡◌, ℤ, Bool, false, ◌&&◌, if◌then◌else◌, List, refl, Option, Some, None, Result, OnOk, OnErr}
 use Rattle.std.specs.Coded.{Coded, code_by, coded×, coded_ℤ}
 use Rattle.std.specs.List.{fold}
 use Rattle.std.specs.Ordering.{int_cmp}
 use Rattle.std.specs.FinSet as set
-use Rattle.osm_box.specs.declared.bounding_box.BoundingBox.{BoundingBox}
 use Rattle.osm_ids.specs.Links.{link_cmp, link_code}
 use Rattle.osm_ways.specs.Selection.{MemberSeen, relation_member, Seen, a_node, a_way, a_relation, no_ids, is_kept_way, is_kept_relation, is_kept}
 
@@ -18,11 +17,6 @@ abbrev pub LinkSet : Type 0
 LinkSet = set.FinSet link_cmp
 
 -- ---- what the passes have
-
--- of the nodes: the box, and its nodes
-pub record NodeSets : Type 0 where
-  pub area : BoundingBox
-  pub box_ids : Ids
 
 -- of the nodes and the ways: the box's nodes, all nodes that are kept, the kept ways
 pub record WaySets : Type 0 where
@@ -44,12 +38,6 @@ pub record RelationSets : Type 0 where
 pub record KeptSets : Type 0 where
   pub ways : WaySets
   pub relation_ids : Ids
-
-abbrev box_code : Coded BoundingBox
-box_code = code_by (ℤ × (ℤ × (ℤ × ℤ))) (coded× coded_ℤ (coded× coded_ℤ (coded× coded_ℤ coded_ℤ))) (λ b. (b.left, (b.bottom, (b.right, b.top)))) (λ p. record { left = p.0; bottom = p.1.0; right = p.1.1.0; top = p.1.1.1 }) (λ _. refl)
-
-abbrev pub node_sets_code : Coded NodeSets
-node_sets_code = code_by (BoundingBox × Ids) (coded× box_code ids_code) (λ s. (s.area, s.box_ids)) (λ p. record { area = p.0; box_ids = p.1 }) (λ _. refl)
 
 abbrev pub way_sets_code : Coded WaySets
 way_sets_code = code_by (Ids × (Ids × Ids)) (coded× ids_code (coded× ids_code ids_code)) (λ s. (s.box_ids, (s.node_ids, s.way_ids))) (λ p. record { box_ids = p.0; node_ids = p.1.0; way_ids = p.1.1 }) (λ _. refl)
@@ -97,9 +85,18 @@ node_step ids (a_node id inside) = ids_with_node ids id inside
 node_step ids _ = ids
 
 -- a node was taken; if memory is refused, all is as it was
-pub record TakesNode {X E : Type 0} (node : Seen) (before now : NodeSets) (result : Result X E) : Type 0 where
-  pub ok : OnOk result (now ≡ record { area = before.area; box_ids = node_step before.box_ids node })
+pub record TakesNode {S X E : Type 0} (step : S → Seen → S) (node : Seen) (before now : S) (result : Result X E) : Type 0 where
+  pub ok : OnOk result (now ≡ step before node)
   pub err : OnErr result (now ≡ before)
+
+-- next to another node, one that lies outside changes nothing
+pub record PassesOver {S : Type 0} (step : S → Seen → S) : Type 0 where
+  pub before : (s : S) (id other : ℤ) (inside : Bool) → step (step s (a_node id false)) (a_node other inside) ≡ step s (a_node other inside)
+  pub after : (s : S) (id other : ℤ) (inside : Bool) → step (step s (a_node id inside)) (a_node other false) ≡ step s (a_node id inside)
+
+-- ways change nothing unless they are taken
+abbrev pub TakesWays : {S : Type 0} → Bool → (S → Seen → S) → Type 0
+TakesWays {S} takes step = takes ≡ false → (s : S) (id : ℤ) (refs : List ℤ) → step s (a_way id refs) ≡ s
 
 abbrev pub way_step : WaySets → Seen → WaySets
 way_step sets (a_way id refs) = sets_with_way sets id refs
@@ -108,9 +105,6 @@ way_step sets _ = sets
 abbrev pub relation_step : RelationSets → Seen → RelationSets
 relation_step sets (a_relation id members) = sets_with_relation sets id members
 relation_step sets _ = sets
-
-abbrev pub start_nodes : BoundingBox → NodeSets
-start_nodes area = record { area = area; box_ids = set.empty }
 
 -- when the nodes end, all nodes of the box are kept, and no way yet
 abbrev pub start_ways : Ids → WaySets

@@ -1,17 +1,16 @@
--- What the selection sees of entities. A place counts in nanodegrees, edges of the box included.
+-- What the selection sees of entities. A place counts in nanodegrees.
 use Rattle.std.specs.Prelude.{ℤ, map}
-use Rattle.osm_box.specs.declared.bounding_box.BoundingBox.{BoundingBox}
+use Rattle.osm_area.specs.Area.{AreaSpec}
 use Rattle.osm_entity.specs.declared.member.MemberKind.{MemberKind}
 use Rattle.osm_entity.specs.declared.member.MemberKind.TheVariants as kind
-use Rattle.osm_box.specs.BoundingBox.{is_inside}
 use Rattle.osm_entity.specs.Scale.{nano_lat, nano_lon}
 use Rattle.osm_entity.specs.Entity.{NodeSpec, MemberSpec, WaySpec, RelationSpec, EntitySpec, Decoded, node_at, way_through, relation_among, decoded}
 use Rattle.osm_entity.specs.Sources.{refs_left}
 use Rattle.osm_ways.specs.declared.phases.SeenWay.{SeenWay}
 use Rattle.osm_ways.specs.Selection.{MemberSeen, node_member, way_member, relation_member, Seen, a_node, a_way, a_relation}
 
-abbrev pub seen_node : BoundingBox → NodeSpec → Seen
-seen_node area n = a_node n.id (is_inside area (nano_lat n.scale n.lat) (nano_lon n.scale n.lon))
+abbrev pub seen_node : AreaSpec → NodeSpec → Seen
+seen_node area n = a_node n.id (area.has (nano_lat n.scale n.lat) (nano_lon n.scale n.lon))
 
 abbrev pub seen_way : WaySpec → Seen
 seen_way w = a_way w.id w.refs
@@ -31,12 +30,12 @@ seen_member member = member_of_kind member.kind member.id
 abbrev pub seen_relation : RelationSpec → Seen
 seen_relation r = a_relation r.id (map seen_member r.members)
 
--- what is seen of an entity; its scale is applied, since a box is in degrees
-abbrev pub seen_decoded : BoundingBox → Decoded → Seen
-seen_decoded area (node_at id lat lon meta tags) = a_node id (is_inside area lat lon)
+-- what is seen of an entity; its scale is applied, since an area is in degrees
+abbrev pub seen_decoded : AreaSpec → Decoded → Seen
+seen_decoded area (node_at id lat lon meta tags) = a_node id (area.has lat lon)
 seen_decoded area (way_through id meta tags refs locations) = a_way id refs
 seen_decoded area (relation_among id meta tags members) = a_relation id (map seen_member members)
 
 -- of a stored entity the same as of what it means
-abbrev pub seen_entity : BoundingBox → EntitySpec → Seen
+abbrev pub seen_entity : AreaSpec → EntitySpec → Seen
 seen_entity area e = seen_decoded area (decoded e)

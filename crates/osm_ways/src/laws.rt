@@ -5,6 +5,7 @@ ghost use Rattle.std.specs.Prelude.{◌≡◌, true, false, List, map};
 ghost use Rattle.std.specs.List.{filter};
 ghost use Rattle.std.specs.Ordering.{int_cmp};
 ghost use Rattle.std.specs.FinSet as set;
+ghost use Rattle.osm_area.specs.Area.{AreaSpec, IsAreaWithin, box_area};
 ghost use Rattle.osm_box.specs.declared.bounding_box.BoundingBox.{BoundingBox};
 ghost use Rattle.osm_box.specs.BoundingBox.{is_box_within};
 ghost use Rattle.osm_entity.specs.Entity.{EntitySpec, decoded};
@@ -48,12 +49,18 @@ pub fn extract_is_kept_by_larger<X>()
         ≡ extract_with_parents small xs }
 {}
 
-/// If a box lies in a larger one, the look by it is within the look by the larger one, over stored entities and over decoded ones.
-pub fn box_within_box()
-    ensures stored { (small large : BoundingBox) → is_box_within small large ≡ true
+/// If an area lies in a larger one, the look by it is within the look by the larger one, over stored entities and over decoded ones.
+pub fn area_within_area()
+    ensures stored { (small large : AreaSpec) → IsAreaWithin small large
         → IsWithin (seen_entity small) (seen_entity large) }
-    ensures meant { (small large : BoundingBox) → is_box_within small large ≡ true
+    ensures meant { (small large : AreaSpec) → IsAreaWithin small large
         → IsWithin (seen_decoded small) (seen_decoded large) }
+{}
+
+/// A box lies in a larger one if its corners do.
+pub fn box_within_box()
+    ensures { (small large : BoundingBox) → is_box_within small large ≡ true
+        → IsAreaWithin (box_area small) (box_area large) }
 {}
 
 /// If two views of an entity look alike to the selection, the extract of the one view is that view of the extract.
@@ -79,11 +86,10 @@ pub fn parents_are_least()
 
 /// One pass over nodes and ways gathers what two do, if no node comes after a way; otherwise what the one over nodes does.
 pub fn one_pass_is_two()
-    ensures in_order { (area : BoundingBox) (seen : List Seen)
-        → (first_pass area seen).in_order ≡ true → (first_pass area seen).ways ≡ way_pass seen }
-    ensures broken { (area : BoundingBox) (seen : List Seen)
-        → (first_pass area seen).in_order ≡ false
-        → (first_pass area seen).ways ≡ start_ways (node_pass seen) }
+    ensures in_order { (seen : List Seen)
+        → (first_pass seen).in_order ≡ true → (first_pass seen).ways ≡ way_pass seen }
+    ensures broken { (seen : List Seen) → (first_pass seen).in_order ≡ false
+        → (first_pass seen).ways ≡ start_ways (node_pass seen) }
 {}
 
 /// Over a whole list the passes keep what the extract keeps: of two passes, of nodes and of ways, the extract; of a third one,
@@ -108,10 +114,10 @@ pub fn taken_are_chosen<X>()
 
 /// The extract of stored entities is that of decoded ones: the selection sees both alike.
 pub fn extract_is_decoded()
-    ensures ways { (area : BoundingBox) (entities : List EntitySpec)
+    ensures ways { (area : AreaSpec) (entities : List EntitySpec)
         → map decoded (extract (seen_entity area) entities)
         ≡ extract (seen_decoded area) (map decoded entities) }
-    ensures parents { (area : BoundingBox) (entities : List EntitySpec)
+    ensures parents { (area : AreaSpec) (entities : List EntitySpec)
         → map decoded (extract_with_parents (seen_entity area) entities)
         ≡ extract_with_parents (seen_decoded area) (map decoded entities) }
 {}

@@ -3,11 +3,13 @@
 
 mod choosing;
 mod first;
+mod in_area;
 pub mod laws;
 mod parents;
 mod phases;
 
 pub use choosing::Chooser;
 pub use first::FirstPhase;
+pub use in_area::{InArea, NodePhase, NodeTaker};
 pub use parents::{ChosenParents, RelationPhase};
-pub use phases::{Chosen, NodePhase, SeenWay, WayPhase};
+pub use phases::{Chosen, NodeIds, SeenWay, WayPhase};

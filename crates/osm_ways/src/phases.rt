@@ -4,102 +4,55 @@ ghost use Rattle.std.specs.Prelude.{◌≡◌, true, IfOk, OnOk};
 ghost use Rattle.std.specs.List.{fold};
 ghost use Rattle.std.specs.FinSet as set;
 ghost use Rattle.osm_entity.specs.Sources.{refs_left};
-ghost use Rattle.osm_entity.specs.Views.{node_of, way_of};
-ghost use Rattle.osm_box.specs.BoundingBox.{is_inside};
+ghost use Rattle.osm_entity.specs.Views.{way_of};
 ghost use Rattle.osm_ids.specs.Looking.{LooksUp};
-ghost use Rattle.osm_ways.specs.Selection.{is_kept_way, a_node};
-ghost use Rattle.osm_ways.specs.Seen.{seen_node, seen_way, seen_refs};
-ghost use Rattle.osm_ways.specs.Phases.{TakesNode, start_nodes, start_ways, way_step, sets_of, without_parents};
+ghost use Rattle.osm_ways.specs.Selection.{is_kept_way};
+ghost use Rattle.osm_ways.specs.Seen.{seen_way, seen_refs};
+ghost use Rattle.osm_ways.specs.Phases.{node_step, start_ways, way_step, sets_of, without_parents};
 
-use osm_entity::{BoundingBox, NodeRef, Refs, WayRef};
+use crate::in_area::NodeTaker;
+use osm_entity::{Refs, WayRef};
 use osm_ids::{IdLookup, IdSet, Known, SealedIds};
 use std::alloc::{AllocError, Global};
 use std::marker::Model;
 
-/// The first phase, which takes nodes: the box, and the ids of its nodes.
+/// The first phase, which takes the ids of the nodes that lie in an area.
 #[derive(Drop)]
-pub struct NodePhase {
-    area: BoundingBox,
+pub struct NodeIds {
     box_ids: IdSet,
     alloc: Global,
 }
 
-impl Model for NodePhase {
-    ghost use Rattle.osm_ways.specs.Phases.{NodeSets, node_sets_code};
+impl Model for NodeIds {
+    ghost use Rattle.osm_ways.specs.Phases.{Ids, ids_code};
 
-    ghost Value = { NodeSets };
+    ghost Value = { Ids };
 
-    ghost coded = { node_sets_code };
+    ghost coded = { ids_code };
 
-    ghost view = { λ a. record { area = a.area; box_ids = a.box_ids } };
+    ghost view = { λ a. a.box_ids };
 }
 
-impl NodePhase {
-    /// The phase of a box, with no nodes yet. It allocates nothing yet.
-    pub fn new(alloc: Global, area: BoundingBox) -> NodePhase
-        ensures { result ≡ start_nodes area }
+impl NodeIds {
+    /// No ids yet. It allocates nothing yet.
+    pub fn new(alloc: Global) -> NodeIds
+        ensures { result ≡ set.empty }
     {
-        NodePhase {
-            area,
+        NodeIds {
             box_ids: IdSet::new(alloc),
             alloc,
         }
     }
 
-    /// The box.
-    pub fn area(&self) -> BoundingBox
-        ensures { result ≡ self.now.area }
-    {
-        self.area
-    }
-
-    /// Adds the id of a node that is in the box or on one of its edges. Another node changes nothing.
-    ///
-    /// # Errors
-    ///
-    /// If memory is refused, the phase is as it was.
-    pub fn take_node(&mut self, node: &NodeRef<'_>) -> Result<(), AllocError>
-        ensures { TakesNode (seen_node self.old.area (node_of node.now)) self.old self.new result }
-    {
-        self.take_place(node.id(), node.nano_lat(), node.nano_lon())
-    }
-
-    /// The same of a node by its id and its place in nanodegrees, which is all that counts of it.
-    ///
-    /// # Errors
-    ///
-    /// If memory is refused, the phase is as it was.
-    pub fn take_place(&mut self, id: i64, lat: i128, lon: i128) -> Result<(), AllocError>
-        ensures { TakesNode (a_node id (is_inside self.old.area lat lon)) self.old self.new result }
-    {
-        if self.area.contains(lat, lon) {
-            self.take_inside(id)?;
-        }
-        Ok(())
-    }
-
-    /// The same of a node by its id, if it is known to be in the box or on one of its edges.
-    ///
-    /// # Errors
-    ///
-    /// If memory is refused, the phase is as it was.
-    #[inline(always)]
-    pub fn take_inside(&mut self, id: i64) -> Result<(), AllocError>
-        ensures { TakesNode (a_node id true) self.old self.new result }
-    {
-        self.box_ids.add(id)?;
-        Ok(())
-    }
-
-    /// All nodes are taken: those in the box are kept, and the ways follow.
+    /// All nodes are taken: those in the area are kept, and the ways follow.
     ///
     /// # Errors
     ///
     /// If memory is refused, the phase is gone.
-    pub fn end_nodes(self) -> Result<WayPhase, AllocError>
-        ensures { IfOk result (λ phase. phase ≡ start_ways self.box_ids) }
+    pub fn end(self) -> Result<WayPhase, AllocError>
+        ensures { IfOk result (λ phase. phase ≡ start_ways self) }
     {
-        let NodePhase { box_ids, alloc, .. } = self;
+        let NodeIds { box_ids, alloc } = self;
         Ok(WayPhase {
             box_ids: sealed(box_ids)?,
             known: Known::nothing(),
@@ -107,6 +60,27 @@ impl NodePhase {
             way_ids: IdSet::new(alloc),
             alloc,
         })
+    }
+}
+
+impl NodeTaker for NodeIds {
+    ghost step = { node_step };
+
+    #[inline(always)]
+    fn take_inside(&mut self, id: i64) -> Result<(), AllocError> {
+        self.box_ids.add(id)?;
+        Ok(())
+    }
+
+    #[inline(always)]
+    fn take_outside(&mut self) {}
+
+    fn takes_ways() -> bool {
+        false
+    }
+
+    fn take_refs(&mut self, _way: SeenWay<'_>) -> Result<(), AllocError> {
+        Ok(())
     }
 }
 

@@ -1,13 +1,16 @@
 -- What is gathered of frames.
-use Rattle.std.proofs.Common.{◌≡◌, ℤ, Bool, cond, true, false, true≢false, not, ◌&&◌, rules, Option, Some, None, List, [], ◌∷◌, ◌++◌, map, refl, sym, ap, ◌∙◌}
+use Rattle.std.proofs.Common.{◌≡◌, ℤ, Bool, cond, true, false, true≢false, rules, Option, Some, None, List, [], ◌∷◌, ◌++◌, map, refl, sym, ap, ◌∙◌}
 use Rattle.std.specs.Prelude.{filter, is_none}
 use Rattle.std.specs.Iterator.{YieldsFirst}
 use Rattle.std.specs.List.{fold}
 use Rattle.std.proofs.lemmas.List.Sums.{fold-append}
 use Rattle.osm_entity.specs.Entity.{NodeSpec, EntitySpec, node}
-use Rattle.osm_ways.specs.Phases.{node_step, NodeSets, WaySets, RelationSets}
-use Rattle.osm_ways.specs.First.{FirstSets, before_node, first_step}
-use Rattle.osm_ways.specs.Selection.{a_node}
+use Rattle.osm_area.specs.Area.{AreaSpec, box_area}
+use Rattle.osm_box.specs.declared.bounding_box.BoundingBox.{BoundingBox}
+use Rattle.osm_ways.specs.declared.in_area.InArea.{InArea}
+use Rattle.osm_ways.specs.InArea.{stepped}
+use Rattle.osm_ways.specs.Phases.{PassesOver, WaySets, RelationSets}
+use Rattle.osm_ways.specs.Selection.{Seen, a_node}
 use Rattle.pbf_dense.specs.declared.places.Place.{Place}
 use Rattle.pbf_dense.specs.declared.places.Places.{Places}
 use Rattle.pbf_dense.specs.Places.{node_place, places_left, id_of}
@@ -17,7 +20,7 @@ use Rattle.pbf_block.specs.Kinds.{is_among}
 use Rattle.pbf_block.specs.Runs.{joined_runs}
 use Rattle.pbf_frame.specs.Frames.{FrameSpec}
 use Rattle.pbf_pass.specs.Counting.{stored_entities, frame_entities}
-use Rattle.pbf_pass.specs.Pass.{as_it_was, with_node, with_place, with_inside, with_first, with_first_place, with_first_inside, with_way, with_relation}
+use Rattle.pbf_pass.specs.Pass.{as_it_was, with_inside, with_seen, with_seen_in, with_way, with_relation}
 use Rattle.pbf_pass.proofs.CountLemmas.{stored_one}
 
 -- one frame more is gathered
@@ -49,72 +52,57 @@ gathered_run gathered before now all run left rest is step so_far =
 
 -- ---- nodes of a dense message
 
+-- beside the area the phase takes what it takes by itself
+pub beside : {A S : Type 0} (area : A → AreaSpec) (step : S → Seen → S) (of : InArea A S) (es : List EntitySpec) → record of { phase = fold (with_seen (area of.area) step) of.phase es } ≡ fold (with_seen_in area step) of es
+beside area step of [] = refl
+beside area step of (e ∷ es) = beside area step (with_seen_in area step of e) es
+
 -- by their places
-pub places_gathered : (sets : NodeSets) (ns : List NodeSpec) → fold with_place sets (map node_place ns) ≡ fold with_node sets (map node ns)
-places_gathered sets [] = refl
-places_gathered sets (n ∷ ns) = places_gathered (with_node sets (node n)) ns
+abbrev pub with_place : {A S : Type 0} → (A → AreaSpec) → (S → Seen → S) → InArea A S → Place → InArea A S
+with_place area step of p = stepped step of (a_node p.id ((area of.area).has p.lat p.lon))
 
-pub first_places : (sets : FirstSets) (ns : List NodeSpec) → fold with_first_place sets (map node_place ns) ≡ fold with_first sets (map node ns)
-first_places sets [] = refl
-first_places sets (n ∷ ns) = first_places (with_first sets (node n)) ns
-
--- by the ids of those in the box
-inside_next : (sets : NodeSets) (n : NodeSpec) (ns : List NodeSpec) (there : Bool)
-    → fold with_inside sets (map id_of (cond there (n ∷ ns) ns)) ≡ fold with_inside (record { area = sets.area; box_ids = node_step sets.box_ids (a_node n.id there) }) (map id_of ns)
-inside_next sets n ns true = refl
-inside_next sets n ns false = refl
-
-pub inside_gathered : (sets : NodeSets) (ns : List NodeSpec) → fold with_inside sets (ids_within sets.area ns) ≡ fold with_node sets (map node ns)
-inside_gathered sets [] = refl
-inside_gathered sets (n ∷ ns) = inside_next sets n (filter (lies_in sets.area) ns) (lies_in sets.area n) ∙ inside_gathered (with_node sets (node n)) ns
-
--- a node comes, and then another: that is as one
-once : (h o : Bool) → ((o && not h) && not h) ≡ (o && not h)
-once true true = refl
-once true false = refl
-once false true = refl
-once false false = refl
-
-again : (sets : FirstSets) → before_node (before_node sets) ≡ before_node sets
-again sets = ap (λ b. record (before_node sets) { in_order = b }) (once sets.has_ways sets.in_order)
-
-after_node : (sets : FirstSets) (id : ℤ) (there : Bool) → before_node (first_step sets (a_node id there)) ≡ first_step sets (a_node id there)
-after_node sets id there = ap (λ b. record (first_step sets (a_node id there)) { in_order = b }) (once sets.has_ways sets.in_order)
-
-first_next : (sets : FirstSets) (n : NodeSpec) (ns : List NodeSpec) (there : Bool) → before_node sets ≡ sets
-    → fold with_first_inside sets (map id_of (cond there (n ∷ ns) ns)) ≡ fold with_first_inside (first_step sets (a_node n.id there)) (map id_of ns)
-first_next sets n ns true same = refl
-first_next sets n ns false same = ap (λ (s : FirstSets). fold with_first_inside s (map id_of ns)) (sym same)
-
-first_inside : (sets : FirstSets) (ns : List NodeSpec) → before_node sets ≡ sets → fold with_first_inside sets (ids_within sets.area ns) ≡ fold with_first sets (map node ns)
-first_inside sets [] same = refl
-first_inside sets (n ∷ ns) same =
-    first_next sets n (filter (lies_in sets.area) ns) (lies_in sets.area n) same
-    ∙ first_inside (with_first sets (node n)) ns (after_node sets n.id (lies_in sets.area n))
-
--- a node is as one that comes after another
-begun : (sets : FirstSets) (n : NodeSpec) (ns : List NodeSpec) → fold with_first (before_node sets) (map node (n ∷ ns)) ≡ fold with_first sets (map node (n ∷ ns))
-begun sets n ns = ap (λ b. fold with_first (record (with_first sets (node n)) { in_order = b }) (map node ns)) (once sets.has_ways sets.in_order)
+pub places_gathered : {A S : Type 0} (area : A → AreaSpec) (step : S → Seen → S) (of : InArea A S) (ns : List NodeSpec) → fold (with_place area step) of (map node_place ns) ≡ fold (with_seen_in area step) of (map node ns)
+places_gathered area step of [] = refl
+places_gathered area step of (n ∷ ns) = places_gathered area step (with_seen_in area step of (node n)) ns
 
 nothing_more : (p : Place) (ps : List Place) → ◌≡◌ {A = List Place} [] (p ∷ ps) → ⊥
 nothing_more p ps e = search rules
 
-first_gathered : (sets : FirstSets) (n : NodeSpec) (ns : List NodeSpec) → fold with_first_inside (before_node sets) (ids_within sets.area (n ∷ ns)) ≡ fold with_first sets (map node (n ∷ ns))
-first_gathered sets n ns = first_inside (before_node sets) (n ∷ ns) (again sets) ∙ begun sets n ns
-
 -- if there is no first place, there is no node
-pub first_if_none : (it more : Places) (first : Option Place) (sets : FirstSets) (ns : List NodeSpec) → YieldsFirst places_left it first more → is_none first ≡ true → places_left it ≡ map node_place ns
-    → sets ≡ fold with_first sets (map node ns)
-first_if_none it more None sets [] steps none are = refl
-first_if_none it more None sets (n ∷ ns) steps none are = absurd (nothing_more _ _ (sym steps.0 ∙ are))
-first_if_none it more (Some place) sets ns steps none are = absurd (true≢false (sym none))
+pub none_within : {S : Type 0} (gathered : S → EntitySpec → S) (it more : Places) (first : Option Place) (s : S) (ns : List NodeSpec) → YieldsFirst places_left it first more → is_none first ≡ true → places_left it ≡ map node_place ns
+    → s ≡ fold gathered s (map node ns)
+none_within gathered it more None s [] steps none are = refl
+none_within gathered it more None s (n ∷ ns) steps none are = absurd (nothing_more _ _ (sym steps.0 ∙ are))
+none_within gathered it more (Some place) s ns steps none are = absurd (true≢false (sym none))
 
--- or there are some
-pub first_if_some : (it more : Places) (first : Option Place) (sets : FirstSets) (ns : List NodeSpec) → YieldsFirst places_left it first more → is_none first ≡ false → places_left it ≡ map node_place ns
-    → fold with_first_inside (before_node sets) (ids_within sets.area ns) ≡ fold with_first sets (map node ns)
-first_if_some it more None sets ns steps some are = absurd (true≢false some)
-first_if_some it more (Some place) sets [] steps some are = absurd (nothing_more _ _ (sym are ∙ steps))
-first_if_some it more (Some place) sets (n ∷ ns) steps some are = first_gathered sets n ns
+-- by the ids of those in a box
+module _ {S : Type 0} (step : S → Seen → S) (alike : PassesOver step) (area : BoundingBox) where
+  abbrev with_box : S → EntitySpec → S
+  with_box = with_seen (box_area area) step
+
+  -- a node outside changes nothing
+  abbrev IsBegun : S → Type 0
+  IsBegun sets = (id : ℤ) → step sets (a_node id false) ≡ sets
+
+  inside_next : (sets : S) (n : NodeSpec) (ns : List NodeSpec) (there : Bool) → IsBegun sets
+      → fold (with_inside step) sets (map id_of (cond there (n ∷ ns) ns)) ≡ fold (with_inside step) (step sets (a_node n.id there)) (map id_of ns)
+  inside_next sets n ns true begun = refl
+  inside_next sets n ns false begun = ap (λ (s : S). fold (with_inside step) s (map id_of ns)) (sym (begun n.id))
+
+  inside_gathered : (sets : S) (ns : List NodeSpec) → IsBegun sets → fold (with_inside step) sets (ids_within area ns) ≡ fold with_box sets (map node ns)
+  inside_gathered sets [] begun = refl
+  inside_gathered sets (n ∷ ns) begun =
+      inside_next sets n (filter (lies_in area) ns) (lies_in area n) begun
+      ∙ inside_gathered (with_box sets (node n)) ns (λ id. alike.after sets n.id id (lies_in area n))
+
+  -- if there is a first place
+  pub some_within : (it more : Places) (first : Option Place) (sets begun : S) (ns : List NodeSpec) → YieldsFirst places_left it first more → is_none first ≡ false → places_left it ≡ map node_place ns
+      → ((id : ℤ) → begun ≡ step sets (a_node id false)) → fold (with_inside step) begun (ids_within area ns) ≡ fold with_box sets (map node ns)
+  some_within it more None sets begun ns steps some are is = absurd (true≢false some)
+  some_within it more (Some place) sets begun [] steps some are is = absurd (nothing_more _ _ (sym are ∙ steps))
+  some_within it more (Some place) sets begun (n ∷ ns) steps some are is =
+      inside_gathered begun (n ∷ ns) (λ id. ap (λ (s : S). step s (a_node id false)) (is id) ∙ alike.after sets id id false ∙ sym (is id))
+      ∙ ap (λ (s : S). fold with_box s (map node ns)) (ap (λ (s : S). step s (a_node n.id (lies_in area n))) (is n.id) ∙ alike.before sets n.id n.id (lies_in area n))
 
 -- if nodes don't matter
 pub nodes_left_out : {S : Type 0} (s : S) (ns : List NodeSpec) → s ≡ fold as_it_was s (map node ns)

@@ -3,11 +3,11 @@ use Rattle.std.specs.Prelude.{◌≡◌, ◌≤◌, ℕ, ℤ, List, [], ◌∷�
 use Rattle.std.specs.List.{flat_map, fold, last_or}
 use Rattle.std.specs.Option.{option_map}
 use Rattle.osm_entity.specs.Entity.{EntitySpec, node, way, relation}
-use Rattle.osm_box.specs.BoundingBox.{is_inside}
-use Rattle.pbf_dense.specs.declared.places.Place.{Place}
-use Rattle.osm_ways.specs.Selection.{a_node}
-use Rattle.osm_ways.specs.Phases.{NodeSets, WaySets, RelationSets, node_step, way_step, relation_step}
-use Rattle.osm_ways.specs.First.{FirstSets, first_step}
+use Rattle.osm_area.specs.Area.{AreaSpec, box_area}
+use Rattle.osm_box.specs.declared.bounding_box.BoundingBox.{BoundingBox}
+use Rattle.osm_ways.specs.declared.in_area.InArea.{InArea}
+use Rattle.osm_ways.specs.Selection.{Seen, a_node}
+use Rattle.osm_ways.specs.Phases.{Ids, WaySets, RelationSets, node_step, way_step, relation_step}
 use Rattle.osm_ways.specs.Seen.{seen_node, seen_way, seen_relation}
 use Rattle.pbf_header.specs.Header.{HeaderSpec, header_of, header_in}
 use Rattle.pbf_block.specs.declared.counts.Counts.{Counts}
@@ -78,30 +78,23 @@ TakesPayload p old new = TakesSome p (entities_in p) old new
 abbrev pub as_it_was : {S : Type 0} → S → EntitySpec → S
 as_it_was sets e = sets
 
+-- what a phase takes of nodes and ways, by what is seen of them in an area
+abbrev pub with_seen : {S : Type 0} → AreaSpec → (S → Seen → S) → S → EntitySpec → S
+with_seen area step sets (node n) = step sets (seen_node area n)
+with_seen area step sets (way w) = step sets (seen_way w)
+with_seen area step sets (relation r) = sets
+
+-- the same beside its area
+abbrev pub with_seen_in : {A S : Type 0} → (A → AreaSpec) → (S → Seen → S) → InArea A S → EntitySpec → InArea A S
+with_seen_in area step of e = record of { phase = with_seen (area of.area) step of.phase e }
+
+-- only the id of a node that lies in it
+abbrev pub with_inside : {S : Type 0} → (S → Seen → S) → S → ℤ → S
+with_inside step sets id = step sets (a_node id true)
+
 -- the nodes in the box
-abbrev pub with_node : NodeSets → EntitySpec → NodeSets
-with_node sets (node n) = record { area = sets.area; box_ids = node_step sets.box_ids (seen_node sets.area n) }
-with_node sets _ = sets
-
--- the same of only a node's id and place
-abbrev pub with_place : NodeSets → Place → NodeSets
-with_place sets p = record { area = sets.area; box_ids = node_step sets.box_ids (a_node p.id (is_inside sets.area p.lat p.lon)) }
-
--- the same of only the id of a node in the box
-abbrev pub with_inside : NodeSets → ℤ → NodeSets
-with_inside sets id = record { area = sets.area; box_ids = node_step sets.box_ids (a_node id true) }
-
--- and the ways that are kept besides, as long as no node comes after a way
-abbrev pub with_first : FirstSets → EntitySpec → FirstSets
-with_first sets (node n) = first_step sets (seen_node sets.area n)
-with_first sets (way w) = first_step sets (seen_way w)
-with_first sets (relation r) = sets
-
-abbrev pub with_first_place : FirstSets → Place → FirstSets
-with_first_place sets p = first_step sets (a_node p.id (is_inside sets.area p.lat p.lon))
-
-abbrev pub with_first_inside : FirstSets → ℤ → FirstSets
-with_first_inside sets id = first_step sets (a_node id true)
+abbrev pub with_node : InArea BoundingBox Ids → EntitySpec → InArea BoundingBox Ids
+with_node = with_seen_in box_area node_step
 
 -- the ways that are kept, and their refs
 abbrev pub with_way : WaySets → EntitySpec → WaySets

@@ -2,9 +2,9 @@
 #![tactic(auto)]
 
 mod checking;
-mod first;
 mod hashed;
 mod header_limit;
+mod in_area;
 mod pass;
 mod receipt;
 mod unjudged;

@@ -9,12 +9,11 @@ ghost use Rattle.pbf_block.specs.Kinds.{is_among};
 ghost use Rattle.pbf_block.specs.PrimitiveBlock.{entities};
 ghost use Rattle.pbf_block.specs.Runs.{entity_from, way_from, joined_runs, run_entities, runs_left};
 ghost use Rattle.pbf_dense.specs.Cursors.{dense_left};
-ghost use Rattle.pbf_dense.specs.Within.{ids_within_left};
 ghost use Rattle.pbf_wire.specs.declared.fault.Fault.{Fault};
 ghost use Rattle.pbf_wire.specs.declared.fault.ReadFault.TheVariants.{Refused};
 ghost use Rattle.pbf_pass.specs.Judged.{fault_in, judged_file};
 ghost use Rattle.pbf_pass.specs.Payload.{header_block, primitive_block, lent_by};
-ghost use Rattle.pbf_pass.specs.Pass.{IsFresh, TakesPayload, TakesAll, TakesFrame, CountsFrame, TakesFile, FailsToJudge, as_it_was, with_node, with_inside, with_way, with_relation, Steps};
+ghost use Rattle.pbf_pass.specs.Pass.{IsFresh, TakesPayload, TakesAll, TakesFrame, CountsFrame, TakesFile, FailsToJudge, as_it_was, with_node, with_way, with_relation, Steps};
 ghost use Rattle.pbf_pass.specs.Given.{GaveFile};
 ghost use Rattle.pbf_pass.specs.Hashing.{IsLength, digest_if};
 ghost use Rattle.pbf_wire.specs.declared.limits.TheConstants.{OFFSET_LIMIT};
@@ -25,7 +24,7 @@ use crate::visit::{FileRead, Visit, pass_over, step};
 use osm_entity::EntityRef;
 use osm_ways::{NodePhase, RelationPhase, SeenWay, WayPhase};
 use pbf_block::{Block, Counts, Kinds, Run, Runs, UnmadeEntity, UnmadeWay};
-use pbf_dense::{Dense, IdsWithin};
+use pbf_dense::Dense;
 use pbf_frame::{Feed, Frame, FrameKind, FrameReader, Stop};
 use pbf_header::Header;
 use pbf_wire::ReadFault;
@@ -81,33 +80,6 @@ impl Gather for Nothing {
     #[tactic(auto, using(crate::proofs::GatherLemmas::nodes_left_out))]
     fn gather_dense(&mut self, _dense: &Dense<'_>) -> Result<(), AllocError> {
         Ok(())
-    }
-}
-
-impl Gather for NodePhase {
-    ghost gathered = { with_node };
-
-    fn kinds() -> Kinds {
-        Kinds {
-            nodes: true,
-            ways: false,
-            relations: false,
-        }
-    }
-
-    fn gather(&mut self, entity: &EntityRef<'_>) -> Result<(), AllocError> {
-        match entity {
-            EntityRef::Node(node) => self.take_node(node),
-            EntityRef::Way(_) | EntityRef::Relation(_) => Ok(()),
-        }
-    }
-
-    fn gather_way(&mut self, _unmade: &UnmadeWay<'_>) -> Result<(), AllocError> {
-        Ok(())
-    }
-
-    fn gather_dense(&mut self, dense: &Dense<'_>) -> Result<(), AllocError> {
-        take_places(self, dense)
     }
 }
 
@@ -173,36 +145,6 @@ pub(crate) fn seen<'a>(unmade: &UnmadeWay<'a>) -> SeenWay<'a>
 {
     let (id, refs) = unmade.id_and_refs();
     SeenWay { id, refs }
-}
-
-/// Takes the nodes of a dense message that lie in the box, each by only its id.
-fn take_ids(phase: &mut NodePhase, ids: IdsWithin<'_>) -> Result<(), AllocError>
-    ensures { OnOk result (phase.new ≡ fold with_inside phase.old (ids_within_left ids.entry)) }
-{
-    for id in ids {
-        phase.take_inside(id)?;
-    }
-    Ok(())
-}
-
-/// Takes the nodes of a dense message, each by only its id and its place.
-fn take_each_place(phase: &mut NodePhase, dense: &Dense<'_>) -> Result<(), AllocError>
-    ensures { OnOk result (phase.new ≡ fold with_node phase.old (map node (dense_left dense.now))) }
-{
-    for place in dense.places() {
-        phase.take_place(place.id, place.lat, place.lon)?;
-    }
-    Ok(())
-}
-
-/// Takes the nodes of a dense message. Those outside the box change nothing, so that of most only the longitude is read.
-fn take_places(phase: &mut NodePhase, dense: &Dense<'_>) -> Result<(), AllocError>
-    ensures { OnOk result (phase.new ≡ fold with_node phase.old (map node (dense_left dense.now))) }
-{
-    match dense.ids_within(&phase.area()) {
-        Some(ids) => take_ids(phase, ids),
-        None => take_each_place(phase, dense),
-    }
 }
 
 /// Makes a node or a relation, and gathers it. It is a call, so that its room is cleared only here, and not for each run.

@@ -2,6 +2,7 @@
 
 ghost use Rattle.std.specs.Prelude.{◌≡◌, IfOk};
 ghost use Rattle.std.specs.FinSet as set;
+ghost use Rattle.osm_area.specs.Area.{box_area};
 ghost use Rattle.osm_entity.specs.Views.{node_of, way_of};
 ghost use Rattle.osm_ways.specs.Phases.{node_step, start_ways, way_step, without_parents};
 ghost use Rattle.osm_ways.specs.Seen.{seen_node, seen_way};
@@ -18,7 +19,7 @@ pub fn choose(
     way: &WayRef<'_>,
 ) -> Result<Chosen, AllocError>
     ensures { IfOk result (λ chosen. chosen ≡ without_parents (way_step
-        (start_ways (node_step set.empty (seen_node area (node_of node.now))))
+        (start_ways (node_step set.empty (seen_node (box_area area) (node_of node.now))))
         (seen_way (way_of way.now)))) }
 {
     let mut nodes = NodePhase::new(alloc, area);

@@ -7,13 +7,13 @@ pub returns-then-not-self : goal.returns-then-not-self
 returns-then-not-self c =
     let s = c.self.inside in
     let none : s.has_ways ≡ false = search rules in
-    subst (λ (s : FirstSets). s ≡ before_node s) c.self.view_is (before_same s.area s.has_ways s.in_order s.box_ids s.refs s.way_ids c.self.invariant.0 (ap (λ b. b && s.in_order) none))
+    subst (λ (s : FirstSets). s ≡ before_node s) c.self.view_is (before_same s.has_ways s.in_order s.box_ids s.refs s.way_ids c.self.invariant.0 (ap (λ b. b && s.in_order) none))
 
 pub returns-then-not-self-2 : goal.returns-then-not-self-2
 returns-then-not-self-2 c =
     let s = c.self.inside in
     let broken : s.in_order ≡ false = search rules in
-    subst (λ (s : FirstSets). s ≡ before_node s) c.self.view_is (before_same s.area s.has_ways s.in_order s.box_ids s.refs s.way_ids c.self.invariant.0 (ap (λ b. s.has_ways && b) broken ∙ and_false s.has_ways)) where
+    subst (λ (s : FirstSets). s ≡ before_node s) c.self.view_is (before_same s.has_ways s.in_order s.box_ids s.refs s.way_ids c.self.invariant.0 (ap (λ b. s.has_ways && b) broken ∙ and_false s.has_ways)) where
       and_false : (b : Bool) → (b && false) ≡ false
       and_false true = refl
       and_false false = refl
@@ -22,4 +22,4 @@ pub returns : goal.returns
 returns c =
     let s = c.self.inside in
     let some : s.has_ways ≡ true = search rules in
-    before_new s.area s.has_ways s.in_order s.box_ids s.refs s.way_ids _ _ some c.new.ensures c.new-2.ensures ∙ ap before_node c.self.view_is
+    before_new s.has_ways s.in_order s.box_ids s.refs s.way_ids _ _ some c.new.ensures c.new-2.ensures ∙ ap before_node c.self.view_is

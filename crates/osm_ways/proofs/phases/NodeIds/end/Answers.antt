@@ -1,0 +1,6 @@
+use Rattle.std.proofs.Common.{◌∙◌}
+use Rattle.osm_ways.proofs.Shown.{shown_start}
+use Rattle.osm_ways.proofs.phases.NodeIds.end.Goals as goal
+
+pub returns : goal.returns
+returns c = shown_start c.args.self _ _ _ (c.in_ok-sealed.ensures ∙ c.self.view_is) c.new.ensures c.new-2.ensures

@@ -1,0 +1,108 @@
+//! Phases that take nodes, and the area in which these have to lie.
+
+ghost use Rattle.std.specs.Prelude.{◌≡◌, ℤ, false, true, IfOk, OnOk};
+ghost use Rattle.osm_entity.specs.Views.{node_of};
+ghost use Rattle.osm_ways.specs.InArea.{start_nodes, stepped};
+ghost use Rattle.osm_ways.specs.Phases.{PassesOver, TakesNode, TakesWays, start_ways};
+ghost use Rattle.osm_ways.specs.Seen.{seen_node, seen_refs};
+ghost use Rattle.osm_ways.specs.Selection.{Seen, a_node};
+
+use crate::phases::{NodeIds, SeenWay, WayPhase};
+use osm_area::Area;
+use osm_entity::{BoundingBox, NodeRef};
+use std::alloc::{AllocError, Global};
+
+/// A phase that takes nodes, and maybe ways. It takes ids, and knows of no area.
+pub trait NodeTaker {
+    /// What it is after an entity, by what the selection sees of that.
+    ghost step: { Self → Seen → Self };
+
+    /// Takes a node that lies in the area.
+    ///
+    /// # Errors
+    ///
+    /// If memory is refused, the phase is as it was.
+    fn take_inside(&mut self, id: i64) -> Result<(), AllocError>
+        ensures { TakesNode step (a_node id true) self.old self.new result };
+
+    /// Takes a node that does not, whatever its id: such a node before or after another one changes nothing.
+    fn take_outside(&mut self)
+        ensures taken { (id : ℤ) → self.new ≡ step self.old (a_node id false) }
+        ensures alike { PassesOver step };
+
+    /// Whether it takes ways.
+    fn takes_ways() -> bool
+        ensures { TakesWays result step };
+
+    /// Takes a way.
+    ///
+    /// # Errors
+    ///
+    /// If memory is refused, the phase may only be dropped.
+    fn take_refs(&mut self, way: SeenWay<'_>) -> Result<(), AllocError>
+        ensures { OnOk result (self.new ≡ step self.old (seen_refs way.entry)) };
+}
+
+/// A phase, and the area in which the nodes that it takes have to lie.
+#[derive(Drop)]
+pub struct InArea<A, P> {
+    pub area: A,
+    pub phase: P,
+}
+
+/// The first phase, which takes nodes: the box, and the ids of its nodes.
+pub type NodePhase = InArea<BoundingBox, NodeIds>;
+
+impl InArea<BoundingBox, NodeIds> {
+    /// The phase of a box, with no nodes yet. It allocates nothing yet.
+    pub fn new(alloc: Global, area: BoundingBox) -> NodePhase
+        ensures { result ≡ start_nodes area }
+    {
+        InArea {
+            area,
+            phase: NodeIds::new(alloc),
+        }
+    }
+
+    /// All nodes are taken: those in the box are kept, and the ways follow.
+    ///
+    /// # Errors
+    ///
+    /// If memory is refused, the phase is gone.
+    pub fn end_nodes(self) -> Result<WayPhase, AllocError>
+        ensures { IfOk result (λ phase. phase ≡ start_ways self.phase) }
+    {
+        self.phase.end()
+    }
+}
+
+impl<A: Area, P: NodeTaker> InArea<A, P> {
+    /// Takes a node. Of those that do not lie in the area the phase learns only that there are some.
+    ///
+    /// # Errors
+    ///
+    /// If memory is refused, the phase is as it was.
+    pub fn take_node(&mut self, node: &NodeRef<'_>) -> Result<(), AllocError>
+        ensures { TakesNode (stepped P.step) (seen_node (A.area self.old.area) (node_of node.now))
+            self.old self.new result }
+    {
+        self.take_place(node.id(), node.nano_lat(), node.nano_lon())
+    }
+
+    /// The same of a node by its id and its place in nanodegrees, which is all that counts of it.
+    ///
+    /// # Errors
+    ///
+    /// If memory is refused, the phase is as it was.
+    #[inline(always)]
+    pub fn take_place(&mut self, id: i64, lat: i128, lon: i128) -> Result<(), AllocError>
+        ensures { TakesNode (stepped P.step) (a_node id ((A.area self.old.area).has lat lon))
+            self.old self.new result }
+    {
+        if self.area.contains(lat, lon) {
+            return self.phase.take_inside(id);
+        }
+        self.phase.take_outside();
+        Ok(())
+    }
+}
