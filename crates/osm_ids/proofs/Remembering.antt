@@ -1,5 +1,5 @@
 -- What a growing set knows of its pages.
-use Rattle.std.proofs.Common.{◌≡◌, true, false, ◌||◌, List, ℤ, ◌<ℤ◌, ◌≤ℤ◌, refl, sym, ap, subst, ◌∙◌, arith}
+use Rattle.std.proofs.Common.{◌≡◌, true, false, ◌||◌, List, ℤ, refl, sym, ap, ◌∙◌, arith}
 use Rattle.std.specs.List.{list_any}
 use Rattle.std.specs.Ordering.{int_eq}
 use Rattle.std.specs.Cmp.{int_cmp_total}

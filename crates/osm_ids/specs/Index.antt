@@ -1,13 +1,12 @@
 -- The index of pages, and the bytes that it names.
-use Rattle.std.specs.Prelude.{◌≡◌, ℕ, ◌<◌, ◌≤◌, ◌-◌, ◌*◌, List, ◌∷◌, length, take, drop, get_or, ℤ, ◌<ℤ◌, ◌≤ℤ◌, int_le, true, false}
-use Rattle.std.specs.List.{list_any}
+use Rattle.std.specs.Prelude.{◌≡◌, ℕ, ◌<◌, ◌≤◌, ◌-◌, ◌*◌, List, ◌∷◌, length, take, drop, get_or, ℤ, ◌≤ℤ◌, int_le, true, false}
 use Rattle.std.specs.List.Sorted.{IsPartitionPoint}
-use Rattle.std.specs.Ordering.{int_eq, int_cmp}
+use Rattle.std.specs.Ordering.{int_cmp}
 use Rattle.std.specs.FinSet as set
 use Rattle.osm_ids.specs.declared.index.PageStart.{PageStart}
 use Rattle.osm_ids.specs.declared.page.PageIds.{PageIds}
 use Rattle.osm_ids.specs.Pages.{Page, IsSealed, IsSpelled, ids_in}
-use Rattle.osm_ids.specs.Windows.{IsKept, IsPageOf, held}
+use Rattle.osm_ids.specs.Windows.{IsPageOf, held}
 
 -- the set that an index and bytes stand for
 abbrev pub set_in : List PageStart → List ℕ → set.FinSet int_cmp

@@ -15,4 +15,4 @@ mod window;
 pub use links::{Link, Links};
 pub use pages::SealedIds;
 pub use set::IdSet;
-pub use window::Window;
+pub use window::{IdLookup, Window};

@@ -8,6 +8,7 @@ ghost use Rattle.osm_ids.specs.Order.{IsReached};
 use crate::merge::Merged;
 use crate::page::PageIds;
 use crate::pages::SealedIds;
+use crate::window::{IdLookup, Window};
 use std::alloc::{AllocError, Global};
 use std::collections::BTreeSet;
 use std::marker::Model;
@@ -120,6 +121,19 @@ impl IdSet {
             Ok(pages) => Ok(pages),
             Err(error) => Err((self, error)),
         }
+    }
+}
+
+impl IdLookup for IdSet {
+    ghost ids = { λ a. a };
+
+    /// The window serves only a set of which no id came out of order since it was settled.
+    #[inline(always)]
+    fn has_near(&self, window: &mut Window, id: i64) -> bool {
+        if self.late.is_empty() {
+            return window.has(&self.pages, id);
+        }
+        self.pages.has(id) || self.late.contains(&id)
     }
 }
 

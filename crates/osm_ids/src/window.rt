@@ -9,6 +9,27 @@ use crate::page::{Known, PageIds};
 use crate::pages::SealedIds;
 use pbf_wire::{EMPTY_SPAN, Span};
 
+/// Ids that are looked up through a window beside them, in a sealed set or in one that may still grow.
+pub trait IdLookup {
+    /// The ids, as a finite set.
+    ghost ids: { Self → set.FinSet int_cmp };
+
+    /// Whether the id is among them. The window is true of them, before and after.
+    fn has_near(&self, window: &mut Window, id: i64) -> bool
+        requires { IsOf (ids self.now) window.old }
+        ensures has { result ≡ set.contains (ids self.now) id }
+        ensures of { IsOf (ids self.now) window.new };
+}
+
+impl IdLookup for SealedIds {
+    ghost ids = { λ a. a };
+
+    #[inline(always)]
+    fn has_near(&self, window: &mut Window, id: i64) -> bool {
+        window.has(self, id)
+    }
+}
+
 /// How many pages are kept: refs of a way are often ids of a few pages in turn.
 const KEPT: usize = 8;
 

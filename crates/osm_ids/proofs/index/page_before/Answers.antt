@@ -1,4 +1,4 @@
-use Rattle.std.proofs.Common.{◌≡◌, List, ℕ, ℤ, pos, ◌∷◌, sym, ap, subst, inl, inr, arith, ◌-◌, ◌∙◌, ◌≤◌, length, suc, take, drop}
+use Rattle.std.proofs.Common.{◌≡◌, pos, ◌∷◌, sym, ap, subst, inl, inr, arith, ◌-◌, ◌∙◌, ◌≤◌, length, suc, take, drop}
 use Rattle.std.proofs.lemmas.List.{get_or_default}
 use Rattle.osm_ids.specs.declared.index.PageStart.{PageStart}
 use Rattle.osm_ids.specs.Pages.{IsSpelled}

@@ -1,4 +1,4 @@
-use Rattle.std.proofs.Common.{◌≡◌, ◌<◌, ◌≤◌, ◌-◌, suc, List, ℤ, pos, ◌∷◌, length, get_or, take, drop, to_z, of_z, ap, sym, subst, ◌∙◌, arith, rules, w64}
+use Rattle.std.proofs.Common.{◌≡◌, ◌≤◌, ◌-◌, suc, pos, ◌∷◌, length, get_or, to_z, of_z, ap, sym, subst, ◌∙◌, arith, rules, w64}
 use mir.Val.{SFits}
 use Rattle.std.proofs.lemmas.Int.{to_z-of_z}
 use Rattle.std.proofs.lemmas.List.{get_or_default}

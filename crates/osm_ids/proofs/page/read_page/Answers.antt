@@ -1,11 +1,11 @@
-use Rattle.std.proofs.Common.{◌≡◌, ◌<◌, ◌≤◌, ◌≤ℤ◌, ◌+ℤ◌, ◌+◌, ◌∷◌, [], pos, List, ℤ, length, set, sym, ap, subst, ◌∙◌, arith, rules, to_z, of_z, w64}
+use Rattle.std.proofs.Common.{◌≡◌, ◌≤◌, ◌+◌, ◌∷◌, [], List, ℤ, length, sym, ap, subst, ◌∙◌, arith, rules, to_z, of_z, w64}
 use mir.Val.{SFits}
-use Rattle.std.proofs.lemmas.Int.{to_z-of_z, ints}
+use Rattle.std.proofs.lemmas.Int.{to_z-of_z}
 use Rattle.std.proofs.lemmas.List.{length-set}
 use Rattle.pbf_wire.specs.Varint.{shortest}
 use Rattle.osm_ids.specs.Pages.{IsSpelled, gap, last_of}
 use Rattle.osm_ids.specs.Windows.{IsNext}
-use Rattle.osm_ids.proofs.Reading.{Reads, reads_turn, reads_end, reads_all, reads_last, next, wrapped_sum}
+use Rattle.osm_ids.proofs.Reading.{reads_turn, reads_end, reads_all, reads_last, next, wrapped_sum}
 use Rattle.osm_ids.proofs.page.read_page.Goals as goal
 use Rattle.osm_ids.proofs.page.read_page.Goals.{then-ids-test+else-count-lt128, else-ids-test, then-ids-test+then-count-lt128+in_default}
 

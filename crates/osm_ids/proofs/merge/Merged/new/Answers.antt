@@ -1,7 +1,7 @@
 use Rattle.std.proofs.Common.{◌≡◌, sym, subst, ◌∙◌}
 use Rattle.std.specs.List.{cons_option}
 use Rattle.osm_ids.specs.Pages.{rising}
-use Rattle.osm_ids.specs.Merging.{merged, IsMerging}
+use Rattle.osm_ids.specs.Merging.{IsMerging}
 use Rattle.osm_ids.proofs.Rising.{rising_from_sorted, rising_rises}
 use Rattle.osm_ids.proofs.MergeLemmas.{taken, taken_none, taken_next, taken_no_next, merging}
 use Rattle.osm_ids.proofs.merge.Merged.new.Goals as goal

@@ -1,4 +1,4 @@
-use Rattle.std.proofs.Common.{◌∷◌, ◌<ℤ◌, ◌≤ℤ◌, ℕ, List, ℤ, Option, sym, ap, subst, ◌∙◌, arith, rules, to_z, of_z, w64}
+use Rattle.std.proofs.Common.{◌∷◌, ◌<ℤ◌, ◌≤ℤ◌, List, ℤ, Option, sym, ap, ◌∙◌, arith, rules, to_z, of_z, w64}
 use mir.Val.{SFits}
 use Rattle.std.specs.List.{cons_option}
 use Rattle.std.proofs.lemmas.Int.{to_z-of_z, ints}

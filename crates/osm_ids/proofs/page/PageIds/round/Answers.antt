@@ -1,4 +1,4 @@
-use Rattle.std.proofs.Common.{◌≡◌, ◌<◌, ◌≤◌, ◌-◌, ◌≤ℤ◌, ◌<ℤ◌, int_lt, pos, false, true, List, ℤ, length, take, get_or, refl, sym, ap, subst, ◌∙◌, arith, rules, to_z, of_z, w64}
+use Rattle.std.proofs.Common.{◌≡◌, ◌-◌, ◌≤ℤ◌, ◌<ℤ◌, int_lt, pos, false, true, ℤ, length, get_or, refl, sym, ap, subst, ◌∙◌, arith, rules, of_z, w64}
 use mir.Val.{SFits}
 use Rattle.std.specs.List.Sorted.{IsPartitionPoint}
 use Rattle.std.proofs.lemmas.Int.{to_z-of_z, ints}
@@ -6,7 +6,7 @@ use Rattle.std.proofs.lemmas.List.{length-take-le}
 use Rattle.std.proofs.lemmas.List.Sorted.{IsPartitionPoint-from_clause}
 use Rattle.osm_ids.specs.declared.page.Known.{Known}
 use Rattle.osm_ids.specs.Windows.{IsNext, held}
-use Rattle.osm_ids.proofs.Rounds.{Placed, placed, parted, is_there, not_there, some_before, gap_known, run_known}
+use Rattle.osm_ids.proofs.Rounds.{placed, parted, not_there, some_before, gap_known, run_known}
 use Rattle.osm_ids.proofs.page.PageIds.round.Goals as goal
 
 pub overflow_sub-at : goal.overflow_sub-at

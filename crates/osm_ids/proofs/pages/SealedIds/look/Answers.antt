@@ -1,4 +1,4 @@
-use Rattle.std.proofs.Common.{◌≡◌, ◌<◌, ◌≤◌, ◌<ℤ◌, List, ℕ, length, refl, ap, sym, subst, ◌∙◌, arith, rules, w64}
+use Rattle.std.proofs.Common.{◌<ℤ◌, List, ℕ, length, refl, ap, sym, subst, ◌∙◌, arith, rules, w64}
 use mir.Val.{SFits}
 use Rattle.std.specs.FinSet as set
 use Rattle.std.proofs.lemmas.Int.{to_z-of_z, ints}

@@ -1,9 +1,7 @@
-use Rattle.std.proofs.Common.{ℤ, negsuc, ◌^◌, ◌-◌, List, ℕ, [], refl, sym, subst, arith}
-use Rattle.std.specs.FinSet as set
+use Rattle.std.proofs.Common.{negsuc, ◌^◌, ◌-◌, List, [], refl, sym, subst}
 use Rattle.osm_ids.specs.declared.index.PageStart.{PageStart}
 use Rattle.osm_ids.specs.Index.{set_in}
 use Rattle.osm_ids.specs.Order.{IsGreatest}
-use Rattle.osm_ids.specs.Pages.{IsSealed}
 use Rattle.osm_ids.proofs.OrderLemmas.{none_greatest}
 use Rattle.osm_ids.proofs.pages.SealedIds.new.Goals as goal
 

@@ -1,10 +1,8 @@
-use Rattle.std.proofs.Common.{◌≤ℤ◌, length, sym, subst, ap, ◌∙◌, arith, rules, w64}
+use Rattle.std.proofs.Common.{◌≤ℤ◌, sym, subst, ap, ◌∙◌, arith, rules, w64}
 use Rattle.std.specs.FinSet as set
 use mir.Val.{SFits}
 use Rattle.std.proofs.lemmas.Int.{to_z-of_z, ints}
-use Rattle.osm_ids.specs.Index.{set_in}
 use Rattle.osm_ids.specs.Order.{IsAbove, IsReached}
-use Rattle.osm_ids.specs.Pages.{ids_of_pages}
 use Rattle.osm_ids.proofs.Sets.{Ids, ids_of}
 use Rattle.osm_ids.proofs.Rising.{len-rising}
 use Rattle.osm_ids.proofs.Laid.{ids_in_sealed}

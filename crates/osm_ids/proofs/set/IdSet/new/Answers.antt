@@ -1,8 +1,7 @@
-use Rattle.std.proofs.Common.{List, ℤ, ap, sym, subst, ◌∙◌, false, true, true≢false}
+use Rattle.std.proofs.Common.{List, ℤ, ap, sym, ◌∙◌, true≢false}
 use Rattle.std.specs.List.{list_any}
 use Rattle.std.specs.Ordering.{int_eq}
 use Rattle.std.specs.FinSet as set
-use Rattle.osm_ids.specs.Order.{AreLate}
 use Rattle.osm_ids.proofs.Sets.{Ids, ids_of}
 use Rattle.osm_ids.proofs.OrderLemmas.{with_late, none_late}
 use Rattle.osm_ids.proofs.set.IdSet.new.Goals as goal

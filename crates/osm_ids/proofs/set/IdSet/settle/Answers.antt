@@ -1,4 +1,4 @@
-use Rattle.std.proofs.Common.{List, ℤ, ap, sym, ◌∙◌, true, true≢false}
+use Rattle.std.proofs.Common.{List, ℤ, ap, sym, ◌∙◌, true≢false}
 use Rattle.std.specs.List.{list_any}
 use Rattle.std.specs.Ordering.{int_eq}
 use Rattle.osm_ids.proofs.OrderLemmas.{with_late, none_late}

@@ -1,4 +1,4 @@
-use Rattle.std.proofs.Common.{◌≤◌, ◌++◌, ap, ◌∙◌, drop, arith, refl}
+use Rattle.std.proofs.Common.{◌++◌, ap, drop, arith}
 use Rattle.osm_ids.specs.Pages.{rising}
 use Rattle.osm_ids.proofs.walk.Walk.new.Goals as goal
 
