@@ -82,7 +82,8 @@ page_at at zero (page ∷ later ∷ rest) h =
       before = [];
       page = page;
       after = later ∷ rest;
-      whole = refl; size = refl;
+      whole = refl;
+      size = refl;
       here = λ d. ap (λ k. record { first = page.first; place = k }) (omega arith);
       next = inr (later, rest, refl, omega arith, λ d. ap (λ k. record { first = later.first; place = k }) (omega arith));
     }
@@ -351,8 +352,8 @@ is_kept index bytes pages sealed j lt p some few e reach =
                 let back = ap (λ (l : List Page). this.others ++ ids_of_pages l) more.2 in (
                   more.0.first,
                   contains-ids_of (ids_in index bytes) more.0.first
-                  ∙ ap (list_any (int_eq more.0.first)) (ids_in_sealed index bytes pages sealed ∙ parts index bytes pages sealed j lt ∙ ap (λ (l : List Page). ids_of_pages at.before ++ (page_ids this ++ ids_of_pages l)) more.2)
-                  ∙ any_in_last (ids_of_pages at.before) (page_ids this) (ids_of_pages (more.0 ∷ more.1)) more.0.first (first_among more.0.first _),
+                      ∙ ap (list_any (int_eq more.0.first)) (ids_in_sealed index bytes pages sealed ∙ parts index bytes pages sealed j lt ∙ ap (λ (l : List Page). ids_of_pages at.before ++ (page_ids this ++ ids_of_pages l)) more.2)
+                      ∙ any_in_last (ids_of_pages at.before) (page_ids this) (ids_of_pages (more.0 ∷ more.1)) more.0.first (first_among more.0.first _),
                   omega (arith, ints, up, high),
                 )
           ];
@@ -397,8 +398,10 @@ passed index seen_index bytes pages id seen n sealed e f h =
 pub absent_first : (index : List PageStart) (bytes : List ℕ) (pages : List Page) (above below : ℤ) → IsSealed index bytes pages → BeginFrom index 0 below → (id : ℤ) → above <ℤ id → id <ℤ below → set.contains (set_in index bytes) id ≡ false
 absent_first index bytes pages above below sealed from id _ low =
     contains-ids_of (ids_in index bytes) id
-    ∙ none_at_all index bytes pages id 0 sealed
-    (λ i d before lt. absurd (omega arith), λ i d after lt.
-        let first = from (get_or index 0 d) (omega arith) (get_or_default index 0 d _ (omega arith)) in
-        false_from_ne_true _ (λ begun. let at = le_true _ id (partitioned index pages id sealed.starts sealed.rising 0 i d after lt begun) in omega (arith, ints)))
+    ∙ none_at_all index bytes pages id 0 sealed (
+      λ i d before lt. absurd (omega arith),
+      λ i d after lt.
+          let first = from (get_or index 0 d) (omega arith) (get_or_default index 0 d _ (omega arith)) in
+          false_from_ne_true _ (λ begun. let at = le_true _ id (partitioned index pages id sealed.starts sealed.rising 0 i d after lt begun) in omega (arith, ints)),
+    )
     refl

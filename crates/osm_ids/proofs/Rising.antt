@@ -209,4 +209,3 @@ ids_of-rising s = ids_of-in_order (set.items s) ∙ ids_of-items s
 
 pub rising_list : (s : Ids) → (ids : List ℤ) × IsRising ids × (ids_of ids ≡ s)
 rising_list s = (rising s, rising_rises s, ids_of-rising s)
-

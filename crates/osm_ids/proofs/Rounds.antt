@@ -115,14 +115,14 @@ gap_known ids page at below k some begun le last next x low high =
     k.answer x (omega (arith, ints, first, begin, low)) up
     ∙ none_between (held page) at x k.rising
     (λ i d lt.
-        let before = at_most (held page) i (at - 1) (pos 0) k.rising (omega (arith, lt)) (omega (arith, begun, le)) in
-        let same = get_or_default (held page) i d (pos 0) (omega (arith, lt, le)) in
-        omega (arith, ints, before, same, low))
+    let before = at_most (held page) i (at - 1) (pos 0) k.rising (omega (arith, lt)) (omega (arith, begun, le)) in
+    let same = get_or_default (held page) i d (pos 0) (omega (arith, lt, le)) in
+    omega (arith, ints, before, same, low))
     (λ i d ge lt.
-        let behind = at_most (held page) at i (pos 0) k.rising ge lt in
-        let same = get_or_default (held page) i d (pos 0) lt in
-        let e = next (omega (arith, ge, lt)) in
-        omega (arith, ints, behind, same, e, high))
+    let behind = at_most (held page) at i (pos 0) k.rising ge lt in
+    let same = get_or_default (held page) i d (pos 0) lt in
+    let e = next (omega (arith, ge, lt)) in
+    omega (arith, ints, behind, same, e, high))
 
 -- and those of a run
 pub run_known : (ids : Ids) (page : PageIds) (from at to : ℕ) → IsKept ids page → from ≤ at → at ≤ to → to < length (held page) → IsRun (held page) from at → IsRun (held page) at to → (x : ℤ) → get_or (held page) from (pos 0) ≤ℤ x → x ≤ℤ get_or (held page) to (pos 0) → set.contains ids x ≡ true
@@ -148,16 +148,16 @@ pub not_there : (ids : List ℤ) (id : ℤ) (at : ℕ) → IsRising ids → Plac
 not_there ids id at h p other =
     none_between ids at id h p.behind
     (λ i d ge lt.
-        let here = p.ahead at (pos 0) (omega arith) (omega (arith, ge, lt)) in
-        let behind = at_most ids at i (pos 0) h ge lt in
-        let same = get_or_default ids i d (pos 0) lt in
-        elim (cases_order id (get_or ids at (pos 0))) [
-          | inl below ↦ omega (arith, ints, below, behind, same)
-          | inr more ↦ elim more [
-            | inl above ↦ absurd (omega (arith, ints, above, here))
-            | inr e ↦ absurd (other (omega (arith, ge, lt)) (sym e))
-          ]
-        ])
+    let here = p.ahead at (pos 0) (omega arith) (omega (arith, ge, lt)) in
+    let behind = at_most ids at i (pos 0) h ge lt in
+    let same = get_or_default ids i d (pos 0) lt in
+    elim (cases_order id (get_or ids at (pos 0))) [
+      | inl below ↦ omega (arith, ints, below, behind, same)
+      | inr more ↦ elim more [
+        | inl above ↦ absurd (omega (arith, ints, above, here))
+        | inr e ↦ absurd (other (omega (arith, ge, lt)) (sym e))
+      ]
+    ])
 
 -- one of them is before it
 pub some_before : (page : PageIds) (id : ℤ) (at : ℕ) → IsBegun page id → 0 < length (held page) → Placed (held page) id at → (at < length (held page) → get_or (held page) at (pos 0) ≡ id → ⊥) → 0 < at

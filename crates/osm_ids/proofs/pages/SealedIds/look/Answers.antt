@@ -59,8 +59,8 @@ returns-in-Some-clause-some c =
     let told = c.in-Some.known in
     let point : IsPassedAt c.self.inside.index.items id c.begun_by-begun.result = passed c.self.inside.index.items _ bytes _ id _ _ sealed (to_z-of_z w64 id c.ranges.id) c.deref.ensures.value c.begun_by-begun.ensures.point in (
       subst (λ (s : Ids). Tells s id told) c.self.view_is
-      (subst (λ (i : List PageStart). Tells (set_in i bytes) id told) value
-      (c.in-Some.ensures bytes c.self.invariant.0 id (subst (λ (i : List PageStart). IsSealed i bytes c.self.invariant.0) (sym value) sealed) (subst (λ (i : List PageStart). IsPassedAt i id c.begun_by-begun.result) (sym value) point))),
+          (subst (λ (i : List PageStart). Tells (set_in i bytes) id told) value
+          (c.in-Some.ensures bytes c.self.invariant.0 id (subst (λ (i : List PageStart). IsSealed i bytes c.self.invariant.0) (sym value) sealed) (subst (λ (i : List PageStart). IsPassedAt i id c.begun_by-begun.result) (sym value) point))),
       refl,
     )
 

@@ -7,8 +7,7 @@ use Rattle.osm_ids.proofs.pages.SealedIds.new.Goals as goal
 
 pub invariant_of-result : goal.invariant_of-result
 invariant_of-result c =
-    let none = c.new.ensures.items in
-    (
+    let none = c.new.ensures.items in (
       [],
       record { starts = none; spelled = c.new-2.ensures.items; filled = tt; rising = tt; fits = tt },
       refl,
