@@ -18,14 +18,14 @@ use crate::input::{
     PublishedHalt, PublishedInput, close, compare, compare_unless_spared, first_digest,
     lacks_memory, open, published_outcome, two_inflaters,
 };
-use osm_entity::BoundingBox;
+use osm_area::Area;
 use pbf_frame::{Drain, Feed};
 use pbf_pass::Passes;
 use pbf_unpack::Inflater;
 use std::alloc::Global;
 use std::hash::BuildHasher;
 
-/// Writes the complete-ways extract of the box out of the raw file that a published one means, as `extract_sorted_with_receipt` of
+/// Writes the complete-ways extract of the area out of the raw file that a published one means, as `extract_sorted_with_receipt` of
 /// pbfcut does out of a raw file.
 ///
 /// All feeds that are read have to supply the same bytes; of the second nothing is read if no node of the file comes after a way.
@@ -33,12 +33,19 @@ use std::hash::BuildHasher;
 /// published file, and nothing is written then.
 ///
 /// Space: that of `extract_sorted`, and for each feed one packed frame and a raw one.
-pub fn extract_sorted_with_receipt<F: Feed, G: Feed, H: Feed, D: Drain, S: BuildHasher + Drop>(
+pub fn extract_sorted_with_receipt<
+    A: Area + Copy,
+    F: Feed,
+    G: Feed,
+    H: Feed,
+    D: Drain,
+    S: BuildHasher + Drop,
+>(
     passes: Passes,
     first: &mut F,
     second: &mut G,
     third: &mut H,
-    area: BoundingBox,
+    area: A,
     drain: &mut D,
     hasher: S,
 ) -> Result<PublishedInput, PublishedHalt>
@@ -54,8 +61,8 @@ pub fn extract_sorted_with_receipt<F: Feed, G: Feed, H: Feed, D: Drain, S: Build
         (λ c. GavePublished H.Feed third.old third.new (Some receipt.input)
         (digest_if passes.hashes receipt.raw)
         (λ d. Took D.Drain drain.old drain.new
-        (λ written. b ≡ c → b ≡ d → IsExtraction (complete_ways area) (extract (seen_decoded area))
-        area b receipt.counts written))))) }
+        (λ written. b ≡ c → b ≡ d → IsExtraction (complete_ways (A.area area))
+        (extract (seen_decoded (A.area area))) (A.area area) b receipt.counts written))))) }
     // Each stop has its cause. What is refused is the raw file that the first feed's bytes mean, by its first fault, and then the drain took
     // nothing. `Read` and `Write` come only if a count of failures rose: of a feed, of the drain. `Changed` has the number of the pass
     // whose feed has other packed bytes than the first, as far as both report them.
@@ -71,7 +78,7 @@ pub fn extract_sorted_with_receipt<F: Feed, G: Feed, H: Feed, D: Drain, S: Build
         → AllSupply b (raw_of (F.remaining first.old)) (raw_of (G.remaining second.old))
         (raw_of (H.remaining third.old))
         → IsFront (D.taken drain.old) (D.taken drain.new)
-        (extract_of (complete_ways area) area b)) h.stop) }
+        (extract_of (complete_ways (A.area area)) (A.area area) b)) h.stop) }
 {
     let alloc = passes.alloc;
     let (inflater, another) = two_inflaters(alloc)?;

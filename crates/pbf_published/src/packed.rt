@@ -21,7 +21,7 @@ use crate::extracting::extract_sorted_with_receipt;
 use crate::input::{PublishedHalt, PublishedInput};
 use crate::packing::finish;
 use crate::parents::extract_parents_sorted_with_receipt;
-use osm_entity::BoundingBox;
+use osm_area::Area;
 use pbf_frame::{Drain, Feed};
 use pbf_pass::Passes;
 use pbf_unpack::PackedDrain;
@@ -59,12 +59,12 @@ pub fn convert_packed<F: Feed, G: Feed, D: Drain, S: BuildHasher + Drop>(
 }
 
 /// Like [`extract_sorted_with_receipt`], over a drain that packs: the drain below takes a published file that means the extract.
-pub fn extract_packed<F: Feed, G: Feed, H: Feed, D: Drain, S: BuildHasher + Drop>(
+pub fn extract_packed<A: Area + Copy, F: Feed, G: Feed, H: Feed, D: Drain, S: BuildHasher + Drop>(
     passes: Passes,
     first: &mut F,
     second: &mut G,
     third: &mut H,
-    area: BoundingBox,
+    area: A,
     drain: &mut PackedDrain<D>,
     hasher: S,
 ) -> Result<PublishedInput, PublishedHalt>
@@ -77,8 +77,8 @@ pub fn extract_packed<F: Feed, G: Feed, H: Feed, D: Drain, S: BuildHasher + Drop
         (λ c. GavePublished H.Feed third.old third.new (Some receipt.input)
         (digest_if passes.hashes receipt.raw)
         (λ d. GaveOut drain.old drain.new
-        (λ written. b ≡ c → b ≡ d → IsExtraction (complete_ways area) (extract (seen_decoded area))
-        area b receipt.counts written))))) }
+        (λ written. b ≡ c → b ≡ d → IsExtraction (complete_ways (A.area area))
+        (extract (seen_decoded (A.area area))) (A.area area) b receipt.counts written))))) }
     // As `stops` of `extract_sorted_with_receipt`, of the drain that packs.
     ensures stops { IfErr result (λ h. Caused (RefusedFirst
         (judged_writable (raw_of (F.remaining first.old))) (taken_raw drain.old) (taken_raw drain.new))
@@ -92,20 +92,28 @@ pub fn extract_packed<F: Feed, G: Feed, H: Feed, D: Drain, S: BuildHasher + Drop
         → AllSupply b (raw_of (F.remaining first.old)) (raw_of (G.remaining second.old))
         (raw_of (H.remaining third.old))
         → IsFront (taken_raw drain.old) (taken_raw drain.new)
-        (extract_of (complete_ways area) area b)) h.stop) }
+        (extract_of (complete_ways (A.area area)) (A.area area) b)) h.stop) }
 {
     let returned = extract_sorted_with_receipt(passes, first, second, third, area, drain, hasher);
     finish(returned, drain)
 }
 
 /// Like [`extract_parents_sorted_with_receipt`], over a drain that packs.
-pub fn extract_parents_packed<F: Feed, G: Feed, H: Feed, I: Feed, D: Drain, S: BuildHasher + Drop>(
+pub fn extract_parents_packed<
+    A: Area + Copy,
+    F: Feed,
+    G: Feed,
+    H: Feed,
+    I: Feed,
+    D: Drain,
+    S: BuildHasher + Drop,
+>(
     passes: Passes,
     first: &mut F,
     second: &mut G,
     third: &mut H,
     fourth: &mut I,
-    area: BoundingBox,
+    area: A,
     drain: &mut PackedDrain<D>,
     hasher: S,
 ) -> Result<PublishedInput, PublishedHalt>
@@ -121,8 +129,8 @@ pub fn extract_parents_packed<F: Feed, G: Feed, H: Feed, I: Feed, D: Drain, S: B
         (λ d. GavePublished I.Feed fourth.old fourth.new (Some receipt.input)
         (digest_if passes.hashes receipt.raw)
         (λ e. GaveOut drain.old drain.new
-        (λ written. b ≡ c → b ≡ d → b ≡ e → IsExtraction (all_parents area)
-        (extract_with_parents (seen_decoded area)) area b receipt.counts written)))))) }
+        (λ written. b ≡ c → b ≡ d → b ≡ e → IsExtraction (all_parents (A.area area))
+        (extract_with_parents (seen_decoded (A.area area))) (A.area area) b receipt.counts written)))))) }
     // As `stops` of `extract_parents_sorted_with_receipt`, of the drain that packs.
     ensures stops { IfErr result (λ h. Caused (RefusedFirst
         (judged_writable (raw_of (F.remaining first.old))) (taken_raw drain.old) (taken_raw drain.new))
@@ -137,7 +145,7 @@ pub fn extract_parents_packed<F: Feed, G: Feed, H: Feed, I: Feed, D: Drain, S: B
         → FourSupply b (raw_of (F.remaining first.old)) (raw_of (G.remaining second.old))
         (raw_of (H.remaining third.old)) (raw_of (I.remaining fourth.old))
         → IsFront (taken_raw drain.old) (taken_raw drain.new)
-        (extract_of (all_parents area) area b)) h.stop) }
+        (extract_of (all_parents (A.area area)) (A.area area) b)) h.stop) }
 {
     let returned = extract_parents_sorted_with_receipt(
         passes, first, second, third, fourth, area, drain, hasher,

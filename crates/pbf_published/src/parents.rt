@@ -18,7 +18,7 @@ use crate::input::{
     PublishedHalt, PublishedInput, close, compare, compare_unless_spared, first_digest,
     lacks_memory, open, published_outcome, two_inflaters,
 };
-use osm_entity::BoundingBox;
+use osm_area::Area;
 use pbf_frame::{Drain, Feed};
 use pbf_pass::Passes;
 use std::alloc::Global;
@@ -27,6 +27,7 @@ use std::hash::BuildHasher;
 /// Like [`extract_sorted_with_receipt`](crate::extract_sorted_with_receipt), with all parents, as `extract_parents_sorted_with_receipt`
 /// of pbfcut.
 pub fn extract_parents_sorted_with_receipt<
+    A: Area + Copy,
     F: Feed,
     G: Feed,
     H: Feed,
@@ -39,7 +40,7 @@ pub fn extract_parents_sorted_with_receipt<
     second: &mut G,
     third: &mut H,
     fourth: &mut I,
-    area: BoundingBox,
+    area: A,
     drain: &mut D,
     hasher: S,
 ) -> Result<PublishedInput, PublishedHalt>
@@ -56,8 +57,8 @@ pub fn extract_parents_sorted_with_receipt<
         (λ d. GavePublished I.Feed fourth.old fourth.new (Some receipt.input)
         (digest_if passes.hashes receipt.raw)
         (λ e. Took D.Drain drain.old drain.new
-        (λ written. b ≡ c → b ≡ d → b ≡ e → IsExtraction (all_parents area)
-        (extract_with_parents (seen_decoded area)) area b receipt.counts written)))))) }
+        (λ written. b ≡ c → b ≡ d → b ≡ e → IsExtraction (all_parents (A.area area))
+        (extract_with_parents (seen_decoded (A.area area))) (A.area area) b receipt.counts written)))))) }
     // Each stop has its cause. What is refused is the raw file that the first feed's bytes mean, by its first fault, and then the drain took
     // nothing. `Read` and `Write` come only if a count of failures rose: of a feed, of the drain. `Changed` has the number of the pass
     // whose feed has other packed bytes than the first, as far as both report them.
@@ -74,7 +75,7 @@ pub fn extract_parents_sorted_with_receipt<
         → FourSupply b (raw_of (F.remaining first.old)) (raw_of (G.remaining second.old))
         (raw_of (H.remaining third.old)) (raw_of (I.remaining fourth.old))
         → IsFront (D.taken drain.old) (D.taken drain.new)
-        (extract_of (all_parents area) area b)) h.stop) }
+        (extract_of (all_parents (A.area area)) (A.area area) b)) h.stop) }
 {
     let alloc = passes.alloc;
     let (inflater, another) = two_inflaters(alloc)?;

@@ -8,7 +8,7 @@ use Rattle.pbf_wire.specs.declared.fault.Fault.{Fault}
 use Rattle.pbf_wire.specs.declared.fault.Reason.TheVariants.{EntityLarge}
 use Rattle.pbf_wire.specs.Faults.{fault}
 use Rattle.pbf_wire.proofs.MessageLemmas.{all_append}
-use Rattle.osm_box.specs.declared.bounding_box.BoundingBox.{BoundingBox}
+use Rattle.osm_area.specs.Area.{AreaSpec, IsAreaWithin}
 use Rattle.osm_entity.specs.Entity as entity
 use Rattle.osm_entity.specs.Entity.{EntitySpec, Decoded}
 use Rattle.osm_entity.specs.Ranges.{EntityFits, EntityTyped}
@@ -17,8 +17,10 @@ use Rattle.osm_ways.specs.Selection.{keeps, extract}
 use Rattle.osm_ways.specs.Parents.{keeps_with_parents, extract_with_parents}
 use Rattle.osm_ways.specs.Seen.{seen_entity, seen_decoded}
 use Rattle.osm_ways.proofs.Decoding.{seen_alike}
-use Rattle.osm_ways.proofs.Extracts.{chosen_viewed, extract_twice}
-use Rattle.osm_ways.proofs.ParentLaws.{extract_with_parents_twice}
+use Rattle.osm_ways.proofs.Boxes.{seen_entity-within}
+use Rattle.osm_ways.proofs.Extracts.{chosen_viewed, extract_of_larger, extract_twice}
+use Rattle.osm_ways.proofs.ParentLaws.{extract_with_parents_of_larger, extract_with_parents_twice}
+use Rattle.pbf_block.specs.declared.counts.Counts.{Counts}
 use Rattle.pbf_frame.specs.declared.frame.FrameKind.TheVariants as kind
 use Rattle.pbf_frame.specs.declared.frame.TheConstants.{FILE_LIMIT}
 use Rattle.pbf_frame.specs.Frames.{FrameSpec}
@@ -38,7 +40,7 @@ use Rattle.pbf_pass.specs.Counting.{entities_in, frame_entities, stored_entities
 use Rattle.pbfcut.specs.Extracting.{Choice, complete_ways, all_parents, extraction, extract_bytes}
 use Rattle.pbf_pass.specs.Judged.{fault_in, payload_fault, sound_first, sound_front, fully}
 use Rattle.pbfcut.specs.Kept.{verdict_within, verdict_on, IsWritable, header_read, conversion_of, extract_of}
-use Rattle.pbfcut.specs.Theorem.{IsConversion, IsExtract, IsCanonical}
+use Rattle.pbfcut.specs.Theorem.{IsConversion, IsExtract, IsExtraction, IsCanonical}
 use Rattle.pbf_pass.specs.Pass.{headers_in, frame_headers, file_header}
 use Rattle.pbf_pass.specs.Payload.{Payload, header_block, primitive_block, unknown, payload_of}
 use Rattle.pbfcut.proofs.FileLaw.{IsFileOf, written_is_file}
@@ -176,11 +178,11 @@ module _ (read : Verdict) (h : HeaderSpec) (es : List EntitySpec) (is : IsFileOf
       ∙ (ap (λ (o : Option Placed). conversion o (stored_entities is.frames)) is.placed
       ∙ ap (λ (l : List EntitySpec). written_file h l) is.entities)
 
-  extracted_is : (choose : Choice) (area : BoundingBox) → extract_bytes choose area read ≡ written_file (header_out_for_box area h) (choose es)
+  extracted_is : (choose : Choice) (area : AreaSpec) → extract_bytes choose area read ≡ written_file (header_out_for_box area.bounds h) (choose es)
   extracted_is choose area =
       ap (λ (v : Verdict). extract_bytes choose area v) is.verdict
       ∙ (ap (λ (o : Option Placed). extraction choose area o (stored_entities is.frames)) is.placed
-      ∙ ap (λ (l : List EntitySpec). written_file (header_out_for_box area h) (choose l)) is.entities)
+      ∙ ap (λ (l : List EntitySpec). written_file (header_out_for_box area.bounds h) (choose l)) is.entities)
 
 pub same_verdict : (file : List ℕ) (frames : List FrameSpec) → judged_writable (Some file) ≡ Some (frames, None) → verdict_on file ≡ (frames, None)
 same_verdict file frames is = ap (λ (o : Option Verdict). unwrap_or o (frames, None)) is
@@ -239,32 +241,32 @@ pub record IsSelection (choose : Choice) (select : List Decoded → List Decoded
   pub twice : (es : List EntitySpec) → choose (choose es) ≡ choose es
   pub meaning : (es : List EntitySpec) → map entity.decoded (choose es) ≡ select (map entity.decoded es)
 
-module _ (choose : Choice) (select : List Decoded → List Decoded) (selection : IsSelection choose select) (area : BoundingBox) (edges : EdgesTyped (edges_of area)) where
+module _ (choose : Choice) (select : List Decoded → List Decoded) (selection : IsSelection choose select) (area : AreaSpec) (edges : EdgesTyped (edges_of area.bounds)) where
   -- it means what is selected, and its extract is the same bytes
   pub record IsKeptExtract (read : Verdict) (written : List ℕ) : Type 0 where
     pub extract : IsExtract choose select area read (verdict_within None written)
     pub again : extract_bytes choose area (verdict_within None written) ≡ written
 
-  can_extract : (h : HeaderSpec) (es : List EntitySpec) → CanWrite h es → CanWrite (header_out_for_box area h) (choose es)
+  can_extract : (h : HeaderSpec) (es : List EntitySpec) → CanWrite h es → CanWrite (header_out_for_box area.bounds h) (choose es)
   can_extract h es can = record {
-    fits = out_fits (Some (edges_of area)) (header_out_for_box area h) edges can.fits.timestamp can.fits.sequence;
+    fits = out_fits (Some (edges_of area.bounds)) (header_out_for_box area.bounds h) edges can.fits.timestamp can.fits.sequence;
     short = can.short;
     fit = selection.fit es can.fit;
     typed = selection.typed es can.typed;
   }
 
-  extract_written : (read : Verdict) (h : HeaderSpec) (es : List EntitySpec) → IsFileOf read h es → CanWrite h es → IsKeptExtract read (written_file (header_out_for_box area h) (choose es))
+  extract_written : (read : Verdict) (h : HeaderSpec) (es : List EntitySpec) → IsFileOf read h es → CanWrite h es → IsKeptExtract read (written_file (header_out_for_box area.bounds h) (choose es))
   extract_written read h es is can =
-      let out = header_out_for_box area h in
+      let out = header_out_for_box area.bounds h in
       let kept = choose es in
       let written = verdict_within None (written_file out kept) in
-      let once : header_out_for_convert out ≡ out = header_out_twice (Some (edges_of area)) (Some (edges_of area)) h in
+      let once : header_out_for_convert out ≡ out = header_out_twice (Some (edges_of area.bounds)) (Some (edges_of area.bounds)) h in
       let again = subst (λ (g : HeaderSpec). IsFileOf written g kept) once (written_out_is_file out kept (can_extract h es can)) in
       let entities = entities_are written out kept again ∙ ap choose (sym (entities_are read h es is)) in
       record {
         extract = record {
           sound = is_sound written out kept again;
-          header = header_is written out kept again ∙ sym (ap (λ (o : Option HeaderSpec). option_map (header_out_for_box area) o) (header_is read h es is));
+          header = header_is written out kept again ∙ sym (ap (λ (o : Option HeaderSpec). option_map (header_out_for_box area.bounds) o) (header_is read h es is));
           meaning = ap (λ (l : List EntitySpec). map entity.decoded l) entities ∙ selection.meaning (stored_entities read.0);
           entities = entities;
         };
@@ -277,23 +279,23 @@ module _ (choose : Choice) (select : List Decoded → List Decoded) (selection :
       let e = extracted_is (verdict_on file) r.header r.entities r.is choose area in
       subst (λ (w : List ℕ). IsKeptExtract (verdict_on file) w) (sym e) (extract_written (verdict_on file) r.header r.entities r.is r.can)
 
-  -- a choice by any box that needs no more than what is chosen: its extract of the extract is that of the file
-  pub extract_of_extract : (fewer : Choice) (other : BoundingBox) → ((es : List EntitySpec) → fewer (choose es) ≡ fewer es) → (file : List ℕ) → IsWritable file → extract_bytes fewer other (verdict_within None (extract_of choose area file)) ≡ extract_of fewer other file
+  -- a choice by any area that needs no more than what is chosen: its extract of the extract is that of the file
+  pub extract_of_extract : (fewer : Choice) (other : AreaSpec) → ((es : List EntitySpec) → fewer (choose es) ≡ fewer es) → (file : List ℕ) → IsWritable file → extract_bytes fewer other (verdict_within None (extract_of choose area file)) ≡ extract_of fewer other file
   extract_of_extract fewer other enough file sound =
       let r = readable file sound in
-      let out = header_out_for_box area r.header in
+      let out = header_out_for_box area.bounds r.header in
       let kept = choose r.entities in
       let written = verdict_within None (written_file out kept) in
-      let once : header_out_for_convert out ≡ out = header_out_twice (Some (edges_of area)) (Some (edges_of area)) r.header in
+      let once : header_out_for_convert out ≡ out = header_out_twice (Some (edges_of area.bounds)) (Some (edges_of area.bounds)) r.header in
       let again = subst (λ (g : HeaderSpec). IsFileOf written g kept) once (written_out_is_file out kept (can_extract r.header r.entities r.can)) in
       ap (λ (w : List ℕ). extract_bytes fewer other (verdict_within None w)) (extracted_is (verdict_on file) r.header r.entities r.is choose area)
       ∙ (extracted_is written out kept again fewer other
-      ∙ (ap (λ (g : HeaderSpec). written_file g (fewer kept)) (header_out_twice (Some (edges_of other)) (Some (edges_of area)) r.header)
-      ∙ (ap (λ (l : List EntitySpec). written_file (header_out_for_box other r.header) l) (enough r.entities)
+      ∙ (ap (λ (g : HeaderSpec). written_file g (fewer kept)) (header_out_twice (Some (edges_of other.bounds)) (Some (edges_of area.bounds)) r.header)
+      ∙ (ap (λ (l : List EntitySpec). written_file (header_out_for_box other.bounds r.header) l) (enough r.entities)
       ∙ sym (extracted_is (verdict_on file) r.header r.entities r.is fewer other))))
 
   -- and so it is of the bytes that two runs wrote
-  pub run_of_run : (fewer : Choice) (other : BoundingBox) → ((es : List EntitySpec) → fewer (choose es) ≡ fewer es) → (file part cut : List ℕ) → length part ≤ FILE_LIMIT → IsWritable file → IsCanonical (extract_bytes choose area) file part → IsCanonical (extract_bytes fewer other) part cut → cut ≡ extract_of fewer other file
+  pub run_of_run : (fewer : Choice) (other : AreaSpec) → ((es : List EntitySpec) → fewer (choose es) ≡ fewer es) → (file part cut : List ℕ) → length part ≤ FILE_LIMIT → IsWritable file → IsCanonical (extract_bytes choose area) file part → IsCanonical (extract_bytes fewer other) part cut → cut ≡ extract_of fewer other file
   run_of_run fewer other enough file part cut low sound first second =
       let none : (verdict_within None part).1 ≡ None = subst (λ (w : List ℕ). (verdict_within None w).1 ≡ None) (sym first.is) (extract_kept file sound).extract.sound in
       second.is
@@ -311,7 +313,7 @@ all_filter : {X : Type 0} (P : X → Type 0) (k : X → Bool) (xs : List X) → 
 all_filter P k [] all = tt
 all_filter P k (x ∷ xs) all = kept_or_not P (k x) x (filter k xs) all.0 (all_filter P k xs all.1)
 
-pub complete_ways_select : (area : BoundingBox) → IsSelection (complete_ways area) (λ meant. extract (seen_decoded area) meant)
+pub complete_ways_select : (area : AreaSpec) → IsSelection (complete_ways area) (λ meant. extract (seen_decoded area) meant)
 complete_ways_select area = record {
   fit = λ es fit. all_filter EntityFits _ es fit;
   typed = λ es typed. all_filter EntityTyped _ es typed;
@@ -319,10 +321,24 @@ complete_ways_select area = record {
   meaning = chosen_viewed keeps entity.decoded (seen_entity area) (seen_decoded area) (seen_alike area);
 }
 
-pub all_parents_select : (area : BoundingBox) → IsSelection (all_parents area) (λ meant. extract_with_parents (seen_decoded area) meant)
+pub all_parents_select : (area : AreaSpec) → IsSelection (all_parents area) (λ meant. extract_with_parents (seen_decoded area) meant)
 all_parents_select area = record {
   fit = λ es fit. all_filter EntityFits _ es fit;
   typed = λ es typed. all_filter EntityTyped _ es typed;
   twice = extract_with_parents_twice (seen_entity area);
   meaning = chosen_viewed keeps_with_parents entity.decoded (seen_entity area) (seen_decoded area) (seen_alike area);
 }
+
+-- ---- two runs
+
+pub ways_compose : (area small : AreaSpec) → EdgesTyped (edges_of area.bounds) → IsAreaWithin small area → (file part cut : List ℕ) (counts fewer : Counts) → length part ≤ FILE_LIMIT
+    → IsExtraction (complete_ways area) (extract (seen_decoded area)) area file counts part → IsExtraction (complete_ways small) (extract (seen_decoded small)) small part fewer cut → cut ≡ extract_of (complete_ways small) small file
+ways_compose area small typed h file part cut counts fewer low first second =
+    run_of_run (complete_ways area) (extract (seen_decoded area)) (complete_ways_select area) area typed (complete_ways small) small
+    (extract_of_larger (seen_entity small) (seen_entity area) (seen_entity-within small area h)) file part cut low first.0.sound first.1 second.1
+
+pub parents_compose : (area small : AreaSpec) → EdgesTyped (edges_of area.bounds) → IsAreaWithin small area → (file part cut : List ℕ) (counts fewer : Counts) → length part ≤ FILE_LIMIT
+    → IsExtraction (all_parents area) (extract_with_parents (seen_decoded area)) area file counts part → IsExtraction (all_parents small) (extract_with_parents (seen_decoded small)) small part fewer cut → cut ≡ extract_of (all_parents small) small file
+parents_compose area small typed h file part cut counts fewer low first second =
+    run_of_run (all_parents area) (extract_with_parents (seen_decoded area)) (all_parents_select area) area typed (all_parents small) small
+    (extract_with_parents_of_larger (seen_entity small) (seen_entity area) (seen_entity-within small area h)) file part cut low first.0.sound first.1 second.1

@@ -1,5 +1,5 @@
 -- Nodes of a dense message that are packed many at a time.
-use Rattle.std.proofs.Common.{◌≡◌, ℕ, zero, suc, ◌+◌, ◌-◌, ◌<◌, ◌≤◌, Bool, true, false, ℤ, List, [], ◌∷◌, ◌++◌, length, map, take, drop, cond, Result, Ok, Err, subst, refl, sym, ap, ◌∙◌, arith, append_assoc, add-one, append-nil}
+use Rattle.std.proofs.Common.{◌≡◌, ℕ, zero, suc, ◌+◌, ◌-◌, ◌<◌, ◌≤◌, Bool, true, ℤ, List, [], ◌∷◌, ◌++◌, length, map, take, drop, cond, Ok, Err, subst, refl, sym, ap, ◌∙◌, arith, add-one, append-nil}
 use Rattle.std.specs.Option.{is_some}
 use Rattle.std.specs.List.{AllByRecursion, filter, sum_by}
 use Rattle.std.proofs.Math.Seq.{take-add}
@@ -20,7 +20,6 @@ use Rattle.pbf_dense.specs.Nodes.{nodes_of_columns}
 use Rattle.pbf_dense.specs.Cursors.{dense_left}
 use Rattle.pbf_dense.specs.Places.{BeginWithIds}
 use Rattle.pbf_dense.specs.Steady.{IsSteady, NumbersFit}
-use Rattle.pbf_block.specs.WrittenBlock.{is_block}
 use Rattle.pbf_block.specs.declared.counts.Counts.{Counts}
 use Rattle.pbf_block.specs.Numbers.{nodes_of, ways_of, relations_of, capped, counts_of}
 use Rattle.pbf_block.proofs.NumberLemmas.{same_counts}

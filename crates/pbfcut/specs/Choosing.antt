@@ -7,7 +7,7 @@ use Rattle.pbf_pass.specs.Refused.{RefusesFile, Halts, stop_of}
 use Rattle.pbf_pass.specs.Stops.{Caused, FaultOf, ReadFailed, unchanged}
 use Rattle.pbf_frame.specs.Keeps.{KeepsFeed}
 use Rattle.pbfcut.specs.declared.extracting.Choice.{Choice}
-use Rattle.pbfcut.specs.declared.extracting.Cutting.{Cutting}
+use Rattle.pbf_pass.specs.declared.receipt.Passes.{Passes}
 use Rattle.pbfcut.specs.Calls.{ChangedIn}
 use Rattle.pbfcut.specs.Changes.{ChangedAt, IfChanged}
 use Rattle.pbfcut.specs.Repeat.{IsPass}
@@ -33,13 +33,13 @@ pub record StopsChoosingParents {F G H : Type 0} (f : feed.Ghosts F) (first now 
 -- ---- however they end
 
 -- those without parents: the third comes next, and they keep their feeds
-pub record EndsChoosing {F G : Type 0} (f : feed.Ghosts F) (first now : F) (g : feed.Ghosts G) (second later : G) (cutting : Cutting) (result : Result Choice Halt) : Type 0 where
-  pub next : IfOk result (λ choice. IsPass 3 cutting.passes choice.next)
-  pub halts : IfErr result (StopsChoosing f first now g second later cutting.passes.hashes)
+pub record EndsChoosing {F G : Type 0} (f : feed.Ghosts F) (first now : F) (g : feed.Ghosts G) (second later : G) (passes : Passes) (result : Result Choice Halt) : Type 0 where
+  pub next : IfOk result (λ choice. IsPass 3 passes choice.next)
+  pub halts : IfErr result (StopsChoosing f first now g second later passes.hashes)
   pub feeds : KeepsFeed f first now × KeepsFeed g second later
 
 -- those with all parents: the fourth does
-pub record EndsChoosingParents {F G H : Type 0} (f : feed.Ghosts F) (first now : F) (g : feed.Ghosts G) (second later : G) (k : feed.Ghosts H) (third last : H) (cutting : Cutting) (result : Result Choice Halt) : Type 0 where
-  pub next : IfOk result (λ choice. IsPass 4 cutting.passes choice.next)
-  pub halts : IfErr result (StopsChoosingParents f first now g second later k third last cutting.passes.hashes)
+pub record EndsChoosingParents {F G H : Type 0} (f : feed.Ghosts F) (first now : F) (g : feed.Ghosts G) (second later : G) (k : feed.Ghosts H) (third last : H) (passes : Passes) (result : Result Choice Halt) : Type 0 where
+  pub next : IfOk result (λ choice. IsPass 4 passes choice.next)
+  pub halts : IfErr result (StopsChoosingParents f first now g second later k third last passes.hashes)
   pub feeds : KeepsFeed f first now × KeepsFeed g second later × KeepsFeed k third last

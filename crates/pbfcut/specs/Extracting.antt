@@ -1,18 +1,18 @@
 -- What `extract` writes for a file: its header with the box, and of its entities those that a choice keeps.
-use Rattle.std.specs.Prelude.{◌≡◌, ℕ, List, [], Option, Some, None}
+use Rattle.std.specs.Prelude.{◌≡◌, ℕ, List, [], map, Option, Some, None}
 use Rattle.std.specs.FinSet as set
 use Rattle.std.specs.List.{fold}
 use Rattle.std.specs.Option.{option_map}
-use Rattle.osm_box.specs.declared.bounding_box.BoundingBox.{BoundingBox}
+use Rattle.osm_area.specs.Area.{AreaSpec}
 use Rattle.osm_entity.specs.Entity.{EntitySpec}
 use Rattle.osm_ids.specs.Links.{IsLeast}
-use Rattle.osm_ways.specs.Selection.{extract}
+use Rattle.osm_ways.specs.Selection.{Seen, extract}
 use Rattle.osm_ways.specs.Parents.{extract_with_parents}
-use Rattle.osm_ways.specs.Phases.{WaySets, RelationSets, KeptSets, without_parents, start_nodes, start_ways, start_relations}
+use Rattle.osm_ways.specs.Phases.{WaySets, RelationSets, KeptSets, without_parents, node_pass, start_ways, start_relations}
 use Rattle.osm_ways.specs.Seen.{seen_entity}
 use Rattle.osm_pack.specs.Cuts.{written_file}
 use Rattle.pbf_header.specs.Header.{HeaderSpec}
-use Rattle.pbf_header.specs.WrittenHeader.{header_out_for_box}
+use Rattle.pbf_header.specs.WrittenHeader.{header_out_for_box, edges_of, EdgesTyped}
 use Rattle.pbf_frame.specs.Frames.{FrameSpec}
 use Rattle.pbf_frame.specs.Verdict.{Verdict, Says}
 use Rattle.pbf_pass.specs.Unjudged.{GathersFile}
@@ -20,49 +20,51 @@ use Rattle.pbf_pass.specs.HeaderLimit.{header_limit}
 use Rattle.pbf_pass.specs.Counting.{stored_entities}
 use Rattle.pbf_pass.specs.Judged.{judged_file}
 use Rattle.pbf_pass.specs.HeaderLimit.{HasShortTexts}
-use Rattle.pbf_pass.specs.Pass.{with_node, with_way, with_relation, file_header}
+use Rattle.pbf_pass.specs.Pass.{with_seen, with_way, with_relation, file_header}
 
 abbrev pub Choice : Type 0
 Choice = List EntitySpec → List EntitySpec
 
 -- the complete-ways extract
-abbrev pub complete_ways : BoundingBox → Choice
+abbrev pub complete_ways : AreaSpec → Choice
 complete_ways area es = extract (seen_entity area) es
 
 -- the complete-ways extract with all parents
-abbrev pub all_parents : BoundingBox → Choice
+abbrev pub all_parents : AreaSpec → Choice
 all_parents area es = extract_with_parents (seen_entity area) es
 
 -- the header in written form, with the box, and the entities that are kept, cut into blocks
-abbrev pub extraction : Choice → BoundingBox → Option (ℕ × HeaderSpec) → List EntitySpec → List ℕ
+abbrev pub extraction : Choice → AreaSpec → Option (ℕ × HeaderSpec) → List EntitySpec → List ℕ
 extraction choose area None es = []
-extraction choose area (Some header) es = written_file (header_out_for_box area header.1) (choose es)
+extraction choose area (Some header) es = written_file (header_out_for_box area.bounds header.1) (choose es)
 
 -- what is to be written for a file with this verdict: nothing if it has a fault
-abbrev pub extract_bytes : Choice → BoundingBox → Verdict → List ℕ
+abbrev pub extract_bytes : Choice → AreaSpec → Verdict → List ℕ
 extract_bytes choose area (frames, None) = extraction choose area (file_header frames) (stored_entities frames)
 extract_bytes choose area (frames, Some e) = []
 
 -- ---- the passes that choose
 
--- what the first pass reports of a file: it has no fault and a header that can be written, its entities were gathered, and the header is its
--- with the box
-pub record Begins {S : Type 0} (gathered : S → EntitySpec → S) (area : BoundingBox) (file : List ℕ) (before now : S) (h : HeaderSpec) : Type 0 where
+-- what the first pass reports of a file: it has no fault and a header that can be written, its entities were taken by what is seen of them, and
+-- the header is its with the area's box
+pub record Begins {S : Type 0} (area : AreaSpec) (step : S → Seen → S) (file : List ℕ) (before now : S) (h : HeaderSpec) : Type 0 where
   pub frames : List FrameSpec
   pub judged : Says (judged_file (Some file)) (frames, None)
   pub within : header_limit (file_header frames) ≡ None
-  pub header : option_map (λ p. header_out_for_box area p.1) (file_header frames) ≡ Some h
+  pub header : option_map (λ p. header_out_for_box area.bounds p.1) (file_header frames) ≡ Some h
+  pub typed : EdgesTyped (edges_of area.bounds)
   pub short : HasShortTexts h
-  pub gathered_all : now ≡ fold gathered before (stored_entities frames)
+  pub taken : now ≡ fold (with_seen area step) before (stored_entities frames)
 
 -- the first file has no fault, and the header is its with the box; the sets are those of its nodes and of the other's ways, if that has no
 -- fault
-pub record Chooses (area : BoundingBox) (first second : Option Verdict) (sets : WaySets) (h : HeaderSpec) : Type 0 where
+pub record Chooses (area : AreaSpec) (first second : Option Verdict) (sets : WaySets) (h : HeaderSpec) : Type 0 where
   pub frames : List FrameSpec
   pub judged : Says first (frames, None)
   pub within : header_limit (file_header frames) ≡ None
-  pub header : option_map (λ p. header_out_for_box area p.1) (file_header frames) ≡ Some h
-  pub chosen : GathersFile with_way second (start_ways (fold with_node (start_nodes area) (stored_entities frames)).box_ids) sets
+  pub header : option_map (λ p. header_out_for_box area.bounds p.1) (file_header frames) ≡ Some h
+  pub typed : EdgesTyped (edges_of area.bounds)
+  pub chosen : GathersFile with_way second (start_ways (node_pass (map (seen_entity area) (stored_entities frames)))) sets
 
 -- the pass that takes relations: what was chosen before, and the relations of this file, if it has no fault, with all parents
 pub record AddsParents (known : Option Verdict) (before now : KeptSets) : Type 0 where
@@ -72,7 +74,7 @@ pub record AddsParents (known : Option Verdict) (before now : KeptSets) : Type 0
   pub least : IsLeast (set.contains relations.links) relations.start now.relation_ids
 
 -- and the relations of a third file, with all parents
-pub record ChoosesParents (area : BoundingBox) (first second third : Option Verdict) (sets : KeptSets) (h : HeaderSpec) : Type 0 where
+pub record ChoosesParents (area : AreaSpec) (first second third : Option Verdict) (sets : KeptSets) (h : HeaderSpec) : Type 0 where
   pub ways : WaySets
   pub chosen : Chooses area first second ways h
   pub relations : RelationSets
@@ -81,12 +83,12 @@ pub record ChoosesParents (area : BoundingBox) (first second third : Option Verd
   pub least : IsLeast (set.contains relations.links) relations.start sets.relation_ids
 
 -- what the passes before the one that writes report of files: what was chosen, and the header that is written
-pub record IsChoice (area : BoundingBox) (first second : List ℕ) (sets : KeptSets) (h : HeaderSpec) : Type 0 where
+pub record IsChoice (area : AreaSpec) (first second : List ℕ) (sets : KeptSets) (h : HeaderSpec) : Type 0 where
   pub ways : WaySets
   pub chosen : Chooses area (judged_file (Some first)) (judged_file (Some second)) ways h
   pub kept : sets ≡ without_parents ways
   pub short : HasShortTexts h
 
-pub record IsChoiceWithParents (area : BoundingBox) (first second third : List ℕ) (sets : KeptSets) (h : HeaderSpec) : Type 0 where
+pub record IsChoiceWithParents (area : AreaSpec) (first second third : List ℕ) (sets : KeptSets) (h : HeaderSpec) : Type 0 where
   pub chosen : ChoosesParents area (judged_file (Some first)) (judged_file (Some second)) (judged_file (Some third)) sets h
   pub short : HasShortTexts h

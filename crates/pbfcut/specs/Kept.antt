@@ -1,7 +1,7 @@
 -- What is read of a file, and what is written for it.
 use Rattle.std.specs.Prelude.{◌≡◌, ℕ, false, List, map, Option, Some, None}
 use Rattle.std.specs.Option.{option_map}
-use Rattle.osm_box.specs.declared.bounding_box.BoundingBox.{BoundingBox}
+use Rattle.osm_area.specs.Area.{AreaSpec}
 use Rattle.osm_entity.specs.Entity as entity
 use Rattle.osm_entity.specs.Entity.{Decoded}
 use Rattle.pbf_header.specs.Header.{HeaderSpec}
@@ -40,5 +40,5 @@ meaning_read verdict = map entity.decoded (stored_entities verdict.0)
 abbrev pub conversion_of : List ℕ → List ℕ
 conversion_of file = answer_bytes (verdict_on file)
 
-abbrev pub extract_of : Choice → BoundingBox → List ℕ → List ℕ
+abbrev pub extract_of : Choice → AreaSpec → List ℕ → List ℕ
 extract_of choose area file = extract_bytes choose area (verdict_on file)

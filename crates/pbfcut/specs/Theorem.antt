@@ -3,7 +3,7 @@
 -- call says the same of the bytes that went through them, and the clause `refused` of what is refused.
 use Rattle.std.specs.Prelude.{◌≡◌, ℕ, List, Option, Some, None, Result, Ok, Err}
 use Rattle.std.specs.Option.{option_map}
-use Rattle.osm_box.specs.declared.bounding_box.BoundingBox.{BoundingBox}
+use Rattle.osm_area.specs.Area.{AreaSpec}
 use Rattle.osm_entity.specs.Entity.{Decoded}
 use Rattle.pbf_block.specs.declared.counts.Counts.{Counts}
 use Rattle.pbf_frame.specs.declared.device.Drain as drain
@@ -35,17 +35,17 @@ Promised d old new file holds (Err stop) = RefusedFor file (d.taken old) (d.take
 
 -- of `extract`: what is read of them is exactly the extract of what is read of the file, by this choice of stored entities, which is this
 -- choice of what entities mean
-pub record IsExtract (choose : Choice) (select : List Decoded → List Decoded) (area : BoundingBox) (file written : Verdict) : Type 0 where
+pub record IsExtract (choose : Choice) (select : List Decoded → List Decoded) (area : AreaSpec) (file written : Verdict) : Type 0 where
   -- they have no fault, and an extract can be written of them
   pub sound : written.1 ≡ None
   -- their header is the file's in written form, with the box
-  pub header : header_read written ≡ option_map (header_out_for_box area) (header_read file)
+  pub header : header_read written ≡ option_map (header_out_for_box area.bounds) (header_read file)
   -- they mean what is selected of what the file means
   pub meaning : meaning_read written ≡ select (meaning_read file)
   -- they have the entities that are chosen of the file's, in input order, with all that is stored of them
   pub entities : stored_entities written.0 ≡ choose (stored_entities file.0)
 
-pub record Extracted (choose : Choice) (select : List Decoded → List Decoded) (area : BoundingBox) (file : List ℕ) (counts : Counts) (written : List ℕ) : Type 0 where
+pub record Extracted (choose : Choice) (select : List Decoded → List Decoded) (area : AreaSpec) (file : List ℕ) (counts : Counts) (written : List ℕ) : Type 0 where
   -- the file has no fault, and its header can be written
   pub sound : (verdict_on file).1 ≡ None
   -- the bytes decode to its extract, however long they are
@@ -85,7 +85,7 @@ Canonical d old new answer file (Err _) = IsFront (d.taken old) (d.taken new) (a
 -- ---- both
 
 -- what is extracted of a file
-abbrev pub IsExtraction : Choice → (List Decoded → List Decoded) → BoundingBox → List ℕ → Counts → List ℕ → Type 0
+abbrev pub IsExtraction : Choice → (List Decoded → List Decoded) → AreaSpec → List ℕ → Counts → List ℕ → Type 0
 IsExtraction choose select area file counts written = Extracted choose select area file counts written × IsCanonical (extract_bytes choose area) file written
 
 -- what is converted

@@ -1,6 +1,7 @@
 //! `extract` and `extract_parents`: what a box cuts out of a file, in canonical form.
 
 ghost use Rattle.std.specs.Prelude.{◌≡◌, ℕ, List, true, Some, IfOk, IfErr, OnOk};
+ghost use Rattle.osm_area.specs.Area.{box_area};
 ghost use Rattle.osm_ways.specs.Parents.{extract_with_parents};
 ghost use Rattle.osm_ways.specs.Seen.{seen_decoded};
 ghost use Rattle.osm_ways.specs.Selection.{extract};
@@ -23,21 +24,15 @@ ghost use Rattle.pbfcut.specs.Ends.{EndsExtracting, EndsExtractingParents};
 
 use crate::repeat::LaterPass;
 use crate::write::OutputPlan;
+use osm_area::Area;
 use osm_entity::BoundingBox;
-use osm_ways::{Chosen, NodePhase};
+use osm_ways::{Chosen, InArea, NodePhase, NodeTaker};
 use pbf_block::Counts;
 use pbf_frame::{Drain, Feed, Stop};
 use pbf_header::Header;
-use pbf_pass::{Gather, Halt, InputReceipt, Passes, judge, writable_header};
+use pbf_pass::{Halt, InputReceipt, Passes, judge, writable_header};
 use std::alloc::Global;
 use std::hash::BuildHasher;
-
-/// What is cut out of a file, and how its passes are made.
-#[derive(Clone, Copy)]
-pub(crate) struct Cutting {
-    pub(crate) passes: Passes,
-    pub(crate) area: BoundingBox,
-}
 
 /// What the first pass reports.
 #[derive(Drop)]
@@ -61,26 +56,25 @@ pub(crate) struct Choice {
     pub(crate) spared: bool,
 }
 
-impl Cutting {
-    /// The first pass, which judges the file, gathers its entities, and makes the header of the extract.
-    pub(crate) fn begin<F: Feed, G: Gather>(
-        self,
-        feed: &mut F,
-        gathering: &mut G,
-    ) -> Result<Begun, Halt>
-        ensures begun { IfOk result (λ begun. GaveFile F.Feed feed.old feed.new
-            (digest_if self.passes.hashes begun.digest) (λ b. Begins G.gathered self.area b
-            gathering.old gathering.new (header_of begun.header))) }
-        ensures halts { IfErr result (StopsFirst F.Feed feed.old feed.new self.passes.hashes) }
-        ensures keeps { KeepsFeed F.Feed feed.old feed.new }
-    {
-        let judged = judge(self.passes, feed, gathering)?;
-        let header = writable_header(&judged)?.for_box(self.passes.alloc, self.area)?;
-        Ok(Begun {
-            header,
-            digest: judged.digest,
-        })
-    }
+/// The first pass, which judges the file, takes the nodes that lie in the area, and makes the header of the extract.
+pub(crate) fn begin<A: Area, P: NodeTaker, F: Feed>(
+    passes: Passes,
+    feed: &mut F,
+    taking: &mut InArea<A, P>,
+) -> Result<Begun, Halt>
+    ensures begun { IfOk result (λ begun. GaveFile F.Feed feed.old feed.new
+        (digest_if passes.hashes begun.digest) (λ b. Begins (A.area taking.old.area) P.step b
+        taking.old.phase taking.new.phase (header_of begun.header))) }
+    ensures halts { IfErr result (StopsFirst F.Feed feed.old feed.new passes.hashes) }
+    ensures keeps { KeepsFeed F.Feed feed.old feed.new }
+{
+    let bounds = taking.area.bounds();
+    let judged = judge(passes, feed, taking)?;
+    let header = writable_header(&judged)?.for_box(passes.alloc, bounds)?;
+    Ok(Begun {
+        header,
+        digest: judged.digest,
+    })
 }
 
 impl Choice {
@@ -136,22 +130,27 @@ impl Choice {
 }
 
 /// The passes before the one that writes: the first judges the file and takes the nodes of the box, the second takes the ways.
-fn choose<F: Feed, G: Feed>(cutting: Cutting, first: &mut F, second: &mut G) -> Result<Choice, Halt>
+fn choose<F: Feed, G: Feed>(
+    passes: Passes,
+    area: BoundingBox,
+    first: &mut F,
+    second: &mut G,
+) -> Result<Choice, Halt>
     ensures chosen { IfOk result (λ choice. GaveFile F.Feed first.old first.new
-        (digest_if cutting.passes.hashes choice.next.digest)
+        (digest_if passes.hashes choice.next.digest)
         (λ b. GaveFile G.Feed second.old second.new
-        (digest_if cutting.passes.hashes choice.next.digest)
-        (λ c. IsChoice cutting.area b c choice.chosen (header_of choice.header)))) }
+        (digest_if passes.hashes choice.next.digest)
+        (λ c. IsChoice (box_area area) b c choice.chosen (header_of choice.header)))) }
     ensures ends { EndsChoosing F.Feed first.old first.new G.Feed second.old second.new
-        cutting result }
+        passes result }
 {
-    let mut nodes = NodePhase::new(cutting.passes.alloc, cutting.area);
-    let begun = cutting.begin(first, &mut nodes)?;
+    let mut nodes = NodePhase::new(passes.alloc, area);
+    let begun = begin(passes, first, &mut nodes)?;
     let digest = begun.digest;
     let again = LaterPass {
         number: 2,
         digest,
-        passes: cutting.passes,
+        passes,
     };
     let mut ways = nodes.end_nodes()?;
     again.gather(second, &mut ways)?;
@@ -193,12 +192,14 @@ pub fn extract<F: Feed, G: Feed, H: Feed, D: Drain, S: BuildHasher + Drop>(
     ensures promise { (b : List ℕ)
         → AllSupply b (F.remaining first.old) (G.remaining second.old) (H.remaining third.old)
         → Promised D.Drain drain.old drain.new b
-        (Extracted (complete_ways area) (extract (seen_decoded area)) area b) result }
+        (Extracted (complete_ways (box_area area)) (extract (seen_decoded (box_area area)))
+        (box_area area) b) result }
     // If all feeds supply these bytes: whatever stopped it, what the drain took is a prefix of their extract in canonical form, and nothing
     // if they have a fault; on success it is all of the extract, and an extract of it is the same bytes.
     ensures canonical { (b : List ℕ)
         → AllSupply b (F.remaining first.old) (G.remaining second.old) (H.remaining third.old)
-        → Canonical D.Drain drain.old drain.new (extract_bytes (complete_ways area) area) b result }
+        → Canonical D.Drain drain.old drain.new
+        (extract_bytes (complete_ways (box_area area)) (box_area area)) b result }
     // The bytes of all feeds have one SHA-256 digest: no files that differ, unless two different lists share a digest.
     ensures digests { OnOk result (SameDigest (F.remaining first.old) (G.remaining second.old)
         × SameDigest (F.remaining first.old) (H.remaining third.old)) }
@@ -229,40 +230,41 @@ pub fn extract_with_receipt<F: Feed, G: Feed, H: Feed, D: Drain, S: BuildHasher 
         × GaveFile G.Feed second.old second.new (Some receipt.input)
         (λ c. GaveFile H.Feed third.old third.new (Some receipt.input) (λ d.
         Took D.Drain drain.old drain.new
-        (λ written. b ≡ c → b ≡ d → IsExtraction (complete_ways area) (extract (seen_decoded area))
-        area b receipt.counts written))))) }
+        (λ written. b ≡ c → b ≡ d → IsExtraction (complete_ways (box_area area))
+        (extract (seen_decoded (box_area area))) (box_area area) b receipt.counts written))))) }
     // However it ends: `refused` says what is refused, of the bytes that were read, and that the drain took nothing then; `stops` why it
     // stops; `changed` of what bytes it says `Changed`; `beginning` what went out by then; and `feeds` and `out` that it keeps its devices.
     ensures ends { EndsExtracting F.Feed first.old first.new
         G.Feed second.old second.new H.Feed third.old third.new
-        D.Drain drain.old drain.new true area result }
+        D.Drain drain.old drain.new true (box_area area) result }
 {
     let passes = Passes {
         alloc,
         hashes: true,
     };
-    let choice = choose(Cutting { passes, area }, first, second)?;
+    let choice = choose(passes, area, first, second)?;
     choice.write(third, drain, hasher)
 }
 
 /// The passes before the one that writes: over nodes and ways as without parents, and a third that takes the relations.
 fn choose_parents<F: Feed, G: Feed, H: Feed>(
-    cutting: Cutting,
+    passes: Passes,
+    area: BoundingBox,
     first: &mut F,
     second: &mut G,
     third: &mut H,
 ) -> Result<Choice, Halt>
     ensures chosen { IfOk result (λ choice. GaveFile F.Feed first.old first.new
-        (digest_if cutting.passes.hashes choice.next.digest)
+        (digest_if passes.hashes choice.next.digest)
         (λ b. GaveFile G.Feed second.old second.new
-        (digest_if cutting.passes.hashes choice.next.digest)
+        (digest_if passes.hashes choice.next.digest)
         (λ c. GaveFile H.Feed third.old third.new
-        (digest_if cutting.passes.hashes choice.next.digest)
-        (λ d. IsChoiceWithParents cutting.area b c d choice.chosen (header_of choice.header))))) }
+        (digest_if passes.hashes choice.next.digest)
+        (λ d. IsChoiceWithParents (box_area area) b c d choice.chosen (header_of choice.header))))) }
     ensures ends { EndsChoosingParents F.Feed first.old first.new G.Feed second.old second.new
-        H.Feed third.old third.new cutting result }
+        H.Feed third.old third.new passes result }
 {
-    let choice = choose(cutting, first, second)?;
+    let choice = choose(passes, area, first, second)?;
     choice.with_parents(third)
 }
 
@@ -292,13 +294,15 @@ pub fn extract_parents<F: Feed, G: Feed, H: Feed, I: Feed, D: Drain, S: BuildHas
         → FourSupply b (F.remaining first.old) (G.remaining second.old) (H.remaining third.old)
         (I.remaining fourth.old)
         → Promised D.Drain drain.old drain.new b
-        (Extracted (all_parents area) (extract_with_parents (seen_decoded area)) area b) result }
+        (Extracted (all_parents (box_area area))
+        (extract_with_parents (seen_decoded (box_area area))) (box_area area) b) result }
     // If all feeds supply these bytes: whatever stopped it, what the drain took is a prefix of their extract in canonical form, and nothing
     // if they have a fault; on success it is all of the extract, and an extract of it is the same bytes.
     ensures canonical { (b : List ℕ)
         → FourSupply b (F.remaining first.old) (G.remaining second.old) (H.remaining third.old)
         (I.remaining fourth.old)
-        → Canonical D.Drain drain.old drain.new (extract_bytes (all_parents area) area) b result }
+        → Canonical D.Drain drain.old drain.new
+        (extract_bytes (all_parents (box_area area)) (box_area area)) b result }
     // The bytes of all feeds have one SHA-256 digest: no files that differ, unless two different lists share a digest.
     ensures digests { OnOk result (SameDigest (F.remaining first.old) (G.remaining second.old)
         × SameDigest (F.remaining first.old) (H.remaining third.old)
@@ -343,18 +347,20 @@ pub fn extract_parents_with_receipt<
         × GaveFile G.Feed second.old second.new (Some receipt.input)
         (λ c. GaveFile H.Feed third.old third.new (Some receipt.input) (λ d.
         GaveFile I.Feed fourth.old fourth.new (Some receipt.input) (λ e.
-        Took D.Drain drain.old drain.new (λ written. b ≡ c → b ≡ d → b ≡ e → IsExtraction (all_parents area)
-        (extract_with_parents (seen_decoded area)) area b receipt.counts written)))))) }
+        Took D.Drain drain.old drain.new (λ written. b ≡ c → b ≡ d → b ≡ e
+        → IsExtraction (all_parents (box_area area))
+        (extract_with_parents (seen_decoded (box_area area)))
+        (box_area area) b receipt.counts written)))))) }
     // However it ends: `refused` says what is refused, of the bytes that were read, and that the drain took nothing then; `stops` why it
     // stops; `changed` of what bytes it says `Changed`; `beginning` what went out by then; and `feeds` and `out` that it keeps its devices.
     ensures ends { EndsExtractingParents F.Feed first.old first.new
         G.Feed second.old second.new H.Feed third.old third.new I.Feed fourth.old fourth.new
-        D.Drain drain.old drain.new true area result }
+        D.Drain drain.old drain.new true (box_area area) result }
 {
     let passes = Passes {
         alloc,
         hashes: true,
     };
-    let choice = choose_parents(Cutting { passes, area }, first, second, third)?;
+    let choice = choose_parents(passes, area, first, second, third)?;
     choice.write(fourth, drain, hasher)
 }

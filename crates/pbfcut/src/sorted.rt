@@ -17,38 +17,43 @@ ghost use Rattle.pbfcut.specs.Repeat.{SameDigest};
 ghost use Rattle.pbfcut.specs.Choosing.{EndsChoosing, EndsChoosingParents};
 ghost use Rattle.pbfcut.specs.Ends.{EndsExtracting, EndsExtractingParents};
 
-use crate::extracting::{Choice, Cutting};
+use crate::extracting::{Choice, begin};
 use crate::repeat::LaterPass;
-use osm_entity::BoundingBox;
-use osm_ways::FirstPhase;
+use osm_area::Area;
+use osm_ways::{FirstPhase, InArea};
 use pbf_block::Counts;
 use pbf_frame::{Drain, Feed, Stop};
 use pbf_pass::{Halt, InputReceipt, Passes};
 use std::alloc::Global;
 use std::hash::BuildHasher;
 
-/// The passes before the one that writes: the first judges the file and takes the nodes of the box, and the ways as long as no node
+/// The passes before the one that writes: the first judges the file and takes the nodes of the area, and the ways as long as no node
 /// comes after one. If one did, the second takes the ways; otherwise it isn't made.
-pub(crate) fn choose_sorted<F: Feed, G: Feed>(
-    cutting: Cutting,
+pub(crate) fn choose_sorted<A: Area + Copy, F: Feed, G: Feed>(
+    passes: Passes,
+    area: A,
     first: &mut F,
     second: &mut G,
 ) -> Result<Choice, Halt>
     ensures chosen { IfOk result (λ choice. GaveFile F.Feed first.old first.new
-        (digest_if cutting.passes.hashes choice.next.digest)
+        (digest_if passes.hashes choice.next.digest)
         (λ b. GaveOrNot G.Feed choice.spared second.old second.new
-        (digest_if cutting.passes.hashes choice.next.digest) b
-        (λ c. IsChoice cutting.area b c choice.chosen (header_of choice.header)))) }
+        (digest_if passes.hashes choice.next.digest) b
+        (λ c. IsChoice (A.area area) b c choice.chosen (header_of choice.header)))) }
     ensures ends { EndsChoosing F.Feed first.old first.new G.Feed second.old second.new
-        cutting result }
+        passes result }
 {
-    let mut phase = FirstPhase::new(cutting.passes.alloc, cutting.area);
-    let begun = cutting.begin(first, &mut phase)?;
+    let mut taking = InArea {
+        area,
+        phase: FirstPhase::new(passes.alloc),
+    };
+    let begun = begin(passes, first, &mut taking)?;
+    let phase = taking.phase;
     let digest = begun.digest;
     let again = LaterPass {
         number: 2,
         digest,
-        passes: cutting.passes,
+        passes,
     };
     let in_order = phase.is_in_order();
     let mut ways = phase.end()?;
@@ -66,12 +71,12 @@ pub(crate) fn choose_sorted<F: Feed, G: Feed>(
 /// nothing is read of the second feed. For any other file there are three passes, as there.
 ///
 /// Everything that is said there holds. Space: also the refs and the ids of the ways, which are gathered during the first pass.
-pub fn extract_sorted<F: Feed, G: Feed, H: Feed, D: Drain, S: BuildHasher + Drop>(
+pub fn extract_sorted<A: Area + Copy, F: Feed, G: Feed, H: Feed, D: Drain, S: BuildHasher + Drop>(
     alloc: Global,
     first: &mut F,
     second: &mut G,
     third: &mut H,
-    area: BoundingBox,
+    area: A,
     drain: &mut D,
     hasher: S,
 ) -> Result<Counts, Stop>
@@ -82,12 +87,14 @@ pub fn extract_sorted<F: Feed, G: Feed, H: Feed, D: Drain, S: BuildHasher + Drop
     ensures promise { (b : List ℕ)
         → AllSupply b (F.remaining first.old) (G.remaining second.old) (H.remaining third.old)
         → Promised D.Drain drain.old drain.new b
-        (Extracted (complete_ways area) (extract (seen_decoded area)) area b) result }
+        (Extracted (complete_ways (A.area area)) (extract (seen_decoded (A.area area)))
+        (A.area area) b) result }
     // If all feeds supply these bytes: whatever stopped it, what the drain took is a prefix of their extract in canonical form, and nothing
     // if they have a fault; on success it is all of the extract, and an extract of it is the same bytes.
     ensures canonical { (b : List ℕ)
         → AllSupply b (F.remaining first.old) (G.remaining second.old) (H.remaining third.old)
-        → Canonical D.Drain drain.old drain.new (extract_bytes (complete_ways area) area) b result }
+        → Canonical D.Drain drain.old drain.new
+        (extract_bytes (complete_ways (A.area area)) (A.area area)) b result }
     // The bytes of all feeds that were read have one SHA-256 digest: no files that differ, unless two different lists share a digest.
     ensures digests { OnOk result ((SameDigest (F.remaining first.old) (G.remaining second.old)
         ⊎ (second.new ≡ second.old))
@@ -107,12 +114,19 @@ pub fn extract_sorted<F: Feed, G: Feed, H: Feed, D: Drain, S: BuildHasher + Drop
 }
 
 /// Like [`extract_sorted`], and returns the digest of what was read, as [`extract_with_receipt`](crate::extract_with_receipt) does.
-pub fn extract_sorted_with_receipt<F: Feed, G: Feed, H: Feed, D: Drain, S: BuildHasher + Drop>(
+pub fn extract_sorted_with_receipt<
+    A: Area + Copy,
+    F: Feed,
+    G: Feed,
+    H: Feed,
+    D: Drain,
+    S: BuildHasher + Drop,
+>(
     passes: Passes,
     first: &mut F,
     second: &mut G,
     third: &mut H,
-    area: BoundingBox,
+    area: A,
     drain: &mut D,
     hasher: S,
 ) -> Result<InputReceipt, Halt>
@@ -125,42 +139,44 @@ pub fn extract_sorted_with_receipt<F: Feed, G: Feed, H: Feed, D: Drain, S: Build
         (digest_if passes.hashes receipt.input) b
         (λ c. GaveFile H.Feed third.old third.new (digest_if passes.hashes receipt.input) (λ d.
         Took D.Drain drain.old drain.new
-        (λ written. b ≡ c → b ≡ d → IsExtraction (complete_ways area) (extract (seen_decoded area))
-        area b receipt.counts written))))) }
+        (λ written. b ≡ c → b ≡ d → IsExtraction (complete_ways (A.area area))
+        (extract (seen_decoded (A.area area))) (A.area area) b receipt.counts written))))) }
     // However it ends: `refused` says what is refused, of the bytes that were read, and that the drain took nothing then; `stops` why it
     // stops; `changed` of what bytes it says `Changed`; `beginning` what went out by then; and `feeds` and `out` that it keeps its devices.
     ensures ends { EndsExtracting F.Feed first.old first.new
         G.Feed second.old second.new H.Feed third.old third.new
-        D.Drain drain.old drain.new passes.hashes area result }
+        D.Drain drain.old drain.new passes.hashes (A.area area) result }
 {
-    let choice = choose_sorted(Cutting { passes, area }, first, second)?;
+    let choice = choose_sorted(passes, area, first, second)?;
     choice.write(third, drain, hasher)
 }
 
 /// The passes before the one that writes: over nodes and ways as without parents, and one that takes the relations.
-fn choose_parents_sorted<F: Feed, G: Feed, H: Feed>(
-    cutting: Cutting,
+fn choose_parents_sorted<A: Area + Copy, F: Feed, G: Feed, H: Feed>(
+    passes: Passes,
+    area: A,
     first: &mut F,
     second: &mut G,
     third: &mut H,
 ) -> Result<Choice, Halt>
     ensures chosen { IfOk result (λ choice. GaveFile F.Feed first.old first.new
-        (digest_if cutting.passes.hashes choice.next.digest)
+        (digest_if passes.hashes choice.next.digest)
         (λ b. GaveOrNot G.Feed choice.spared second.old second.new
-        (digest_if cutting.passes.hashes choice.next.digest) b
+        (digest_if passes.hashes choice.next.digest) b
         (λ c. GaveFile H.Feed third.old third.new
-        (digest_if cutting.passes.hashes choice.next.digest)
-        (λ d. IsChoiceWithParents cutting.area b c d choice.chosen (header_of choice.header))))) }
+        (digest_if passes.hashes choice.next.digest)
+        (λ d. IsChoiceWithParents (A.area area) b c d choice.chosen (header_of choice.header))))) }
     ensures ends { EndsChoosingParents F.Feed first.old first.new G.Feed second.old second.new
-        H.Feed third.old third.new cutting result }
+        H.Feed third.old third.new passes result }
 {
-    let choice = choose_sorted(cutting, first, second)?;
+    let choice = choose_sorted(passes, area, first, second)?;
     choice.with_parents(third)
 }
 
 /// Like [`extract_parents_with_receipt`](crate::extract_parents_with_receipt), in three passes if no node of the file comes after a
 /// way, as [`extract_sorted`] saves one.
 pub fn extract_parents_sorted_with_receipt<
+    A: Area + Copy,
     F: Feed,
     G: Feed,
     H: Feed,
@@ -173,7 +189,7 @@ pub fn extract_parents_sorted_with_receipt<
     second: &mut G,
     third: &mut H,
     fourth: &mut I,
-    area: BoundingBox,
+    area: A,
     drain: &mut D,
     hasher: S,
 ) -> Result<InputReceipt, Halt>
@@ -187,14 +203,15 @@ pub fn extract_parents_sorted_with_receipt<
         (λ c. GaveFile H.Feed third.old third.new (digest_if passes.hashes receipt.input)
         (λ d. GaveFile I.Feed fourth.old fourth.new (digest_if passes.hashes receipt.input)
         (λ e. Took D.Drain drain.old drain.new (λ written. b ≡ c → b ≡ d → b ≡ e
-        → IsExtraction (all_parents area) (extract_with_parents (seen_decoded area))
-        area b receipt.counts written)))))) }
+        → IsExtraction (all_parents (A.area area))
+        (extract_with_parents (seen_decoded (A.area area)))
+        (A.area area) b receipt.counts written)))))) }
     // However it ends: `refused` says what is refused, of the bytes that were read, and that the drain took nothing then; `stops` why it
     // stops; `changed` of what bytes it says `Changed`; `beginning` what went out by then; and `feeds` and `out` that it keeps its devices.
     ensures ends { EndsExtractingParents F.Feed first.old first.new
         G.Feed second.old second.new H.Feed third.old third.new I.Feed fourth.old fourth.new
-        D.Drain drain.old drain.new passes.hashes area result }
+        D.Drain drain.old drain.new passes.hashes (A.area area) result }
 {
-    let choice = choose_parents_sorted(Cutting { passes, area }, first, second, third)?;
+    let choice = choose_parents_sorted(passes, area, first, second, third)?;
     choice.write(fourth, drain, hasher)
 }

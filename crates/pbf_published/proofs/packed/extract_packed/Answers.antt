@@ -23,7 +23,7 @@ returns-clause-stops g c =
 pub returns-clause-beginning : goal.returns-clause-beginning
 returns-clause-beginning g c =
     finished_beginning c.extract_sorted_with_receipt-returned.new.drain c.finish.new.drain _ _ c.finish.ensures.finishes _
-    (λ p. (b : List ℕ) → AllSupply b (raw_of (g.F.Feed.remaining c.args.first.now)) (raw_of (g.G.Feed.remaining c.args.second.now)) (raw_of (g.H.Feed.remaining c.args.third.now)) → IsFront (taken_raw c.args.drain.now) (taken_raw p) (extract_of (complete_ways c.args.area) c.args.area b))
+    (λ p. (b : List ℕ) → AllSupply b (raw_of (g.F.Feed.remaining c.args.first.now)) (raw_of (g.G.Feed.remaining c.args.second.now)) (raw_of (g.H.Feed.remaining c.args.third.now)) → IsFront (taken_raw c.args.drain.now) (taken_raw p) (extract_of (complete_ways (g.A.Area.area c.args.area)) (g.A.Area.area c.args.area) b))
     (λ receipt held b supply.
     let first = published_told g.F.Feed held b supply.0 in
     let then = spared_told g.G.Feed first.1 supply.1 in

@@ -19,7 +19,7 @@ returns-in_err-gather-clause-ends g c =
     let p = err_from_is_err_and c.from_residual-in_err-gather.result c.from_residual-in_err-gather.ensures.1 in
     let one = c.in_ok-begun.ensures.begun in
     let first = g.F.Feed.remaining c.args.first.now in
-    let again : LaterPass = record { number = 2; digest = c.in_ok-begun.begun.digest; passes = c.args.cutting.passes } in
+    let again : LaterPass = record { number = 2; digest = c.in_ok-begun.begun.digest; passes = c.args.passes } in
     rw (p.1, p.2) (record {
       next = tt;
       halts = record {
@@ -44,7 +44,7 @@ returns-clause-chosen g c =
         digest_is = two.digest_is;
         holding = record {
           ways = _;
-          chosen = chooses c.args.cutting.area one.file _ _ _ _ _ _ one.holding c.new-nodes.ensures c.in_ok-ways.ensures two.holding;
+          chosen = chooses c.args.area one.file _ _ _ _ _ _ one.holding c.new-nodes.ensures c.in_ok-ways.ensures two.holding;
           kept = c.in_ok-chosen.ensures;
           short = one.holding.short;
         };

@@ -1,3 +1,4 @@
+use Rattle.osm_area.specs.Area.{box_area}
 use Rattle.std.proofs.Common.{◌⊎◌, ◌∙◌, inl, inr, ap, rules}
 use Rattle.std.proofs.lemmas.Result.{IfErr-weaker, err_from_is_err_and}
 use Rattle.pbf_pass.specs.Given.{GaveFile}
@@ -36,7 +37,7 @@ returns-clause-ends g c =
       next = search rules;
       halts = IfErr-weaker c.with_parents.result _ _ (λ h stops. record {
         refused = later_halts g.H.Feed _ _ _ _ _ h stops;
-        stops = relations_stop g.H.Feed c.args.third.now c.with_parents.new.feed (g.F.Feed.remaining c.args.first.now) choice.frames (told_says g.F.Feed _ _ _ _ _ one choice.judged) c.args.cutting.passes next read ⊥ (stop_of h) (told_digest g.F.Feed _ _ _ _ one) (λ r. inr (inr r)) (g.G.Feed.remaining c.args.second.now) is stops;
+        stops = relations_stop g.H.Feed c.args.third.now c.with_parents.new.feed (g.F.Feed.remaining c.args.first.now) choice.frames (told_says g.F.Feed _ _ _ _ _ one choice.judged) c.args.passes next read ⊥ (stop_of h) (told_digest g.F.Feed _ _ _ _ one) (λ r. inr (inr r)) (g.G.Feed.remaining c.args.second.now) is stops;
         changed = changed_later g.F.Feed _ _ g.H.Feed _ _ next _ _ _ _ (stop_of h) one choice.frames choice.judged (ap (λ (p : Passes). digest_if p.hashes next.digest) is.1) (λ pass at. inr (at.0 ∙ is.0, at.1)) stops;
       }) c.with_parents.ensures.stops;
       feeds = search rules;
@@ -44,5 +45,5 @@ returns-clause-ends g c =
 
 pub returns-clause-chosen : goal.returns-clause-chosen
 returns-clause-chosen g c =
-    parents_chosen g.F.Feed _ _ g.H.Feed _ _ c.args.cutting.area c.args.cutting.passes c.in_ok-choice.choice c.in_ok-choice.ensures.ends.next c.with_parents.result (λ s digest file holds. GaveFile g.G.Feed c.args.second.now c.choose.new.second digest holds) (λ s digest file. gave_file_less g.G.Feed c.args.second.now c.choose.new.second digest)
+    parents_chosen g.F.Feed _ _ g.H.Feed _ _ (box_area c.args.area) c.args.passes c.in_ok-choice.choice c.in_ok-choice.ensures.ends.next c.with_parents.result (λ s digest file holds. GaveFile g.G.Feed c.args.second.now c.choose.new.second digest holds) (λ s digest file. gave_file_less g.G.Feed c.args.second.now c.choose.new.second digest)
     c.in_ok-choice.ensures.chosen c.with_parents.ensures.parents c.with_parents.ensures.same

@@ -1,3 +1,4 @@
+use Rattle.osm_area.specs.Area.{box_area}
 use Rattle.std.proofs.Common.{rules, ◌⊎◌, inl, inr, ap, true, List, ℕ, Some, ◌∙◌}
 use Rattle.std.proofs.lemmas.Result.{IfErr-weaker, on_err_weaker, err_from_is_err_and}
 use Rattle.pbf_header.specs.Header.{header_of}
@@ -16,7 +17,7 @@ use Rattle.pbfcut.specs.Extracting.{all_parents}
 use Rattle.pbfcut.proofs.ChangedLemmas.{changed_before, changed_later}
 use Rattle.pbfcut.proofs.ConvertingLemmas.{nothing_out}
 use Rattle.pbfcut.proofs.ChosenLemmas.{later_halts, wrote_front, parents_receipt}
-use Rattle.pbfcut.proofs.ExtractingLemmas.{edges_typed, selects_parents, parents_stops}
+use Rattle.pbfcut.proofs.ExtractingLemmas.{selects_parents, parents_stops}
 use Rattle.pbfcut.proofs.KeptLaw.{all_parents_select}
 use Rattle.pbfcut.proofs.extracting.extract_parents_with_receipt.Goals as goal
 
@@ -43,9 +44,7 @@ returns-clause-ends g c =
     let wrote = WriteFailed g.D.Drain c.args.drain.now c.write.new.drain in
     let next = c.in_ok-choice.choice.next in
     let is = c.in_ok-choice.ensures.ends.next in
-    let area = c.args.area in
-    let w = c.well_formed.1.1.1.1.1.0.1.1 in
-    let edges = edges_typed area w.0.1 w.1.0.1 w.1.1.0.1 w.1.1.1.0.1 in
+    let area = box_area c.args.area in
     let sets = c.in_ok-choice.choice.chosen in
     let h = header_of c.in_ok-choice.choice.header in
     let judged = λ (l : List ℕ). judged_file (Some l) in
@@ -56,16 +55,14 @@ returns-clause-ends g c =
       beginning = on_err_weaker c.write.result (λ front b supply.
           let two = one.holding in
           let three = two.holding in
-          front b supply.3 (selects_parents sets area b _ _ _ h (ap judged (tells_file g.F.Feed _ _ _ _ one b supply.0)) (ap judged (tells_file g.G.Feed _ _ _ _ two b supply.1)) (ap judged (tells_file g.H.Feed _ _ _ _ three b supply.2)) three.holding.chosen)) (wrote_front g.I.Feed _ _ g.D.Drain _ _ (all_parents area) (λ meant. extract_with_parents (seen_decoded area) meant) (all_parents_select area) area edges next sets h _ c.write.result c.write.ensures);
+          front b supply.3 (selects_parents sets area b _ _ _ h (ap judged (tells_file g.F.Feed _ _ _ _ one b supply.0)) (ap judged (tells_file g.G.Feed _ _ _ _ two b supply.1)) (ap judged (tells_file g.H.Feed _ _ _ _ three b supply.2)) three.holding.chosen)) (wrote_front g.I.Feed _ _ g.D.Drain _ _ (all_parents area) (λ meant. extract_with_parents (seen_decoded area) meant) (all_parents_select area) area next sets h _ c.write.result c.write.ensures);
       feeds = search rules;
       out = search rules;
     }
 
 pub returns-clause-receipt : goal.returns-clause-receipt
 returns-clause-receipt g c =
-    let area = c.args.area in
-    let w = c.well_formed.1.1.1.1.1.0.1.1 in
-    let edges = edges_typed area w.0.1 w.1.0.1 w.1.1.0.1 w.1.1.1.0.1 in
+    let area = box_area c.args.area in
     let next = c.in_ok-choice.choice.next in
     let is = c.in_ok-choice.ensures.ends.next in
-    parents_receipt g.F.Feed _ _ g.I.Feed _ _ g.D.Drain _ _ area edges (record { alloc = c.args.alloc; hashes = true }) next is.1 _ _ _ c.write.result c.write.ensures (λ s digest file holds. GaveFile g.G.Feed c.args.second.now c.choose_parents.new.second digest holds) (λ s digest file holds P step given. step given.file given.holding) (λ s digest file. gave_file_less g.G.Feed c.args.second.now c.choose_parents.new.second digest) g.H.Feed _ _ c.in_ok-choice.ensures.chosen
+    parents_receipt g.F.Feed _ _ g.I.Feed _ _ g.D.Drain _ _ area (record { alloc = c.args.alloc; hashes = true }) next is.1 _ _ _ c.write.result c.write.ensures (λ s digest file holds. GaveFile g.G.Feed c.args.second.now c.choose_parents.new.second digest holds) (λ s digest file holds P step given. step given.file given.holding) (λ s digest file. gave_file_less g.G.Feed c.args.second.now c.choose_parents.new.second digest) g.H.Feed _ _ c.in_ok-choice.ensures.chosen

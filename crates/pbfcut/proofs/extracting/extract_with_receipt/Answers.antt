@@ -1,3 +1,4 @@
+use Rattle.osm_area.specs.Area.{box_area}
 use Rattle.std.proofs.Common.{rules, ◌⊎◌, inl, inr, ap, true, ◌∙◌}
 use Rattle.std.proofs.lemmas.Result.{IfErr-weaker, on_err_weaker, err_from_is_err_and}
 use Rattle.pbf_header.specs.Header.{header_of}
@@ -15,7 +16,7 @@ use Rattle.pbfcut.specs.Extracting.{complete_ways}
 use Rattle.pbfcut.proofs.ChangedLemmas.{changed_before, changed_later}
 use Rattle.pbfcut.proofs.ConvertingLemmas.{nothing_out}
 use Rattle.pbfcut.proofs.ChosenLemmas.{later_halts, wrote_front, extract_receipt}
-use Rattle.pbfcut.proofs.ExtractingLemmas.{edges_typed, selects_chosen, extract_stops}
+use Rattle.pbfcut.proofs.ExtractingLemmas.{selects_chosen, extract_stops}
 use Rattle.pbfcut.proofs.KeptLaw.{complete_ways_select}
 use Rattle.pbfcut.proofs.extracting.extract_with_receipt.Goals as goal
 
@@ -41,9 +42,7 @@ returns-clause-ends g c =
     let wrote = WriteFailed g.D.Drain c.args.drain.now c.write.new.drain in
     let next = c.in_ok-choice.choice.next in
     let is = c.in_ok-choice.ensures.ends.next in
-    let area = c.args.area in
-    let w = c.well_formed.1.1.1.1.0.1.1 in
-    let edges = edges_typed area w.0.1 w.1.0.1 w.1.1.0.1 w.1.1.1.0.1 in
+    let area = box_area c.args.area in
     let sets = c.in_ok-choice.choice.chosen in
     let h = header_of c.in_ok-choice.choice.header in
     record {
@@ -52,16 +51,14 @@ returns-clause-ends g c =
       changed = IfErr-weaker c.write.result _ _ (λ h stops. changed_later g.F.Feed _ _ g.H.Feed _ _ next _ _ _ _ (stop_of h) one choice.frames choice.judged (ap (λ (p : Passes). digest_if p.hashes next.digest) is.1) (λ pass at. inr (at.0 ∙ is.0, at.1)) stops) c.write.ensures.stops;
       beginning = on_err_weaker c.write.result (λ front b supply.
           let two = one.holding in
-          front b supply.2 (selects_chosen sets area b _ _ h (tells_file g.F.Feed _ _ _ _ one b supply.0) (tells_file g.G.Feed _ _ _ _ two b supply.1) two.holding)) (wrote_front g.H.Feed _ _ g.D.Drain _ _ (complete_ways area) (λ meant. extract (seen_decoded area) meant) (complete_ways_select area) area edges next sets h _ c.write.result c.write.ensures);
+          front b supply.2 (selects_chosen sets area b _ _ h (tells_file g.F.Feed _ _ _ _ one b supply.0) (tells_file g.G.Feed _ _ _ _ two b supply.1) two.holding)) (wrote_front g.H.Feed _ _ g.D.Drain _ _ (complete_ways area) (λ meant. extract (seen_decoded area) meant) (complete_ways_select area) area next sets h _ c.write.result c.write.ensures);
       feeds = search rules;
       out = search rules;
     }
 
 pub returns-clause-receipt : goal.returns-clause-receipt
 returns-clause-receipt g c =
-    let area = c.args.area in
-    let w = c.well_formed.1.1.1.1.0.1.1 in
-    let edges = edges_typed area w.0.1 w.1.0.1 w.1.1.0.1 w.1.1.1.0.1 in
+    let area = box_area c.args.area in
     let next = c.in_ok-choice.choice.next in
     let is = c.in_ok-choice.ensures.ends.next in
-    extract_receipt g.F.Feed _ _ g.H.Feed _ _ g.D.Drain _ _ area edges (record { alloc = c.args.alloc; hashes = true }) next is.1 _ _ _ c.write.result c.write.ensures (λ s digest file holds. GaveFile g.G.Feed c.args.second.now c.choose.new.second digest holds) (λ s digest file holds P step given. step given.file given.holding) (λ s digest file. gave_file_less g.G.Feed c.args.second.now c.choose.new.second digest) c.in_ok-choice.ensures.chosen
+    extract_receipt g.F.Feed _ _ g.H.Feed _ _ g.D.Drain _ _ area (record { alloc = c.args.alloc; hashes = true }) next is.1 _ _ _ c.write.result c.write.ensures (λ s digest file holds. GaveFile g.G.Feed c.args.second.now c.choose.new.second digest holds) (λ s digest file holds P step given. step given.file given.holding) (λ s digest file. gave_file_less g.G.Feed c.args.second.now c.choose.new.second digest) c.in_ok-choice.ensures.chosen

@@ -41,7 +41,7 @@ returns-clause-ends g c =
       next = search rules;
       halts = IfErr-weaker c.with_parents.result _ _ (λ h stops. record {
         refused = later_halts g.H.Feed _ _ _ _ _ h stops;
-        stops = relations_stop g.H.Feed c.args.third.now c.with_parents.new.feed (g.F.Feed.remaining c.args.first.now) said.0 (told_says g.F.Feed _ _ _ _ _ one said.1) c.args.cutting.passes next read ⊥ (stop_of h) (told_digest g.F.Feed _ _ _ _ one) (λ r. inr (inr r)) (g.G.Feed.remaining c.args.second.now) is stops;
+        stops = relations_stop g.H.Feed c.args.third.now c.with_parents.new.feed (g.F.Feed.remaining c.args.first.now) said.0 (told_says g.F.Feed _ _ _ _ _ one said.1) c.args.passes next read ⊥ (stop_of h) (told_digest g.F.Feed _ _ _ _ one) (λ r. inr (inr r)) (g.G.Feed.remaining c.args.second.now) is stops;
         changed = changed_later g.F.Feed _ _ g.H.Feed _ _ next _ _ _ _ (stop_of h) one said.0 said.1 (ap (λ (p : Passes). digest_if p.hashes next.digest) is.1) (λ pass at. inr (at.0 ∙ is.0, at.1)) stops;
       }) c.with_parents.ensures.stops;
       feeds = search rules;
@@ -49,5 +49,5 @@ returns-clause-ends g c =
 
 pub returns-clause-chosen : goal.returns-clause-chosen
 returns-clause-chosen g c =
-    parents_chosen g.F.Feed _ _ g.H.Feed _ _ c.args.cutting.area c.args.cutting.passes c.in_ok-choice.choice c.in_ok-choice.ensures.ends.next c.with_parents.result (λ s digest file holds. GaveOrNot g.G.Feed s c.args.second.now c.choose_sorted.new.second digest file holds) (λ s digest. gave_or_less g.G.Feed c.args.second.now c.choose_sorted.new.second digest s)
+    parents_chosen g.F.Feed _ _ g.H.Feed _ _ (g.A.Area.area c.args.area) c.args.passes c.in_ok-choice.choice c.in_ok-choice.ensures.ends.next c.with_parents.result (λ s digest file holds. GaveOrNot g.G.Feed s c.args.second.now c.choose_sorted.new.second digest file holds) (λ s digest. gave_or_less g.G.Feed c.args.second.now c.choose_sorted.new.second digest s)
     c.in_ok-choice.ensures.chosen c.with_parents.ensures.parents c.with_parents.ensures.same

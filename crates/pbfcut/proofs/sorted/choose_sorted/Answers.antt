@@ -19,7 +19,7 @@ returns-in_err-gather_rest-clause-ends g c =
     let p = err_from_is_err_and c.from_residual-in_err-gather_rest.result c.from_residual-in_err-gather_rest.ensures.1 in
     let one = c.in_ok-begun.ensures.begun in
     let first = g.F.Feed.remaining c.args.first.now in
-    let again : LaterPass = record { number = 2; digest = c.in_ok-begun.begun.digest; passes = c.args.cutting.passes } in
+    let again : LaterPass = record { number = 2; digest = c.in_ok-begun.begun.digest; passes = c.args.passes } in
     rw (p.1, p.2) (record {
       next = tt;
       halts = record {
@@ -37,5 +37,5 @@ returns-clause-chosen g c =
       file = one.file;
       supplied = one.supplied;
       digest_is = one.digest_is;
-      holding = chooses_first g.G.Feed _ _ _ c.args.cutting.area one.file _ _ _ _ _ _ c.is_in_order-in_order.result one.holding c.new-phase.ensures c.is_in_order-in_order.ensures c.in_ok-ways.ensures c.in_ok-gather_rest.ensures.gathered c.in_ok-chosen.ensures;
+      holding = chooses_first g.G.Feed _ _ _ (g.A.Area.area c.args.area) one.file _ _ _ _ _ _ c.is_in_order-in_order.result one.holding c.new.ensures c.is_in_order-in_order.ensures c.in_ok-ways.ensures c.in_ok-gather_rest.ensures.gathered c.in_ok-chosen.ensures;
     }

@@ -18,7 +18,7 @@ use Rattle.pbfcut.specs.Extracting.{all_parents}
 use Rattle.pbfcut.proofs.ChangedLemmas.{changed_before, changed_later}
 use Rattle.pbfcut.proofs.ConvertingLemmas.{nothing_out}
 use Rattle.pbfcut.proofs.ChosenLemmas.{later_halts, wrote_front, parents_receipt}
-use Rattle.pbfcut.proofs.ExtractingLemmas.{edges_typed, selects_parents, parents_stops}
+use Rattle.pbfcut.proofs.ExtractingLemmas.{selects_parents, parents_stops}
 use Rattle.pbfcut.proofs.KeptLaw.{all_parents_select}
 use Rattle.pbfcut.proofs.TheoremLemmas.{gave_or_not, gave_or_less, told_or_not}
 use Rattle.pbfcut.proofs.sorted.extract_parents_sorted_with_receipt.Goals as goal
@@ -47,9 +47,7 @@ returns-clause-ends g c =
     let wrote = WriteFailed g.D.Drain c.args.drain.now c.write.new.drain in
     let next = c.in_ok-choice.choice.next in
     let is = c.in_ok-choice.ensures.ends.next in
-    let area = c.args.area in
-    let w = c.well_formed.1.1.1.1.1.0.1.1 in
-    let edges = edges_typed area w.0.1 w.1.0.1 w.1.1.0.1 w.1.1.1.0.1 in
+    let area = g.A.Area.area c.args.area in
     let sets = c.in_ok-choice.choice.chosen in
     let h = header_of c.in_ok-choice.choice.header in
     let judged = λ (l : List ℕ). judged_file (Some l) in
@@ -60,16 +58,14 @@ returns-clause-ends g c =
       beginning = on_err_weaker c.write.result (λ front b supply.
           let tells = tells_file g.F.Feed _ _ _ _ one in
           let three = told_or_not g.G.Feed _ _ _ c.in_ok-choice.choice.spared _ one.file b _ tells supply.0 supply.1 one.holding in
-          front b supply.3 (selects_parents sets area b _ _ _ h (ap judged (tells b supply.0)) refl (ap judged (tells_file g.H.Feed _ _ _ _ three b supply.2)) three.holding.chosen)) (wrote_front g.I.Feed _ _ g.D.Drain _ _ (all_parents area) (λ meant. extract_with_parents (seen_decoded area) meant) (all_parents_select area) area edges next sets h _ c.write.result c.write.ensures);
+          front b supply.3 (selects_parents sets area b _ _ _ h (ap judged (tells b supply.0)) refl (ap judged (tells_file g.H.Feed _ _ _ _ three b supply.2)) three.holding.chosen)) (wrote_front g.I.Feed _ _ g.D.Drain _ _ (all_parents area) (λ meant. extract_with_parents (seen_decoded area) meant) (all_parents_select area) area next sets h _ c.write.result c.write.ensures);
       feeds = search rules;
       out = search rules;
     }
 
 pub returns-clause-receipt : goal.returns-clause-receipt
 returns-clause-receipt g c =
-    let area = c.args.area in
-    let w = c.well_formed.1.1.1.1.1.0.1.1 in
-    let edges = edges_typed area w.0.1 w.1.0.1 w.1.1.0.1 w.1.1.1.0.1 in
+    let area = g.A.Area.area c.args.area in
     let next = c.in_ok-choice.choice.next in
     let is = c.in_ok-choice.ensures.ends.next in
-    parents_receipt g.F.Feed _ _ g.I.Feed _ _ g.D.Drain _ _ area edges c.args.passes next is.1 _ _ _ c.write.result c.write.ensures (λ s digest file holds. GaveOrNot g.G.Feed s c.args.second.now c.choose_parents_sorted.new.second digest file holds) (λ s digest. gave_or_not g.G.Feed c.args.second.now c.choose_parents_sorted.new.second digest s) (λ s digest. gave_or_less g.G.Feed c.args.second.now c.choose_parents_sorted.new.second digest s) g.H.Feed _ _ c.in_ok-choice.ensures.chosen
+    parents_receipt g.F.Feed _ _ g.I.Feed _ _ g.D.Drain _ _ area c.args.passes next is.1 _ _ _ c.write.result c.write.ensures (λ s digest file holds. GaveOrNot g.G.Feed s c.args.second.now c.choose_parents_sorted.new.second digest file holds) (λ s digest. gave_or_not g.G.Feed c.args.second.now c.choose_parents_sorted.new.second digest s) (λ s digest. gave_or_less g.G.Feed c.args.second.now c.choose_parents_sorted.new.second digest s) g.H.Feed _ _ c.in_ok-choice.ensures.chosen

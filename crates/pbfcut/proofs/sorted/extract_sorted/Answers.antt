@@ -15,13 +15,13 @@ returns-clause-judged g c =
 
 pub returns-clause-promise : goal.returns-clause-promise
 returns-clause-promise g c b supply =
-    let area = c.args.area in
+    let area = g.A.Area.area c.args.area in
     let counts = c.in_ok-receipt.receipt.counts in
     took_weaker g.D.Drain _ _ _ _ (λ written both. both.0) (took_sorted g.F.Feed g.G.Feed g.H.Feed g.D.Drain _ _ _ _ _ _ _ _ _ (λ file written. IsExtraction (complete_ways area) (λ meant. extract (seen_decoded area) meant) area file counts written) b c.in_ok-receipt.receipt.spared c.in_ok-receipt.ensures.receipt supply)
 
 pub returns-clause-canonical : goal.returns-clause-canonical
 returns-clause-canonical g c b supply =
-    let area = c.args.area in
+    let area = g.A.Area.area c.args.area in
     let counts = c.in_ok-receipt.receipt.counts in
     took_weaker g.D.Drain _ _ _ _ (λ written both. both.1) (took_sorted g.F.Feed g.G.Feed g.H.Feed g.D.Drain _ _ _ _ _ _ _ _ _ (λ file written. IsExtraction (complete_ways area) (λ meant. extract (seen_decoded area) meant) area file counts written) b c.in_ok-receipt.receipt.spared c.in_ok-receipt.ensures.receipt supply)
 

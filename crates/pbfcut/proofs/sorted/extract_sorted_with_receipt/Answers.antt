@@ -18,7 +18,7 @@ use Rattle.pbfcut.specs.Extracting.{complete_ways}
 use Rattle.pbfcut.proofs.ChangedLemmas.{changed_before, changed_later}
 use Rattle.pbfcut.proofs.ConvertingLemmas.{nothing_out}
 use Rattle.pbfcut.proofs.ChosenLemmas.{later_halts, wrote_front, extract_receipt}
-use Rattle.pbfcut.proofs.ExtractingLemmas.{edges_typed, selects_chosen, extract_stops}
+use Rattle.pbfcut.proofs.ExtractingLemmas.{selects_chosen, extract_stops}
 use Rattle.pbfcut.proofs.KeptLaw.{complete_ways_select}
 use Rattle.pbfcut.proofs.TheoremLemmas.{gave_or_not, gave_or_less, told_or_not}
 use Rattle.pbfcut.proofs.sorted.extract_sorted_with_receipt.Goals as goal
@@ -46,9 +46,7 @@ returns-clause-ends g c =
     let wrote = WriteFailed g.D.Drain c.args.drain.now c.write.new.drain in
     let next = c.in_ok-choice.choice.next in
     let is = c.in_ok-choice.ensures.ends.next in
-    let area = c.args.area in
-    let w = c.well_formed.1.1.1.1.0.1.1 in
-    let edges = edges_typed area w.0.1 w.1.0.1 w.1.1.0.1 w.1.1.1.0.1 in
+    let area = g.A.Area.area c.args.area in
     let sets = c.in_ok-choice.choice.chosen in
     let h = header_of c.in_ok-choice.choice.header in
     record {
@@ -58,16 +56,14 @@ returns-clause-ends g c =
       beginning = on_err_weaker c.write.result (λ front b supply.
           let tells = tells_file g.F.Feed _ _ _ _ one in
           let choice = told_or_not g.G.Feed _ _ _ c.in_ok-choice.choice.spared _ one.file b _ tells supply.0 supply.1 one.holding in
-          front b supply.2 (selects_chosen sets area b _ _ h (tells b supply.0) refl choice)) (wrote_front g.H.Feed _ _ g.D.Drain _ _ (complete_ways area) (λ meant. extract (seen_decoded area) meant) (complete_ways_select area) area edges next sets h _ c.write.result c.write.ensures);
+          front b supply.2 (selects_chosen sets area b _ _ h (tells b supply.0) refl choice)) (wrote_front g.H.Feed _ _ g.D.Drain _ _ (complete_ways area) (λ meant. extract (seen_decoded area) meant) (complete_ways_select area) area next sets h _ c.write.result c.write.ensures);
       feeds = search rules;
       out = search rules;
     }
 
 pub returns-clause-receipt : goal.returns-clause-receipt
 returns-clause-receipt g c =
-    let area = c.args.area in
-    let w = c.well_formed.1.1.1.1.0.1.1 in
-    let edges = edges_typed area w.0.1 w.1.0.1 w.1.1.0.1 w.1.1.1.0.1 in
+    let area = g.A.Area.area c.args.area in
     let next = c.in_ok-choice.choice.next in
     let is = c.in_ok-choice.ensures.ends.next in
-    extract_receipt g.F.Feed _ _ g.H.Feed _ _ g.D.Drain _ _ area edges c.args.passes next is.1 _ _ _ c.write.result c.write.ensures (λ s digest file holds. GaveOrNot g.G.Feed s c.args.second.now c.choose_sorted.new.second digest file holds) (λ s digest. gave_or_not g.G.Feed c.args.second.now c.choose_sorted.new.second digest s) (λ s digest. gave_or_less g.G.Feed c.args.second.now c.choose_sorted.new.second digest s) c.in_ok-choice.ensures.chosen
+    extract_receipt g.F.Feed _ _ g.H.Feed _ _ g.D.Drain _ _ area c.args.passes next is.1 _ _ _ c.write.result c.write.ensures (λ s digest file holds. GaveOrNot g.G.Feed s c.args.second.now c.choose_sorted.new.second digest file holds) (λ s digest. gave_or_not g.G.Feed c.args.second.now c.choose_sorted.new.second digest s) (λ s digest. gave_or_less g.G.Feed c.args.second.now c.choose_sorted.new.second digest s) c.in_ok-choice.ensures.chosen
