@@ -21,8 +21,8 @@ sys.path.insert(0, os.path.join(TOP, "tools"))
 from build import kit_folder, known_crates
 from planted import Crate
 
-# What is called of which type, in the order of the file.
-WRONG = [("take_way", "NodePhase"), ("take_node", "WayPhase")]
+# What is called of which type, in the order of the file; a `NodePhase` is an `InArea`.
+WRONG = [("take_way", "InArea"), ("take_node", "WayPhase")]
 
 
 def errors(libraries: str) -> list:
@@ -40,7 +40,7 @@ def main():
     if len(sys.argv) != 2:
         sys.exit(__doc__)
     found = errors(os.path.abspath(sys.argv[1]))
-    missing = [re.search(r"no method named `(\w+)` found for type `(\w+)`", error) for error in found]
+    missing = [re.search(r"no method named `(\w+)` found for type `(\w+)", error) for error in found]
     if [each and each.groups() for each in missing] != WRONG:
         sys.exit("\n".join(["tests/order/refused.py: the compiler does not say what it has to:", *found]))
     print(f"tests/order/refused.py: {len(WRONG)} calls out of order do not compile")

@@ -2,7 +2,7 @@
 //!
 //! Sets are held by functions that return a `bool`: a test that holds one while it asserts takes far longer to prove.
 
-use osm_ids::{IdLookup, IdSet, Links, SealedIds};
+use osm_ids::{IdLookup, IdSet, Links, SealedIds, Window};
 use std::alloc::{AllocError, Global};
 
 /// Strictly between -2^62 and 2^62, as OpenStreetMap's ids are here.
@@ -77,13 +77,13 @@ fn ids_of_known_sizes(rt: HostRuntime) -> Result<(), AllocError> {
     Ok(())
 }
 
-/// Whether 1 to 129 lie in two pages of 64 bytes: the first is held as bits.
+/// Whether 1 to 129 lie in two pages of 127 bytes: one for each id but the first of a page.
 fn up_to_129_lie_in_two_pages(alloc: Global) -> Result<bool, AllocError> {
     let mut ids = Vec::new(alloc);
     for id in 1..130i64 {
         ids.push(id)?;
     }
-    lies_in(alloc, &ids, 2, 64)
+    lies_in(alloc, &ids, 2, 127)
 }
 
 #[test]
@@ -103,85 +103,110 @@ fn threes(alloc: Global) -> Result<SealedIds, AllocError> {
     sealed(set)
 }
 
-#[test]
-fn one_lookup_across_pages(rt: HostRuntime) -> Result<(), AllocError> {
-    let ids = threes(rt.alloc())?;
-    let mut lookup = ids.lookup();
-    for (id, expected) in [
-        (-1, false),
-        (0, true),
-        (0, true),
-        (2, false),
-        (3, true),
-        (381, true),
-        (382, false),
-        (384, true),
-        (383, false),
-        (381, true),
-        (387, true),
-        (386, false),
-        (386, false),
-        (387, true),
-        (768, true),
-        (767, false),
-        (1197, true),
-        (1198, false),
-        (i64::MAX, false),
-        (1197, true),
-        (1152, true),
-        (i64::MIN, false),
-        (6, true),
-        (5, false),
-        (1155, true),
-    ] {
-        assert_eq!(rt; lookup.has(id), expected);
-        assert_eq!(rt; ids.has(id), expected);
+/// Whether each id is found or not through one window, as by itself.
+fn agrees(set: &SealedIds, ids: &[i64]) -> bool {
+    let mut window = Window::new();
+    for id in ids {
+        if window.has(set, *id) != set.has(*id) {
+            return false;
+        }
     }
-    Ok(())
+    true
 }
 
 #[test]
-fn lookups_in_every_order(rt: HostRuntime) -> Result<(), AllocError> {
+fn one_window_across_pages(rt: HostRuntime) -> Result<(), AllocError> {
+    const MIXED: [i64; 25] = [
+        -1,
+        0,
+        0,
+        2,
+        3,
+        381,
+        382,
+        384,
+        383,
+        381,
+        387,
+        386,
+        386,
+        387,
+        768,
+        767,
+        1197,
+        1198,
+        i64::MAX,
+        1197,
+        1152,
+        i64::MIN,
+        6,
+        5,
+        1155,
+    ];
     let ids = threes(rt.alloc())?;
-    let mut rising = ids.lookup();
+    assert!(rt; agrees(&ids, &MIXED));
+    assert!(rt; agrees(&sealed(IdSet::new(rt.alloc()))?, &MIXED));
+    Ok(())
+}
+
+/// 0 to 1212: rising, falling, and mixed.
+fn in_orders(alloc: Global) -> Result<Vec<i64>, AllocError> {
+    let mut ids = Vec::new(alloc);
     for id in 0..1213i64 {
-        assert_eq!(rt; rising.has(id), id < 1200 && id % 3 == 0);
+        ids.push(id)?;
     }
-    let mut falling = ids.lookup();
     for id in (0..1213i64).rev() {
-        assert_eq!(rt; falling.has(id), id < 1200 && id % 3 == 0);
+        ids.push(id)?;
     }
-    let mut mixed = ids.lookup();
     for place in 0..1213i64 {
-        let id = place.wrapping_mul(701) % 1213;
-        assert_eq!(rt; mixed.has(id), id < 1200 && id % 3 == 0);
+        ids.push(place.wrapping_mul(701) % 1213)?;
     }
-    Ok(())
+    Ok(ids)
 }
 
 #[test]
-fn lookup_in_the_empty_set(rt: HostRuntime) -> Result<(), AllocError> {
-    let ids = sealed(IdSet::new(rt.alloc()))?;
-    let mut lookup = ids.lookup();
-    assert!(rt; !lookup.has(0) && !lookup.has(i64::MIN) && !lookup.has(0));
+fn look_ups_in_every_order(rt: HostRuntime) -> Result<(), AllocError> {
+    let ids = threes(rt.alloc())?;
+    for id in 0..1213i64 {
+        assert_eq!(rt; ids.has(id), id < 1200 && id % 3 == 0);
+    }
+    assert!(rt; agrees(&ids, &in_orders(rt.alloc())?));
     Ok(())
 }
 
 /// What a look-up of an id shows to be absent: the ids above one number and below another.
 fn absent_near(ids: &SealedIds, id: i64) -> (i64, i64) {
-    let mut lookup = ids.lookup();
-    let _is_there = lookup.has(id);
-    let absent = lookup.absent();
+    let mut window = Window::new();
+    let _is_there = window.has(ids, id);
+    let absent = window.absent();
     (absent.above, absent.below)
 }
 
 /// The same of a set that may still grow.
 fn absent_so_far(alloc: Global, ids: &[i64], id: i64) -> Result<(i64, i64), AllocError> {
     let set = gathered(alloc, ids)?;
-    let mut lookup = set.lookup();
-    let _is_there = lookup.has(id);
-    let absent = lookup.absent();
+    let mut window = Window::new();
+    let _is_there = set.has_near(&mut window, id);
+    let absent = window.absent();
     Ok((absent.above, absent.below))
+}
+
+/// And what it shows to be there.
+fn present_near(ids: &SealedIds, id: i64) -> (i64, i64) {
+    let mut window = Window::new();
+    let _is_there = window.has(ids, id);
+    let present = window.present();
+    (present.above, present.below)
+}
+
+#[test]
+fn present_ids_of_a_run(rt: HostRuntime) -> Result<(), AllocError> {
+    let ids = sealed(gathered(rt.alloc(), &[1, 2, 3, 5, 6, 9])?)?;
+    assert_eq!(rt; present_near(&ids, 2), (0, 4));
+    assert_eq!(rt; present_near(&ids, 6), (4, 7));
+    assert_eq!(rt; present_near(&ids, 9), (8, 10));
+    assert_eq!(rt; present_near(&ids, 4), (0, 0));
+    Ok(())
 }
 
 #[test]
@@ -305,10 +330,10 @@ fn each_second_late(alloc: Global) -> Result<Vec<i64>, AllocError> {
     Ok(ids)
 }
 
-/// Whether a set of these ids has them, in three pages of 171 bytes: two of 64, held as bits, and one of 43.
+/// Whether a set of these ids has them, in three pages of 297 bytes.
 fn lies_in_three_pages(alloc: Global, ids: &[i64]) -> Result<bool, AllocError> {
     let set = sealed(gathered(alloc, ids)?)?;
-    Ok(sizes(&set) == (300, 3, 171) && has_all(&set, ids))
+    Ok(sizes(&set) == (300, 3, 297) && has_all(&set, ids))
 }
 
 /// 300 ids lie in as many bytes whether every second one came out of order or none.

@@ -1,24 +1,23 @@
 -- The page that an id can be in.
-use Rattle.std.proofs.Common.{◌≡◌, ℕ, zero, suc, ◌+◌, ◌-◌, ◌<◌, ◌≤◌, ◌⊎◌, true, false, List, [], ◌∷◌, ◌++◌, length, take, drop, get_or, ℤ, ◌<ℤ◌, ◌≤ℤ◌, int_le, inl, inr, refl, sym, ap, subst, ◌∙◌, arith, length-append, append_assoc, true≢false, Bool, ◌||◌, cond}
+use Rattle.std.proofs.Common.{◌≡◌, ℕ, zero, suc, ◌+◌, ◌-◌, ◌*◌, ◌<◌, ◌≤◌, ◌⊎◌, true, false, List, [], ◌∷◌, ◌++◌, length, take, drop, get_or, ℤ, pos, ◌<ℤ◌, ◌≤ℤ◌, int_le, inl, inr, refl, sym, ap, subst, ◌∙◌, arith, length-append, append_assoc, true≢false, Bool, ◌||◌}
 use Rattle.std.specs.List.{list_any}
 use Rattle.std.specs.List.Sorted.{IsPartitionedBy}
 use Rattle.std.specs.Ordering.{int_eq}
+use Rattle.std.specs.FinSet as set
 use Rattle.std.proofs.lemmas.Int.{ints}
 use Rattle.std.proofs.lemmas.Bool.{false_from_ne_true}
 use Rattle.std.proofs.lemmas.Grind.{flat_map-append}
-use Rattle.std.proofs.lemmas.List.{get_or_default, append-nil}
+use Rattle.std.proofs.lemmas.List.{get_or_default, get_or-take, append-nil, take_all}
 use Rattle.std.proofs.lemmas.List.Folds.{list_any-append}
 use Rattle.std.proofs.Math.Seq.{drop-append_seam, take-append_seam}
-use Rattle.osm_ids.specs.declared.pages.PageStart.{PageStart}
-use Rattle.osm_ids.specs.declared.page.Cursor.{Cursor}
-use Rattle.osm_ids.specs.Cursors.{IsAt, IsPassedAt, HasForm, HoldsPage, IsAsBits, Stands}
-use Rattle.osm_ids.specs.Pages.{Page, page_ids, gap_bytes, bit_bytes, closed_bytes, is_dense, ids_of_pages, bytes_of_pages, starts_from, Rises, IsRising, AllFit, HasFullPages, IsSealed, bytes_of_closed, ids_in}
-use Rattle.osm_ids.proofs.Reading as reading
-use Rattle.osm_ids.proofs.Reading.{cursor, IsAhead}
-use Rattle.osm_ids.proofs.Closed.{IsFull, dense_by_length, closed_bits}
-use Rattle.osm_ids.proofs.BitPages.{bit_bytes_length}
-use Rattle.osm_ids.proofs.Laid.{bytes-append, ids_in_sealed, fits_front, fits_back}
-use Rattle.osm_ids.proofs.Rising.{other_above, rises_front, rising_back, rising_tail, none_below, none_above, any_in_middle, cases_order}
+use Rattle.osm_ids.specs.declared.index.PageStart.{PageStart}
+use Rattle.osm_ids.specs.declared.page.PageIds.{PageIds}
+use Rattle.osm_ids.specs.Index.{IsPassedAt, BeginFrom, IsRead, set_in}
+use Rattle.osm_ids.specs.Windows.{IsKept, IsNext, IsPageOf, held, first_held}
+use Rattle.osm_ids.specs.Pages.{Page, page_ids, page_bytes, last_of, ids_of_pages, bytes_of_pages, starts_from, Rises, IsRising, AllFit, HasFullPages, IsSealed, IsSpelled, ids_in}
+use Rattle.osm_ids.proofs.Sets.{contains-ids_of}
+use Rattle.osm_ids.proofs.Laid.{ids_in_sealed, fits_front, fits_back}
+use Rattle.osm_ids.proofs.Rising.{other_above, rises_front, rises_skip, rising_back, rising_tail, none_below, none_above, any_in_middle, any_of_middle, any_in_last, first_among, last_among, all_last, cases_order}
 
 pub le_true : (a b : ℤ) → int_le a b ≡ true → a ≤ℤ b
 le_true a b e = grind (arith, ints)
@@ -34,19 +33,11 @@ lt_false a b h = grind (arith, ints)
 
 -- ---- the first ids rise
 
-pub rises_from : (low x : ℤ) (ids : List ℤ) → low <ℤ x → Rises x ids → Rises low ids
-rises_from low x [] h r = tt
-rises_from low x (id ∷ ids) h r = let up = r.0 in (omega (arith, ints), r.1)
-
-pub rises_skip : (low : ℤ) (xs ys : List ℤ) → Rises low (xs ++ ys) → Rises low ys
-rises_skip low [] ys h = h
-rises_skip low (x ∷ xs) ys h = rises_from low x ys h.0 (rises_skip x xs ys h.1)
-
 first_above : (low : ℤ) (at : ℕ) (pages : List Page) (j : ℕ) (d : PageStart) → Rises low (ids_of_pages pages) → j < length (starts_from at pages) → low <ℤ (get_or (starts_from at pages) j d).first
 first_above low at [] j d h lt = absurd (omega arith)
 first_above low at (page ∷ pages) zero d h lt = h.0
 first_above low at (page ∷ pages) (suc j) d h lt =
-    let up = first_above page.first (at + length (closed_bytes page)) pages j d (rises_skip page.first page.others (ids_of_pages pages) h.1) (omega arith) in
+    let up = first_above page.first (at + length (page_bytes page)) pages j d (rises_skip page.first page.others (ids_of_pages pages) h.1) (omega arith) in
     let low_first = h.0 in
     omega (arith, ints)
 
@@ -57,10 +48,10 @@ firsts_rise : (at : ℕ) (pages : List Page) (i j : ℕ) (d : PageStart) → IsR
 firsts_rise at [] i j d h le lt = absurd (omega arith)
 firsts_rise at (page ∷ pages) zero zero d h le lt = omega (arith, ints)
 firsts_rise at (page ∷ pages) zero (suc j) d h le lt =
-    let up = first_above page.first (at + length (closed_bytes page)) pages j d (rises_skip page.first page.others (ids_of_pages pages) h) (omega arith) in
+    let up = first_above page.first (at + length (page_bytes page)) pages j d (rises_skip page.first page.others (ids_of_pages pages) h) (omega arith) in
     omega (arith, ints)
 firsts_rise at (page ∷ pages) (suc i) zero d h le lt = absurd (omega arith)
-firsts_rise at (page ∷ pages) (suc i) (suc j) d h le lt = firsts_rise (at + length (closed_bytes page)) pages i j d (rising_rest page pages h) (omega arith) (omega arith)
+firsts_rise at (page ∷ pages) (suc i) (suc j) d h le lt = firsts_rise (at + length (page_bytes page)) pages i j d (rising_rest page pages h) (omega arith) (omega arith)
 
 -- so a search by halves finds where they pass an id
 pub partitioned : (index : List PageStart) (pages : List Page) (id : ℤ) → index ≡ starts_from 0 pages → IsRising (ids_of_pages pages) → IsPartitionedBy (λ (s : PageStart). int_le s.first id) index
@@ -78,57 +69,39 @@ pub record PageAt (at j : ℕ) (pages : List Page) : Type 0 where
   pub page : Page
   pub after : List Page
   pub whole : pages ≡ before ++ page ∷ after
-  pub here : (d : PageStart) → get_or (starts_from at pages) j d ≡ record { first = page.first; place = at + length (bytes_of_closed before) }
-  pub next : ((after ≡ []) × (length (starts_from at pages) ≡ suc j)) ⊎ ((later : Page) × (rest : List Page) × (after ≡ later ∷ rest) × (suc j < length (starts_from at pages)) × ((d : PageStart) → get_or (starts_from at pages) (suc j) d ≡ record { first = later.first; place = at + length (bytes_of_closed before) + length (closed_bytes page) }))
+  pub size : length before ≡ j
+  pub here : (d : PageStart) → get_or (starts_from at pages) j d ≡ record { first = page.first; place = at + length (bytes_of_pages before) }
+  pub next : ((after ≡ []) × (length (starts_from at pages) ≡ suc j)) ⊎ ((later : Page) × (rest : List Page) × (after ≡ later ∷ rest) × (suc j < length (starts_from at pages)) × ((d : PageStart) → get_or (starts_from at pages) (suc j) d ≡ record { first = later.first; place = at + length (bytes_of_pages before) + length (page_bytes page) }))
 
 pub page_at : (at j : ℕ) (pages : List Page) → j < length (starts_from at pages) → PageAt at j pages
 page_at at j [] h = absurd (omega arith)
 page_at at zero (page ∷ []) h =
-    record { before = []; page = page; after = []; whole = refl; here = λ d. ap (λ k. record { first = page.first; place = k }) (omega arith); next = inl (refl, refl) }
+    record { before = []; page = page; after = []; whole = refl; size = refl; here = λ d. ap (λ k. record { first = page.first; place = k }) (omega arith); next = inl (refl, refl) }
 page_at at zero (page ∷ later ∷ rest) h =
     record {
       before = [];
       page = page;
       after = later ∷ rest;
       whole = refl;
+      size = refl;
       here = λ d. ap (λ k. record { first = page.first; place = k }) (omega arith);
       next = inr (later, rest, refl, omega arith, λ d. ap (λ k. record { first = later.first; place = k }) (omega arith));
     }
 page_at at (suc j) (page ∷ pages) h =
-    let r = page_at (at + length (closed_bytes page)) j pages (omega arith) in
-    let sum : (at + length (closed_bytes page)) + length (bytes_of_closed r.before) ≡ at + length (closed_bytes page ++ bytes_of_closed r.before) = omega (arith, length-append (closed_bytes page) (bytes_of_closed r.before)) in
+    let r = page_at (at + length (page_bytes page)) j pages (omega arith) in
+    let sum : (at + length (page_bytes page)) + length (bytes_of_pages r.before) ≡ at + length (page_bytes page ++ bytes_of_pages r.before) = omega (arith, length-append (page_bytes page) (bytes_of_pages r.before)) in
     record {
       before = page ∷ r.before;
       page = r.page;
       after = r.after;
       whole = ap (λ s. page ∷ s) r.whole;
+      size = ap suc r.size;
       here = λ d. r.here d ∙ ap (λ k. record { first = r.page.first; place = k }) sum;
       next = elim r.next [
         | inl last ↦ inl (last.0, ap suc last.1)
-        | inr more ↦ inr (more.0, more.1, more.2, omega (arith, more.3), λ d. more.4 d ∙ ap (λ k. record { first = more.0.first; place = k + length (closed_bytes r.page) }) sum)
+        | inr more ↦ inr (more.0, more.1, more.2, omega (arith, more.3), λ d. more.4 d ∙ ap (λ k. record { first = more.0.first; place = k + length (page_bytes r.page) }) sum)
       ];
     }
-
--- the bytes of a page, by what follows it
-abbrev pub bytes_here : Page → List Page → List ℕ
-bytes_here page [] = gap_bytes page
-bytes_here page (next ∷ pages) = closed_bytes page
-
-pub here_and_after : (page : Page) (after : List Page) → bytes_of_pages (page ∷ after) ≡ bytes_here page after ++ bytes_of_pages after
-here_and_after page [] = sym (append-nil (gap_bytes page))
-here_and_after page (next ∷ after) = refl
-
-module _ (bytes : List ℕ) (pages before : List Page) (page : Page) (after : List Page) (spelled : bytes ≡ bytes_of_pages pages) (whole : pages ≡ before ++ page ∷ after) where
-  parts : bytes ≡ bytes_of_closed before ++ (bytes_here page after ++ bytes_of_pages after)
-  parts = spelled ∙ ap bytes_of_pages whole ∙ bytes-append before page after ∙ ap (λ s. bytes_of_closed before ++ s) (here_and_after page after)
-
-  pub cut_page : (place end : ℕ) → place ≡ length (bytes_of_closed before) → end ≡ place + length (bytes_here page after) → take (end - place) (drop place bytes) ≡ bytes_here page after
-  cut_page place end at_place at_end =
-      let size : end - place ≡ length (bytes_here page after) = omega arith in
-      rw (size, at_place, parts, drop-append_seam (bytes_of_closed before) (bytes_here page after ++ bytes_of_pages after)) (take-append_seam (bytes_here page after) (bytes_of_pages after))
-
-  pub within_bytes : length bytes ≡ length (bytes_of_closed before) + length (bytes_here page after) + length (bytes_of_pages after)
-  within_bytes = omega (arith, ap length parts, length-append (bytes_of_closed before) (bytes_here page after ++ bytes_of_pages after), length-append (bytes_here page after) (bytes_of_pages after))
 
 -- ---- membership
 
@@ -151,8 +124,7 @@ found_in_page pages before page after id whole rising low above =
 first_of_cons : (p q : Page) (ps qs : List Page) → p ∷ ps ≡ q ∷ qs → p.first ≡ q.first
 first_of_cons p q ps qs e = let same : p ≡ q = cc in ap (λ (x : Page). x.first) same
 
--- ---- a look-up, as the code makes it
-
+-- no page begins at or below the id
 pub none_at_all : (index : List PageStart) (bytes : List ℕ) (pages : List Page) (id : ℤ) (n : ℕ) → IsSealed index bytes pages → IsPassedAt index id n → n ≡ 0 → list_any (int_eq id) (ids_in index bytes) ≡ false
 none_at_all index bytes pages id n sealed point zero_is =
     let above : (page : Page) (rest : List Page) → pages ≡ page ∷ rest → id <ℤ page.first = λ page rest e.
@@ -166,23 +138,147 @@ none_at_all index bytes pages id n sealed point zero_is =
 abbrev pub EndsAt : List PageStart → List ℕ → ℕ → ℕ → Type 0
 EndsAt index bytes n end = ((next : PageStart) × (n < length index) × (next ≡ get_or index n next) × (end ≡ next.place)) ⊎ ((length index ≤ n) × (end ≡ length bytes))
 
--- if that is so of the last of them, and not of the next
-pub passed_here : (index : List PageStart) (id : ℤ) (n : ℕ) (d : PageStart) → IsPartitionedBy (λ (s : PageStart). int_le s.first id) index → 0 < n → n ≤ length index → int_le (get_or index (n - 1) d).first id ≡ true → (n < length index → int_le (get_or index n d).first id ≡ false) → IsPassedAt index id n
-passed_here index id n d parted some le low high = (
-  λ i e ge lt. parted i (n - 1) e (omega arith) (omega arith) (ap (λ (s : PageStart). int_le s.first id) (get_or_default index (n - 1) e d (omega arith)) ∙ low),
-  λ i e at lt. false_from_ne_true _ (λ yes. true≢false (sym (parted n i e at lt yes) ∙ ap (λ (s : PageStart). int_le s.first id) (get_or_default index n e d (omega arith)) ∙ high (omega arith))),
-)
+-- pages before another one are full
+full_cons : (before : List Page) (p page : Page) (after : List Page) → HasFullPages (p ∷ (before ++ page ∷ after)) → (length p.others ≡ 127) × HasFullPages (before ++ page ∷ after)
+full_cons [] p page after h = h
+full_cons (q ∷ before) p page after h = h
 
--- ids that rise are no less than the first
-pub no_less : (low x : ℤ) (ids : List ℤ) → Rises low ids → list_any (int_eq x) (low ∷ ids) ≡ true → low ≤ℤ x
-no_less low x ids rises there =
-    elim (cases_order x low) [
-      | inl below ↦ absurd (true≢false (sym there ∙ rw (other_above x low below) (none_above low ids x rises (omega (arith, ints)))))
-      | inr more ↦ elim more [
-        | inl above ↦ omega (arith, ints)
-        | inr same ↦ omega (arith, ints)
+full_before : (before : List Page) (page : Page) (after : List Page) → HasFullPages (before ++ page ∷ after) → length (ids_of_pages before) ≡ 128 * length before
+full_before [] page after h = omega arith
+full_before (p ∷ before) page after h =
+    let parts = full_cons before p page after h in
+    omega (arith, parts.0, full_before before page after parts.1, length-append p.others (ids_of_pages before))
+
+full_here : (before : List Page) (page : Page) (after : List Page) → HasFullPages (before ++ page ∷ after) → HasFullPages (page ∷ after)
+full_here [] page after h = h
+full_here (p ∷ before) page after h = full_here before page after (full_cons before p page after h).1
+
+front_here : (page : Page) (after : List Page) → HasFullPages (page ∷ after) → take 128 (page_ids page ++ ids_of_pages after) ≡ page_ids page
+front_here page [] h = ap (take 128) (append-nil (page_ids page)) ∙ take_all 128 (page_ids page) (omega (arith, h))
+front_here page (next ∷ after) h =
+    let size : 128 ≡ length (page_ids page) = omega (arith, h.0) in
+    ap (λ n. take n (page_ids page ++ ids_of_pages (next ∷ after))) size ∙ take-append_seam (page_ids page) (ids_of_pages (next ∷ after))
+
+few_here : (page : Page) (after : List Page) → HasFullPages (page ∷ after) → length page.others ≤ 127
+few_here page [] h = h
+few_here page (next ∷ after) h = omega (arith, h.0)
+
+-- the last of so many pages
+module _ (index : List PageStart) (bytes : List ℕ) (pages : List Page) (sealed : IsSealed index bytes pages) (j : ℕ) (lt : suc j ≤ length index) where
+  pub found : PageAt 0 j pages
+  found = page_at 0 j pages (omega (arith, lt, ap length sealed.starts))
+
+  abbrev pub page : Page
+  page = found.page
+
+  abbrev pub before : List ℤ
+  before = ids_of_pages found.before
+
+  abbrev pub after : List ℤ
+  after = ids_of_pages found.after
+
+  pub parts : ids_of_pages pages ≡ before ++ (page_ids page ++ after)
+  parts = ap ids_of_pages found.whole ∙ flat_map-append page_ids found.before (page ∷ found.after)
+
+  filled : HasFullPages (found.before ++ page ∷ found.after)
+  filled = subst HasFullPages found.whole sealed.filled
+
+  pub here : (start : PageStart) → start ≡ get_or index j start → start ≡ record { first = page.first; place = length (bytes_of_pages found.before) }
+  here start is = is ∙ ap (λ i. get_or i j start) sealed.starts ∙ found.here start ∙ ap (λ k. record { first = page.first; place = k }) (omega arith)
+
+  -- its ids
+  pub cut_ids : take 128 (drop (128 * j) (ids_in index bytes)) ≡ page_ids page
+  cut_ids =
+      let size : length before ≡ 128 * j = full_before found.before page found.after filled ∙ ap (λ n. 128 * n) found.size in
+      ap (λ l. take 128 (drop (128 * j) l)) (ids_in_sealed index bytes pages sealed ∙ parts)
+      ∙ ap (λ n. take 128 (drop n (before ++ (page_ids page ++ after)))) (sym size)
+      ∙ ap (take 128) (drop-append_seam before (page_ids page ++ after))
+      ∙ front_here page found.after (full_here found.before page found.after filled)
+
+  pub rising : Rises page.first (page.others ++ after)
+  rising = rising_back before page.first (page.others ++ after) (subst IsRising parts sealed.rising)
+
+  pub full : (later : Page) (rest : List Page) → found.after ≡ later ∷ rest → length page.others ≡ 127
+  full later rest e = (subst (λ (a : List Page). HasFullPages (page ∷ a)) e (full_here found.before page found.after filled)).0
+
+  -- its bytes
+  spelled : bytes ≡ bytes_of_pages found.before ++ (page_bytes page ++ bytes_of_pages found.after)
+  spelled = sealed.spelled ∙ ap bytes_of_pages found.whole ∙ flat_map-append page_bytes found.before (page ∷ found.after)
+
+  within : length bytes ≡ length (bytes_of_pages found.before) + length (page_bytes page) + length (bytes_of_pages found.after)
+  within = omega (arith, ap length spelled, length-append (bytes_of_pages found.before) (page_bytes page ++ bytes_of_pages found.after), length-append (page_bytes page) (bytes_of_pages found.after))
+
+  pub ends : (start : PageStart) (end : ℕ) → start ≡ get_or index j start → EndsAt index bytes (suc j) end → end ≡ start.place + length (page_bytes page)
+  ends start end is at =
+      let place = ap (λ (s : PageStart). s.place) (here start is) in
+      elim found.next [
+        | inl last ↦ elim at [
+          | inl w ↦ absurd (omega (arith, w.1, last.1, ap length sealed.starts))
+          | inr w ↦ let none : length (bytes_of_pages found.after) ≡ 0 = ap (λ p. length (bytes_of_pages p)) last.0 in omega (arith, w.1, within, place, none)
+        ]
+        | inr more ↦ elim at [
+          | inl w ↦
+              let there = ap (λ (s : PageStart). s.place) (w.2 ∙ ap (λ i. get_or i (suc j) w.0) sealed.starts ∙ more.4 w.0) in
+              omega (arith, w.3, there, place)
+          | inr w ↦ absurd (omega (arith, w.0, more.3, ap length sealed.starts))
+        ]
       ]
-    ]
+
+  pub bounds : (start : PageStart) (end : ℕ) → start ≡ get_or index j start → EndsAt index bytes (suc j) end → (start.place ≤ end) × (end ≤ length bytes)
+  bounds start end is at =
+      let place = ap (λ (s : PageStart). s.place) (here start is) in
+      let ended = ends start end is at in
+      (omega (arith, ended), omega (arith, ended, within, place))
+
+  pub cut_page : (start : PageStart) (end : ℕ) → start ≡ get_or index j start → EndsAt index bytes (suc j) end → take (end - start.place) (drop start.place bytes) ≡ page_bytes page
+  cut_page start end is at =
+      let size : end - start.place ≡ length (page_bytes page) = omega (arith, ends start end is at) in
+      ap (λ n. take n (drop start.place bytes)) size
+      ∙ ap (λ n. take (length (page_bytes page)) (drop n bytes)) (ap (λ (s : PageStart). s.place) (here start is))
+      ∙ ap (λ b. take (length (page_bytes page)) (drop (length (bytes_of_pages found.before)) b)) spelled
+      ∙ ap (take (length (page_bytes page))) (drop-append_seam (bytes_of_pages found.before) (page_bytes page ++ bytes_of_pages found.after))
+      ∙ take-append_seam (page_bytes page) (bytes_of_pages found.after)
+
+  pub is_spelled : (held : List ℕ) → held ≡ page_bytes page → IsSpelled page.first page.others held
+  is_spelled held e = record {
+    rises = rises_front page.first page.others after rising;
+    fits = fits_front (page_ids page) after (fits_back before (page_ids page ++ after) (subst AllFit parts sealed.fits));
+    few = few_here page found.after (full_here found.before page found.after filled);
+    spelled = e;
+  }
+
+  -- what the set has of its ids
+  pub among : (id : ℤ) → list_any (int_eq id) (page_ids page) ≡ true → set.contains (set_in index bytes) id ≡ true
+  among id there = contains-ids_of (ids_in index bytes) id ∙ ap (list_any (int_eq id)) (ids_in_sealed index bytes pages sealed ∙ parts) ∙ any_of_middle before (page_ids page) after id there
+
+  pub answered : (id : ℤ) → page.first ≤ℤ id → ((later : Page) (rest : List Page) → found.after ≡ later ∷ rest → id <ℤ later.first) → set.contains (set_in index bytes) id ≡ list_any (int_eq id) (page_ids page)
+  answered id low above =
+      contains-ids_of (ids_in index bytes) id
+      ∙ ap (list_any (int_eq id)) (ids_in_sealed index bytes pages sealed)
+      ∙ found_in_page pages found.before page found.after id found.whole sealed.rising low above
+
+  -- the first id of the next page
+  pub next_first : (later : Page) (rest : List Page) → found.after ≡ later ∷ rest → (suc j < length index) × ((d : PageStart) → (get_or index (suc j) d).first ≡ later.first)
+  next_first later rest e =
+      elim found.next [
+        | inl last ↦ absurd (omega (arith, ap length (sym last.0 ∙ e)))
+        | inr more ↦ (
+          omega (arith, more.3, ap length sealed.starts),
+          λ d. ap (λ (i : List PageStart). (get_or i (suc j) d).first) sealed.starts ∙ ap (λ (s : PageStart). s.first) (more.4 d) ∙ first_of_cons more.0 later more.1 rest (sym more.2 ∙ e),
+        )
+      ]
+
+  pub passed_low : (id : ℤ) → IsPassedAt index id (suc j) → page.first ≤ℤ id
+  passed_low id point =
+      let d : PageStart = record { first = page.first; place = 0 } in
+      let is : get_or index j d ≡ record { first = page.first; place = length (bytes_of_pages found.before) } = ap (λ i. get_or i j d) sealed.starts ∙ found.here d ∙ ap (λ k. record { first = page.first; place = k }) (omega arith) in
+      le_true page.first id (ap (λ (s : PageStart). int_le s.first id) (sym is) ∙ point.0 j d (omega arith) (omega (arith, lt)))
+
+  pub passed_above : (id : ℤ) → IsPassedAt index id (suc j) → (later : Page) (rest : List Page) → found.after ≡ later ∷ rest → id <ℤ later.first
+  passed_above id point later rest e =
+      let d : PageStart = record { first = page.first; place = 0 } in
+      let next = next_first later rest e in
+      le_false later.first id (ap (λ z. int_le z id) (sym (next.1 d)) ∙ point.1 (suc j) d (omega arith) next.0)
 
 not_either : (a b : Bool) → b ≡ true → (a || b) ≡ false → ⊥
 not_either true b e h = true≢false h
@@ -202,163 +298,110 @@ all_below front ids low x back rising there =
           absurd (not_either _ _ there (sym (list_any-append (int_eq x) front ids) ∙ none))
     ]
 
--- each page but the last has 128 ids
-pub filled_at : (before : List Page) (page later : Page) (rest : List Page) → HasFullPages (before ++ page ∷ later ∷ rest) → length page.others ≡ 127
-filled_at [] page later rest h = h.0
-filled_at (p ∷ []) page later rest h = h.1.0
-filled_at (p ∷ q ∷ before) page later rest h = filled_at (q ∷ before) page later rest h.1
+-- ---- a page that was read
 
--- what lies in the last of so many pages
-pub record Looked (index : List PageStart) (bytes : List ℕ) (begun : ℕ) (start : PageStart) (end : ℕ) : Type 0 where
-  pub ordered : start.place ≤ end
-  pub within : end ≤ length bytes
-  pub held : HoldsPage index bytes begun start.first (take (end - start.place) (drop start.place bytes))
+-- which number it reaches to
+pub record Reaches (index : List PageStart) (j : ℕ) (first : ℤ) (others : List ℤ) (below : ℤ) : Type 0 where
+  pub next : suc j < length index → (d : PageStart) → below ≡ (get_or index (suc j) d).first
+  pub last : length index ≤ suc j → IsNext (last_of first others) below
 
-looked : (index : List PageStart) (bytes : List ℕ) (pages : List Page) (j : ℕ) (start : PageStart) (end : ℕ) → IsSealed index bytes pages → suc j ≤ length index → start ≡ get_or index j start → EndsAt index bytes (suc j) end → Looked index bytes (suc j) start end
-looked index bytes pages j start end sealed lt is ends =
-    let r = page_at 0 j pages (omega (arith, ap length sealed.starts)) in
-    let page = r.page in
-    let starts = sealed.starts in
-    let here : start ≡ record { first = page.first; place = length (bytes_of_closed r.before) } = is ∙ ap (λ i. get_or i j start) starts ∙ r.here start ∙ ap (λ k. record { first = page.first; place = k }) (omega arith) in
-    let first : start.first ≡ page.first = ap (λ (s : PageStart). s.first) here in
-    let place : start.place ≡ length (bytes_of_closed r.before) = ap (λ (s : PageStart). s.place) here in
-    let size = within_bytes bytes pages r.before page r.after sealed.spelled r.whole in
-    let ended : end ≡ start.place + length (bytes_here page r.after) =
-    elim r.next [
-      | inl last ↦ elim ends [
-        | inl w ↦ absurd (omega (arith, w.1, last.1, ap length starts))
-        | inr w ↦ let none : length (bytes_of_pages r.after) ≡ 0 = ap (λ p. length (bytes_of_pages p)) last.0 in omega (arith, w.1, size, place, none)
-      ]
-      | inr more ↦ elim ends [
-        | inl w ↦
-            let there = ap (λ (s : PageStart). s.place) (w.2 ∙ ap (λ i. get_or i (suc j) w.0) starts ∙ more.4 w.0) in
-            let long : length (bytes_here page r.after) ≡ length (closed_bytes page) = ap (λ a. length (bytes_here page a)) more.2 in
-            omega (arith, w.3, there, place, long)
-        | inr w ↦ absurd (omega (arith, w.0, more.3, ap length starts))
-      ]
-    ] in
-    let low : (id : ℤ) → IsPassedAt index id (suc j) → page.first ≤ℤ id = λ id point. le_true page.first id (ap (λ z. int_le z id) (sym first ∙ ap (λ (s : PageStart). s.first) is) ∙ point.0 j start (omega arith) (omega arith)) in
-    let above : (id : ℤ) → IsPassedAt index id (suc j) → (later : Page) (rest : List Page) → r.after ≡ later ∷ rest → id <ℤ later.first = λ id point later rest e.
-    elim r.next [
-      | inl last ↦ absurd (omega (arith, ap length (sym last.0 ∙ e)))
-      | inr more ↦
-          let next : (get_or index (suc j) start).first ≡ more.0.first = ap (λ (i : List PageStart). (get_or i (suc j) start).first) starts ∙ ap (λ (s : PageStart). s.first) (more.4 start) in
-          let same : more.0.first ≡ later.first = first_of_cons more.0 later more.1 rest (sym more.2 ∙ e) in
-          le_false later.first id (ap (λ z. int_le z id) (sym (next ∙ same)) ∙ point.1 (suc j) start (omega arith) (omega (arith, more.3, ap length starts)))
-    ] in
-    let parts : ids_of_pages pages ≡ ids_of_pages r.before ++ (page_ids page ++ ids_of_pages r.after) = ap ids_of_pages r.whole ∙ flat_map-append page_ids r.before (page ∷ r.after) in
-    let rises = rises_front page.first page.others (ids_of_pages r.after) (rising_back (ids_of_pages r.before) page.first (page.others ++ ids_of_pages r.after) (subst IsRising parts sealed.rising)) in
-    let fits = fits_front (page_ids page) (ids_of_pages r.after) (fits_back (ids_of_pages r.before) (page_ids page ++ ids_of_pages r.after) (subst AllFit parts sealed.fits)) in
-    let cut = cut_page bytes pages r.before page r.after sealed.spelled r.whole start.place end place ended in
-    let form : HasForm index (suc j) page (take (end - start.place) (drop start.place bytes)) = elim r.next [
-      | inl last ↦ inl (omega (arith, last.1, ap length starts), cut ∙ ap (bytes_here page) last.0)
-      | inr more ↦ inr (omega (arith, more.3, ap length starts), filled_at r.before page more.0 more.1 (subst HasFullPages (r.whole ∙ ap (λ a. r.before ++ page ∷ a) more.2) sealed.filled), cut ∙ ap (bytes_here page) more.2)
-    ] in
+first_is : (page : PageIds) (ids : List ℤ) (first : ℤ) → 0 < page.count → held page ≡ first ∷ ids → first_held page ≡ first
+first_is page ids first some e = sym (get_or-take page.count page.ids 0 (pos 0) some) ∙ ap (λ (l : List ℤ). get_or l 0 (pos 0)) e
+
+pub is_kept : (index : List PageStart) (bytes : List ℕ) (pages : List Page) (sealed : IsSealed index bytes pages) (j : ℕ) (lt : suc j ≤ length index) (p : PageIds) → 0 < p.count → p.count ≤ 128 → held p ≡ page_ids (page index bytes pages sealed j lt) → Reaches index j (page index bytes pages sealed j lt).first (page index bytes pages sealed j lt).others p.below → IsKept (set_in index bytes) p
+is_kept index bytes pages sealed j lt p some few e reach =
+    let at : PageAt 0 j pages = found index bytes pages sealed j lt in
+    let this = at.page in
+    let first : first_held p ≡ this.first = first_is p this.others this.first some e in
+    let rises = rises_front this.first this.others (ids_of_pages at.after) (rising index bytes pages sealed j lt) in
     record {
-      ordered = omega (arith, ended);
-      within = omega (arith, ended, size, place);
-      held = record {
-        others = page.others;
-        rises = subst (λ z. Rises z page.others) (sym first) rises;
-        fits = subst (λ z. AllFit (z ∷ page.others)) (sym first) fits;
-        form = subst (λ z. HasForm index (suc j) (record { first = z; others = page.others }) (take (end - start.place) (drop start.place bytes))) (sym first) form;
-        inside = λ id there.
-            let among : list_any (int_eq id) (page_ids page) ≡ true = ap (λ z. list_any (int_eq id) (z ∷ page.others)) (sym first) ∙ there in
-            let begins = no_less page.first id page.others rises among in
-            let at : suc j - 1 ≡ j = omega arith in
-            passed_here index id (suc j) start (partitioned index pages id starts sealed.rising) (omega arith) lt
-            (ap (λ k. int_le (get_or index k start).first id) at ∙ ap (λ (s : PageStart). int_le s.first id) (sym is) ∙ ap (λ z. int_le z id) first ∙ true_le page.first id begins)
-            (λ another. elim r.next [
-              | inl last ↦ absurd (omega (arith, another, last.1, ap length starts))
-              | inr more ↦
-                  let next : (get_or index (suc j) start).first ≡ more.0.first = ap (λ (i : List PageStart). (get_or i (suc j) start).first) starts ∙ ap (λ (s : PageStart). s.first) (more.4 start) in
-                  let rising = subst (λ a. IsRising (ids_of_pages r.before ++ (page_ids page ++ ids_of_pages a))) more.2 (subst IsRising parts sealed.rising) in
-                  ap (λ z. int_le z id) next ∙ lt_false more.0.first id (all_below (ids_of_pages r.before) (page_ids page) more.0.first id (more.0.others ++ ids_of_pages more.1) rising among)
-            ]);
-        answer = λ id point.
-            ap (λ z. list_any (int_eq id) (z ∷ page.others)) first
-            ∙ sym (found_in_page pages r.before page r.after id r.whole sealed.rising (low id point) (above id point))
-            ∙ ap (list_any (int_eq id)) (sym (ids_in_sealed index bytes pages sealed));
-      };
+      rising = subst IsRising (sym e) rises;
+      within = few;
+      some = λ _. some;
+      top = λ id there.
+          let among = ap (list_any (int_eq id)) (sym e) ∙ there in
+          elim at.next [
+            | inl end ↦ let up = (reach.last (omega (arith, end.1, ap length sealed.starts))).low in let most = all_last this.first this.others id rises among in omega (arith, ints, up, most)
+            | inr more ↦
+                let d : PageStart = record { first = more.0.first; place = 0 } in
+                let next = next_first index bytes pages sealed j lt more.0 more.1 more.2 in
+                let up : p.below ≡ more.0.first = reach.next next.0 d ∙ next.1 d in
+                let order = subst (λ (l : List Page). IsRising (ids_of_pages at.before ++ (page_ids this ++ ids_of_pages l))) more.2 (subst IsRising (parts index bytes pages sealed j lt) sealed.rising) in
+                let less = all_below (ids_of_pages at.before) (page_ids this) more.0.first id _ order among in
+                omega (arith, ints, up, less)
+          ];
+      inside = λ id there. among index bytes pages sealed j lt id (ap (list_any (int_eq id)) (sym e) ∙ there);
+      answer = λ id low high.
+          answered index bytes pages sealed j lt id (omega (arith, ints, first, low)) (λ later rest is.
+          let next = next_first index bytes pages sealed j lt later rest is in
+          let d : PageStart = record { first = later.first; place = 0 } in
+          let up : p.below ≡ later.first = reach.next next.0 d ∙ next.1 d in
+          omega (arith, ints, up, high))
+          ∙ ap (list_any (int_eq id)) (sym e);
+      reached = λ id low high.
+          elim at.next [
+            | inl end ↦ (
+              last_of this.first this.others,
+              among index bytes pages sealed j lt _ (last_among this.first this.others),
+              let up = (reach.last (omega (arith, end.1, ap length sealed.starts))).high in omega (arith, ints, up, high),
+            )
+            | inr more ↦
+                let d : PageStart = record { first = more.0.first; place = 0 } in
+                let next = next_first index bytes pages sealed j lt more.0 more.1 more.2 in
+                let up : p.below ≡ more.0.first = reach.next next.0 d ∙ next.1 d in
+                let back = ap (λ (l : List Page). this.others ++ ids_of_pages l) more.2 in (
+                  more.0.first,
+                  contains-ids_of (ids_in index bytes) more.0.first
+                      ∙ ap (list_any (int_eq more.0.first)) (ids_in_sealed index bytes pages sealed ∙ parts index bytes pages sealed j lt ∙ ap (λ (l : List Page). ids_of_pages at.before ++ (page_ids this ++ ids_of_pages l)) more.2)
+                      ∙ any_in_last (ids_of_pages at.before) (page_ids this) (ids_of_pages (more.0 ∷ more.1)) more.0.first (first_among more.0.first _),
+                  omega (arith, ints, up, high),
+                )
+          ];
     }
 
--- the page before a place of the index
-pub looked_before : (index : List PageStart) (bytes : List ℕ) (pages : List Page) (begun : ℕ) (start : PageStart) (end : ℕ) → IsSealed index bytes pages → 0 < begun → begun ≤ length index → start ≡ get_or index (begun - 1) start → EndsAt index bytes begun end → Looked index bytes begun start end
-looked_before index bytes pages begun start end sealed some le is ends =
-    let next : suc (begun - 1) ≡ begun = omega arith in
-    subst (λ n. Looked index bytes n start end) next (looked index bytes pages (begun - 1) start end sealed (omega arith) is (subst (λ n. EndsAt index bytes n end) (sym next) ends))
+-- and which ids are looked up in it
+pub is_page_of : (index : List PageStart) (bytes : List ℕ) (pages : List Page) (sealed : IsSealed index bytes pages) (j : ℕ) (lt : suc j ≤ length index) (p : PageIds) (id : ℤ) → 0 < p.count → p.count ≤ 128 → held p ≡ page_ids (page index bytes pages sealed j lt) → Reaches index j (page index bytes pages sealed j lt).first (page index bytes pages sealed j lt).others p.below → IsPassedAt index id (suc j) → IsPageOf (set_in index bytes) id p
+is_page_of index bytes pages sealed j lt p id some few e reach point =
+    let this = page index bytes pages sealed j lt in
+    let first : first_held p ≡ this.first = first_is p this.others this.first some e in
+    let low = passed_low index bytes pages sealed j lt id point in
+    record {
+      kept = is_kept index bytes pages sealed j lt p some few e reach;
+      begun = record { rising = subst IsRising (sym e) (rises_front this.first this.others (after index bytes pages sealed j lt) (rising index bytes pages sealed j lt)); some = some; within = few; low = omega (arith, ints, first, low) };
+      answer = answered index bytes pages sealed j lt id low (passed_above index bytes pages sealed j lt id point) ∙ ap (list_any (int_eq id)) (sym e);
+    }
 
--- ---- the form of a page
+pub is_read : (index : List PageStart) (bytes : List ℕ) (pages : List Page) (sealed : IsSealed index bytes pages) (begun : ℕ) (lt : suc (begun - 1) ≤ length index) (p : PageIds) → 0 < begun → 0 < p.count → p.count ≤ 128 → held p ≡ take 128 (drop (128 * (begun - 1)) (ids_in index bytes)) → Reaches index (begun - 1) (page index bytes pages sealed (begun - 1) lt).first (page index bytes pages sealed (begun - 1) lt).others p.below → IsRead index bytes begun p
+is_read index bytes pages sealed begun lt p first some few e reach =
+    let same : suc (begun - 1) ≡ begun = omega arith in
+    record {
+      ids = e;
+      within = few;
+      found = λ id point. is_page_of index bytes pages sealed (begun - 1) lt p id some few (e ∙ cut_ids index bytes pages sealed (begun - 1) lt) reach (subst (IsPassedAt index id) (sym same) point);
+    }
 
-abbrev page_of : ℤ → List ℤ → Page
-page_of first others = record { first = first; others = others }
-
-module _ (index : List PageStart) (bytes : List ℕ) (begun : ℕ) (first : ℤ) (held : List ℕ) (h : HoldsPage index bytes begun first held) where
-  abbrev this : Page
-  this = page_of first h.others
-
-  abbrev is_full : length h.others ≡ 127 → IsFull this
-  is_full full = record { full = full; rises = h.rises; fits = h.fits }
-
-  -- gaps, if it isn't held as bits
-  pub held_gaps : (IsAsBits index begun held → ⊥) → held ≡ gap_bytes this
-  held_gaps none =
-      elim h.form [
-        | inl last ↦ last.1
-        | inr more ↦
-            elim (is_dense this) as (λ b. is_dense this ≡ b → held ≡ gap_bytes this) [
-              | true ↦ λ dense. absurd (none (more.0, ap length (more.2 ∙ closed_bits this (is_full more.1) dense) ∙ bit_bytes_length this))
-              | false ↦ λ wide. more.2 ∙ ap (λ b. cond b (bit_bytes this) (gap_bytes this)) wide
-            ] refl
-      ]
-
-  -- and otherwise bits
-  pub held_bits : IsAsBits index begun held → (held ≡ bit_bytes this) × (is_dense this ≡ true)
-  held_bits bits =
-      elim h.form [
-        | inl last ↦ absurd (omega (arith, last.0, bits.0))
-        | inr more ↦
-            let dense = dense_by_length this (is_full more.1) (sym (ap length more.2) ∙ bits.1) in
-            (more.2 ∙ closed_bits this (is_full more.1) dense, dense)
-      ]
-
-  -- which is the state of a look-up that begins there
-  pub stands : (IsAsBits index begun held → ⊥) → Stands index bytes begun held (cursor first first 0)
-  stands none = record { ids = first ∷ h.others; reached = reading.start first h.others held h.rises h.fits (held_gaps none); inside = h.inside; answer = h.answer }
+-- the page whose ids are these
+pub same_page : (page : Page) (first : ℤ) (others : List ℤ) → first ∷ others ≡ page_ids page → (first ≡ page.first) × (others ≡ page.others)
+same_page page first others e = (ap (λ (l : List ℤ). get_or l 0 first) e, ap (drop 1) e)
 
 -- ---- so many pages begin at or below an id
 
--- the same of an id that the code names otherwise
-pub passed_same : (index : List PageStart) (id seen : ℤ) (n : ℕ) → seen ≡ id → (IsPartitionedBy (λ (s : PageStart). int_le s.first seen) index → IsPassedAt index seen n) → IsPartitionedBy (λ (s : PageStart). int_le s.first id) index → IsPassedAt index id n
-passed_same index id seen n e h = subst (λ z. IsPartitionedBy (λ (s : PageStart). int_le s.first z) index → IsPassedAt index z n) e h
+pub passed : (index seen_index : List PageStart) (bytes : List ℕ) (pages : List Page) (id seen : ℤ) (n : ℕ) → IsSealed index bytes pages → seen ≡ id → seen_index ≡ index → (IsPartitionedBy (λ (s : PageStart). int_le s.first seen) seen_index → IsPassedAt seen_index seen n) → IsPassedAt index id n
+passed index seen_index bytes pages id seen n sealed e f h =
+    subst (λ (i : List PageStart). IsPartitionedBy (λ (s : PageStart). int_le s.first id) i → IsPassedAt i id n) f
+    (subst (λ z. IsPartitionedBy (λ (s : PageStart). int_le s.first z) seen_index → IsPassedAt seen_index z n) e h)
+    (partitioned index pages id sealed.starts sealed.rising)
 
-pub passed : (index : List PageStart) (bytes : List ℕ) (pages : List Page) (id seen : ℤ) (n : ℕ) → IsSealed index bytes pages → seen ≡ id → (IsPartitionedBy (λ (s : PageStart). int_le s.first seen) index → IsPassedAt index seen n) → IsPassedAt index id n
-passed index bytes pages id seen n sealed e h = passed_same index id seen n e h (partitioned index pages id sealed.starts sealed.rising)
+-- ---- what the index tells
 
--- ---- from where a look-up reads
-
-pub record ReadsFrom (index : List PageStart) (bytes : List ℕ) (begun : ℕ) (page : List ℕ) (from : Cursor) (id : ℤ) : Type 0 where
-  pub stood : Stands index bytes begun page from
-  pub ahead : IsAhead from.passed from.last id
-
--- from the first id of the last page that begins at or below the id
-pub reads_first : (index : List PageStart) (bytes : List ℕ) (begun : ℕ) (page : List ℕ) (from : Cursor) (id : ℤ) (start : PageStart) → 0 < begun → begun ≤ length index → IsPassedAt index id begun → start ≡ get_or index (begun - 1) start → Stands index bytes begun page (cursor start.first start.first 0) → from ≡ cursor start.first start.first 0 → ReadsFrom index bytes begun page from id
-reads_first index bytes begun page from id start some le point is stood e =
-    subst (λ c. ReadsFrom index bytes begun page c id) (sym e)
-    (record { stood = stood; ahead = inr (le_true start.first id (ap (λ (s : PageStart). int_le s.first id) is ∙ point.0 (begun - 1) start (omega arith) (omega arith))) })
-
--- or from where it is
-pub reads_still : (index : List PageStart) (bytes : List ℕ) (begun old : ℕ) (page old_page : List ℕ) (from old_from : Cursor) (id seen : ℤ) → begun ≡ old → page ≡ old_page → from ≡ old_from → seen ≡ id → Stands index bytes old old_page old_from → IsAhead old_from.passed old_from.last seen → ReadsFrom index bytes begun page from id
-reads_still index bytes begun old page old_page from old_from id seen same p f e stood ahead =
-    subst (λ n. ReadsFrom index bytes n page from id) (sym same) (subst (λ b. ReadsFrom index bytes old b from id) (sym p) (subst (λ c. ReadsFrom index bytes old old_page c id) (sym f)
-    (record { stood = stood; ahead = subst (IsAhead old_from.passed old_from.last) e ahead })))
-
--- what is then returned
-pub found_in_set : (index : List PageStart) (bytes : List ℕ) (begun : ℕ) (page : List ℕ) (from : Cursor) (id seen last : ℤ) (r : ReadsFrom index bytes begun page from id) → IsPassedAt index id begun → seen ≡ id → ((ids : List ℤ) → IsAt ids page from → IsAhead from.passed from.last seen → int_eq seen last ≡ list_any (int_eq seen) ids) → int_eq id last ≡ list_any (int_eq id) (ids_in index bytes)
-found_in_set index bytes begun page from id seen last r point e found =
-    let same : (ids : List ℤ) → IsAt ids page from → IsAhead from.passed from.last id → int_eq id last ≡ list_any (int_eq id) ids = subst (λ z. (ids : List ℤ) → IsAt ids page from → IsAhead from.passed from.last z → int_eq z last ≡ list_any (int_eq z) ids) e found in
-    same r.stood.ids r.stood.reached r.ahead ∙ r.stood.answer id point
-
--- and where it is then
-pub stands_on : (index : List PageStart) (bytes : List ℕ) (begun : ℕ) (page : List ℕ) (from to : Cursor) (s : Stands index bytes begun page from) → ((ids : List ℤ) → IsAt ids page from → IsAt ids page to) → Stands index bytes begun page to
-stands_on index bytes begun page from to s on = record { ids = s.ids; reached = on s.ids s.reached; inside = s.inside; answer = s.answer }
+-- below the first page
+pub absent_first : (index : List PageStart) (bytes : List ℕ) (pages : List Page) (above below : ℤ) → IsSealed index bytes pages → BeginFrom index 0 below → (id : ℤ) → above <ℤ id → id <ℤ below → set.contains (set_in index bytes) id ≡ false
+absent_first index bytes pages above below sealed from id _ low =
+    contains-ids_of (ids_in index bytes) id
+    ∙ none_at_all index bytes pages id 0 sealed (
+      λ i d before lt. absurd (omega arith),
+      λ i d after lt.
+          let first = from (get_or index 0 d) (omega arith) (get_or_default index 0 d _ (omega arith)) in
+          false_from_ne_true _ (λ begun. let at = le_true _ id (partitioned index pages id sealed.starts sealed.rising 0 i d after lt begun) in omega (arith, ints)),
+    )
+    refl

@@ -1,16 +1,15 @@
--- How pages lie in an index and in bytes: how they grow, how they are found, and that they are read again.
+-- How pages lie in an index and in bytes: how they grow, and that they are read again.
 use Rattle.std.proofs.Common.{◌≡◌, ℕ, suc, ◌+◌, ◌-◌, ◌*◌, ◌<◌, ◌≤◌, List, [], ◌∷◌, ◌++◌, length, take, drop, ℤ, refl, sym, ap, ◌∙◌, arith, append_assoc, length-append}
 use Rattle.std.specs.Int.{div_ceil}
 use Rattle.std.proofs.lemmas.Grind.{flat_map-append}
 use Rattle.std.proofs.lemmas.List.{append-nil, drop-drop}
 use Rattle.std.proofs.Math.Seq.{drop-append_seam, take-append_seam}
-use Rattle.osm_ids.specs.declared.pages.PageStart.{PageStart}
+use Rattle.osm_ids.specs.declared.index.PageStart.{PageStart}
 use Rattle.pbf_wire.specs.Varint.{shortest}
 use Rattle.pbf_wire.specs.Packed.{numbers_of}
-use Rattle.osm_ids.specs.Pages.{gap, Page, page_ids, gap_bytes, closed_bytes, last_of, ids_of_pages, bytes_of_pages, starts_from, HasFullPages, Rises, IsRising, AllFit, raised, others_in, ids_in, IsSealed, IsOpen, bytes_of_closed}
+use Rattle.osm_ids.specs.Pages.{gap, Page, page_ids, page_bytes, last_of, ids_of_pages, bytes_of_pages, starts_from, HasFullPages, Rises, IsRising, AllFit, raised, ids_in, IsSealed}
 use Rattle.osm_ids.proofs.Rising.{rises_front, rising_tail}
 use Rattle.osm_ids.proofs.Gaps.{spelled_after, read_spelled}
-use Rattle.osm_ids.proofs.Closed.{IsFull, closed_read}
 
 -- ---- growing
 
@@ -26,21 +25,21 @@ with_id [] id = []
 with_id (page ∷ []) id = longer page id ∷ []
 with_id (page ∷ next ∷ pages) id = page ∷ with_id (next ∷ pages) id
 
-pub starts-push : (at : ℕ) (pages : List Page) (id : ℤ) → starts_from at (pages ++ lone id ∷ []) ≡ starts_from at pages ++ record { first = id; place = at + length (bytes_of_closed pages) } ∷ []
+-- the last page has room for so many more, and ends with `last`
+abbrev pub IsOpen : List Page → ℕ → ℤ → Type 0
+IsOpen [] room last = room ≡ 0
+IsOpen (page ∷ []) room last = (length page.others + room ≡ 127) × (last_of page.first page.others ≡ last)
+IsOpen (page ∷ next ∷ pages) room last = (length page.others ≡ 127) × IsOpen (next ∷ pages) room last
+
+pub starts-push : (at : ℕ) (pages : List Page) (id : ℤ) → starts_from at (pages ++ lone id ∷ []) ≡ starts_from at pages ++ record { first = id; place = at + length (bytes_of_pages pages) } ∷ []
 starts-push at [] id = ap (λ k. record { first = id; place = k } ∷ []) (omega arith)
 starts-push at (page ∷ pages) id =
     ap (λ s. record { first = page.first; place = at } ∷ s)
-    (starts-push (at + length (closed_bytes page)) pages id
-    ∙ ap (λ k. starts_from (at + length (closed_bytes page)) pages ++ record { first = id; place = k } ∷ []) (omega (arith, length-append (closed_bytes page) (bytes_of_closed pages))))
+    (starts-push (at + length (page_bytes page)) pages id
+    ∙ ap (λ k. starts_from (at + length (page_bytes page)) pages ++ record { first = id; place = k } ∷ []) (omega (arith, length-append (page_bytes page) (bytes_of_pages pages))))
 
--- pages before others are closed
-pub bytes-append : (before : List Page) (page : Page) (after : List Page) → bytes_of_pages (before ++ page ∷ after) ≡ bytes_of_closed before ++ bytes_of_pages (page ∷ after)
-bytes-append [] page after = refl
-bytes-append (p ∷ []) page after = ap (λ s. s ++ bytes_of_pages (page ∷ after)) (sym (append-nil (closed_bytes p)))
-bytes-append (p ∷ q ∷ before) page after = ap (λ s. closed_bytes p ++ s) (bytes-append (q ∷ before) page after) ∙ sym (append_assoc (closed_bytes p) (bytes_of_closed (q ∷ before)) _)
-
-pub bytes-push : (pages : List Page) (id : ℤ) → bytes_of_pages (pages ++ lone id ∷ []) ≡ bytes_of_closed pages
-bytes-push pages id = bytes-append pages (lone id) [] ∙ append-nil (bytes_of_closed pages)
+pub bytes-push : (pages : List Page) (id : ℤ) → bytes_of_pages (pages ++ lone id ∷ []) ≡ bytes_of_pages pages
+bytes-push pages id = flat_map-append page_bytes pages (lone id ∷ []) ∙ append-nil (bytes_of_pages pages)
 
 pub ids-push : (pages : List Page) (id : ℤ) → ids_of_pages (pages ++ lone id ∷ []) ≡ ids_of_pages pages ++ id ∷ []
 ids-push pages id = flat_map-append page_ids pages (lone id ∷ [])
@@ -53,7 +52,7 @@ open-push (page ∷ next ∷ pages) last id h = (h.0, open-push (next ∷ pages)
 pub starts-with_id : (at : ℕ) (pages : List Page) (id : ℤ) → starts_from at (with_id pages id) ≡ starts_from at pages
 starts-with_id at [] id = refl
 starts-with_id at (page ∷ []) id = refl
-starts-with_id at (page ∷ next ∷ pages) id = ap (λ s. record { first = page.first; place = at } ∷ s) (starts-with_id (at + length (closed_bytes page)) (next ∷ pages) id)
+starts-with_id at (page ∷ next ∷ pages) id = ap (λ s. record { first = page.first; place = at } ∷ s) (starts-with_id (at + length (page_bytes page)) (next ∷ pages) id)
 
 spelled-push : (low : ℤ) (ids : List ℤ) (id : ℤ) → spelled_after low (ids ++ id ∷ []) ≡ spelled_after low ids ++ shortest (gap (last_of low ids) id)
 spelled-push low [] id = append-nil (shortest (gap low id))
@@ -61,11 +60,13 @@ spelled-push low (x ∷ ids) id = ap (λ s. shortest (gap low x) ++ s) (spelled-
 
 pub bytes-with_id : (pages : List Page) (room : ℕ) (last id : ℤ) → IsOpen pages (suc room) last → bytes_of_pages (with_id pages id) ≡ bytes_of_pages pages ++ shortest (gap last id)
 bytes-with_id [] room last id h = absurd (omega arith)
-bytes-with_id (page ∷ []) room last id h = spelled-push page.first page.others id ∙ ap (λ l. gap_bytes page ++ shortest (gap l id)) h.1
-bytes-with_id (page ∷ next ∷ []) room last id h =
-    ap (λ s. closed_bytes page ++ s) (bytes-with_id (next ∷ []) room last id h.1) ∙ sym (append_assoc (closed_bytes page) (bytes_of_pages (next ∷ [])) _)
-bytes-with_id (page ∷ next ∷ more ∷ pages) room last id h =
-    ap (λ s. closed_bytes page ++ s) (bytes-with_id (next ∷ more ∷ pages) room last id h.1) ∙ sym (append_assoc (closed_bytes page) (bytes_of_pages (next ∷ more ∷ pages)) _)
+bytes-with_id (page ∷ []) room last id h =
+    append-nil (page_bytes (longer page id))
+    ∙ spelled-push page.first page.others id
+    ∙ ap (λ l. page_bytes page ++ shortest (gap l id)) h.1
+    ∙ ap (λ s. s ++ shortest (gap last id)) (sym (append-nil (page_bytes page)))
+bytes-with_id (page ∷ next ∷ pages) room last id h =
+    ap (λ s. page_bytes page ++ s) (bytes-with_id (next ∷ pages) room last id h.1) ∙ sym (append_assoc (page_bytes page) (bytes_of_pages (next ∷ pages)) _)
 
 pub ids-with_id : (pages : List Page) (room : ℕ) (last id : ℤ) → IsOpen pages (suc room) last → ids_of_pages (with_id pages id) ≡ ids_of_pages pages ++ id ∷ []
 ids-with_id [] room last id h = absurd (omega arith)
@@ -102,26 +103,23 @@ pub rising_after : (low : ℤ) (xs ys : List ℤ) → Rises low (xs ++ ys) → I
 rising_after low [] ys h = rising_tail low ys h
 rising_after low (x ∷ xs) ys h = rising_after x xs ys h.1
 
-page_read : (page : Page) → Rises page.first page.others → AllFit (page_ids page) → raised page.first (numbers_of (gap_bytes page)) ≡ page.others
+page_read : (page : Page) → Rises page.first page.others → AllFit (page_ids page) → raised page.first (numbers_of (page_bytes page)) ≡ page.others
 page_read page rises fits = read_spelled page.first page.others fits.0 fits.1 rises
-
--- a page that another one follows
-pub full_page : (page next : Page) (pages : List Page) → HasFullPages (page ∷ next ∷ pages) → IsRising (ids_of_pages (page ∷ next ∷ pages)) → AllFit (ids_of_pages (page ∷ next ∷ pages)) → IsFull page
-full_page page next pages filled rising fits = record { full = filled.0; rises = rises_front page.first page.others (ids_of_pages (next ∷ pages)) rising; fits = fits_front (page_ids page) (ids_of_pages (next ∷ pages)) fits }
 
 pub ids_in-starts : (at : ℕ) (pages : List Page) (bytes : List ℕ) → drop at bytes ≡ bytes_of_pages pages → HasFullPages pages → IsRising (ids_of_pages pages) → AllFit (ids_of_pages pages) → ids_in (starts_from at pages) bytes ≡ ids_of_pages pages
 ids_in-starts at [] bytes e filled rising fits = refl
 ids_in-starts at (page ∷ []) bytes e filled rising fits =
-    ap (λ s. page.first ∷ raised page.first (numbers_of s)) e
+    ap (λ s. page.first ∷ raised page.first (numbers_of s)) (e ∙ append-nil (page_bytes page))
     ∙ ap (λ s. page.first ∷ s) (page_read page (rises_front page.first page.others [] rising) (fits_front (page_ids page) [] fits) ∙ sym (append-nil page.others))
 ids_in-starts at (page ∷ next ∷ pages) bytes e filled rising fits =
     let rest = bytes_of_pages (next ∷ pages) in
-    let size = length (closed_bytes page) in
-    let e' : drop (at + size) bytes ≡ rest = sym (drop-drop size at bytes) ∙ ap (drop size) e ∙ drop-append_seam (closed_bytes page) rest in
-    let here : take ((at + size) - at) (drop at bytes) ≡ closed_bytes page = ap (λ k. take k (drop at bytes)) (omega arith) ∙ ap (take size) e ∙ take-append_seam (closed_bytes page) rest in
+    let size = length (page_bytes page) in
+    let e' : drop (at + size) bytes ≡ rest = sym (drop-drop size at bytes) ∙ ap (drop size) e ∙ drop-append_seam (page_bytes page) rest in
+    let here : take ((at + size) - at) (drop at bytes) ≡ page_bytes page = ap (λ k. take k (drop at bytes)) (omega arith) ∙ ap (take size) e ∙ take-append_seam (page_bytes page) rest in
     let later = ids_in-starts (at + size) (next ∷ pages) bytes e' filled.1 (rising_after page.first page.others (ids_of_pages (next ∷ pages)) rising) (fits_back (page_ids page) (ids_of_pages (next ∷ pages)) fits) in
-    ap (λ s. page.first ∷ (others_in page.first s ++ ids_in (starts_from (at + size) (next ∷ pages)) bytes)) here
-    ∙ ap (λ s. page.first ∷ (s ++ ids_in (starts_from (at + size) (next ∷ pages)) bytes)) (closed_read page (full_page page next pages filled rising fits))
+    let read = page_read page (rises_front page.first page.others (ids_of_pages (next ∷ pages)) rising) (fits_front (page_ids page) (ids_of_pages (next ∷ pages)) fits) in
+    ap (λ s. page.first ∷ (raised page.first (numbers_of s) ++ ids_in (starts_from (at + size) (next ∷ pages)) bytes)) here
+    ∙ ap (λ s. page.first ∷ (s ++ ids_in (starts_from (at + size) (next ∷ pages)) bytes)) read
     ∙ ap (λ s. page.first ∷ (page.others ++ s)) later
 
 -- what is sealed is read again
@@ -143,7 +141,7 @@ pub record Sized (ids pages : ℕ) : Type 0 where
 sized : (at : ℕ) (page : Page) (pages : List Page) → HasFullPages (page ∷ pages) → Sized (length (ids_of_pages (page ∷ pages))) (length (starts_from at (page ∷ pages)))
 sized at page [] h = record { full = 0; rest = 1 + length page.others; count = omega arith; size = ap (λ s. length (page.first ∷ s)) (append-nil page.others) ∙ omega arith; some = omega arith; most = omega (arith, h) }
 sized at page (next ∷ pages) h =
-    let r = sized (at + length (closed_bytes page)) next pages h.1 in
+    let r = sized (at + length (page_bytes page)) next pages h.1 in
     record {
       full = r.full + 1;
       rest = r.rest;

@@ -1,6 +1,7 @@
 -- Two rising lists as one.
-use Rattle.std.proofs.Common.{◌≡◌, ◌<◌, Bool, true, false, ◌||◌, List, [], ◌∷◌, length, drop, Option, IfNone, Bor, Some, None, ℤ, ◌<ℤ◌, ◌≤ℤ◌, refl, sym, ap, subst, ◌∙◌, arith, Less, Equal, Greater, true≢false}
+use Rattle.std.proofs.Common.{◌≡◌, ◌<◌, Bool, true, false, ◌||◌, List, [], ◌∷◌, length, Option, IfNone, Bor, Some, None, ℤ, ◌<ℤ◌, ◌≤ℤ◌, refl, sym, ap, subst, ◌∙◌, arith, Less, Equal, Greater, true≢false}
 use Rattle.std.specs.List.{list_any, cons_option}
+use Rattle.std.specs.Iterator.{YieldsFirst}
 use Rattle.std.specs.Option.{option_copied}
 use Rattle.std.specs.Map.Iter.{TakesFirst, deref}
 use Rattle.std.specs.BTreeSet.{insert_key}
@@ -13,8 +14,7 @@ use Rattle.osm_ids.specs.Pages.{Rises, IsRising}
 use Rattle.osm_ids.specs.Order.{AreLate}
 use Rattle.osm_ids.specs.Merging.{merged, AreApart, IsMerging}
 use Rattle.osm_ids.proofs.Sets.{Ids, ids_of, contains-ids_of, ids_of-insert_key, or_swap}
-use Rattle.osm_ids.proofs.Rising.{rising_tail, insert_rises, insert_rising, or_none}
-use Rattle.osm_ids.proofs.Found.{rises_from}
+use Rattle.osm_ids.proofs.Rising.{rising_tail, rises_from, insert_rises, insert_rising, or_none}
 use Rattle.osm_ids.proofs.OrderLemmas.{with_late, contains-with_late, same_ids, none_late, or_assoc}
 
 -- ---- if an id is inserted
@@ -90,16 +90,16 @@ apart_first other others id ids m e =
     true≢false (sym ((Decides-int_eq other id).1 e) ∙ or_first (int_eq other id) (list_any (int_eq other) ids) there)
 
 -- the first of the ids is the lower one
-pub took_id : (next : Option ℤ) (others ids : List ℤ) (other id : ℤ) → next ≡ Some other → ids ≡ id ∷ drop 1 ids → id <ℤ other → IsMerging (cons_option next others) ids → merged (cons_option next others) ids ≡ id ∷ merged (cons_option next others) (drop 1 ids)
-took_id next others ids other id e f lower m =
+pub took_id : (next : Option ℤ) (others ids rest : List ℤ) (other id : ℤ) → next ≡ Some other → ids ≡ id ∷ rest → id <ℤ other → IsMerging (cons_option next others) ids → merged (cons_option next others) ids ≡ id ∷ merged (cons_option next others) rest
+took_id next others ids rest other id e f lower m =
     let rises : Rises id (cons_option next others) = subst (λ (o : Option ℤ). Rises id (cons_option o others)) (sym e) (lower, subst (λ (o : Option ℤ). IsRising (cons_option o others)) e m.others_rise) in
-    ap (merged (cons_option next others)) f ∙ id_first (cons_option next others) id (drop 1 ids) rises
+    ap (merged (cons_option next others)) f ∙ id_first (cons_option next others) id rest rises
 
 -- and the ids are above the other
-pub above_other : (next : Option ℤ) (others ids : List ℤ) (other id : ℤ) → next ≡ Some other → ids ≡ id ∷ drop 1 ids → other ≤ℤ id → IsMerging (cons_option next others) ids → Rises other ids
-above_other next others ids other id e f lower m =
-    let m' : IsMerging (other ∷ others) (id ∷ drop 1 ids) = subst (λ (all : List ℤ). IsMerging (other ∷ others) all) f (subst (λ (o : Option ℤ). IsMerging (cons_option o others) ids) e m) in
-    let apart : other ≡ id → ⊥ = apart_first other others id (drop 1 ids) m' in
+pub above_other : (next : Option ℤ) (others ids rest : List ℤ) (other id : ℤ) → next ≡ Some other → ids ≡ id ∷ rest → other ≤ℤ id → IsMerging (cons_option next others) ids → Rises other ids
+above_other next others ids rest other id e f lower m =
+    let m' : IsMerging (other ∷ others) (id ∷ rest) = subst (λ (all : List ℤ). IsMerging (other ∷ others) all) f (subst (λ (o : Option ℤ). IsMerging (cons_option o others) ids) e m) in
+    let apart : other ≡ id → ⊥ = apart_first other others id rest m' in
     let below : other <ℤ id = omega (arith, ints) in
     subst (Rises other) (sym f) (below, m'.ids_rise)
 
@@ -121,6 +121,19 @@ taken s t (Some x) next steps e = steps ∙ sym (ap (λ (o : Option ℤ). cons_o
 pub taken_none : (s t : List ℤ) (r : Option (Bor ℤ)) (next : Option ℤ) → TakesFirst (deref {X = ℤ}) s r t → next ≡ option_copied r → IfNone next (t ≡ [])
 taken_none s t None next steps e = subst (λ (o : Option ℤ). IfNone o (t ≡ [])) (sym e) steps.1
 taken_none s t (Some x) next steps e = subst (λ (o : Option ℤ). IfNone o (t ≡ [])) (sym e) tt
+
+-- the next of a walk
+pub taken_next : (s t : List ℤ) (r : Option ℤ) → YieldsFirst (λ (ids : List ℤ). ids) s r t → s ≡ cons_option r t
+taken_next s t None steps = steps.0 ∙ sym steps.1
+taken_next s t (Some x) steps = steps
+
+pub taken_no_next : (s t : List ℤ) (r : Option ℤ) → YieldsFirst (λ (ids : List ℤ). ids) s r t → IfNone r (t ≡ [])
+taken_no_next s t None steps = steps.1
+taken_no_next s t (Some x) steps = tt
+
+pub no_more : (r : Option ℤ) (l : List ℤ) → r ≡ None → IfNone r (l ≡ []) → cons_option r l ≡ []
+no_more None l e none = none
+no_more (Some x) l e none = cc
 
 -- both together at the start
 pub merging : (others ids : List ℤ) (next : Option ℤ) (left : List ℤ) → others ≡ cons_option next left → IsRising others → IsRising ids → AreApart others ids → IsMerging (cons_option next left) ids

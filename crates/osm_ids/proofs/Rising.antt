@@ -6,13 +6,13 @@ use Rattle.std.specs.BTreeSet.{insert_key}
 use Rattle.std.specs.Ordering.{int_eq, int_cmp, match_ordering}
 use Rattle.std.specs.Cmp.{int_cmp_total, int_ranked}
 use Rattle.std.specs.FinSet as set
-use Rattle.std.proofs.lemmas.Bool.{false_from_ne_true}
+use Rattle.std.proofs.lemmas.Bool.{false_from_ne_true, or_right}
 use Rattle.std.proofs.lemmas.Bool.Decides.{Decides-int_eq}
 use Rattle.std.proofs.lemmas.Int.{ints}
 use Rattle.std.proofs.lemmas.Map.Keys.{sorted_head, sorted_tail}
 use Rattle.std.proofs.lemmas.List.Folds.{list_any-append}
 use Rattle.osm_ids.proofs.Sets.{Ids, ids_of, contains-ids_of, ids_of-insert_key}
-use Rattle.osm_ids.specs.Pages.{Rises, IsRising, last_of}
+use Rattle.osm_ids.specs.Pages.{Rises, IsRising, last_of, in_order, rising}
 
 pub other : (a b : ℤ) → (a ≡ b → ⊥) → int_eq a b ≡ false
 other a b ne = false_from_ne_true (int_eq a b) (λ e. ne ((Decides-int_eq a b).0 e))
@@ -80,6 +80,14 @@ pub or_none : (b : Bool) → (b || false) ≡ b
 or_none true = refl
 or_none false = refl
 
+pub rises_from : (low x : ℤ) (ids : List ℤ) → low <ℤ x → Rises x ids → Rises low ids
+rises_from low x [] h r = tt
+rises_from low x (id ∷ ids) h r = let up = r.0 in (omega (arith, ints), r.1)
+
+pub rises_skip : (low : ℤ) (xs ys : List ℤ) → Rises low (xs ++ ys) → Rises low ys
+rises_skip low [] ys h = h
+rises_skip low (x ∷ xs) ys h = rises_from low x ys h.0 (rises_skip x xs ys h.1)
+
 -- ---- the last of rising ids
 
 pub low_last : (low : ℤ) (ids : List ℤ) → Rises low ids → low ≤ℤ last_of low ids
@@ -95,12 +103,26 @@ all_last low (id ∷ ids) x h e =
       | false ↦ λ _ among. later among
     ] refl e
 
+pub last_among : (low : ℤ) (ids : List ℤ) → list_any (int_eq (last_of low ids)) (low ∷ ids) ≡ true
+last_among low [] = rw (Decides-int_eq low low).1 refl
+last_among low (id ∷ ids) = or_right (int_eq (last_of id ids) low) (list_any (int_eq (last_of id ids)) (id ∷ ids)) (last_among id ids)
+
 -- ---- where an id can be
 
 -- one of the parts has it, if the others do not
 pub any_in_middle : (xs ys zs : List ℤ) (id : ℤ) → list_any (int_eq id) xs ≡ false → list_any (int_eq id) zs ≡ false → list_any (int_eq id) (xs ++ (ys ++ zs)) ≡ list_any (int_eq id) ys
 any_in_middle xs ys zs id before after =
     list_any-append (int_eq id) xs (ys ++ zs) ∙ rw before (list_any-append (int_eq id) ys zs ∙ rw after (or_none (list_any (int_eq id) ys)))
+
+-- and an id of a part is one of all
+pub any_in_last : (xs ys zs : List ℤ) (id : ℤ) → list_any (int_eq id) zs ≡ true → list_any (int_eq id) (xs ++ (ys ++ zs)) ≡ true
+any_in_last xs ys zs id there =
+    list_any-append (int_eq id) xs (ys ++ zs)
+    ∙ or_right (list_any (int_eq id) xs) (list_any (int_eq id) (ys ++ zs)) (list_any-append (int_eq id) ys zs ∙ or_right (list_any (int_eq id) ys) (list_any (int_eq id) zs) there)
+
+pub any_of_middle : (xs ys zs : List ℤ) (id : ℤ) → list_any (int_eq id) ys ≡ true → list_any (int_eq id) (xs ++ (ys ++ zs)) ≡ true
+any_of_middle xs ys zs id there =
+    list_any-append (int_eq id) xs (ys ++ zs) ∙ rw (list_any-append (int_eq id) ys zs, there) (or_right (list_any (int_eq id) xs) true refl)
 
 -- ---- a set has one rising list
 
@@ -166,10 +188,6 @@ insert_rising (x ∷ ids) new h =
       | Greater ↦ λ e. insert_rises x ids new (int_ranked new x Greater (sym e)) h
     ] refl
 
-in_order : List ℤ → List ℤ
-in_order [] = []
-in_order (id ∷ ids) = insert_key int_cmp (in_order ids) id
-
 in_order_rises : (ids : List ℤ) → IsRising (in_order ids)
 unfolding in_order
 in_order_rises [] = tt
@@ -183,5 +201,11 @@ ids_of-in_order (id ∷ ids) = ids_of-insert_key (in_order ids) id ∙ ap (λ s.
 ids_of-items : (s : Ids) → ids_of (set.items s) ≡ s
 ids_of-items s = set.same_set int_cmp_total set.int_cmp-IsAntisymmetric _ _ (λ id. contains-ids_of (set.items s) id ∙ sym (set.contains-items s id))
 
+pub rising_rises : (s : Ids) → IsRising (rising s)
+rising_rises s = in_order_rises (set.items s)
+
+pub ids_of-rising : (s : Ids) → ids_of (rising s) ≡ s
+ids_of-rising s = ids_of-in_order (set.items s) ∙ ids_of-items s
+
 pub rising_list : (s : Ids) → (ids : List ℤ) × IsRising ids × (ids_of ids ≡ s)
-rising_list s = (in_order (set.items s), in_order_rises (set.items s), ids_of-in_order (set.items s) ∙ ids_of-items s)
+rising_list s = (rising s, rising_rises s, ids_of-rising s)

@@ -1,6 +1,7 @@
 -- The keys of an ordered set as a finite set.
-use Rattle.std.proofs.Common.{◌≡◌, Bool, true, false, ◌||◌, List, [], ◌∷◌, ℤ, refl, sym, ap, ◌∙◌, Less, Equal, Greater, Ordering}
-use Rattle.std.specs.List.{list_any}
+use Rattle.std.proofs.Common.{◌≡◌, Bool, true, false, ◌||◌, ℕ, zero, suc, List, [], ◌∷◌, ℤ, refl, sym, ap, ◌∙◌, Less, Equal, Greater, Ordering}
+use Rattle.std.specs.List.{list_any, AllByRecursion}
+use Rattle.std.proofs.Math.ListN.{set as set_at}
 use Rattle.std.specs.Ordering.{int_eq, int_cmp, eq_by_cmp, match_ordering}
 use Rattle.std.specs.Cmp.{IsTotalOrder, int_cmp_total}
 use Rattle.std.specs.BTreeSet.{insert_key}
@@ -44,3 +45,10 @@ contains-ids_of keys id = set.contains-from_list int_cmp_total keys id
 
 pub ids_of-insert_key : (keys : List ℤ) (new : ℤ) → ids_of (insert_key int_cmp keys new) ≡ set.insert (ids_of keys) new
 ids_of-insert_key = from_list-insert_key int_cmp_total set.int_cmp-IsAntisymmetric
+
+-- ---- lists of which something holds
+
+pub all_set : {X : Type 0} (P : X → Type 0) (xs : List X) (i : ℕ) (y : X) → AllByRecursion P xs → P y → AllByRecursion P (set_at xs i y)
+all_set P [] i y h p = tt
+all_set P (x ∷ xs) zero y h p = (p, h.1)
+all_set P (x ∷ xs) (suc i) y h p = (h.0, all_set P xs i y h.1 p)

@@ -1,8 +1,7 @@
-pub mod Bits
 pub mod Pages
 pub mod Order
-pub mod Walks
+pub mod Index
+pub mod Windows
 pub mod Merging
 pub mod Links
-pub mod Cursors
 pub mod Looking

@@ -1,11 +1,13 @@
 -- Rising ids in pages: what lies in the index and in the bytes.
-use Rattle.std.specs.Prelude.{◌≡◌, ℕ, zero, suc, ◌+◌, ◌-◌, ◌≤◌, Bool, true, cond, nat_lt, ◌==◌, List, [], ◌∷◌, ◌++◌, length, take, drop, replicate, ℤ, pos, ◌+ℤ◌, ◌-ℤ◌, ◌<ℤ◌, unsigned_abs, FitsSigned}
+use Rattle.std.specs.Prelude.{◌≡◌, ℕ, zero, suc, ◌+◌, ◌-◌, ◌≤◌, List, [], ◌∷◌, ◌++◌, length, take, drop, ℤ, pos, ◌+ℤ◌, ◌-ℤ◌, ◌<ℤ◌, unsigned_abs, FitsSigned}
 use Rattle.std.specs.Int.{w64}
-use Rattle.std.specs.List.{flat_map, fold}
-use Rattle.osm_ids.specs.declared.pages.PageStart.{PageStart}
+use Rattle.std.specs.List.{flat_map}
+use Rattle.std.specs.BTreeSet.{insert_key}
+use Rattle.std.specs.Ordering.{int_cmp}
+use Rattle.std.specs.FinSet as set
+use Rattle.osm_ids.specs.declared.index.PageStart.{PageStart}
 use Rattle.pbf_wire.specs.Columns.{packed}
 use Rattle.pbf_wire.specs.Packed.{numbers_of}
-use Rattle.osm_ids.specs.Bits.{with_bit, ids_of_bits}
 
 -- ---- pages
 
@@ -47,37 +49,22 @@ abbrev pub gaps : ℤ → List ℤ → List ℕ
 gaps low [] = []
 gaps low (id ∷ ids) = gap low id ∷ gaps id ids
 
--- a page as gaps: those of its ids, its first apart, as shortest varints
-abbrev pub gap_bytes : Page → List ℕ
-gap_bytes page = packed (gaps page.first page.others)
+-- the bytes of a page: its ids, the first apart, as shortest varints
+abbrev pub page_bytes : Page → List ℕ
+page_bytes page = packed (gaps page.first page.others)
 
--- a page as 512 bits: of each id the one that is so far from the first bit as the id is above the page's first
-unfoldable pub bit_bytes : Page → List ℕ
-bit_bytes page = fold (λ bits id. with_bit bits (gap page.first id)) (replicate 64 0) (page_ids page)
+abbrev pub bytes_of_pages : List Page → List ℕ
+bytes_of_pages pages = flat_map page_bytes pages
 
 -- the last of these ids, or a first one
 abbrev pub last_of : ℤ → List ℤ → ℤ
 last_of first [] = first
 last_of first (id ∷ ids) = last_of id ids
 
--- whether all ids of the page have a bit
-abbrev pub is_dense : Page → Bool
-is_dense page = nat_lt (gap page.first (last_of page.first page.others)) 512
-
--- the bytes of a page that another one follows
-abbrev pub closed_bytes : Page → List ℕ
-closed_bytes page = cond (is_dense page) (bit_bytes page) (gap_bytes page)
-
--- those of all pages: the last one may still grow
-abbrev pub bytes_of_pages : List Page → List ℕ
-bytes_of_pages [] = []
-bytes_of_pages (page ∷ []) = gap_bytes page
-bytes_of_pages (page ∷ next ∷ pages) = closed_bytes page ++ bytes_of_pages (next ∷ pages)
-
 -- the index of pages whose bytes begin at a place
 abbrev pub starts_from : ℕ → List Page → List PageStart
 starts_from at [] = []
-starts_from at (page ∷ pages) = record { first = page.first; place = at } ∷ starts_from (at + length (closed_bytes page)) pages
+starts_from at (page ∷ pages) = record { first = page.first; place = at } ∷ starts_from (at + length (page_bytes page)) pages
 
 -- ---- read again
 
@@ -86,15 +73,11 @@ abbrev pub raised : ℤ → List ℕ → List ℤ
 raised low [] = []
 raised low (n ∷ ns) = (low +ℤ pos n) ∷ raised (low +ℤ pos n) ns
 
--- the ids after the first of a page that another one follows: 127 gaps take more than 64 bytes
-abbrev pub others_in : ℤ → List ℕ → List ℤ
-others_in first bytes = cond (length bytes == 64) (ids_of_bits first bytes 1 511) (raised first (numbers_of bytes))
-
 -- the ids that an index and bytes stand for
 abbrev pub ids_in : List PageStart → List ℕ → List ℤ
 ids_in [] bytes = []
 ids_in (start ∷ []) bytes = start.first ∷ raised start.first (numbers_of (drop start.place bytes))
-ids_in (start ∷ next ∷ starts) bytes = start.first ∷ (others_in start.first (take (next.place - start.place) (drop start.place bytes)) ++ ids_in (next ∷ starts) bytes)
+ids_in (start ∷ next ∷ starts) bytes = start.first ∷ (raised start.first (numbers_of (take (next.place - start.place) (drop start.place bytes))) ++ ids_in (next ∷ starts) bytes)
 
 -- ---- what is sealed
 
@@ -119,32 +102,19 @@ pub record IsSealed (index : List PageStart) (bytes : List ℕ) (pages : List Pa
   pub rising : IsRising (ids_of_pages pages)
   pub fits : AllFit (ids_of_pages pages)
 
--- ---- the last page
+-- the bytes of a page that begins with that id, and of the others in it
+pub record IsSpelled (first : ℤ) (others : List ℤ) (bytes : List ℕ) : Type 0 where
+  pub rises : Rises first others
+  pub fits : AllFit (first ∷ others)
+  pub few : length others ≤ 127
+  pub spelled : bytes ≡ packed (gaps first others)
 
--- the bytes are the gaps of a page whose ids all have a bit
-pub record HasBits (bytes : List ℕ) (page : Page) : Type 0 where
-  pub spelled : bytes ≡ gap_bytes page
-  pub rises : Rises page.first page.others
-  pub fits : AllFit (page_ids page)
-  pub dense : is_dense page ≡ true
+-- ---- the rising list of a set
 
--- the last page has room for so many more, and ends with `last`
-abbrev pub IsOpen : List Page → ℕ → ℤ → Type 0
-IsOpen [] room last = room ≡ 0
-IsOpen (page ∷ []) room last = (length page.others + room ≡ 127) × (last_of page.first page.others ≡ last)
-IsOpen (page ∷ next ∷ pages) room last = (length page.others ≡ 127) × IsOpen (next ∷ pages) room last
+unfoldable pub in_order : List ℤ → List ℤ
+in_order [] = []
+in_order (id ∷ ids) = insert_key int_cmp (in_order ids) id
 
--- all pages are full, and end with `last`
-pub record IsAllFull (index : List PageStart) (bytes : List ℕ) (last : ℤ) : Type 0 where
-  pub pages : List Page
-  pub sealed : IsSealed index bytes pages
-  pub filled : IsOpen pages 0 last
-
--- the bytes of pages that another one follows
-abbrev pub bytes_of_closed : List Page → List ℕ
-bytes_of_closed pages = flat_map closed_bytes pages
-
--- the bytes are closed, and the index has one page more, which begins with the id
-pub record BeginsPage (pages : List Page) (id : ℤ) (index : List PageStart) (new_index : List PageStart) (new_bytes : List ℕ) : Type 0 where
-  pub starts : new_index ≡ index ++ record { first = id; place = length (bytes_of_closed pages) } ∷ []
-  pub closed : new_bytes ≡ bytes_of_closed pages
+-- the ids of a set in rising order
+abbrev pub rising : set.FinSet int_cmp → List ℤ
+rising ids = in_order (set.items ids)

@@ -2,20 +2,17 @@
 //! ids name.
 #![tactic(auto)]
 
-mod bits;
+mod index;
 pub mod laws;
 mod links;
-mod lookup;
 mod merge;
-mod open_lookup;
-mod open_pages;
 mod page;
 mod pages;
 mod set;
 mod walk;
+mod window;
 
 pub use links::{Link, Links};
-pub use lookup::{Known, Lookup};
-pub use open_lookup::{IdLookup, OpenLookup};
 pub use pages::SealedIds;
 pub use set::IdSet;
+pub use window::{IdLookup, Window};

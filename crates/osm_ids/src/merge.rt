@@ -1,9 +1,11 @@
 //! The ids of pages and of an ordered set, one after the other.
 
 ghost use Rattle.std.specs.Prelude.{◌≡◌};
-ghost use Rattle.osm_ids.specs.Pages.{IsRising};
+ghost use Rattle.std.specs.FinSet as set;
+ghost use Rattle.osm_ids.specs.Pages.{rising};
 ghost use Rattle.osm_ids.specs.Merging.{merged, AreApart};
 
+use crate::pages::SealedIds;
 use crate::walk::Walk;
 use std::collections::BTreeSet;
 use std::collections::btree_set::Iter;
@@ -13,7 +15,8 @@ use std::marker::Model;
 /// list.
 #[derive(Drop)]
 pub(crate) struct Merged<'a> {
-    laid: Walk<'a>,
+    next_id: Option<i64>,
+    ids: Walk<'a>,
     next_late: Option<i64>,
     late: Iter<'a, i64>,
 }
@@ -25,23 +28,25 @@ impl<'a> Model for Merged<'a> {
 
     ghost Value = { List ℤ };
 
-    ghost view = { λ a. merged (cons_option a.next_late a.late) a.laid };
+    ghost view = { λ a. merged (cons_option a.next_late a.late) (cons_option a.next_id a.ids) };
 
-    ghost invariant = { λ a. IsMerging (cons_option a.next_late a.late) a.laid
-        × IfNone a.next_late (a.late ≡ []) };
+    ghost invariant = { λ a. IsMerging (cons_option a.next_late a.late) (cons_option a.next_id a.ids)
+        × IfNone a.next_late (a.late ≡ []) × IfNone a.next_id (a.ids ≡ []) };
 }
 
 impl<'a> Merged<'a> {
     /// Both, of which no id may be the same.
-    pub(crate) fn new(laid: Walk<'a>, late: &'a BTreeSet<i64>) -> Merged<'a>
-        requires rising { IsRising laid }
-        requires apart { AreApart late.now.keys laid }
-        ensures { result ≡ merged late.now.keys laid.entry }
+    pub(crate) fn new(ids: &'a SealedIds, late: &'a BTreeSet<i64>) -> Merged<'a>
+        requires { AreApart late.now.keys (rising ids.now) }
+        ensures { result ≡ merged late.now.keys (rising ids.now) }
     {
         let mut late = late.iter();
         let next_late = late.next().copied();
+        let mut ids = Walk::new(ids);
+        let next_id = ids.next();
         Merged {
-            laid,
+            next_id,
+            ids,
             next_late,
             late,
         }
@@ -58,14 +63,14 @@ impl<'a> Iterator for Merged<'a> {
     ghost remaining = { item_count (λ ids. ids) };
 
     fn next(&mut self) -> Option<i64> {
-        let laid = self.laid.peek();
+        let next = self.next_id;
         let Some(late) = self.next_late else {
-            self.laid.advance();
-            return laid;
+            self.next_id = self.ids.next();
+            return next;
         };
-        if let Some(id) = laid {
+        if let Some(id) = next {
             if id < late {
-                self.laid.advance();
+                self.next_id = self.ids.next();
                 return Some(id);
             }
         }

@@ -1,137 +1,178 @@
-//! How far one page is read.
+//! The ids of one page, as numbers.
 
-ghost use Rattle.std.specs.Prelude.{◌≡◌, ◌<◌, ◌≤◌, ◌+◌, ◌⊎◌, List, ℤ, ◌<ℤ◌, ◌≤ℤ◌, IfSome, take, length};
-ghost use Rattle.std.specs.List.{list_any, prefix_len, sum};
-ghost use Rattle.std.specs.Ordering.{int_eq};
-ghost use Rattle.osm_ids.specs.Cursors.{IsAt, IsReadTo, is_short};
+ghost use Rattle.std.specs.Prelude.{◌≡◌, ◌<◌, ◌≤◌, ◌<ℤ◌, ◌≤ℤ◌, int_lt, length, List, [], ◌∷◌, ℤ, IsTrue};
+ghost use Rattle.std.specs.List.{list_any};
+ghost use Rattle.std.specs.Ordering.{int_eq, int_cmp};
+ghost use Rattle.std.specs.FinSet as set;
+ghost use Rattle.osm_ids.specs.Pages.{IsSpelled, last_of};
+ghost use Rattle.osm_ids.specs.Windows.{IsBegun, IsKept, IsKnown, IsNext, IsRun, Tells, held, first_held};
 
-use pbf_wire::get_varint;
-use std::simd::prelude::*;
+use crate::pages::SealedIds;
+use pbf_wire::{Span, get_varint};
 
-/// How far a page is read.
+/// What is known of the ids of a span: the set has all of them, or none.
 #[derive(Clone, Copy)]
-pub(crate) struct Cursor {
-    /// The id before `last`; if that is the page's first, or many were read at once, the same.
-    pub(crate) passed: i64,
-    /// The last id that was read.
-    pub(crate) last: i64,
-    /// Where in the page's bytes the next one begins.
-    pub(crate) at: usize,
+pub(crate) struct Known {
+    pub(crate) span: Span,
+    pub(crate) there: bool,
 }
 
-/// The cursor one id further on, if its difference takes one byte, as most do in a dense set. `None` says nothing.
-#[inline(always)]
-pub(crate) fn short_step(page: &[u8], from: Cursor) -> Option<Cursor>
-    ensures within { IfSome result (λ to. (from.at < to.at) × (to.at ≤ length page.now)) }
-    ensures passed { IfSome result (λ to. to.passed ≡ from.last) }
-    ensures on { (ids : List ℤ) → IsAt ids page.now from
-        → IfSome result (λ to. IsAt ids page.now to) }
+/// What is known of the ids above one number and below another.
+pub(crate) fn told(there: bool, above: i64, below: i64) -> Known
+    ensures { result ≡ record { span = record { above = above; below = below }; there = there } }
 {
-    let byte = *page.get(from.at)?;
-    if byte >= 128 {
-        return None;
+    Known {
+        span: Span { above, below },
+        there,
     }
-    // A page's ids fit, so this wraps in no page.
-    let last = from.last.wrapping_add_unsigned(u64::from(byte));
-    Some(Cursor {
-        passed: from.last,
-        last,
-        at: from.at + 1,
-    })
 }
 
-/// The places of sixteen lanes.
-const PLACES: [u8; 16] = [0, 1, 2, 3, 4, 5, 6, 7, 8, 9, 10, 11, 12, 13, 14, 15];
-
-/// How many differences take one byte each, up to the first that takes more.
-fn short_prefix(block: &[u8; 16]) -> usize
-    ensures { result ≡ prefix_len is_short block.now }
-{
-    let lanes = u8x16::from_array(*block);
-    let long = lanes.simd_ge(u8x16::splat(128)).to_bitmask();
-    if long == 0 {
-        return 16;
-    }
-    long.trailing_zeros() as usize
+/// The ids of one page in rising order, and up to where the set has no others.
+#[derive(Clone, Copy)]
+pub(crate) struct PageIds {
+    pub(crate) ids: [i64; 128],
+    pub(crate) count: usize,
+    /// The set has no other ids from the first of these up to here.
+    pub(crate) below: i64,
 }
 
-/// The sum of so many bytes, from the first on.
-fn prefix_sum(block: &[u8; 16], count: usize) -> u16
-    requires { count ≤ 16 }
-    ensures { result ≡ sum (take count block.now) }
-{
-    let is_first = u8x16::from_array(PLACES).simd_lt(u8x16::splat(count as u8));
-    let first = is_first.select(u8x16::from_array(*block), u8x16::splat(0));
-    first.cast::<u16>().strict_reduce_sum()
-}
+impl PageIds {
+    /// No ids of whatever set.
+    pub(crate) fn new() -> PageIds
+        ensures kept { (ids : set.FinSet int_cmp) → IsKept ids result }
+        ensures none { result.count ≡ 0 }
+        ensures empty { held result ≡ [] }
+    {
+        PageIds {
+            ids: [0; 128],
+            count: 0,
+            below: i64::MIN,
+        }
+    }
 
-/// Reads the differences of one byte that come next at once, if they are four to sixteen and their last id is not above the wanted
-/// one. It returns that last id, and where the next difference begins. `None` says nothing: they are read one by one.
-fn short_on(page: &[u8], last: i64, at: usize, id: i64) -> Option<(i64, usize)>
-    requires within { at ≤ length page.now }
-    requires below { last <ℤ id }
-    ensures within { IfSome result (λ far. (at < far.1) × (far.1 ≤ length page.now)) }
-    ensures low { IfSome result (λ far. far.0 ≤ℤ id) }
-    ensures on { (ids : List ℤ) (passed : ℤ)
-        → IsAt ids page.now (record { passed = passed; last = last; at = at })
-        → IfSome result (λ far. IsAt ids page.now
-        (record { passed = far.0; last = far.0; at = far.1 })) }
-{
-    // Ids rise, so sixteen differences are sixteen or more: an id close by is found one by one.
-    let room = id.abs_diff(last);
-    if room < 16 {
-        return None;
+    /// Whether these are all ids of the set that are near this one.
+    #[inline(always)]
+    pub(crate) fn covers(&self, id: i64) -> bool
+        ensures { IsTrue result → (first_held self.now ≤ℤ id) × (id <ℤ self.now.below) }
+    {
+        self.ids[0] <= id && id < self.below
     }
-    let block = page[at..].first_chunk::<16>()?;
-    let count = short_prefix(block);
-    if count < 4 {
-        return None;
-    }
-    let sum = prefix_sum(block, count);
-    if room < u64::from(sum) {
-        return None;
-    }
-    Some((last + i64::from(sum), at + count))
-}
 
-/// Reads on to the first id that is not below the wanted one, otherwise to the page's last.
-pub(crate) fn read_up_to(page: &[u8], from: Cursor, id: i64) -> Cursor
-    requires { from.at ≤ length page.now }
-    ensures within { result.at ≤ length page.now }
-    ensures on { (ids : List ℤ) → IsAt ids page.now from → IsAt ids page.now result }
-    ensures found { (ids : List ℤ) → IsAt ids page.now from
-        → (from.passed <ℤ id) ⊎ (from.last ≤ℤ id)
-        → int_eq id result.last ≡ list_any (int_eq id) ids }
-    ensures all { (ids : List ℤ) → IsAt ids page.now from → IsReadTo page.now result id }
-{
-    let mut passed = from.passed;
-    let mut last = from.last;
-    let mut at = from.at;
-    // After a try to read many at once that failed, the next one is made from this place on.
-    let mut again = at;
-    while last < id && at < page.len() {
-        if again <= at {
-            if let Some((far, end)) = short_on(page, last, at, id) {
-                passed = far;
-                last = far;
-                at = end;
-                continue;
+    /// Whether a set has the id, and ids round it of which the same holds. If these ids aren't near, the page that it is in is read.
+    pub(crate) fn find(&mut self, ids: &SealedIds, id: i64) -> Known
+        requires { IsKept ids.now self.old }
+        ensures kept { IsKept ids.now self.new }
+        ensures told { Tells ids.now id result }
+    {
+        if !self.covers(id) {
+            if let Some(known) = ids.look(id, self) {
+                return known;
             }
-            again = at + 8;
         }
-        if let Some(next) = short_step(page, Cursor { passed, last, at }) {
-            passed = next.passed;
-            last = next.last;
-            at = next.at;
-            continue;
+        self.round(id)
+    }
+
+    /// Whether an id that isn't below the first is one of these, and ids round it of which the same holds.
+    fn round(&self, id: i64) -> Known
+        requires { IsBegun self.now id }
+        ensures there { result.there ≡ list_any (int_eq id) (held self.now) }
+        ensures known { (ids : set.FinSet int_cmp) → IsKept ids self.now → IsKnown ids result }
+    {
+        let ids = &self.ids[..self.count];
+        let at = ids.partition_point(|other| is_below(other, id));
+        if at == ids.len() {
+            return told(false, ids[at - 1], self.below);
         }
-        let Ok((difference, next)) = get_varint(page, at) else {
-            return Cursor { passed, last, at };
+        if ids[at] != id {
+            return told(false, ids[at - 1], ids[at]);
+        }
+        let from = run_before(ids, at);
+        let to = run_after(ids, at);
+        told(true, before(ids[from]), after(ids[to]))
+    }
+}
+
+/// Whether a number is below an id.
+fn is_below(other: &i64, id: i64) -> bool
+    ensures { result ≡ int_lt other.now id }
+{
+    *other < id
+}
+
+/// The number before another, if there is one.
+fn before(number: i64) -> i64
+    ensures { (x : ℤ) → result <ℤ x → number ≤ℤ x }
+{
+    if number == i64::MIN {
+        number
+    } else {
+        number - 1
+    }
+}
+
+/// The number after another, if there is one.
+fn after(number: i64) -> i64
+    ensures { IsNext number result }
+{
+    if number == i64::MAX {
+        number
+    } else {
+        number + 1
+    }
+}
+
+/// The place of the first of the ids that rise by one up to a place.
+fn run_before(ids: &[i64], at: usize) -> usize
+    requires { at < length ids.now }
+    ensures low { result ≤ at }
+    ensures run { IsRun ids.now result at }
+{
+    let mut from = at;
+    'down: while 0 < from && ids[at].abs_diff(ids[from - 1]) == (at - from) as u64 + 1 {
+        from -= 1;
+    }
+    from
+}
+
+/// The place of the last of the ids that rise by one from a place on.
+fn run_after(ids: &[i64], at: usize) -> usize
+    requires { at < length ids.now }
+    ensures high { (at ≤ result) × (result < length ids.now) }
+    ensures run { IsRun ids.now at result }
+{
+    let mut to = at;
+    'up: while to + 1 < ids.len() && ids[to + 1].abs_diff(ids[at]) == (to - at) as u64 + 1 {
+        to += 1;
+    }
+    to
+}
+
+/// Reads a page with that first id whose bytes these are. No other page follows, as long as none is named.
+pub(crate) fn read_page(first: i64, bytes: &[u8]) -> PageIds
+    ensures count { (0 < result.count) × (result.count ≤ 128) }
+    ensures ids { (others : List ℤ) → IsSpelled first others bytes.now
+        → held result ≡ first ∷ others }
+    ensures below { (others : List ℤ) → IsSpelled first others bytes.now
+        → IsNext (last_of first others) result.below }
+{
+    let mut ids = [0; 128];
+    ids[0] = first;
+    let mut last = first;
+    let mut count = 1;
+    let mut at = 0;
+    'ids: while at < bytes.len() && count < 128 {
+        let Ok((gap, next)) = get_varint(bytes, at) else {
+            break 'ids;
         };
-        passed = last;
         // A page's ids fit, so this wraps in no page.
-        last = last.wrapping_add_unsigned(difference);
+        last = last.wrapping_add_unsigned(gap);
+        ids[count] = last;
+        count += 1;
         at = next;
     }
-    Cursor { passed, last, at }
+    PageIds {
+        ids,
+        count,
+        below: after(last),
+    }
 }

@@ -1,32 +1,28 @@
-//! A set of ids that no longer grows, in pages.
+//! Rising ids in pages.
 
-ghost use Rattle.std.specs.Prelude.{◌≡◌, ◌-◌, ◌<◌, ◌≤◌, length, get_or, List, ℤ, IfSome, IfNone, OnOk, OnErr};
+ghost use Rattle.std.specs.Prelude.{◌≡◌, ◌<◌, ◌≤◌, ◌*◌, length, take, drop, List, ℤ, true, false, IfSome, IfNone, OnOk, OnErr};
 ghost use Rattle.std.specs.Int.{div_ceil};
 ghost use Rattle.std.specs.FinSet as set;
-ghost use Rattle.osm_ids.specs.Pages.{Page, IsRising, IsSealed, IsOpen, IsAllFull, BeginsPage, gap, pages_of, bytes_of_pages};
-ghost use Rattle.osm_ids.specs.Order.{IsAbove, IsGreatest};
+ghost use Rattle.osm_ids.specs.Pages.{IsRising, pages_of, bytes_of_pages, rising};
+ghost use Rattle.osm_ids.specs.Order.{IsAbove, IsReached};
+ghost use Rattle.osm_ids.specs.Windows.{IsPageOf, Tells, held};
 
-use crate::bits::{BIT_BYTES, BITS, put_bits};
+use crate::index::{PAGE, PageStart, begun_by, known_first, known_whole, read_before};
+use crate::page::{Known, PageIds, told};
 use pbf_wire::put_varint;
 use std::alloc::{AllocError, Global};
 use std::marker::Model;
 
-/// Where a page begins: its first id, and the place of its bytes.
-#[derive(Clone, Copy)]
-pub(crate) struct PageStart {
-    pub(crate) first: i64,
-    pub(crate) place: usize,
-}
-
-/// A set of ids that no longer grows: the ids in rising order, in pages of 128, the last of at most as many. The index holds
-/// each page's first id. A page that another one follows is 512 bits, if its last id is less than 512 above its first: one for each
-/// id from the first on. In any other page each id but the first is the shortest varint of its difference to the one before. All
-/// pages lie in one `Vec`. Contracts see it as a finite set of numbers.
+/// A set of ids: the ids in rising order, in pages of 128, the last of at most as many. The index holds each page's first id. Each
+/// other id is the shortest varint of its difference to the one before, all pages in one `Vec`. Contracts see it as a finite set of
+/// numbers.
 #[derive(Drop)]
 pub struct SealedIds {
-    pub(crate) index: Vec<PageStart>,
-    pub(crate) bytes: Vec<u8>,
-    pub(crate) count: u64,
+    index: Vec<PageStart>,
+    bytes: Vec<u8>,
+    count: u64,
+    /// The greatest id; of no ids the least number.
+    last: i64,
 }
 
 impl Model for SealedIds {
@@ -34,20 +30,20 @@ impl Model for SealedIds {
     ghost use Rattle.std.specs.Ordering.{int_cmp};
     ghost use Rattle.std.specs.Coded.{coded_ℤ};
     ghost use Rattle.std.specs.FinSet as set;
-    ghost use Rattle.osm_ids.specs.Pages.{Page, IsSealed, ids_in, ids_of_pages};
+    ghost use Rattle.osm_ids.specs.Pages.{Page, IsSealed, ids_of_pages};
+    ghost use Rattle.osm_ids.specs.Index.{set_in};
+    ghost use Rattle.osm_ids.specs.Order.{IsGreatest};
 
     ghost Value = { set.FinSet int_cmp };
 
     ghost coded = { set.code coded_ℤ };
 
-    ghost view = { λ a. set.from_list (ids_in a.index.items a.bytes.items) };
+    ghost view = { λ a. set_in a.index.items a.bytes.items };
 
     ghost invariant = { λ a. (pages : List Page) × IsSealed a.index.items a.bytes.items pages
-        × (a.count ≡ length (ids_of_pages pages)) };
+        × (a.count ≡ length (ids_of_pages pages))
+        × IsGreatest (set_in a.index.items a.bytes.items) a.last };
 }
-
-/// How many ids a page has, all but the last.
-pub(crate) const PAGE: u64 = 128;
 
 impl SealedIds {
     /// No ids, which allocate nothing yet.
@@ -58,23 +54,34 @@ impl SealedIds {
             index: Vec::new(alloc),
             bytes: Vec::new(alloc),
             count: 0,
+            last: i64::MIN,
         }
     }
 
-    /// Appends an id: it begins a page if the last page is full, which is then held as bits if it can be. `last` is the greatest
-    /// of the others. An `Err` leaves the ids as they were.
-    pub(crate) fn lay(&mut self, last: i64, id: i64) -> Result<(), AllocError>
-        requires greatest { IsGreatest self.old last }
-        requires above { IsAbove self.old id }
+    /// Whether the id is above all others, so that it can be appended.
+    pub(crate) fn takes(&self, id: i64) -> bool
+        ensures above { result ≡ true → IsAbove self.now id }
+        ensures reached { result ≡ false → IsReached self.now id }
+    {
+        self.count == 0 || self.last < id
+    }
+
+    /// Appends an id that is above all others: it begins a page if the last page is full. An `Err` leaves the ids as they were.
+    pub(crate) fn push(&mut self, id: i64) -> Result<(), AllocError>
+        requires { IsAbove self.old id }
         ensures ok { OnOk result (self.new ≡ set.insert self.old id) }
         ensures err { OnErr result (self.new ≡ self.old) }
     {
         if self.count % PAGE == 0 {
-            begin_page(&mut self.index, &mut self.bytes, last, id)?;
+            self.index.push(PageStart {
+                first: id,
+                place: self.bytes.len(),
+            })?;
         } else {
-            put_varint(&mut self.bytes, id.abs_diff(last))?;
+            put_varint(&mut self.bytes, id.abs_diff(self.last))?;
         }
         self.count += 1;
+        self.last = id;
         Ok(())
     }
 
@@ -82,7 +89,7 @@ impl SealedIds {
     pub fn has(&self, id: i64) -> bool
         ensures { result ≡ set.contains self.now id }
     {
-        self.lookup().has(id)
+        PageIds::new().find(self, id).there
     }
 
     /// How many ids the set has.
@@ -106,46 +113,32 @@ impl SealedIds {
     {
         self.bytes.len() as u64
     }
-}
 
-/// Closes the last page, if there is one, and begins another. `last` is the last page's last id. An `Err` leaves all as it was.
-#[inline(never)]
-fn begin_page(
-    index: &mut Vec<PageStart>,
-    bytes: &mut Vec<u8>,
-    last: i64,
-    id: i64,
-) -> Result<(), AllocError>
-    requires { IsAllFull index.old.items bytes.old.items last }
-    ensures ok { OnOk result ((pages : List Page) → IsSealed index.old.items bytes.old.items pages
-        → IsOpen pages 0 last
-        → BeginsPage pages id index.old.items index.new.items bytes.new.items) }
-    ensures err { OnErr result ((index.new.items ≡ index.old.items)
-        × (bytes.new.items ≡ bytes.old.items)) }
-{
-    let Some(at) = dense_place(index, last) else {
-        let place = bytes.len();
-        index.push(PageStart { first: id, place })?;
-        return Ok(());
-    };
-    let place = at + BIT_BYTES;
-    index.push(PageStart { first: id, place })?;
-    put_bits(bytes, at);
-    Ok(())
-}
-
-/// Where the last page's bytes begin, if its last id is near enough to its first for each to have a bit.
-fn dense_place(index: &[PageStart], last: i64) -> Option<usize>
-    ensures some { IfSome result (λ at. (0 < length index.now) × ((start : PageStart)
-        → start ≡ get_or index.now (length index.now - 1) start
-        → (at ≡ start.place) × (gap start.first last < 512))) }
-    ensures none { IfNone result ((start : PageStart)
-        → start ≡ get_or index.now (length index.now - 1) start
-        → 0 < length index.now → 512 ≤ gap start.first last) }
-{
-    let start = index.last()?;
-    if last.abs_diff(start.first) >= BITS as u64 {
-        return None;
+    /// What the index tells of an id and those round it. If it tells nothing, the page that the id is in is read.
+    pub(crate) fn look(&self, id: i64, page: &mut PageIds) -> Option<Known>
+        ensures some { IfSome result (λ known. Tells self.now id known × (page.new ≡ page.old)) }
+        ensures none { IfNone result (IsPageOf self.now id page.new) }
+    {
+        if self.last < id {
+            return Some(told(false, self.last, i64::MAX));
+        }
+        let begun = begun_by(&self.index, id);
+        if begun == 0 {
+            return Some(known_first(&self.index));
+        }
+        if let Some(known) = known_whole(&self.index, begun) {
+            return Some(known);
+        }
+        *page = read_before(&self.index, &self.bytes, begun);
+        None
     }
-    Some(start.place)
+
+    /// The ids of a page.
+    pub(crate) fn read(&self, page: usize) -> PageIds
+        requires { page < div_ceil (set.len self.now) 128 }
+        ensures ids { held result ≡ take 128 (drop (128 * page) (rising self.now)) }
+        ensures within { result.count ≤ 128 }
+    {
+        read_before(&self.index, &self.bytes, page + 1)
+    }
 }

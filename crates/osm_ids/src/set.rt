@@ -3,14 +3,12 @@
 ghost use Rattle.std.specs.Prelude.{◌≡◌, not, IfOk, IfErr, OnOk, OnErr};
 ghost use Rattle.std.specs.FinSet as set;
 ghost use Rattle.osm_ids.specs.Pages.{IsRising};
-ghost use Rattle.osm_ids.specs.Cursors.{IsKnown};
 ghost use Rattle.osm_ids.specs.Order.{IsReached};
 
-use crate::lookup::Known;
 use crate::merge::Merged;
-use crate::open_lookup::OpenLookup;
-use crate::open_pages::OpenPages;
+use crate::page::PageIds;
 use crate::pages::SealedIds;
+use crate::window::{IdLookup, Window};
 use std::alloc::{AllocError, Global};
 use std::collections::BTreeSet;
 use std::marker::Model;
@@ -19,9 +17,11 @@ use std::marker::Model;
 /// order is kept beside them. Contracts see it as a finite set of numbers.
 #[derive(Drop)]
 pub struct IdSet {
-    laid: OpenPages,
+    pages: SealedIds,
     /// The ids that came after a greater one had been appended.
     late: BTreeSet<i64>,
+    /// The page in which the last of these was looked up.
+    here: PageIds,
     alloc: Global,
 }
 
@@ -30,14 +30,15 @@ impl Model for IdSet {
     ghost use Rattle.std.specs.Coded.{coded_ℤ};
     ghost use Rattle.std.specs.FinSet as set;
     ghost use Rattle.osm_ids.specs.Order.{AreLate};
+    ghost use Rattle.osm_ids.specs.Windows.{IsKept};
 
     ghost Value = { set.FinSet int_cmp };
 
     ghost coded = { set.code coded_ℤ };
 
-    ghost view = { λ a. set.union a.laid (set.from_list a.late.keys) };
+    ghost view = { λ a. set.union a.pages (set.from_list a.late.keys) };
 
-    ghost invariant = { λ a. AreLate a.laid a.late.keys };
+    ghost invariant = { λ a. AreLate a.pages a.late.keys × IsKept a.pages a.here };
 }
 
 impl IdSet {
@@ -46,8 +47,9 @@ impl IdSet {
         ensures { result ≡ set.empty }
     {
         IdSet {
-            laid: OpenPages::new(alloc),
+            pages: SealedIds::new(alloc),
             late: BTreeSet::new(alloc),
+            here: PageIds::new(),
             alloc,
         }
     }
@@ -58,8 +60,8 @@ impl IdSet {
         ensures ok { OnOk result (self.new ≡ set.insert self.old id) }
         ensures err { OnErr result (self.new ≡ self.old) }
     {
-        if self.laid.takes(id) {
-            self.laid.lay(id)?;
+        if self.pages.takes(id) {
+            self.pages.push(id)?;
             return Ok(true);
         }
         self.add_late(id)
@@ -73,7 +75,7 @@ impl IdSet {
         ensures ok { OnOk result (self.new ≡ set.insert self.old id) }
         ensures err { OnErr result (self.new ≡ self.old) }
     {
-        if self.laid.has(id) {
+        if self.here.find(&self.pages, id).there {
             return Ok(false);
         }
         Ok(self.late.insert(id)?)
@@ -91,22 +93,7 @@ impl IdSet {
         ensures same { set.from_list result ≡ self.now }
         ensures rising { IsRising result }
     {
-        Merged::new(self.laid.ids().walk(), &self.late)
-    }
-
-    /// The same ids, packed, to be looked up. Does not allocate if each id was above all that came before it. A refusal returns
-    /// the set.
-    pub fn seal(self) -> Result<SealedIds, (IdSet, AllocError)>
-        ensures ok { IfOk result (λ sealed. sealed ≡ self) }
-        ensures err { IfErr result (λ refused. refused.0 ≡ self) }
-    {
-        if self.late.is_empty() {
-            return Ok(self.laid.seal());
-        }
-        match laid(self.alloc, self.rising()) {
-            Ok(pages) => Ok(pages.seal()),
-            Err(error) => Err((self, error)),
-        }
+        Merged::new(&self.pages, &self.late)
     }
 
     /// Sorts the ids that came out of order among the others, so that all are looked up alike. Allocates only if there are any. The
@@ -115,44 +102,49 @@ impl IdSet {
         ensures { self.new ≡ self.old }
     {
         if !self.late.is_empty() {
-            self.laid = laid(self.alloc, self.rising())?;
+            self.pages = pages_of(self.alloc, self.rising())?;
             self.late = BTreeSet::new(self.alloc);
+            self.here = PageIds::new();
         }
         Ok(())
     }
 
-    /// The ids so far, to be looked up while the set may still grow.
-    pub fn lookup(&self) -> OpenLookup<'_>
-        ensures { result ≡ self.now }
+    /// The same ids, to be looked up. Does not allocate if each id was above all that came before it. A refusal returns the set.
+    pub fn seal(self) -> Result<SealedIds, (IdSet, AllocError)>
+        ensures ok { IfOk result (λ sealed. sealed ≡ self) }
+        ensures err { IfErr result (λ refused. refused.0 ≡ self) }
     {
-        self.lookup_from(Known::nothing())
-    }
-
-    /// The same, with what an earlier look-up in this set learnt, if all ids so far came in order.
-    pub fn lookup_from(&self, known: Known) -> OpenLookup<'_>
-        requires { IsKnown self.now known }
-        ensures { result ≡ self.now }
-    {
-        let known = if self.late.is_empty() {
-            known
-        } else {
-            Known::nothing()
-        };
-        OpenLookup {
-            laid: self.laid.ids().lookup_from(known),
-            late: &self.late,
+        if self.late.is_empty() {
+            return Ok(self.pages);
+        }
+        match pages_of(self.alloc, self.rising()) {
+            Ok(pages) => Ok(pages),
+            Err(error) => Err((self, error)),
         }
     }
 }
 
+impl IdLookup for IdSet {
+    ghost ids = { λ a. a };
+
+    /// The window serves only a set of which no id came out of order since it was settled.
+    #[inline(always)]
+    fn has_near(&self, window: &mut Window, id: i64) -> bool {
+        if self.late.is_empty() {
+            return window.has(&self.pages, id);
+        }
+        self.pages.has(id) || self.late.contains(&id)
+    }
+}
+
 /// Rising ids, in pages.
-fn laid(alloc: Global, ids: Merged<'_>) -> Result<OpenPages, AllocError>
+fn pages_of(alloc: Global, ids: Merged<'_>) -> Result<SealedIds, AllocError>
     requires { IsRising ids }
     ensures { IfOk result (λ pages. pages ≡ set.from_list ids.entry) }
 {
-    let mut pages = OpenPages::new(alloc);
+    let mut pages = SealedIds::new(alloc);
     for id in ids {
-        pages.lay(id)?;
+        pages.push(id)?;
     }
     Ok(pages)
 }

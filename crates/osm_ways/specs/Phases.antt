@@ -65,6 +65,10 @@ abbrev pub sets_with_way : WaySets → ℤ → List ℤ → WaySets
 sets_with_way sets id refs =
     if is_kept_way (set.contains sets.box_ids) refs then record sets { node_ids = fold set.insert sets.node_ids refs; way_ids = set.insert sets.way_ids id } else sets
 
+-- the refs of a kept way besides
+abbrev pub refs_if : Bool → Ids → List ℤ → Ids
+refs_if kept ids refs = if kept then fold set.insert ids refs else ids
+
 -- the link of a member to its relation
 abbrev pub with_link : ℤ → LinkSet → MemberSeen → LinkSet
 with_link id links (relation_member own) = set.insert links (record { member = own; parent = id })

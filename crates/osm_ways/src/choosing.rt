@@ -4,7 +4,7 @@ ghost use Rattle.std.specs.Prelude.{◌≡◌};
 ghost use Rattle.std.specs.FinSet as set;
 ghost use Rattle.osm_entity.specs.Sources.{lent_member, refs_left};
 ghost use Rattle.osm_entity.specs.Views.{way_of, relation_of};
-ghost use Rattle.osm_ids.specs.Cursors.{Lacks, HasAll};
+ghost use Rattle.osm_ids.specs.Windows.{Lacks, HasAll};
 ghost use Rattle.osm_ids.specs.Looking.{LooksUp};
 ghost use Rattle.osm_ways.specs.Selection.{is_selecting, is_kept_way};
 ghost use Rattle.osm_ways.specs.Seen.{seen_way, seen_refs, seen_member, seen_relation};
@@ -13,19 +13,83 @@ ghost use Rattle.osm_ways.specs.Phases.{is_chosen, is_taken, ids_or_none};
 use crate::parents::ChosenParents;
 use crate::phases::{Chosen, SeenWay, is_kept_by};
 use osm_entity::{MemberKind, MemberRef, Refs, RelationRef, WayRef};
-use osm_ids::Lookup;
+use osm_ids::{SealedIds, Window};
 use pbf_wire::Span;
 use std::marker::Model;
+
+/// A set, and what look-ups in it learnt. Contracts see it as the set.
+#[derive(Drop)]
+struct Near<'a> {
+    ids: &'a SealedIds,
+    window: Window,
+}
+
+impl<'a> Model for Near<'a> {
+    ghost use Rattle.osm_ids.specs.Windows.{IsOf};
+    ghost use Rattle.osm_ways.specs.Phases.{Ids, ids_code};
+
+    ghost Value = { Ids };
+
+    ghost coded = { ids_code };
+
+    ghost view = { λ a. a.ids.now };
+
+    ghost invariant = { λ a. IsOf a.ids.now a.window };
+}
+
+impl<'a> Near<'a> {
+    /// Nothing is learnt yet.
+    fn new(ids: &'a SealedIds) -> Near<'a>
+        ensures { result ≡ ids.now }
+    {
+        Near {
+            ids,
+            window: Window::new(),
+        }
+    }
+
+    /// Whether the set has the id.
+    #[inline(always)]
+    fn has(&mut self, id: i64) -> bool
+        ensures { LooksUp (set.contains self.old id) self.old self.new result }
+    {
+        self.window.has(self.ids, id)
+    }
+
+    /// Whether the set has one of these refs.
+    fn has_any(&mut self, refs: Refs<'_>) -> bool
+        ensures { LooksUp (is_kept_way (set.contains self.old) (refs_left refs.entry))
+            self.old self.new result }
+    {
+        is_kept_by(self.ids, &mut self.window, refs)
+    }
+
+    /// Ids that the set lacks, as far as the last look-up showed.
+    #[inline(always)]
+    fn absent(&self) -> Span
+        ensures { Lacks self.now result }
+    {
+        self.window.absent()
+    }
+
+    /// Ids that the set has, all of them, as far as the last look-up showed.
+    #[inline(always)]
+    fn present(&self) -> Span
+        ensures { HasAll self.now result }
+    {
+        self.window.present()
+    }
+}
 
 /// What was chosen, to test many entities one after another: each look-up begins where the last one ended, so ids that
 /// lie close together are cheap. It does not allocate.
 #[derive(Drop)]
 pub struct Chooser<'a> {
-    box_ids: Lookup<'a>,
-    refs: Lookup<'a>,
-    way_ids: Lookup<'a>,
+    box_ids: Near<'a>,
+    refs: Near<'a>,
+    way_ids: Near<'a>,
     /// Those of all parents, if they were chosen too.
-    relation_ids: Option<Lookup<'a>>,
+    relation_ids: Option<Near<'a>>,
 }
 
 impl<'a> Model for Chooser<'a> {
@@ -47,7 +111,7 @@ impl<'a> Model for Chooser<'a> {
 }
 
 /// Whether an id is among those of all parents, if they were chosen.
-fn has(ids: &mut Option<Lookup<'_>>, id: i64) -> bool
+fn has(ids: &mut Option<Near<'_>>, id: i64) -> bool
     ensures { LooksUp (set.contains (ids_or_none ids.old) id) ids.old ids.new result }
 {
     match ids {
@@ -94,7 +158,7 @@ impl<'a> Chooser<'a> {
         ensures { LooksUp (is_kept_way (set.contains self.old.ways.box_ids) (refs_left refs.entry))
             self.old self.new result }
     {
-        is_kept_by(&mut self.box_ids, refs)
+        self.box_ids.has_any(refs)
     }
 
     /// Whether the way is kept, in the file that the choice was made from: by its id first, so that of a way whose id was not chosen
@@ -140,13 +204,13 @@ impl Chosen {
         ensures { result ≡ self.now }
     {
         let relation_ids = match &self.relation_ids {
-            Some(ids) => Some(ids.lookup()),
+            Some(ids) => Some(Near::new(ids)),
             None => None,
         };
         Chooser {
-            box_ids: self.box_ids.lookup(),
-            refs: self.refs.lookup(),
-            way_ids: self.way_ids.lookup(),
+            box_ids: Near::new(&self.box_ids),
+            refs: Near::new(&self.refs),
+            way_ids: Near::new(&self.way_ids),
             relation_ids,
         }
     }

@@ -4,8 +4,8 @@ ghost use Rattle.std.specs.Prelude.{◌≡◌, IfOk};
 ghost use Rattle.osm_ways.specs.First.{start_first, before_node, first_step};
 
 use crate::in_area::NodeTaker;
-use crate::phases::{SeenWay, WayPhase, add_way, sealed};
-use osm_ids::{IdSet, Known};
+use crate::phases::{SeenWay, WayPhase, add_refs_of, sealed};
+use osm_ids::{IdSet, Window};
 use std::alloc::{AllocError, Global};
 use std::marker::Model;
 
@@ -14,8 +14,8 @@ use std::marker::Model;
 #[derive(Drop)]
 pub struct FirstPhase {
     box_ids: IdSet,
-    /// What the last look-up among them learnt, for the next way's.
-    known: Known,
+    /// What look-ups among them learnt, as long as ways are taken.
+    window: Window,
     /// The refs of kept ways that aren't nodes of the area; none if the order was broken.
     refs: IdSet,
     /// The ids of kept ways; none if the order was broken.
@@ -30,7 +30,8 @@ pub struct FirstPhase {
 impl Model for FirstPhase {
     ghost use Rattle.osm_ways.specs.First.{FirstSets, IsWayless, first_sets_code};
     ghost use Rattle.osm_ways.specs.Phases.{sets_of};
-    ghost use Rattle.osm_ids.specs.Cursors.{IsKnown};
+    ghost use Rattle.osm_ids.specs.Windows.{IsOf};
+    ghost use Rattle.std.specs.Prelude.{◌≡◌, ◌&&◌, true};
 
     ghost Value = { FirstSets };
 
@@ -43,7 +44,7 @@ impl Model for FirstPhase {
     } };
 
     ghost invariant = { λ a. IsWayless a.has_ways a.in_order a.refs a.way_ids
-        × IsKnown a.box_ids a.known };
+        × ((a.has_ways && a.in_order) ≡ true → IsOf a.box_ids a.window) };
 }
 
 impl FirstPhase {
@@ -53,7 +54,7 @@ impl FirstPhase {
     {
         FirstPhase {
             box_ids: IdSet::new(alloc),
-            known: Known::nothing(),
+            window: Window::new(),
             refs: IdSet::new(alloc),
             way_ids: IdSet::new(alloc),
             has_ways: false,
@@ -102,7 +103,7 @@ impl FirstPhase {
         } = self;
         Ok(WayPhase {
             box_ids: sealed(box_ids)?,
-            known: Known::nothing(),
+            window: Window::new(),
             refs,
             way_ids,
             alloc,
@@ -115,8 +116,11 @@ impl NodeTaker for FirstPhase {
 
     #[inline(always)]
     fn take_inside(&mut self, id: i64) -> Result<(), AllocError> {
-        self.known = Known::nothing();
         self.box_ids.add(id)?;
+        if self.has_ways && self.in_order {
+            // What is known of the other ids isn't known of this one.
+            self.window = Window::new();
+        }
         self.begin_node();
         Ok(())
     }
@@ -135,14 +139,16 @@ impl NodeTaker for FirstPhase {
         if !self.has_ways {
             // From here on the nodes are looked up.
             self.box_ids.settle()?;
+            self.window = Window::new();
             self.has_ways = true;
         }
         if !self.in_order {
             return Ok(());
         }
-        let mut known = self.box_ids.lookup_from(self.known);
-        add_way(&mut known, &mut self.refs, &mut self.way_ids, way)?;
-        self.known = known.known();
+        let is_kept = add_refs_of(&self.box_ids, &mut self.window, &mut self.refs, way.refs)?;
+        if is_kept {
+            self.way_ids.add(way.id)?;
+        }
         Ok(())
     }
 }

@@ -5,14 +5,14 @@ ghost use Rattle.std.specs.List.{fold};
 ghost use Rattle.std.specs.FinSet as set;
 ghost use Rattle.osm_entity.specs.Sources.{refs_left};
 ghost use Rattle.osm_entity.specs.Views.{way_of};
-ghost use Rattle.osm_ids.specs.Looking.{LooksUp};
+ghost use Rattle.osm_ids.specs.Windows.{IsOf};
 ghost use Rattle.osm_ways.specs.Selection.{is_kept_way};
 ghost use Rattle.osm_ways.specs.Seen.{seen_way, seen_refs};
-ghost use Rattle.osm_ways.specs.Phases.{node_step, start_ways, way_step, sets_of, without_parents};
+ghost use Rattle.osm_ways.specs.Phases.{node_step, start_ways, way_step, refs_if, without_parents};
 
 use crate::in_area::NodeTaker;
 use osm_entity::{Refs, WayRef};
-use osm_ids::{IdLookup, IdSet, Known, SealedIds};
+use osm_ids::{IdLookup, IdSet, SealedIds, Window};
 use std::alloc::{AllocError, Global};
 use std::marker::Model;
 
@@ -55,7 +55,7 @@ impl NodeIds {
         let NodeIds { box_ids, alloc } = self;
         Ok(WayPhase {
             box_ids: sealed(box_ids)?,
-            known: Known::nothing(),
+            window: Window::new(),
             refs: IdSet::new(alloc),
             way_ids: IdSet::new(alloc),
             alloc,
@@ -88,8 +88,8 @@ impl NodeTaker for NodeIds {
 #[derive(Drop)]
 pub struct WayPhase {
     pub(crate) box_ids: SealedIds,
-    /// What the last look-up among them learnt, for the next way's.
-    pub(crate) known: Known,
+    /// What look-ups among them learnt.
+    pub(crate) window: Window,
     /// The refs of kept ways that aren't nodes of the box.
     pub(crate) refs: IdSet,
     pub(crate) way_ids: IdSet,
@@ -98,7 +98,7 @@ pub struct WayPhase {
 
 impl Model for WayPhase {
     ghost use Rattle.osm_ways.specs.Phases.{WaySets, way_sets_code, sets_of};
-    ghost use Rattle.osm_ids.specs.Cursors.{IsKnown};
+    ghost use Rattle.osm_ids.specs.Windows.{IsOf};
 
     ghost Value = { WaySets };
 
@@ -106,7 +106,7 @@ impl Model for WayPhase {
 
     ghost view = { λ a. sets_of a.box_ids a.refs a.way_ids };
 
-    ghost invariant = { λ a. IsKnown a.box_ids a.known };
+    ghost invariant = { λ a. IsOf a.box_ids a.window };
 }
 
 impl WayPhase {
@@ -130,9 +130,10 @@ impl WayPhase {
     pub fn take_refs(&mut self, way: SeenWay<'_>) -> Result<(), AllocError>
         ensures { OnOk result (self.new ≡ way_step self.old (seen_refs way.entry)) }
     {
-        let mut known = self.box_ids.lookup_from(self.known);
-        add_way(&mut known, &mut self.refs, &mut self.way_ids, way)?;
-        self.known = known.known();
+        let is_kept = add_refs_of(&self.box_ids, &mut self.window, &mut self.refs, way.refs)?;
+        if is_kept {
+            self.way_ids.add(way.id)?;
+        }
         Ok(())
     }
 
@@ -193,29 +194,36 @@ impl<'a> SeenWay<'a> {
 }
 
 /// Whether one of these refs is among the ids.
-pub(crate) fn is_kept_by<I: IdLookup>(ids: &mut I, refs: Refs<'_>) -> bool
-    ensures { LooksUp (is_kept_way (set.contains (I.ids ids.old)) (refs_left refs.entry))
-        ids.old ids.new result }
+pub(crate) fn is_kept_by<I: IdLookup>(ids: &I, window: &mut Window, refs: Refs<'_>) -> bool
+    requires { IsOf (I.ids ids.now) window.old }
+    ensures kept { result ≡ is_kept_way (set.contains (I.ids ids.now)) (refs_left refs.entry) }
+    ensures of { IsOf (I.ids ids.now) window.new }
 {
     let mut rest = refs;
     'refs: while let Some(id) = rest.next() {
-        if ids.has(id) {
+        if ids.has_near(window, id) {
             return true;
         }
         // Refs near an absent one are mostly absent too: they needn't be looked up.
-        rest.pass_inside(ids.absent());
+        rest.pass_inside(window.absent());
     }
     false
 }
 
 /// Adds all of these refs that aren't known to the ids.
-fn add_refs<I: IdLookup>(known: &mut I, ids: &mut IdSet, refs: Refs<'_>) -> Result<(), AllocError>
-    ensures { OnOk result ((set.union (I.ids known.old) ids.new
-        ≡ fold set.insert (set.union (I.ids known.old) ids.old) (refs_left refs.entry))
-        × (known.new ≡ known.old)) }
+fn add_refs<I: IdLookup>(
+    known: &I,
+    window: &mut Window,
+    ids: &mut IdSet,
+    refs: Refs<'_>,
+) -> Result<(), AllocError>
+    requires { IsOf (I.ids known.now) window.old }
+    ensures sets { OnOk result (set.union (I.ids known.now) ids.new
+        ≡ fold set.insert (set.union (I.ids known.now) ids.old) (refs_left refs.entry)) }
+    ensures of { IsOf (I.ids known.now) window.new }
 {
     for id in refs {
-        if known.has(id) {
+        if known.has_near(window, id) {
             continue;
         }
         ids.add(id)?;
@@ -223,31 +231,34 @@ fn add_refs<I: IdLookup>(known: &mut I, ids: &mut IdSet, refs: Refs<'_>) -> Resu
     Ok(())
 }
 
-/// Adds a way with a ref among the box's nodes: its id, and all its refs, of which those that are known take no room.
-pub(crate) fn add_way<I: IdLookup>(
-    known: &mut I,
-    refs: &mut IdSet,
-    way_ids: &mut IdSet,
-    way: SeenWay<'_>,
-) -> Result<(), AllocError>
-    ensures sets { OnOk result (sets_of (I.ids known.old) refs.new way_ids.new
-        ≡ way_step (sets_of (I.ids known.old) refs.old way_ids.old) (seen_refs way.entry)) }
-    ensures same { OnOk result (known.new ≡ known.old) }
+/// Whether a way with these refs is kept, since one of them is among the box's nodes. Then all its refs are added, of which those that
+/// are known take no room.
+pub(crate) fn add_refs_of<I: IdLookup>(
+    known: &I,
+    window: &mut Window,
+    ids: &mut IdSet,
+    refs: Refs<'_>,
+) -> Result<bool, AllocError>
+    requires { IsOf (I.ids known.now) window.old }
+    ensures kept { IfOk result
+        (λ kept. kept ≡ is_kept_way (set.contains (I.ids known.now)) (refs_left refs.entry)) }
+    ensures sets { IfOk result (λ kept. set.union (I.ids known.now) ids.new
+        ≡ refs_if kept (set.union (I.ids known.now) ids.old) (refs_left refs.entry)) }
+    ensures of { IsOf (I.ids known.now) window.new }
 {
     // Of most kept ways the first ref is known: then no ref is read twice.
-    let mut rest = way.refs;
+    let mut rest = refs;
     let Some(first) = rest.next() else {
-        return Ok(());
+        return Ok(false);
     };
-    if !known.has(first) {
-        if !is_kept_by(known, rest) {
-            return Ok(());
+    if !known.has_near(window, first) {
+        if !is_kept_by(known, window, rest) {
+            return Ok(false);
         }
-        refs.add(first)?;
+        ids.add(first)?;
     }
-    add_refs(known, refs, rest)?;
-    way_ids.add(way.id)?;
-    Ok(())
+    add_refs(known, window, ids, rest)?;
+    Ok(true)
 }
 
 /// What was chosen: the ids of the box's nodes, of all nodes that are kept, and of the ways that are kept; and if all parents are

@@ -8,19 +8,19 @@ use Rattle.osm_ways.specs.Phases.{Ids}
 use Rattle.osm_ways.proofs.Shown.{union-insert, insert_known}
 use Rattle.osm_ways.proofs.phases.add_refs.Goals as goal
 
-pub loop-id-preserved-then-has : goal.loop-id-preserved-then-has
-loop-id-preserved-then-has g c =
+pub loop-id-preserved-then-has_near : goal.loop-id-preserved-then-has_near
+loop-id-preserved-then-has_near g c =
     let l = c.loop-id in
     let known = g.I.IdLookup.ids c.args.known.now in
     let id = c.in-Some.id in
     let rest = refs_left c.next.new.self in
     let fits : SFits w64 id = search rules in
     let turn : refs_left l.id-iterator ≡ id ∷ rest = c.in-Some.ensures.steps in
-    let here : set.contains known id ≡ true = ap (λ k. set.contains (g.I.IdLookup.ids k) id) (sym l.invariant.same) ∙ ap (set.contains (g.I.IdLookup.ids l.known)) (sym (to_z-of_z w64 id fits)) ∙ sym c.has.ensures.found ∙ c.if-has.true in
+    let here : set.contains known id ≡ true = ap (set.contains known) (sym (to_z-of_z w64 id fits)) ∙ sym c.has_near.ensures.has ∙ c.if-has_near.true in
     record {
       can = tt;
       ends = tt;
-      same = c.has.ensures.same ∙ l.invariant.same;
+      of = c.has_near.ensures.of;
       so_far = ap (λ (s : Ids). fold set.insert s rest) (sym (insert_known known l.ids id here)) ∙ ap (fold set.insert (set.union known l.ids)) (sym turn) ∙ l.invariant.so_far;
     }
 
@@ -36,6 +36,6 @@ loop-id-preserved g c =
     record {
       can = tt;
       ends = tt;
-      same = c.has.ensures.same ∙ l.invariant.same;
+      of = c.has_near.ensures.of;
       so_far = ap (λ (s : Ids). fold set.insert s rest) (ap (set.union known) ids ∙ union-insert known l.ids id) ∙ ap (fold set.insert (set.union known l.ids)) (sym turn) ∙ l.invariant.so_far;
     }

@@ -11,59 +11,57 @@ use Rattle.osm_ids.proofs.Closing.{insert_same}
 use Rattle.osm_ids.proofs.Remembering.{reached_laid}
 use Rattle.osm_ids.proofs.set.IdSet.add_late.Goals as goal
 
-pub has-requires : goal.has-requires
-has-requires c =
-    let laid = c.self.inside.laid in
-    let id = c.args.id in
-    subst (IsReached laid) (sym (to_z-of_z w64 id c.ranges.id))
-    (reached_laid laid c.self.inside.late.keys id c.self.invariant (subst (λ (s : Ids). IsReached s id) (sym c.self.view_is) c.requires))
-
-pub returns-then-has-clause-new : goal.returns-then-has-clause-new
-returns-then-has-clause-new c =
-    let laid = c.self.inside.laid in
+pub returns-then-find-clause-new : goal.returns-then-find-clause-new
+returns-then-find-clause-new c =
+    let laid = c.self.inside.pages in
     let id = c.args.id in
     let same = to_z-of_z w64 id c.ranges.id in
-    let here : set.contains laid id ≡ true = sym (c.has.ensures.found ∙ ap (set.contains laid) same) ∙ c.if-has.true in
+    let here : set.contains laid id ≡ true = ap (set.contains laid) (sym same) ∙ c.find.ensures.told.there ∙ c.if-find.true in
     ap not (sym (ap (λ (s : Ids). set.contains s id) (sym c.self.view_is) ∙ known_laid laid c.self.inside.late.keys id here))
 
-pub returns-then-has-clause-ok : goal.returns-then-has-clause-ok
-returns-then-has-clause-ok c =
-    let laid = c.self.inside.laid in
+pub returns-then-find-clause-ok : goal.returns-then-find-clause-ok
+returns-then-find-clause-ok c =
+    let laid = c.self.inside.pages in
     let id = c.args.id in
     let same = to_z-of_z w64 id c.ranges.id in
-    let here : set.contains laid id ≡ true = sym (c.has.ensures.found ∙ ap (set.contains laid) same) ∙ c.if-has.true in
-    ap (λ (s : Ids). with_late s c.self.inside.late.keys) c.has.ensures.same
-    ∙ c.self.view_is
+    let here : set.contains laid id ≡ true = ap (set.contains laid) (sym same) ∙ c.find.ensures.told.there ∙ c.if-find.true in
+    c.self.view_is
     ∙ sym (insert_same c.args.self.now id (ap (λ (s : Ids). set.contains s id) (sym c.self.view_is) ∙ known_laid laid c.self.inside.late.keys id here))
 
 pub invariant_of-self-2 : goal.invariant_of-self-2
 invariant_of-self-2 c =
-    let laid = c.self.inside.laid in
+    let laid = c.self.inside.pages in
     let late = c.self.inside.late.keys in
     let id = c.args.id in
     let same = to_z-of_z w64 id c.ranges.id in
-    let none : set.contains laid id ≡ false = sym (c.has.ensures.found ∙ ap (set.contains laid) same) ∙ c.if-has.false in
-    let reached = reached_laid laid late id c.self.invariant (subst (λ (s : Ids). IsReached s id) (sym c.self.view_is) c.requires) in
-    subst (λ (s : Ids). AreLate s c.insert.new.self.keys) (sym c.has.ensures.same)
-    (subst (AreLate laid) (sym (c.in_ok-insert.ensures.keys ∙ ap (insert_key int_cmp late) same)) (late_insert laid late id c.self.invariant none reached))
+    let none : set.contains laid id ≡ false = ap (set.contains laid) (sym same) ∙ c.find.ensures.told.there ∙ c.if-find.false in
+    let reached = reached_laid laid late id c.self.invariant.0 (subst (λ (s : Ids). IsReached s id) (sym c.self.view_is) c.requires) in (
+      subst (AreLate laid) (sym (c.in_ok-insert.ensures.keys ∙ ap (insert_key int_cmp late) same)) (late_insert laid late id c.self.invariant.0 none reached),
+      c.find.ensures.kept,
+    )
 
 pub returns-clause-new : goal.returns-clause-new
 returns-clause-new c =
-    let laid = c.self.inside.laid in
+    let laid = c.self.inside.pages in
     let late = c.self.inside.late.keys in
     let id = c.args.id in
     let same = to_z-of_z w64 id c.ranges.id in
-    let none : set.contains laid id ≡ false = sym (c.has.ensures.found ∙ ap (set.contains laid) same) ∙ c.if-has.false in
+    let none : set.contains laid id ≡ false = ap (set.contains laid) (sym same) ∙ c.find.ensures.told.there ∙ c.if-find.false in
     c.in_ok-insert.ensures.added
     ∙ ap (λ z. not (list_any (int_eq z) late)) same
     ∙ ap not (sym (ap (λ (s : Ids). set.contains s id) (sym c.self.view_is) ∙ new_late laid late id none))
 
 pub returns-clause-ok : goal.returns-clause-ok
 returns-clause-ok c =
-    let laid = c.self.inside.laid in
+    let laid = c.self.inside.pages in
     let late = c.self.inside.late.keys in
     let same = to_z-of_z w64 c.args.id c.ranges.id in
-    ap (λ (s : Ids). with_late s c.insert.new.self.keys) c.has.ensures.same
-    ∙ ap (with_late laid) (c.in_ok-insert.ensures.keys ∙ ap (insert_key int_cmp late) same)
+    ap (with_late laid) (c.in_ok-insert.ensures.keys ∙ ap (insert_key int_cmp late) same)
     ∙ insert-with_late laid late c.args.id
     ∙ ap (λ (s : Ids). set.insert s c.args.id) c.self.view_is
+
+pub invariant_of-self-in_err-insert : goal.invariant_of-self-in_err-insert
+invariant_of-self-in_err-insert c = (
+  subst (AreLate c.self.inside.pages) (sym c.in_err-insert.ensures.err) c.self.invariant.0,
+  c.find.ensures.kept,
+)

@@ -5,4 +5,4 @@ use Rattle.osm_ids.proofs.set.IdSet.seal.Goals as goal
 pub returns-then-is_empty-clause-ok : goal.returns-then-is_empty-clause-ok
 returns-then-is_empty-clause-ok c =
     let none : length c.self.inside.late.keys ≡ 0 = search rules in
-    c.seal.ensures ∙ sym (empty_late c.self.inside.laid c.self.inside.late.keys none) ∙ c.self.view_is
+    sym (empty_late c.self.inside.pages c.self.inside.late.keys none) ∙ c.self.view_is

@@ -1,4 +1,6 @@
-use Rattle.std.proofs.Common.{ap, ◌∙◌}
+use Rattle.std.proofs.Common.{List, ℤ, ap, sym, ◌∙◌, true≢false}
+use Rattle.std.specs.List.{list_any}
+use Rattle.std.specs.Ordering.{int_eq}
 use Rattle.osm_ids.proofs.OrderLemmas.{with_late, none_late}
 use Rattle.osm_ids.proofs.set.IdSet.settle.Goals as goal
 
@@ -6,3 +8,9 @@ pub returns-in_ok-self-inside : goal.returns-in_ok-self-inside
 returns-in_ok-self-inside c =
     let laid = c.in_ok-self-inside.field-0 in
     ap (with_late laid) c.new.ensures.empty ∙ none_late laid ∙ c.in_ok-self-inside.ensures ∙ c.rising.ensures.same
+
+pub invariant_of-self : goal.invariant_of-self
+invariant_of-self c = (
+  λ x e. absurd (true≢false (sym e ∙ ap (λ (l : List ℤ). list_any (int_eq x) l) c.new.ensures.empty)),
+  c.new-self-inside.ensures.kept c.in_ok-self-inside.field-0,
+)

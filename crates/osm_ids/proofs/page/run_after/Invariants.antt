@@ -1,0 +1,13 @@
+use Rattle.std.proofs.Common.{◌≤◌, ◌<◌, ◌-◌, length}
+use Rattle.osm_ids.specs.Windows.{IsRun}
+use Rattle.osm_ids.proofs.page.run_after.Given as goal
+
+abbrev pub invariant-up : goal.invariant-up
+invariant-up l = record {
+  low : l.at ≤ l.to;
+  high : l.to < length l.ids;
+  run : IsRun l.ids l.at l.to;
+}
+
+abbrev pub decreases-up : goal.decreases-up
+decreases-up l = length l.ids - l.to
