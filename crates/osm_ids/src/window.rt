@@ -77,11 +77,8 @@ impl Window {
     pub fn absent(&self) -> Span
         ensures { (ids : set.FinSet int_cmp) → IsOf ids self.now → Lacks ids result }
     {
-        if self.known.there {
-            EMPTY_SPAN
-        } else {
-            self.known.span
-        }
+        let Known { span, there } = self.known;
+        if there { EMPTY_SPAN } else { span }
     }
 
     /// Ids that the set has, all of them, as far as the last look-up showed: none if it showed nothing.
@@ -89,11 +86,8 @@ impl Window {
     pub fn present(&self) -> Span
         ensures { (ids : set.FinSet int_cmp) → IsOf ids self.now → HasAll ids result }
     {
-        if self.known.there {
-            self.known.span
-        } else {
-            EMPTY_SPAN
-        }
+        let Known { span, there } = self.known;
+        if there { span } else { EMPTY_SPAN }
     }
 
     /// Learns whether the set has the id, from a page that is kept if one covers the id.
