@@ -392,7 +392,7 @@ passed index seen_index bytes pages id seen n sealed e f h =
     (subst (λ z. IsPartitionedBy (λ (s : PageStart). int_le s.first z) seen_index → IsPassedAt seen_index z n) e h)
     (partitioned index pages id sealed.starts sealed.rising)
 
--- ---- what the index tells
+-- ---- what the index says
 
 -- below the first page
 pub absent_first : (index : List PageStart) (bytes : List ℕ) (pages : List Page) (above below : ℤ) → IsSealed index bytes pages → BeginFrom index 0 below → (id : ℤ) → above <ℤ id → id <ℤ below → set.contains (set_in index bytes) id ≡ false

@@ -63,7 +63,7 @@ none_between (y ∷ ids) (suc k) x h low high =
     let up : y <ℤ x = low 0 x (omega arith) in
     rw (other_below x y up) (none_between ids k x (rising_tail y ids h) (λ i d lt. low (suc i) d (omega arith)) (λ i d le lt. high (suc i) d (omega arith) (omega arith)))
 
--- and where there are as many places as numbers, each is
+-- and if there are as many places as numbers, each is
 pub all_between : (ids : List ℤ) (i j : ℕ) (x d : ℤ) → IsRising ids → i ≤ j → j < length ids → get_or ids j d ≤ℤ (get_or ids i d +ℤ pos (j - i)) → get_or ids i d ≤ℤ x → x ≤ℤ get_or ids j d → list_any (int_eq x) ids ≡ true
 all_between [] i j x d h le lt near low high = absurd (omega arith)
 all_between (y ∷ ids) (suc i) zero x d h le lt near low high = absurd (omega arith)
@@ -129,7 +129,7 @@ pub run_known : (ids : Ids) (page : PageIds) (from at to : ℕ) → IsKept ids p
 run_known ids page from at to k low high lt before after x above below =
     k.inside x (all_between (held page) from to x (pos 0) k.rising (omega (arith, low, high)) lt (run_joined (held page) from at to (pos 0) k.rising low high lt before after) above below)
 
--- where an id is that isn't below the first
+-- the place of an id that is not below the first
 pub record Placed (ids : List ℤ) (id : ℤ) (at : ℕ) : Type 0 where
   pub behind : (i : ℕ) (d : ℤ) → i < at → get_or ids i d <ℤ id
   pub ahead : (i : ℕ) (d : ℤ) → at ≤ i → i < length ids → id ≤ℤ get_or ids i d

@@ -1,4 +1,4 @@
-//! The index of pages: which page an id is in, and what the index tells of ids without a page being read.
+//! The index of pages: which page an id is in, and what it says of ids without a page being read.
 
 ghost use Rattle.std.specs.Prelude.{◌≡◌, ◌-◌, ◌≤◌, IfSome, take, drop, length, int_le, List, ℕ, ℤ, false};
 ghost use Rattle.std.specs.List.Sorted.{IsPartitionedBy};

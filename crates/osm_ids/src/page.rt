@@ -27,7 +27,7 @@ pub(crate) fn told(there: bool, above: i64, below: i64) -> Known
     }
 }
 
-/// The ids of one page in rising order, and up to where the set has no others.
+/// The ids of one page in rising order, and the id up to which the set has no others.
 #[derive(Clone, Copy)]
 pub(crate) struct PageIds {
     pub(crate) ids: [i64; 128],

@@ -114,7 +114,7 @@ impl SealedIds {
         self.bytes.len() as u64
     }
 
-    /// What the index tells of an id and those round it. If it tells nothing, the page that the id is in is read.
+    /// What the index says of an id and those round it. If it says nothing, the page that the id is in is read.
     pub(crate) fn look(&self, id: i64, page: &mut PageIds) -> Option<Known>
         ensures some { IfSome result (λ known. Tells self.now id known × (page.new ≡ page.old)) }
         ensures none { IfNone result (IsPageOf self.now id page.new) }

@@ -34,7 +34,7 @@ impl IdLookup for SealedIds {
 const KEPT: usize = 8;
 
 /// What look-ups in one set learnt: the ids of the pages that were read last, and a span round the last id, of which the set has all
-/// ids or none. It holds nothing of the set, and so stands beside it.
+/// ids or none. It holds nothing of the set, and so is kept beside it.
 #[derive(Drop)]
 pub struct Window {
     pages: [PageIds; KEPT],
