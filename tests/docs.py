@@ -24,11 +24,12 @@ SPAN = re.compile(r"`([^`]+)`")
 LITERAL = re.compile(r"^\.Bd -literal.*?\n(.*?)^\.Ed$", re.M | re.S)
 COMMANDS = ["extract", "convert", "check", "show", "blobs"]
 CALLERS = ["uses", "zlib_examples"]
-README_LINES, README_WORDS, USING_WORDS = 81, 900, 2420
+README_LINES, README_WORDS, USING_WORDS = 81, 870, 2420
 
 # what stands for the words of a command inside a sentence, and the values of a script's variables
 GIVEN = ["IN", "RAW", "OUT"]
 BOX = "9.997,49.999,10.003,50.003"
+POLYGON = "london\n1\n9.997 49.999\n10.003 49.999\n10 50.003\nEND\nEND\n"
 HISTORY = """n1 v1 dV c1 t2010-01-01T00:00:00Z i1 ua x0.5 y0.5
 n1 v2 dV c2 t2011-01-01T00:00:00Z i1 ua x0.6 y0.5
 n2 v1 dV c1 t2010-01-01T00:00:00Z i1 ua x0.5 y0.5
@@ -183,16 +184,16 @@ class Pages:
 
 def inputs(pages: Pages):
     """The files that the pages speak of, all of the sample."""
-    for name in ["england", "one", "two"]:
+    for name in ["england", "oceania", "one", "two"]:
         pages.make(f"./pbfcutz convert sample/town.osm.pbf {name}.osm.pbf")
     pages.make("cp sample/town.osm.pbf given.raw.osm.pbf")
+    with open(os.path.join(pages.model, "london.poly"), "w", encoding="utf-8") as file:
+        file.write(POLYGON)
     if shutil.which("osmium"):
         with open(os.path.join(pages.model, "history.opl"), "w", encoding="utf-8") as file:
             file.write(HISTORY)
         pages.make("osmium cat history.opl -f osh.pbf -o history.osh.pbf")
         pages.make("osmium add-locations-to-ways -n england.osm.pbf -o located.osm.pbf")
-    else:
-        pages.make("cp sample/town.osm.pbf raw.osm.pbf")
 
 
 def all_pages() -> list:
