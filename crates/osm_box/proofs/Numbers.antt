@@ -36,10 +36,10 @@ le_true : (a b : ℕ) → a ≤ b → nat_le a b ≡ true
 le_true a b h = search rules
 
 -- few digits write a number that fits
-few_fit : (t : List ℕ) → length t ≤ 9 → list_all is_ascii_digit t ≡ true → digits_value 10 t < 2 ^ 64
+few_fit : (t : List ℕ) → length t ≤ 18 → list_all is_ascii_digit t ≡ true → digits_value 10 t < 2 ^ 64
 few_fit t h e =
     let below : digits_value 10 t < 10 ^ length t = digits_value-lt 10 t (all_small t e) in
-    let most : 10 ^ length t ≤ 10 ^ 9 = pow-le-pow_right (omega arith) h in
+    let most : 10 ^ length t ≤ 10 ^ 18 = pow-le-pow_right (omega arith) h in
     omega (arith, below, most)
 
 chosen : (most : ℕ) (t : List ℕ) → 1 ≤ length t → length t ≤ most → list_all is_ascii_digit t ≡ true
@@ -47,7 +47,7 @@ chosen : (most : ℕ) (t : List ℕ) → 1 ≤ length t → length t ≤ most �
 chosen most t some few e = rw (le_true 1 (length t) some, le_true (length t) most few, e) refl
 
 -- what `parse` reads of digits
-pub digits_read : {E : Type 0} (most : ℕ) (t : List ℕ) (r : Result ℕ E) → most ≤ 9 → 1 ≤ length t → length t ≤ most
+pub digits_read : {E : Type 0} (most : ℕ) (t : List ℕ) (r : Result ℕ E) → most ≤ 18 → 1 ≤ length t → length t ≤ most
     → list_all is_ascii_digit t ≡ true → ParsesUnsigned 64 10 t r → result_ok r ≡ digits_of most t
 digits_read most t (Ok x) nine some few e h =
     ap Some (h.1 ∙ ap (digits_value 10) (no_plus t some e)) ∙ sym (chosen most t some few e)
@@ -66,15 +66,18 @@ digits_below most t = go (are_digits most t) refl
         let digits = (both (nat_le (length t) most) (list_all is_ascii_digit t) rest).1 in
         rw e (digits_value-lt 10 t (all_small t digits))
 
--- a text with no minus before it begins with another byte
+-- a text that does not begin with a byte begins with another
+pub no_byte : (b : ℕ) (t : List ℕ) → ((rest : List ℕ) → t ≢ encode_utf8 b ++ rest) → encode_utf8 b ≡ b ∷ [] → (0 == b) ≡ false → (slice_index t 0 == b) ≡ false
+no_byte b [] h one other = other
+no_byte b (c ∷ cs) h one other = go (c == b) refl
+  where
+    go : (r : Bool) → (c == b) ≡ r → (c == b) ≡ false
+    go false e = e
+    go true e = let same : c ≡ b = search rules in absurd (h cs (ap (λ x. x ∷ cs) same ∙ ap (λ (l : List ℕ). l ++ cs) (sym one)))
+
 pub no_minus : (t : List ℕ) → ((rest : List ℕ) → t ≢ encode_utf8 45 ++ rest) → (slice_index t 0 == 45) ≡ false
 unfolding encode_utf8
-no_minus [] h = refl
-no_minus (c ∷ cs) h = go (c == 45) refl
-  where
-    go : (b : Bool) → (c == 45) ≡ b → (c == 45) ≡ false
-    go false e = e
-    go true e = let same : c ≡ 45 = search rules in absurd (h cs (ap (λ x. x ∷ cs) same))
+no_minus t h = no_byte 45 t h refl refl
 
 -- a part of a number of nanodegrees stays below 10^9
 pub scaled_small : (f n : ℕ) → n ≤ 9 → f < 10 ^ n → f * 10 ^ (9 - n) < 10 ^ 9

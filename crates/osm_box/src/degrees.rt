@@ -1,45 +1,10 @@
 //! A box's text: four parts, each a number of degrees.
 
-ghost use Rattle.std.specs.Prelude.{◌≡◌, ◌≤ℤ◌, ◌<ℤ◌, pos, ◌+◌, ◌<◌, ◌≤◌, ◌*◌, ◌^◌, ◌-◌, length, IfSome, option_map};
-ghost use Rattle.std.specs.List.{list_all};
-ghost use Rattle.std.specs.Char.{is_ascii_digit};
-ghost use Rattle.osm_box.specs.Degrees.{cut_of, degrees_of, digits_of, halves_of, magnitude_of, comma_parts};
+ghost use Rattle.std.specs.Prelude.{◌≡◌, ◌≤ℤ◌, ◌<ℤ◌, pos, ◌+◌, ◌<◌, ◌≤◌, ◌*◌, ◌^◌, ◌-◌, IfSome, option_map};
+ghost use Rattle.osm_box.specs.Degrees.{degrees_of, magnitude_of, comma_parts};
 ghost use Rattle.osm_box.specs.BoxText.{texts_of};
 
-/// The text before and after the first such character.
-fn cut(text: &str, at: char) -> Option<(&str, &str)>
-    requires { at < 128 }
-    ensures { option_map (λ p. (p.0.now, p.1.now)) result ≡ cut_of at text.now }
-{
-    text.split_once(at)
-}
-
-/// Whether each byte is a decimal digit.
-fn all_digits(bytes: &[u8]) -> bool
-    ensures { result ≡ list_all is_ascii_digit bytes.now }
-{
-    bytes.iter().all(|byte| byte.is_ascii_digit())
-}
-
-/// The number of from one to `most` decimal digits.
-fn digits(text: &str, most: usize) -> Option<u64>
-    requires { most ≤ 9 }
-    ensures value { result ≡ digits_of most text.now }
-    ensures below { IfSome result (λ n. n < 10 ^ length text.now) }
-    ensures sized { IfSome result (λ n. length text.now ≤ most) }
-{
-    if text.is_empty() || text.len() > most || !all_digits(text.as_bytes()) {
-        return None;
-    }
-    text.parse::<u64>().ok()
-}
-
-/// The digits before and after the point; no point is as `.0`.
-fn halves(text: &str) -> (&str, &str)
-    ensures { (result.0.now, result.1.now) ≡ halves_of text.now }
-{
-    cut(text, '.').unwrap_or((text, "0"))
-}
+use crate::number::{cut, digits, halves};
 
 /// The nanodegrees of whole degrees and `count` digits after the point.
 fn nanos(degrees: u64, rest: u64, count: usize) -> i64

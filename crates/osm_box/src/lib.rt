@@ -3,5 +3,6 @@
 
 mod bounding_box;
 mod degrees;
+pub mod number;
 
 pub use bounding_box::{BoundingBox, BoxFault};

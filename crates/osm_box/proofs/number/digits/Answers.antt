@@ -2,7 +2,7 @@ use Rattle.std.proofs.Common.{◌≡◌, ◌∙◌, ◌≤◌, rules, length, tr
 use Rattle.std.specs.List.{list_all}
 use Rattle.std.specs.Char.{is_ascii_digit}
 use Rattle.osm_box.proofs.Numbers.{digits_below, digits_read}
-use Rattle.osm_box.proofs.degrees.digits.Goals as goal
+use Rattle.osm_box.proofs.number.digits.Goals as goal
 
 pub returns-clause-value : goal.returns-clause-value
 returns-clause-value c =
