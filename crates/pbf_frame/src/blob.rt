@@ -113,7 +113,8 @@ pub(crate) fn judge_blob(blob: &[u8], at: u64) -> Option<Fault>
 fn text_place(field: Option<Field<'_>>, at: u64) -> u64
     requires { at ≤ OFFSET_LIMIT }
     ensures place { result ≡ raw_at at (option_map occurrence field.entry) }
-    ensures fits { result + length (occurrence_text (option_map occurrence field.entry)) ≤ OFFSET_LIMIT }
+    ensures fits { result + length (occurrence_text (option_map occurrence field.entry))
+        ≤ OFFSET_LIMIT }
 {
     match field {
         Some(

@@ -112,7 +112,8 @@ fn judge_size(datasize: Option<Field<'_>>) -> Option<Fault>
 
 /// Whether a required field, of which this is the last, is absent.
 fn judge_presence(at: u64, number: u64, last: Option<Field<'_>>) -> Option<Fault>
-    ensures { result ≡ least (fault_where (is_none (option_map occurrence last.entry)) at (Missing number)) }
+    ensures { result
+        ≡ least (fault_where (is_none (option_map occurrence last.entry)) at (Missing number)) }
 {
     fault_where(last.is_none(), at, Reason::Missing(number))
 }

@@ -77,7 +77,8 @@ fn take_within<P: NodeTaker>(
 ) -> Result<(), AllocError>
     requires { ids_within_left within.ids ≡ ids_within within.area (dense_left dense.now) }
     ensures { OnOk result (phase.new
-        ≡ fold (with_seen (box_area within.entry.area) P.step) phase.old (map node (dense_left dense.now))) }
+        ≡ fold (with_seen (box_area within.entry.area) P.step) phase.old
+        (map node (dense_left dense.now))) }
 {
     let first = dense.places().next();
     let is_empty = first.is_none();

@@ -162,7 +162,8 @@ pub fn extract_parents_packed<
         (digest_if passes.hashes receipt.raw)
         (λ e. GaveOut drain.old drain.new
         (λ written. b ≡ c → b ≡ d → b ≡ e → IsExtraction (all_parents (A.area area))
-        (extract_with_parents (seen_decoded (A.area area))) (A.area area) b receipt.counts written)))))) }
+        (extract_with_parents (seen_decoded (A.area area))) (A.area area)
+        b receipt.counts written)))))) }
     // As `stops` of `extract_parents_sorted_with_receipt`, of the drain that packs.
     ensures stops { IfErr result (λ h. Caused (RefusedFirst
         (judged_writable (raw_of (F.remaining first.old))) (taken_raw drain.old) (taken_raw drain.new))

@@ -58,7 +58,8 @@ pub fn extract_parents_sorted_with_receipt<
         (digest_if passes.hashes receipt.raw)
         (λ e. Took D.Drain drain.old drain.new
         (λ written. b ≡ c → b ≡ d → b ≡ e → IsExtraction (all_parents (A.area area))
-        (extract_with_parents (seen_decoded (A.area area))) (A.area area) b receipt.counts written)))))) }
+        (extract_with_parents (seen_decoded (A.area area))) (A.area area)
+        b receipt.counts written)))))) }
     // Each stop has its cause. What is refused is the raw file that the first feed's bytes mean, by its first fault, and then the drain took
     // nothing. `Read` and `Write` come only if a count of failures rose: of a feed, of the drain. `Changed` has the number of the pass
     // whose feed has other packed bytes than the first, as far as both report them.

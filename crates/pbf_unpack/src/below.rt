@@ -53,9 +53,11 @@ impl<D: Drain> Below<D> {
     pub(crate) fn send(&mut self, front: &[u8], blob: &[u8]) -> Result<(), DrainFault>
         requires taking { self.old.course ≡ courses.Taking }
         requires means { (raw : List ℕ) × Stands self.old.place raw (front.now ++ blob.now) }
-        ensures place { OnOk result (self.new.place ≡ self.old.place + length (front.now ++ blob.now)) }
+        ensures place { OnOk result
+            (self.new.place ≡ self.old.place + length (front.now ++ blob.now)) }
         ensures course { OnOk result (self.new.course ≡ courses.Taking) }
-        ensures took { OnOk result (Added D.Drain self.old.drain (front.now ++ blob.now) self.new.drain) }
+        ensures took { OnOk result
+            (Added D.Drain self.old.drain (front.now ++ blob.now) self.new.drain) }
         ensures failed { OnErr result (IsStuck (front.now ++ blob.now) self.old self.new) }
         ensures counts { D.failures self.old.drain ≤ D.failures self.new.drain }
         ensures lender { D.lender self.new.drain ≡ D.lender self.old.drain }

@@ -71,7 +71,8 @@ impl Buffers {
 
     /// The number of bytes held.
     pub(crate) fn held(&self) -> u64
-        ensures { result ≡ vec_len self.now.front + vec_len self.now.header + vec_len self.now.packed + vec_len self.now.raw }
+        ensures { result ≡ vec_len self.now.front + vec_len self.now.header
+            + vec_len self.now.packed + vec_len self.now.raw }
     {
         self.front.len() as u64
             + self.header.len() as u64

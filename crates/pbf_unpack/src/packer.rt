@@ -155,7 +155,8 @@ impl Packer {
     /// Packs a payload into the room, as the end of a blob; false if there is no room for it.
     fn put_stream(&mut self, payload: &[u8]) -> Result<bool, AllocError>
         requires { length payload.now < RAW_LIMIT }
-        ensures { IfOk result (λ done. done ≡ true → HasStream self.new.end self.new.room.items payload.now) }
+        ensures { IfOk result (λ done. done ≡ true
+            → HasStream self.new.end self.new.room.items payload.now) }
     {
         let most = FIELDS_ROOM + most_packed(payload.len());
         if self.room.len() < most {

@@ -113,7 +113,8 @@ pub(crate) fn read_whole<F: Feed>(
 ) -> Result<Found, Stop>
     requires { place ≤ FILE_LIMIT }
     ensures took { OnOk result (TookBytes (buffers.new.front.items ++ buffers.new.packed.items)
-        (F.has_passed feed.old) (F.has_passed feed.new) (F.remaining feed.old) (F.remaining feed.new)) }
+        (F.has_passed feed.old) (F.has_passed feed.new)
+        (F.remaining feed.old) (F.remaining feed.new)) }
     ensures means { IfOk result (Means place (buffers.new.front.items ++ buffers.new.packed.items)
         buffers.new.packed.items (F.remaining feed.new)) }
     ensures placed { IfOk result (IsPlaced buffers.new.packed.items) }

@@ -21,7 +21,8 @@ const ROOM: usize = 65_536;
 
 /// Copies what a feed has. Returns false once it has given more than the longest file has.
 fn copy_rest<F: Feed, D: Drain>(feed: &mut F, drain: &mut D) -> Result<bool, Stop>
-    ensures copied { IfOk result (λ all. (copied : Copied F.Feed feed.old feed.new D.Drain drain.old drain.new)
+    ensures copied { IfOk result (λ all.
+        (copied : Copied F.Feed feed.old feed.new D.Drain drain.old drain.new)
         × IsAllOrLong all (F.remaining feed.new) copied.bytes) }
     ensures front { (all : List ℕ) → F.remaining feed.old ≡ Some all
         → IsFront (D.taken drain.old) (D.taken drain.new) all }

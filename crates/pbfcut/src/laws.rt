@@ -135,8 +135,8 @@ pub fn file_extracted_with_parents_is_kept(area: BoundingBox)
     // An extract can be written of it, and its bytes decode to exactly the file's extract with all parents, and mean that of what the
     // file means.
     ensures kept { (file : List ℕ) → IsWritable file
-        → IsExtract (all_parents (box_area area)) (extract_with_parents (seen_decoded (box_area area)))
-        (box_area area) (verdict_on file)
+        → IsExtract (all_parents (box_area area))
+        (extract_with_parents (seen_decoded (box_area area))) (box_area area) (verdict_on file)
         (verdict_within None (extract_of (all_parents (box_area area)) (box_area area) file)) }
     // An extract of it with all parents, by the same box, is the same bytes.
     ensures again { (file : List ℕ) → IsWritable file
