@@ -14,7 +14,7 @@ const MOST_PARTS: u32 = 1_000;
 
 /// What OUT is written to.
 #[derive(Drop)]
-enum Sink {
+pub enum Sink {
     File(File),
     Screen(Stdout),
 }
@@ -172,7 +172,7 @@ fn name(rt: &HostRuntime, part: &str, output: &str) -> Result<(), Failure> {
 
 impl Output {
     /// The writer of OUT.
-    pub fn writer(&mut self) -> &mut impl Write {
+    pub fn writer(&mut self) -> &mut BufWriter<Noted<Sink>> {
         &mut self.writer
     }
 

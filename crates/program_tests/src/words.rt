@@ -77,9 +77,7 @@ fn is_convert_of_pbfcutz(alloc: Global, words: &[&str], flags: (bool, bool)) -> 
     let read = read_words(alloc, Program::Pbfcutz, words);
     match &read {
         Ok(Command::Convert(files)) => {
-            files.input == "a"
-                && files.output == "b"
-                && (files.raw, files.overwrite) == flags
+            files.input == "a" && files.output == "b" && (files.raw, files.overwrite) == flags
         }
         _ => false,
     }
