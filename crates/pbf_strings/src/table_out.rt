@@ -17,20 +17,33 @@ use std::marker::Model;
 /// How many texts are remembered without their hash.
 const SLOTS: usize = 4096;
 
-/// The slot of a text: by its length and four of its bytes, as it has to cost less than a hash.
+/// An odd number near 2^32 over the golden ratio: the upper bits of a product by it depend on each bit of the other number.
+const SPREAD: u32 = 0x9e37_79b1;
+
+/// The slot of a text of less than four bytes.
+fn short_slot(text: &[u8]) -> usize
+    ensures { result < SLOTS }
+{
+    let mut sum: u32 = 0;
+    for byte in text {
+        sum = sum.wrapping_mul(31).wrapping_add(u32::from(*byte));
+    }
+    sum as usize % SLOTS
+}
+
+/// The slot of a text: by its length and its first and last four bytes, as it has to cost less than a hash.
 fn slot_of(text: &[u8]) -> usize
     ensures { result < SLOTS }
 {
-    let Some(first) = text.first() else {
-        return 0;
+    let (Some(first), Some(last)) = (text.first_chunk::<4>(), text.last_chunk::<4>()) else {
+        return short_slot(text);
     };
-    let length = text.len();
-    let middle = text[length / 2];
-    let later = text[length - 1 - length / 4];
-    let last = text[length - 1];
-    let ends = usize::from(*first) + 31 * usize::from(last);
-    let bytes = ends + 961 * usize::from(middle) + 29_791 * usize::from(later);
-    (length % SLOTS + bytes) % SLOTS
+    let ends = u32::from_le_bytes(*last)
+        .wrapping_mul(31)
+        .wrapping_add(u32::from_le_bytes(*first));
+    let length = (text.len() % SLOTS) as u32;
+    let mixed = ends.wrapping_add(length).wrapping_mul(SPREAD);
+    (mixed >> 20) as usize % SLOTS
 }
 
 /// Whether two texts begin with the same eight bytes.
