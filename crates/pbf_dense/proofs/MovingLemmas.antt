@@ -86,9 +86,9 @@ abbrev pub node_made : ℤ → ℤ → ℤ → MetaSpec → List TagSpec → Sca
 node_made id lat lon meta tags scale = record { id = id; lat = lat; lon = lon; meta = meta; tags = tags; scale = scale }
 
 -- a node is made of the first of each column, and the others of what is left
-pub one_node : (table later : List (List ℕ)) (scale : Scale) (ids more_ids lats more_lats lons more_lons : List ℤ) (id i lat a lon o : ℤ) (info more : InfoSpec) (keys_vals rest : List ℕ) (meta : MetaSpec) (tags : List TagSpec) (node : NodeSpec)
-    → later ≡ table → ids ≡ id ∷ more_ids → lats ≡ lat ∷ more_lats → lons ≡ lon ∷ more_lons → i ≡ id → a ≡ lat → o ≡ lon
+pub one_node : (table : List (List ℕ)) (scale : Scale) (ids more_ids lats more_lats lons more_lons : List ℤ) (id i lat a lon o : ℤ) (info more : InfoSpec) (keys_vals rest : List ℕ) (meta : MetaSpec) (tags : List TagSpec) (node : NodeSpec)
+    → ids ≡ id ∷ more_ids → lats ≡ lat ∷ more_lats → lons ≡ lon ∷ more_lons → i ≡ id → a ≡ lat → o ≡ lon
     → meta ≡ meta_at table info 0 → more ≡ info_rest info → tags ≡ map (tag_of table) (run keys_vals) → rest ≡ after_run keys_vals → node ≡ node_made i a o meta tags scale
-    → nodes_of_columns table scale ids lats lons info keys_vals ≡ node ∷ nodes_of_columns later scale more_ids more_lats more_lons more rest
-one_node table later scale ids more_ids lats more_lats lons more_lons id i lat a lon o info more keys_vals rest meta tags node same e f g same_id same_lat same_lon metas infos all_tags runs is =
-    rw (same, e, f, g, is, same_id, same_lat, same_lon, metas, infos, all_tags, runs) refl
+    → nodes_of_columns table scale ids lats lons info keys_vals ≡ node ∷ nodes_of_columns table scale more_ids more_lats more_lons more rest
+one_node table scale ids more_ids lats more_lats lons more_lons id i lat a lon o info more keys_vals rest meta tags node e f g same_id same_lat same_lon metas infos all_tags runs is =
+    rw (e, f, g, is, same_id, same_lat, same_lon, metas, infos, all_tags, runs) refl

@@ -1,5 +1,5 @@
 -- Nodes whose columns have an entry for each of them, or none.
-use Rattle.std.proofs.Common.{◌≡◌, ◌≤◌, ◌⊎◌, inl, inr, ℕ, zero, suc, Bool, true, false, ℤ, List, [], ◌∷◌, length, drop, map, refl, sym, ap, subst, ◌∙◌, arith}
+use Rattle.std.proofs.Common.{◌≡◌, ◌≤◌, inl, inr, ℕ, suc, Bool, true, false, ℤ, List, [], ◌∷◌, length, drop, map, refl, sym, ap, subst, ◌∙◌, arith}
 use Rattle.std.specs.Prelude.{Option, None, Some, slice_get}
 use Rattle.std.specs.List.{AllByRecursion}
 use Rattle.std.specs.Option.{option_map, is_some}
@@ -75,7 +75,7 @@ module _ (table : List (List ℕ)) (scale : Scale) where
 pub steady_is : (dense : Dense) (count : ℕ) → count ≡ length (sums_left dense.ids) → length (sums_left dense.lats) ≡ count → length (sums_left dense.lons) ≡ count → IsInfoSteady count (info_left dense.info) → IsSteady count dense
 unfolding dense_left
 steady_is dense count ids lats lons h =
-    let table = dense.texts.table.now in
+    let table = dense.table.now in
     let keys_vals = map low_32 (numbers_left dense.keys_vals) in
     record {
       counted = counted table dense.scale (sums_left dense.ids) (sums_left dense.lats) (sums_left dense.lons) (info_left dense.info) keys_vals (omega (arith, ids, lats)) (omega (arith, ids, lons)) ∙ sym ids;

@@ -1,11 +1,10 @@
 -- What nodes weigh together, by the columns of users and of tags.
-use Rattle.std.proofs.Common.{◌≡◌, ◌+◌, ◌-◌, ◌*◌, ◌^◌, ◌<◌, ◌≤◌, min, ℕ, zero, suc, ℤ, List, [], ◌∷◌, ◌++◌, length, take, drop, map, refl, sym, ap, subst, ◌∙◌, arith, add-one}
+use Rattle.std.proofs.Common.{◌≡◌, ◌+◌, ◌*◌, ◌<◌, ◌≤◌, ℕ, zero, suc, ℤ, List, [], ◌∷◌, ◌++◌, length, take, drop, map, refl, sym, ap, subst, ◌∙◌, arith, add-one}
 use Rattle.std.specs.List.{sum_by}
 use Rattle.std.proofs.lemmas.List.Sums.{sum_by-cons}
 use Rattle.pbf_wire.specs.Cursors.{numbers_left, sums_left}
 use Rattle.pbf_wire.specs.Passing.{eight_of}
 use Rattle.osm_entity.specs.declared.scale.Scale.{Scale}
-use Rattle.osm_entity.specs.Entity.{NodeSpec}
 use Rattle.osm_entity.specs.Sources.{low_32, tag_of, run}
 use Rattle.osm_entity.specs.Weight.{node_weight, tags_weight}
 use Rattle.pbf_strings.specs.Texts.{text}
@@ -114,8 +113,8 @@ module _ (table : List (List ℕ)) where
       subst (λ w. AreWeighed users keys_vals next after (count + 8) (weight + w)) (sym e.weight_is) (eight_bare e.user users keys_vals next after count weight here)
 
 -- the columns of a dense message
-pub nodes_weighed : (dense : Dense) (later : List ℤ) (rest : List ℕ) (count weight : ℕ) → count ≤ length (dense_left dense) → AreWeighed dense.texts.table.now (sums_left dense.info.users) (map low_32 (numbers_left dense.keys_vals)) later rest count weight
+pub nodes_weighed : (dense : Dense) (later : List ℤ) (rest : List ℕ) (count weight : ℕ) → count ≤ length (dense_left dense) → AreWeighed dense.table.now (sums_left dense.info.users) (map low_32 (numbers_left dense.keys_vals)) later rest count weight
     → weight ≡ sum_by node_weight (take count (dense_left dense))
 unfolding dense_left
 nodes_weighed dense later rest count weight enough h =
-    h.sum ∙ sym (of_nodes dense.texts.table.now dense.scale count (sums_left dense.ids) (sums_left dense.lats) (sums_left dense.lons) (info_left dense.info) (map low_32 (numbers_left dense.keys_vals)) enough)
+    h.sum ∙ sym (of_nodes dense.table.now dense.scale count (sums_left dense.ids) (sums_left dense.lats) (sums_left dense.lons) (info_left dense.info) (map low_32 (numbers_left dense.keys_vals)) enough)

@@ -17,7 +17,7 @@ pub record TakesColumns (count : ℕ) (from rest : Dense) (old new : DenseOut) :
   pub lats_left : sums_left rest.lats ≡ drop count (sums_left from.lats)
   pub lons_left : sums_left rest.lons ≡ drop count (sums_left from.lons)
   pub keys_vals : rest.keys_vals ≡ from.keys_vals
-  pub texts : rest.texts ≡ from.texts
+  pub table : rest.table ≡ from.table
   pub scale : rest.scale ≡ from.scale
   pub runs : new.runs ≡ old.runs
   pub tagged : new.tagged ≡ old.tagged

@@ -21,7 +21,7 @@ info_left columns = record {
 
 -- the nodes that are still to come
 unfoldable pub dense_left : Dense → List NodeSpec
-dense_left dense = nodes_of_columns dense.texts.table.now dense.scale (sums_left dense.ids) (sums_left dense.lats) (sums_left dense.lons) (info_left dense.info) (map low_32 (numbers_left dense.keys_vals))
+dense_left dense = nodes_of_columns dense.table.now dense.scale (sums_left dense.ids) (sums_left dense.lats) (sums_left dense.lons) (info_left dense.info) (map low_32 (numbers_left dense.keys_vals))
 
 -- a cursor over the ids has passed so many of those that are still to come
 unfoldable pub AreIdsAfter : ℕ → Dense → Sums → Type 0

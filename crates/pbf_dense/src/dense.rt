@@ -14,7 +14,6 @@ use crate::dense_nodes::{ID, KEYS_VALS, LAT, LON};
 use crate::entries::next_number;
 use crate::info::InfoColumns;
 use crate::places::Places;
-use crate::user_texts::UserTexts;
 use crate::within::IdsWithin;
 use osm_entity::{BoundingBox, MetaRef, NodeRef, OwnedTags, RunTags, STORED_LIMIT, Scale, Tags};
 use pbf_strings::Table;
@@ -137,7 +136,7 @@ pub struct Dense<'a> {
     pub(crate) lons: Sums<'a>,
     pub(crate) info: InfoColumns<'a>,
     pub(crate) keys_vals: Column<'a>,
-    pub(crate) texts: UserTexts<'a>,
+    pub(crate) table: &'a Table<'a>,
     scale: Scale,
     ghost ids_stored: { list_all (is_within (pos SUM_LIMIT)) (sums_left ids) ≡ true },
     ghost lats_stored: { list_all (is_within (pos SUM_LIMIT)) (sums_left lats) ≡ true },
@@ -167,7 +166,7 @@ impl<'a> Dense<'a> {
             lons: Sums::new(message.column(LON), STORED_LIMIT),
             info: InfoColumns::last_in(message),
             keys_vals: message.column(KEYS_VALS),
-            texts: UserTexts::new(table),
+            table,
             scale,
         }
     }
@@ -279,8 +278,8 @@ impl<'a> Dense<'a> {
         node.lat = lat;
         node.lon = lon;
         node.scale = self.scale;
-        self.info.take_in(&mut self.texts, &mut node.meta);
-        take_tags(&mut self.keys_vals, self.texts.table, &mut node.tags);
+        self.info.take_in(self.table, &mut node.meta);
+        take_tags(&mut self.keys_vals, self.table, &mut node.tags);
     }
 
     /// How many nodes there are in a dense message without a wire fault: as many as ids. No number is decoded, and no other

@@ -149,7 +149,7 @@ impl DenseOut {
         let mut source = TextSource {
             keys_vals: nodes.keys_vals,
             users: nodes.info.users,
-            texts: nodes.texts.table,
+            texts: nodes.table,
         };
         let tagged = source.take(&mut self.runs, &mut self.info.users, count, table)?;
         self.take_numbers(nodes, count)?;

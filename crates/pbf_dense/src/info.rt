@@ -11,8 +11,9 @@ use crate::dense_info::{CHANGESET, TIMESTAMP, UID, USER_SID, VERSION, VISIBLE};
 use crate::dense_nodes::DENSEINFO;
 use crate::entries::{next_number, next_sum, pass_numbers};
 use crate::steady::{numbers_go_with, sums_go_with};
-use crate::user_texts::UserTexts;
+use crate::user_texts::text_if_some;
 use osm_entity::{MetaRef, STORED_LIMIT, UID_LIMIT};
+use pbf_strings::Table;
 use pbf_wire::{Column, Field, Message, Payload, Sums, last_field, low_i32};
 
 /// The next value of a column of uids.
@@ -89,16 +90,15 @@ impl<'a> InfoColumns<'a> {
     /// Puts the metadata of the next node in this place.
     #[inline(always)]
     #[tactic(auto, using(crate::proofs::InfoLemmas::still_within))]
-    pub(crate) fn take_in(&mut self, texts: &mut UserTexts<'a>, meta: &mut MetaRef<'a>)
-        ensures meta { meta_of meta.new ≡ meta_at texts.old.table.now (info_left self.old) 0 }
-        ensures table { texts.new.table ≡ texts.old.table }
+    pub(crate) fn take_in(&mut self, table: &'a Table<'a>, meta: &mut MetaRef<'a>)
+        ensures meta { meta_of meta.new ≡ meta_at table.now (info_left self.old) 0 }
         ensures rest { info_left self.new ≡ info_rest (info_left self.old) }
     {
         meta.version = next_number(&mut self.versions).map(|number| low_i32(number));
         meta.timestamp = next_sum(&mut self.timestamps);
         meta.changeset = next_sum(&mut self.changesets);
         meta.uid = next_uid(&mut self.uids);
-        meta.user = texts.text(next_sum(&mut self.users));
+        meta.user = text_if_some(table, next_sum(&mut self.users));
         meta.visible = next_number(&mut self.visible).map(|number| number != 0);
     }
 

@@ -10,7 +10,7 @@ ghost use Rattle.pbf_dense.specs.Taking.{PassesRun};
 
 use crate::dense::Dense;
 use crate::entries::{next_number, next_sum};
-use crate::user_texts::UserTexts;
+use crate::user_texts::{text_if_some, text_of};
 use pbf_strings::Table;
 use pbf_wire::{Column, Sums, low_u32};
 
@@ -100,7 +100,7 @@ fn weigh_tags(numbers: &mut Column<'_>, table: &Table<'_>) -> u64
 struct Weights<'a> {
     users: Sums<'a>,
     keys_vals: Column<'a>,
-    texts: UserTexts<'a>,
+    table: &'a Table<'a>,
 }
 
 impl<'a> Weights<'a> {
@@ -113,12 +113,12 @@ impl<'a> Weights<'a> {
     /// What the text of the next node's user weighs.
     #[inline(always)]
     fn next_user(&mut self) -> u64
-        ensures weight { result ≡ user_weight self.old.texts.table.now (sums_left self.old.users) }
+        ensures weight { result ≡ user_weight self.old.table.now (sums_left self.old.users) }
         ensures users { sums_left self.new.users ≡ drop 1 (sums_left self.old.users) }
         ensures tags { self.new.keys_vals ≡ self.old.keys_vals }
-        ensures table { self.new.texts.table ≡ self.old.texts.table }
+        ensures table { self.new.table ≡ self.old.table }
     {
-        match self.texts.text(next_sum(&mut self.users)) {
+        match text_if_some(self.table, next_sum(&mut self.users)) {
             Some(text) => text.len() as u64,
             None => 0,
         }
@@ -127,15 +127,15 @@ impl<'a> Weights<'a> {
     /// What the next node weighs. If it is more than a `u64` holds, the greatest.
     #[inline(always)]
     fn next(&mut self) -> u64
-        ensures weight { result ≡ min (first_weight self.old.texts.table.now
+        ensures weight { result ≡ min (first_weight self.old.table.now
             (sums_left self.old.users) (map low_32 (numbers_left self.old.keys_vals))) (2 ^ 64 - 1) }
         ensures users { sums_left self.new.users ≡ drop 1 (sums_left self.old.users) }
         ensures tags { map low_32 (numbers_left self.new.keys_vals)
             ≡ after_run (map low_32 (numbers_left self.old.keys_vals)) }
-        ensures table { self.new.texts.table ≡ self.old.texts.table }
+        ensures table { self.new.table ≡ self.old.table }
     {
         let user = self.next_user();
-        let tags = weigh_tags(&mut self.keys_vals, self.texts.table);
+        let tags = weigh_tags(&mut self.keys_vals, self.table);
         user.saturating_add(160).saturating_add(tags)
     }
 
@@ -145,11 +145,11 @@ impl<'a> Weights<'a> {
     fn next_eight(&mut self, most: usize, room: u64) -> Option<u64>
         requires { room < 2 ^ 64 - 1 }
         ensures few { MatchOption result ⊤ (λ weight. (8 ≤ most) × (weight ≤ room)) }
-        ensures eight { MatchOption result ⊤ (λ weight. AreEight self.old.texts.table.now
+        ensures eight { MatchOption result ⊤ (λ weight. AreEight self.old.table.now
             (sums_left self.old.users) (sums_left self.new.users)
             (map low_32 (numbers_left self.old.keys_vals))
             (map low_32 (numbers_left self.new.keys_vals)) weight) }
-        ensures table { self.new.texts.table ≡ self.old.texts.table }
+        ensures table { self.new.table ≡ self.old.table }
         ensures kept { result ≡ None → self.new ≡ self.old }
     {
         let mut next = *self;
@@ -160,7 +160,7 @@ impl<'a> Weights<'a> {
             return None;
         }
         let user = next.users.last_value();
-        let text = next.texts.text(Some(user))?;
+        let text = text_of(next.table, user);
         let weight = (text.len() as u64).saturating_add(160).saturating_mul(8);
         if weight > room {
             return None;
@@ -208,7 +208,7 @@ impl<'a> Dense<'a> {
         let mut weights = Weights {
             users: self.info.users,
             keys_vals: self.keys_vals,
-            texts: self.texts,
+            table: self.table,
         };
         let mut count = 0;
         let mut weight = 0;

@@ -15,23 +15,35 @@ use std::hash::BuildHasher;
 use std::marker::Model;
 
 /// How many texts are remembered without their hash.
-const SLOTS: usize = 2048;
+const SLOTS: usize = 4096;
 
-/// The slot after those: that of the last user, who mostly is the one of the next entity too.
-const LAST_USER: usize = SLOTS;
+/// An odd number near 2^32 over the golden ratio: the upper bits of a product by it depend on each bit of the other number.
+const SPREAD: u32 = 0x9e37_79b1;
 
-/// The slot of a text: by its length and three of its bytes, as it has to cost less than a hash.
+/// The slot of a text of less than four bytes.
+fn short_slot(text: &[u8]) -> usize
+    ensures { result < SLOTS }
+{
+    let mut sum: u32 = 0;
+    for byte in text {
+        sum = sum.wrapping_mul(31).wrapping_add(u32::from(*byte));
+    }
+    sum as usize % SLOTS
+}
+
+/// The slot of a text: by its length and its first and last four bytes, as it has to cost less than a hash.
 fn slot_of(text: &[u8]) -> usize
     ensures { result < SLOTS }
 {
-    let Some(first) = text.first() else {
-        return 0;
+    let (Some(first), Some(last)) = (text.first_chunk::<4>(), text.last_chunk::<4>()) else {
+        return short_slot(text);
     };
-    let length = text.len();
-    let middle = text[length / 2];
-    let last = text[length - 1];
-    let bytes = usize::from(*first) + 31 * usize::from(middle) + 63 * usize::from(last);
-    (length % SLOTS + bytes) % SLOTS
+    let ends = u32::from_le_bytes(*last)
+        .wrapping_mul(31)
+        .wrapping_add(u32::from_le_bytes(*first));
+    let length = (text.len() % SLOTS) as u32;
+    let mixed = ends.wrapping_add(length).wrapping_mul(SPREAD);
+    (mixed >> 20) as usize % SLOTS
 }
 
 /// Whether two texts begin with the same eight bytes.
@@ -93,7 +105,7 @@ pub struct TableOut<S: BuildHasher> {
     texts: IndexSet<Vec<u8>, S>,
     /// The indexes of texts that were looked up recently, each in its slot, and 0 in a slot that no text was looked up in; a text
     /// that isn't there is looked up by its hash.
-    recent: [u32; SLOTS + 1],
+    recent: [u32; SLOTS],
     alloc: Global,
 }
 
@@ -112,7 +124,7 @@ impl<S: BuildHasher> TableOut<S> {
     {
         TableOut {
             texts: IndexSet::with_hasher(alloc, hasher),
-            recent: [0; SLOTS + 1],
+            recent: [0; SLOTS],
             alloc,
         }
     }
@@ -136,14 +148,14 @@ impl<S: BuildHasher> TableOut<S> {
         ensures { self.new ≡ [] }
     {
         self.texts.truncate(0);
-        self.recent = [0; SLOTS + 1];
+        self.recent = [0; SLOTS];
     }
 
     /// The index of a text by its slot, `None` if another text is there.
     #[inline(always)]
     fn recent_index(&self, slot: usize, text: &[u8]) -> Option<u32>
         requires room { length self.now < MOST_USED_TEXTS }
-        requires slot { slot ≤ LAST_USER }
+        requires slot { slot < SLOTS }
         ensures { IfSome result
             (λ index. (has_text self.now text.now ≡ true) × (index ≡ index_in self.now text.now)) }
     {
@@ -216,29 +228,6 @@ impl<S: BuildHasher> TableOut<S> {
         Ok(index)
     }
 
-    /// Like [`TableOut::index_of`], which is part of its callers, by a call.
-    #[inline(never)]
-    fn index_apart(&mut self, text: &[u8]) -> Result<u32, AllocError>
-        requires { length self.old < MOST_USED_TEXTS }
-        ensures { GivesIndex text.now self.old self.new result }
-    {
-        self.index_of(text)
-    }
-
-    /// Like [`TableOut::index_of`], of a user.
-    #[inline(always)]
-    fn index_of_user(&mut self, text: &[u8]) -> Result<u32, AllocError>
-        requires { length self.old < MOST_USED_TEXTS }
-        ensures { GivesIndex text.now self.old self.new result }
-    {
-        if let Some(index) = self.recent_index(LAST_USER, text) {
-            return Ok(index);
-        }
-        let index = self.index_apart(text)?;
-        self.recent[LAST_USER] = index;
-        Ok(index)
-    }
-
     /// The index of a text, if there is one, as [`TableOut::index_of`] gives it. It stays, whatever texts are used later.
     #[inline(always)]
     pub fn index_if_some(&mut self, text: Option<&[u8]>) -> Result<Option<u32>, AllocError>
@@ -252,7 +241,7 @@ impl<S: BuildHasher> TableOut<S> {
         ensures err { OnErr result (self.new ≡ self.old) }
     {
         match text {
-            Some(text) => Ok(Some(self.index_of_user(text)?)),
+            Some(text) => Ok(Some(self.index_of(text)?)),
             None => Ok(None),
         }
     }

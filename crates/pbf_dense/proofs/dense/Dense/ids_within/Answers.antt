@@ -21,4 +21,4 @@ returns c =
     let right : SFits w64 area.right = search rules in
     let by_lat = λ (lat : ℤ). c.in_ok-lat_span.ensures lat ∙ ap₂ (λ low high. is_between low high (nano_lat dense.scale lat)) (to_z-of_z w64 area.bottom bottom) (to_z-of_z w64 area.top top) in
     let by_lon = λ (lon : ℤ). c.in_ok-lon_span.ensures lon ∙ ap₂ (λ low high. is_between low high (nano_lon dense.scale lon)) (to_z-of_z w64 area.left left) (to_z-of_z w64 area.right right) in
-    within_are dense.texts.table.now dense.scale (sums_left dense.ids) (sums_left dense.lats) (sums_left dense.lons) (info_left dense.info) (map low_32 (numbers_left dense.keys_vals)) area c.in_ok-lat_span.lat_span c.in_ok-lon_span.lon_span by_lat by_lon
+    within_are dense.table.now dense.scale (sums_left dense.ids) (sums_left dense.lats) (sums_left dense.lons) (info_left dense.info) (map low_32 (numbers_left dense.keys_vals)) area c.in_ok-lat_span.lat_span c.in_ok-lon_span.lon_span by_lat by_lon

@@ -1,12 +1,11 @@
-use Rattle.std.proofs.Common.{◌≡◌, ℕ, ℤ, List, ◌∷◌, map, refl, ap, ◌∙◌, rules, w64}
+use Rattle.std.proofs.Common.{ℤ, List, map, refl, ap, ◌∙◌, rules, w64}
 use mir.Val.{SFits}
 use Rattle.std.proofs.lemmas.Int.{to_z-of_z}
 use Rattle.pbf_wire.specs.Cursors.{numbers_left, sums_left}
-use Rattle.osm_entity.specs.Sources.{low_32, tag_of, run, run_tags}
+use Rattle.osm_entity.specs.Sources.{low_32}
 use Rattle.pbf_dense.specs.Cursors.{dense_left, info_left}
 use Rattle.pbf_dense.specs.Nodes.{nodes_of_columns}
 use Rattle.pbf_dense.proofs.MovingLemmas.{no_lats, one_node}
-use Rattle.pbf_dense.specs.Runs.{after_run}
 use Rattle.pbf_dense.proofs.dense.Dense.next_in.Goals as goal
 
 pub returns-in_default-next : goal.returns-in_default-next
@@ -14,8 +13,8 @@ unfolding dense_left
 returns-in_default-next c =
     let dense = c.args.self.now in
     let none = c.in_default-next.ensures.steps in
-    let along = λ (ids lats : List ℤ). nodes_of_columns dense.texts.table.now dense.scale ids lats (sums_left dense.lons) (info_left dense.info) (map low_32 (numbers_left dense.keys_vals)) in
-    let gone = λ (ids : List ℤ). no_lats dense.texts.table.now dense.scale ids (sums_left dense.lons) (info_left dense.info) (map low_32 (numbers_left dense.keys_vals)) in (
+    let along = λ (ids lats : List ℤ). nodes_of_columns dense.table.now dense.scale ids lats (sums_left dense.lons) (info_left dense.info) (map low_32 (numbers_left dense.keys_vals)) in
+    let gone = λ (ids : List ℤ). no_lats dense.table.now dense.scale ids (sums_left dense.lons) (info_left dense.info) (map low_32 (numbers_left dense.keys_vals)) in (
       ap (along (sums_left dense.ids)) none.0 ∙ gone (sums_left dense.ids),
       ap (along (sums_left c.next.new.self)) none.1 ∙ gone (sums_left c.next.new.self),
     )
@@ -24,12 +23,11 @@ pub returns : goal.returns
 unfolding dense_left
 returns c =
     let dense = c.args.self.now in
-    let table = dense.texts.table.now in
+    let table = dense.table.now in
     let before = map low_32 (numbers_left dense.keys_vals) in
     let id : SFits w64 c.in-Some.id = search rules in
     let lat : SFits w64 c.in-Some-next.lat = search rules in
     let lon : SFits w64 c.in-Some-next-2.lon = search rules in
-    let same : c.take_in.new.texts.table.now ≡ table = ap (λ t. t.now) c.take_in.ensures.table in
-    one_node table _ dense.scale _ _ _ _ _ _ _ _ _ _ _ _ (info_left dense.info) _ before (map low_32 (numbers_left c.take_tags.new.numbers)) _ _ _ same c.in-Some.ensures.steps c.in-Some-next.ensures.steps c.in-Some-next-2.ensures.steps
+    one_node table dense.scale _ _ _ _ _ _ _ _ _ _ _ _ (info_left dense.info) _ before (map low_32 (numbers_left c.take_tags.new.numbers)) _ _ _ c.in-Some.ensures.steps c.in-Some-next.ensures.steps c.in-Some-next-2.ensures.steps
     (to_z-of_z w64 c.in-Some.id id) (to_z-of_z w64 c.in-Some-next.lat lat) (to_z-of_z w64 c.in-Some-next-2.lon lon)
-    c.take_in.ensures.meta c.take_in.ensures.rest (c.take_tags.ensures.tags ∙ ap (λ t. run_tags t (numbers_left dense.keys_vals)) same) c.take_tags.ensures.rest refl
+    c.take_in.ensures.meta c.take_in.ensures.rest c.take_tags.ensures.tags c.take_tags.ensures.rest refl

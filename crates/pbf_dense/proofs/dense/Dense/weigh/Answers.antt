@@ -9,7 +9,7 @@ use Rattle.pbf_dense.proofs.dense.Dense.weigh.Goals as goal
 pub nodes-preserved-in-Some : goal.nodes-preserved-in-Some
 nodes-preserved-in-Some c =
     let dense = c.args.self.now in
-    let table = dense.texts.table.now in
+    let table = dense.table.now in
     let old = c.nodes.weights in
     let new = c.next_eight.new.self in
     let inv = c.nodes.invariant in
@@ -25,12 +25,12 @@ nodes-preserved-in-Some c =
 pub nodes-preserved : goal.nodes-preserved
 nodes-preserved c =
     let dense = c.args.self.now in
-    let table = dense.texts.table.now in
+    let table = dense.table.now in
     let old = c.next_eight.new.self in
     let new = c.next-next.new.self in
     let inv = c.nodes.invariant in
     let same : old ≡ c.nodes.weights = c.in_default.ensures.kept refl in
-    let tables = ap (λ (w : Weights). w.texts.table) same ∙ inv.table in
+    let tables = ap (λ (w : Weights). w.table) same ∙ inv.table in
     let weighed = subst (λ (w : Weights). AreWeighed table (sums_left dense.info.users) (map low_32 (numbers_left dense.keys_vals)) (sums_left w.users) (map low_32 (numbers_left w.keys_vals)) c.nodes.count c.nodes.weight) (sym same) inv.weighed in
     let e = c.next-next.ensures in
     let users = sums_left old.users in

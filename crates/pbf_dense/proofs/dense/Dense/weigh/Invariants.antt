@@ -8,8 +8,8 @@ abbrev pub invariant-nodes : goal.invariant-nodes
 invariant-nodes l = record {
   few : l.count ≤ l.most;
   light : l.weight ≤ l.most_weight;
-  table : l.weights.texts.table ≡ l.self.texts.table;
-  weighed : AreWeighed l.self.texts.table.now (sums_left l.self.info.users) (map low_32 (numbers_left l.self.keys_vals)) (sums_left l.weights.users) (map low_32 (numbers_left l.weights.keys_vals)) l.count l.weight;
+  table : l.weights.table ≡ l.self.table;
+  weighed : AreWeighed l.self.table.now (sums_left l.self.info.users) (map low_32 (numbers_left l.self.keys_vals)) (sums_left l.weights.users) (map low_32 (numbers_left l.weights.keys_vals)) l.count l.weight;
 }
 
 abbrev pub decreases-nodes : goal.decreases-nodes
