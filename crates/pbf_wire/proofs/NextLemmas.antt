@@ -1,6 +1,6 @@
 -- The next values of a delta column.
-use Rattle.std.proofs.Common.{◌≡◌, Bool, true, false, true≢false, cond, ℕ, suc, ◌+◌, ◌/◌, ◌%◌, ◌^◌, ◌<◌, eqb, ℤ, pos, negsuc, ◌+ℤ◌, ◌-ℤ◌, ◌<ℤ◌, w64, to_z, of_z, FitsSigned, List, ◌∷◌, drop, length, map, refl, ap, subst, sym, ◌∙◌, arith}
-use Rattle.std.specs.Prelude.{IsTrue, unsigned_abs}
+use Rattle.std.proofs.Common.{◌≡◌, Bool, true, false, true≢false, ℕ, suc, ◌+◌, ◌^◌, ◌<◌, ℤ, pos, ◌+ℤ◌, w64, to_z, of_z, FitsSigned, List, ◌∷◌, drop, length, map, refl, ap, subst, sym, ◌∙◌, arith}
+use Rattle.std.specs.Prelude.{IsTrue}
 use Rattle.std.proofs.lemmas.Int.{ints, to_z-of_z}
 use mir.Val.{SFits}
 use Rattle.pbf_wire.specs.declared.column.Column.{Column}
@@ -25,17 +25,6 @@ pub delta_near : (narrow near : Bool) (number : ℕ) → (IsTrue narrow → IsTr
 delta_near false near number only small = refl
 delta_near true true number only small = ap unzigzag (omega (arith, small))
 delta_near true false number only small = absurd (true≢false (sym (only refl)))
-
--- and it reaches no further from 0 than it is large
-near_total : (limit total : ℤ) (number most : ℕ) → number < most → IsWithin (limit -ℤ pos most) total → IsWithin limit (total +ℤ unzigzag number)
-near_total limit total number most small within = by (eqb (number % 2) 0)
-  where
-    by : (b : Bool) → IsWithin limit (total +ℤ cond b (pos (number / 2)) (negsuc (number / 2)))
-    by true = record { above = omega (arith, ints, small, within.above, within.below); below = omega (arith, ints, small, within.above, within.below) }
-    by false = record { above = omega (arith, ints, small, within.above, within.below); below = omega (arith, ints, small, within.above, within.below) }
-
-pub stays_within : (limit total : ℤ) (number most : ℕ) → number < most → pos (unsigned_abs total) <ℤ (limit -ℤ pos most) → IsWithin limit (total +ℤ unzigzag number)
-stays_within limit total number most small near = near_total limit total number most small (record { above = omega (arith, ints, near); below = omega (arith, ints, near) })
 
 -- ---- as they are stored
 

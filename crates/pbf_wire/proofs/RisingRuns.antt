@@ -88,7 +88,7 @@ placed_run (b ∷ bs) ns place more = ap (λ (xs : List ℕ). b ∷ xs) (placed_
 
 -- ---- as entries
 
-abbrev values : ℤ → ℤ → Bool → List ℕ → List ℤ
+abbrev pub values : ℤ → ℤ → Bool → List ℕ → List ℤ
 values limit total narrow ns = sums_within limit total (map (delta_in narrow) ns)
 
 pub half_is : (b : ℕ) → b % 2 ≡ 0 → unzigzag b ≡ pos (b / 2)

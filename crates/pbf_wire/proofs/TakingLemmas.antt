@@ -11,15 +11,15 @@ use Rattle.pbf_wire.specs.Columns.{packed}
 use Rattle.pbf_wire.specs.Cursors.{numbers_left}
 use Rattle.pbf_wire.specs.Packed.{HoldsDeltas, last_from, values_of}
 use Rattle.pbf_wire.specs.Rising.{IsHalved, AreRising}
-use Rattle.pbf_wire.specs.Signed.{zigzag, unzigzag, delta_in, IsNear, IsWithin}
-use Rattle.pbf_wire.specs.Sums.{differences, sums_within}
+use Rattle.pbf_wire.specs.Signed.{zigzag, unzigzag, IsNear, IsWithin}
+use Rattle.pbf_wire.specs.Sums.{differences}
 use Rattle.pbf_wire.specs.Taking.{Left, left_of, written_after, AreSpelled}
 use Rattle.pbf_wire.specs.declared.column.Column.{Column}
 use Rattle.pbf_wire.specs.declared.sums.Sums.{Sums}
 use Rattle.pbf_wire.proofs.MessageLemmas.{all_append}
 use Rattle.pbf_wire.proofs.NextLemmas.{value_after, next_is}
 use Rattle.pbf_wire.proofs.PackedLemmas.{values_held}
-use Rattle.pbf_wire.proofs.RisingRuns.{half_is, rise_doubled, sum_cons}
+use Rattle.pbf_wire.proofs.RisingRuns.{values, half_is, rise_doubled, sum_cons}
 use Rattle.pbf_wire.proofs.Shortest.{one_byte}
 use Rattle.pbf_wire.proofs.SumLemmas.{IsSmall}
 
@@ -76,9 +76,6 @@ one_taken old new number sum values bytes =
     }
 
 -- ---- entries of one byte
-
-abbrev values : ℤ → ℤ → Bool → List ℕ → List ℤ
-values limit total narrow ns = sums_within limit total (map (delta_in narrow) ns)
 
 abbrev left_at : ℤ → ℤ → Bool → List ℕ → List ℕ → Left
 left_at limit total narrow bytes ns = record { bytes = bytes; values = values limit total narrow ns; last = total }
