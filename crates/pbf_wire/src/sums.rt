@@ -15,10 +15,10 @@ use crate::sum::added;
 const NEAR: u64 = 1 << 61;
 
 /// Entries of at most five bytes are nearer to 0.
-const REACH: u64 = 1 << 35;
+const REACH: i64 = 1 << 35;
 
 /// Entries of at most three bytes are nearer to 0.
-const NARROW_REACH: u64 = 1 << 21;
+const NARROW_REACH: i64 = 1 << 21;
 
 /// A cursor over the values of a delta column: the running sums of its entries, up to the first that isn't strictly between
 /// `-limit` and `limit`. It does not allocate, and a copy of it continues by itself.
@@ -79,10 +79,10 @@ impl<'a> Sums<'a> {
             → IsWithin self.now.limit (self.now.total +ℤ unzigzag number) }
     {
         let Sums { total, limit, .. } = *self;
-        let reach = if narrow { NARROW_REACH } else { REACH };
-        // How far from 0 the sum may be: one comparison tests both sides, by which that number is added.
-        let near = limit.cast_unsigned().saturating_sub(reach);
-        total.cast_unsigned().wrapping_add(near) < 2 * near
+        if narrow {
+            return total.abs() < limit - NARROW_REACH;
+        }
+        total.abs() < limit - REACH
     }
 
     /// Adds the entry of a number to the sum, which stays within its limit.
