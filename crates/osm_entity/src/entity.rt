@@ -81,8 +81,8 @@ impl<'a> EntityRef<'a> {
         }
     }
 
-    /// What the entity counts for in a block, or the greatest number if it is more: 160, 32 for each tag, ref, location
-    /// and member, and the lengths of all its texts.
+    /// What the entity counts for in a block, or the greatest number if it is more: [`ENTITY_WEIGHT`](crate::ENTITY_WEIGHT),
+    /// [`PART_WEIGHT`](crate::PART_WEIGHT) for each tag, ref, location and member, and the lengths of all its texts.
     pub fn weight(&self) -> u64
         ensures { result ≡ min (entity_weight (entity_of self.now)) (2 ^ 64 - 1) }
     {

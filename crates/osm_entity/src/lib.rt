@@ -26,4 +26,4 @@ pub use relation::{Relation, RelationRef};
 pub use scale::Scale;
 pub use tags::{OwnedTags, PairedTags, RunTags, Tag, Tags};
 pub use way::{Way, WayRef};
-pub use weight::{HIGHEST_WEIGHT, UID_LIMIT};
+pub use weight::{ENTITY_WEIGHT, HIGHEST_WEIGHT, PART_WEIGHT, UID_LIMIT};

@@ -11,7 +11,7 @@ ghost use Rattle.osm_entity.specs.Views.{meta_of, node_of, owned_node};
 use crate::meta::{Meta, MetaRef};
 use crate::scale::Scale;
 use crate::tags::{OwnedTags, Tag, Tags, owned_tags};
-use crate::weight::{id_fits, tags_weight, within_weight_limit};
+use crate::weight::{ENTITY_WEIGHT, id_fits, tags_weight, within_weight_limit};
 use std::alloc::{AllocError, Global};
 
 /// A node that owns its texts.
@@ -169,7 +169,7 @@ impl<'a> NodeRef<'a> {
     {
         self.tags_weight()
             .saturating_add(self.meta.user_weight())
-            .saturating_add(160)
+            .saturating_add(ENTITY_WEIGHT)
     }
 
     /// What the node counts for in a block, if [`NodeRef::fits`] holds of it, and otherwise `None`.

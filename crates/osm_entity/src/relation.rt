@@ -13,7 +13,7 @@ use crate::meta::{Meta, MetaRef};
 use crate::scale::Scale;
 use crate::tags::{OwnedTags, Tag, Tags, owned_tags};
 use crate::weight::{
-    id_fits, members_weight, stored_members_weight, tags_weight, within_weight_limit,
+    ENTITY_WEIGHT, id_fits, members_weight, stored_members_weight, tags_weight, within_weight_limit,
 };
 use std::alloc::{AllocError, Global};
 
@@ -129,7 +129,7 @@ impl<'a> RelationRef<'a> {
         tags_weight(self.tags)
             .saturating_add(members)
             .saturating_add(self.meta.user_weight())
-            .saturating_add(160)
+            .saturating_add(ENTITY_WEIGHT)
     }
 
     /// What the relation counts for in a block, or the greatest number if it is more.

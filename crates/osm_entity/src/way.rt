@@ -8,6 +8,7 @@ ghost use Rattle.osm_entity.specs.Entity.{nano_location};
 ghost use Rattle.osm_entity.specs.Sources.{tags_left, refs_left, locations_left, nano_locations_left};
 ghost use Rattle.osm_entity.specs.Views.{meta_of, way_of, owned_way};
 ghost use Rattle.osm_entity.specs.Weight.{way_weight};
+ghost use Rattle.osm_entity.specs.declared.weight.TheConstants.{PART_WEIGHT};
 ghost use Rattle.osm_entity.specs.Ranges.{AreLocated, LocationFits, WayFits};
 
 use crate::locations::{Locations, NanoLocations, OwnedLocations, owned_locations};
@@ -16,8 +17,8 @@ use crate::refs::{OwnedRefs, Refs, owned_refs};
 use crate::scale::Scale;
 use crate::tags::{OwnedTags, Tag, Tags, owned_tags};
 use crate::weight::{
-    id_fits, locations_fit, locations_weight, refs_weight, stored_refs_weight, tags_weight,
-    within_weight_limit,
+    ENTITY_WEIGHT, id_fits, locations_fit, locations_weight, refs_weight, stored_refs_weight,
+    tags_weight, within_weight_limit,
 };
 use std::alloc::{AllocError, Global};
 
@@ -150,15 +151,15 @@ impl<'a> WayRef<'a> {
 
     /// The weight of the way, whose refs and locations weigh this.
     fn weight_with(&self, refs: u64, locations: u64) -> u64
-        requires refs { refs ≡ min (32 * length (way_of self.now).refs) (2 ^ 64 - 1) }
+        requires refs { refs ≡ min (PART_WEIGHT * length (way_of self.now).refs) (2 ^ 64 - 1) }
         requires locations { locations
-            ≡ min (32 * length (way_of self.now).locations) (2 ^ 64 - 1) }
+            ≡ min (PART_WEIGHT * length (way_of self.now).locations) (2 ^ 64 - 1) }
         ensures { result ≡ min (way_weight (way_of self.now)) (2 ^ 64 - 1) }
     {
         let texts = tags_weight(self.tags).saturating_add(self.meta.user_weight());
         refs.saturating_add(locations)
             .saturating_add(texts)
-            .saturating_add(160)
+            .saturating_add(ENTITY_WEIGHT)
     }
 
     /// What the way counts for in a block, or the greatest number if it is more.
@@ -223,7 +224,7 @@ fn as_many(refs: Refs<'_>, locations: Locations<'_>) -> bool
 fn located_weight(refs: Refs<'_>, locations: Locations<'_>) -> Option<u64>
     ensures { SomeIff result (AllByRecursion LocationFits (locations_left locations.entry)
         × AreLocated (refs_left refs.entry) (locations_left locations.entry))
-        (min (32 * length (locations_left locations.entry)) (2 ^ 64 - 1)) }
+        (min (PART_WEIGHT * length (locations_left locations.entry)) (2 ^ 64 - 1)) }
 {
     let mut rest = locations;
     if rest.next().is_none() {

@@ -6,6 +6,7 @@ use Rattle.pbf_wire.specs.Occurrence.{Occurrence}
 use Rattle.pbf_wire.specs.Columns.{column}
 use Rattle.pbf_wire.specs.Signed.{unzigzag, low_sint32}
 use Rattle.pbf_wire.specs.Sums.{sums}
+use Rattle.pbf_wire.proofs.SumLemmas.{from_index, same_map}
 use Rattle.osm_entity.specs.declared.scale.Scale.{Scale}
 use Rattle.osm_entity.specs.Entity.{TagSpec, MetaSpec, NodeSpec}
 use Rattle.osm_entity.specs.Sources.{tag_of, run}
@@ -13,19 +14,6 @@ use Rattle.pbf_dense.specs.declared.dense_info.TheConstants.{VERSION, TIMESTAMP,
 use Rattle.pbf_dense.specs.Info.{InfoSpec, meta_at, info_rest}
 use Rattle.pbf_dense.specs.Runs.{with_pair, runs_in, tags_at, after_run}
 use Rattle.pbf_dense.specs.Nodes.{nodes_of_columns}
-
--- ---- lists made from an index
-
-shifted : {X : Type 0} (f : ℕ → X) (a n : ℕ) → map f (range_with_len (a + 1) n) ≡ map (λ i. f (i + 1)) (range_with_len a n)
-shifted f a zero = refl
-shifted {X = X} f a (suc n) = ap (λ (xs : List X). f (a + 1) ∷ xs) (shifted f (a + 1) n)
-
-from_index : {X : Type 0} (f : ℕ → X) (n : ℕ) → map f (range_with_len 0 (suc n)) ≡ f 0 ∷ map (λ i. f (i + 1)) (range_with_len 0 n)
-from_index {X = X} f n = ap (λ (xs : List X). f 0 ∷ xs) (shifted f 0 n)
-
-same_map : {X : Type 0} (f g : ℕ → X) (a n : ℕ) → ((i : ℕ) → f i ≡ g i) → map f (range_with_len a n) ≡ map g (range_with_len a n)
-same_map f g a zero h = refl
-same_map {X = X} f g a (suc n) h = ap₂ (λ (x : X) (xs : List X). x ∷ xs) (h a) (same_map f g (a + 1) n h)
 
 -- ---- runs
 

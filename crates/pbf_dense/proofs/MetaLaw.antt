@@ -40,7 +40,7 @@ all_or_none {X = X} f metas h = by h.0 h.1
     by true h = inr (all_there f metas h)
     by false h = inl (ap (λ (xs : List X). length xs) (none_there f metas h))
 
-same_there : {X Y : Type 0} (g : X → Y) (o : Option X) → is_some (option_map g o) ≡ is_some o
+pub same_there : {X Y : Type 0} (g : X → Y) (o : Option X) → is_some (option_map g o) ≡ is_some o
 same_there g None = refl
 same_there g (Some x) = refl
 

@@ -1,6 +1,7 @@
 -- The nodes of a written dense message are those that it was written of.
 use Rattle.pbf_wire.specs.declared.fault.Reason.TheVariants.{EntityLarge}
 use Rattle.std.proofs.lemmas.Bool.{le-ltb}
+use Rattle.osm_entity.proofs.TagLemmas.{run_goes_on}
 use Rattle.pbf_dense.specs.Judged.{node_weight_fault, dense_weights, as_stored, early_fault, dense_fault}
 use Rattle.std.proofs.Common.{◌≡◌, ℕ, suc, ◌<◌, ◌||◌, ℤ, Bool, true, false, List, [], ◌∷◌, ◌++◌, length, map, Option, refl, sym, ap, ap₂, ◌∙◌, arith, true≢false, zero, None}
 use Rattle.std.specs.Prelude.{unwrap_or}
@@ -50,15 +51,11 @@ tag_named : (texts : List (List ℕ)) (t : TagSpec) → has_text texts t.0 ≡ t
 tag_named texts t p q =
     ap₂ (λ (k v : Option (List ℕ)). (unwrap_or k [], unwrap_or v [])) (text_at_index texts t.0 p) (text_at_index texts t.1 q)
 
-run_next : (key value : ℕ) (rest : List ℕ) → 0 < key → run (key ∷ value ∷ rest) ≡ (key, value) ∷ run rest
-run_next zero value rest h = absurd (omega arith)
-run_next (suc key) value rest h = refl
-
 -- a written run gives its tags
 run_given : (texts : List (List ℕ)) (tags : List TagSpec) (rest : List ℕ) → AllByRecursion (λ text. has_text texts text ≡ true) (tag_texts tags) → map (tag_of (table_of texts)) (run (run_of texts tags ++ rest)) ≡ tags
 run_given texts [] rest h = refl
 run_given texts (t ∷ tags) rest h =
-    ap (map (tag_of (table_of texts))) (run_next (index_in texts t.0) (index_in texts t.1) (run_of texts tags ++ rest) (omega arith))
+    ap (map (tag_of (table_of texts))) (run_goes_on (index_in texts t.0) (index_in texts t.1) (run_of texts tags ++ rest) (omega arith))
     ∙ ap₂ (λ (x : TagSpec) (xs : List TagSpec). x ∷ xs) (tag_named texts t h.0 h.1.0) (run_given texts tags rest h.1.1)
 
 run_passed : (texts : List (List ℕ)) (tags : List TagSpec) (rest : List ℕ) → after_run (run_of texts tags ++ rest) ≡ rest

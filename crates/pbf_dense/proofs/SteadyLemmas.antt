@@ -14,6 +14,7 @@ use Rattle.pbf_dense.specs.Runs.{after_run}
 use Rattle.pbf_dense.specs.Steady.{InEachOrNone, IsInfoSteady, IsSteady}
 use Rattle.pbf_dense.specs.WrittenDense.{InAllOrNone, AreAlike}
 use Rattle.pbf_dense.specs.declared.dense.Dense.{Dense}
+use Rattle.pbf_dense.proofs.MetaLaw.{same_there}
 
 -- a list has so many entries, or none
 abbrev Lasts : {X : Type 0} → Bool → ℕ → List X → Type 0
@@ -29,10 +30,6 @@ later_there : {X : Type 0} (there : Bool) (n : ℕ) (xs : List X) → Lasts ther
 later_there true n [] h = absurd (omega arith)
 later_there true n (x ∷ xs) h = omega (arith, h)
 later_there false n xs h = ap (drop 1) h
-
-pub mapped : {X Y : Type 0} (f : X → Y) (o : Option X) → is_some (option_map f o) ≡ is_some o
-mapped f None = refl
-mapped f (Some x) = refl
 
 module _ (table : List (List ℕ)) (scale : Scale) where
   abbrev metas : List ℤ → List ℤ → List ℤ → InfoSpec → List ℕ → List MetaSpec
@@ -64,12 +61,12 @@ module _ (table : List (List ℕ)) (scale : Scale) where
 
   alike : (ids lats lons : List ℤ) (info : InfoSpec) (keys_vals : List ℕ) → IsInfoSteady (length ids) info → AreAlike (metas ids lats lons info keys_vals)
   alike ids lats lons info keys_vals h = record {
-    version = in_all_or_none (λ i. i.versions) (λ m. m.version) (λ i. refl) (λ i. mapped _ (slice_get i.versions 0)) ids lats lons info keys_vals h.versions;
+    version = in_all_or_none (λ i. i.versions) (λ m. m.version) (λ i. refl) (λ i. same_there _ (slice_get i.versions 0)) ids lats lons info keys_vals h.versions;
     timestamp = in_all_or_none (λ i. i.timestamps) (λ m. m.timestamp) (λ i. refl) (λ i. refl) ids lats lons info keys_vals h.timestamps;
     changeset = in_all_or_none (λ i. i.changesets) (λ m. m.changeset) (λ i. refl) (λ i. refl) ids lats lons info keys_vals h.changesets;
     uid = in_all_or_none (λ i. i.uids) (λ m. m.uid) (λ i. refl) (λ i. refl) ids lats lons info keys_vals h.uids;
-    user = in_all_or_none (λ i. i.users) (λ m. m.user) (λ i. refl) (λ i. mapped _ (slice_get i.users 0)) ids lats lons info keys_vals h.users;
-    visible = in_all_or_none (λ i. i.visible) (λ m. m.visible) (λ i. refl) (λ i. mapped _ (slice_get i.visible 0)) ids lats lons info keys_vals h.visible;
+    user = in_all_or_none (λ i. i.users) (λ m. m.user) (λ i. refl) (λ i. same_there _ (slice_get i.users 0)) ids lats lons info keys_vals h.users;
+    visible = in_all_or_none (λ i. i.visible) (λ m. m.visible) (λ i. refl) (λ i. same_there _ (slice_get i.visible 0)) ids lats lons info keys_vals h.visible;
   }
 
 pub steady_is : (dense : Dense) (count : ℕ) → count ≡ length (sums_left dense.ids) → length (sums_left dense.lats) ≡ count → length (sums_left dense.lons) ≡ count → IsInfoSteady count (info_left dense.info) → IsSteady count dense

@@ -1,5 +1,5 @@
 -- Ids by spans of stored places are those of the nodes in the box.
-use Rattle.std.proofs.Common.{◌≡◌, ◌+◌, ◌<◌, ◌≤◌, length, ℕ, zero, suc, ℤ, Bool, true, false, ◌&&◌, cond, List, [], ◌∷◌, map, drop, take, refl, sym, ap, ap₂, ◌∙◌, arith, subst}
+use Rattle.std.proofs.Common.{◌≡◌, ◌+◌, ◌-◌, ◌<◌, ◌≤◌, length, ℕ, zero, suc, ℤ, Bool, true, false, ◌&&◌, cond, List, [], ◌∷◌, map, drop, take, refl, sym, ap, ap₂, ◌∙◌, arith, rules, subst}
 use Rattle.std.proofs.Math.Seq.{drop-nil, take-add}
 use Rattle.std.proofs.lemmas.List.{drop-drop, length-drop, take_all}
 use Rattle.pbf_wire.specs.Spans.{is_in, AreAlike, ArePassed}
@@ -16,6 +16,7 @@ use Rattle.pbf_dense.specs.Info.{InfoSpec, meta_at, info_rest}
 use Rattle.pbf_dense.specs.Runs.{after_run}
 use Rattle.pbf_dense.specs.Nodes.{nodes_of_columns}
 use Rattle.pbf_dense.specs.Within.{lies_in, ids_within, ids_along}
+use Rattle.pbf_dense.proofs.MovingLemmas.{drop_one}
 
 -- ---- a column that has ended
 
@@ -59,10 +60,6 @@ pub one_outside : (lat_span lon_span : Span) (ids lats lons : List ℤ) (lon : �
 one_outside lat_span lon_span [] lats lons lon h = refl
 one_outside lat_span lon_span (id ∷ ids) [] lons lon h = sym (no_lats lat_span lon_span ids lons)
 one_outside lat_span lon_span (id ∷ ids) (lat ∷ lats) lons lon h = rw (h, and_false (is_in lat_span lat)) refl
-
-drop_one : {A : Type 0} (n : ℕ) (xs : List A) → drop (suc n) xs ≡ drop n (drop 1 xs)
-drop_one n [] = sym (drop-nil n)
-drop_one n (x ∷ xs) = refl
 
 -- nor do so many
 pub some_outside : (lat_span lon_span : Span) (n : ℕ) (ids lats lons : List ℤ) → AreAlike lon_span false (take n lons)

@@ -4,6 +4,7 @@ use Rattle.std.specs.Option.{option_map}
 use Rattle.pbf_wire.specs.Passing.{eight_of}
 use Rattle.osm_entity.specs.Entity.{NodeSpec}
 use Rattle.osm_entity.specs.Sources.{tag_of, run}
+use Rattle.osm_entity.specs.declared.weight.TheConstants.{ENTITY_WEIGHT}
 use Rattle.osm_entity.specs.Weight.{tags_weight, text_weight}
 use Rattle.osm_entity.specs.Ranges.{IsStored, MetaFits}
 use Rattle.pbf_dense.specs.Cursors.{dense_left}
@@ -37,14 +38,14 @@ user_weight table users = text_weight (option_map (user_text table) (slice_get u
 
 -- the first node
 abbrev pub first_weight : List (List ℕ) → List ℤ → List ℕ → ℕ
-first_weight table users keys_vals = 160 + user_weight table users + tags_weight (map (tag_of table) (run keys_vals))
+first_weight table users keys_vals = ENTITY_WEIGHT + user_weight table users + tags_weight (map (tag_of table) (run keys_vals))
 
 -- eight nodes without tags that have the same user
 pub record AreEight (table : List (List ℕ)) (users later : List ℤ) (runs rest : List ℕ) (weight : ℕ) : Type 0 where
   pub user : ℤ
   pub users_are : users ≡ eight_of user ++ later
   pub runs_are : runs ≡ eight_of 0 ++ rest
-  pub weight_is : weight ≡ 8 * (160 + length (user_text table user))
+  pub weight_is : weight ≡ 8 * (ENTITY_WEIGHT + length (user_text table user))
 
 -- ---- what is written
 

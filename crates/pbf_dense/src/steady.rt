@@ -11,6 +11,7 @@ ghost use Rattle.pbf_dense.specs.Taking.{PassesRun};
 use crate::dense::Dense;
 use crate::entries::{next_number, next_sum};
 use crate::user_texts::{text_if_some, text_of};
+use osm_entity::{ENTITY_WEIGHT, PART_WEIGHT};
 use pbf_strings::Table;
 use pbf_wire::{Column, Sums, low_u32};
 
@@ -71,7 +72,7 @@ fn weigh_run(numbers: &mut Column<'_>, table: &Table<'_>) -> u64
             break;
         };
         weight = weight
-            .saturating_add(32)
+            .saturating_add(PART_WEIGHT)
             .saturating_add(length_of(table, key))
             .saturating_add(length_of(table, value));
     }
@@ -136,7 +137,7 @@ impl<'a> Weights<'a> {
     {
         let user = self.next_user();
         let tags = weigh_tags(&mut self.keys_vals, self.table);
-        user.saturating_add(160).saturating_add(tags)
+        user.saturating_add(ENTITY_WEIGHT).saturating_add(tags)
     }
 
     /// What the next eight nodes weigh together, if it is seen at once that they have no tags and the user of the node before, and if they
@@ -161,7 +162,9 @@ impl<'a> Weights<'a> {
         }
         let user = next.users.last_value();
         let text = text_of(next.table, user);
-        let weight = (text.len() as u64).saturating_add(160).saturating_mul(8);
+        let weight = (text.len() as u64)
+            .saturating_add(ENTITY_WEIGHT)
+            .saturating_mul(8);
         if weight > room {
             return None;
         }

@@ -7,7 +7,7 @@ pub mod Cutting
 pub mod Columns
 pub mod Written
 pub mod SumLemmas
-pub mod SumRoomLemmas
+pub mod NextLemmas
 pub mod SpanLemmas
 pub mod RisingRuns
 pub mod PackedLemmas

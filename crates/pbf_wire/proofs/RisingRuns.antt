@@ -1,26 +1,26 @@
 -- Entries of one byte that aren't negative, sixteen at once.
-use Rattle.std.proofs.Common.{◌≡◌, ◌<◌, ◌≤◌, ◌+◌, ◌-◌, ◌*◌, ◌/◌, ◌%◌, ◌^◌, ℕ, zero, suc, Bool, true, false, cond, leb, List, [], ◌∷◌, ◌++◌, length, map, take, drop, replicate, bit_and, ℤ, pos, negsuc, ◌+ℤ◌, ◌<ℤ◌, refl, sym, ap, subst, ◌∙◌, arith, w8, w64, to_z, of_z, take-append-drop}
+use Rattle.std.proofs.Common.{◌≡◌, ◌<◌, ◌≤◌, ◌+◌, ◌-◌, ◌*◌, ◌/◌, ◌%◌, ◌^◌, ℕ, zero, suc, Bool, true, false, cond, leb, List, [], ◌∷◌, ◌++◌, length, map, take, drop, replicate, bit_and, ℤ, pos, negsuc, ◌+ℤ◌, ◌<ℤ◌, refl, sym, ap, subst, ◌∙◌, arith, w8, take-append-drop}
 use Rattle.std.specs.List.{AllByRecursion, fold, sum}
 use Rattle.std.specs.Simd.Lanes.{mask_l, sum_l, fold_l, zip2, top}
 use Rattle.std.proofs.lemmas.Bool.{eq-eqb}
 use Rattle.std.proofs.lemmas.Bool.Decides.{nat_tests}
-use Rattle.std.proofs.lemmas.Int.{ints, to_z-of_z}
+use Rattle.std.proofs.lemmas.Int.{ints}
 use Rattle.std.proofs.lemmas.List.{length-map, map-id}
 use Rattle.std.proofs.lemmas.Nat.{and_mask}
 use Rattle.std.proofs.lemmas.Simd.{fold-sum, mask_l-mod, tops_compared, zip2_splat_left}
-use mir.Val.{bits, hbits, SFits}
+use mir.Val.{bits, hbits}
 use Rattle.pbf_wire.specs.Columns.{entries, read_entries, placed}
 use Rattle.pbf_wire.specs.Cursors.{numbers_left, sums_left}
 use Rattle.pbf_wire.specs.Rising.{IsHalved, AreRising}
-use Rattle.pbf_wire.specs.Signed.{delta_in, unzigzag}
+use Rattle.pbf_wire.specs.Signed.{delta_in, unzigzag, IsWithin}
 use Rattle.pbf_wire.specs.Spans.{ArePassed}
-use Rattle.pbf_wire.specs.Sums.{HasRoom, sums_within}
+use Rattle.pbf_wire.specs.Sums.{sums_within}
 use Rattle.pbf_wire.specs.declared.column.Column.{Column}
 use Rattle.pbf_wire.specs.declared.span.Span.{Span}
 use Rattle.pbf_wire.specs.declared.sums.Sums.{Sums}
 use Rattle.pbf_wire.proofs.Columns.{entries_ok}
 use Rattle.pbf_wire.proofs.SpanLemmas.{one_past, span_has}
-use Rattle.pbf_wire.proofs.SumRoomLemmas.{room_after, value_after}
+use Rattle.pbf_wire.proofs.NextLemmas.{value_after}
 use Rattle.pbf_wire.proofs.Varints.{one_byte}
 
 -- ---- lanes
@@ -88,54 +88,46 @@ placed_run (b ∷ bs) ns place more = ap (λ (xs : List ℕ). b ∷ xs) (placed_
 
 -- ---- as entries
 
-abbrev values : ℤ → ℤ → Bool → List ℕ → List ℤ
+abbrev pub values : ℤ → ℤ → Bool → List ℕ → List ℤ
 values limit total narrow ns = sums_within limit total (map (delta_in narrow) ns)
 
 pub half_is : (b : ℕ) → b % 2 ≡ 0 → unzigzag b ≡ pos (b / 2)
 half_is b even = ap (λ (t : Bool). cond t (pos (b / 2)) (negsuc (b / 2))) (eq-eqb _ _ even)
 
-run_past : (bytes more : List ℕ) (span : Span) (vs : List ℤ) (limit total : ℤ) (room n : ℕ) (narrow : Bool) → HasRoom limit total room → length bytes ≤ room → AllByRecursion IsHalved bytes → span.above <ℤ total → (total +ℤ pos (sum bytes / 2)) <ℤ span.below
+pub rise_doubled : (rise : ℕ) → unzigzag (2 * rise) ≡ pos rise
+rise_doubled rise = let same : (2 * rise) / 2 ≡ rise = omega arith in half_is (2 * rise) (omega arith) ∙ ap pos same
+
+run_past : (bytes more : List ℕ) (span : Span) (vs : List ℤ) (limit total : ℤ) (n : ℕ) (narrow : Bool) → AllByRecursion IsHalved bytes → IsWithin limit total → IsWithin limit (total +ℤ pos (sum bytes / 2)) → span.above <ℤ total → (total +ℤ pos (sum bytes / 2)) <ℤ span.below
     → ArePassed span true vs (values limit total narrow (bytes ++ more)) n → ArePassed span true vs (values limit (total +ℤ pos (sum bytes / 2)) narrow more) (n + length bytes)
-run_past [] more span vs limit total room n narrow roomy some each above below past =
+run_past [] more span vs limit total n narrow each here there above below past =
     let still : total ≡ total +ℤ pos (sum [] / 2) = omega (arith, ints) in
     let none : n ≡ n + length {A = ℕ} [] = omega arith in
     subst (λ m. ArePassed span true vs (values limit (total +ℤ pos (sum [] / 2)) narrow more) m) none (subst (λ t. ArePassed span true vs (values limit t narrow more) n) still past)
-run_past (b ∷ bs) more span vs limit total room n narrow roomy some each above below past =
+run_past (b ∷ bs) more span vs limit total n narrow each here there above below past =
     let half = half_is b each.0.1 in
     let value = total +ℤ unzigzag b in
-    let first : 0 < room = omega (arith, some) in
-    let small : b < 2 ^ 21 = omega (arith, each.0.0) in
-    let is = value_after limit total room b narrow (bs ++ more) roomy first small in
     let sums = sum_cons b bs in
     let even = each.0.1 in
     let low : span.above <ℤ value = omega (arith, ints, half, above) in
     let end : value +ℤ pos (sum bs / 2) ≡ total +ℤ pos (sum (b ∷ bs) / 2) = omega (arith, ints, half, sums, even) in
     let high : (value +ℤ pos (sum bs / 2)) <ℤ span.below = omega (arith, ints, end, below) in
-    let here : value <ℤ span.below = omega (arith, ints, high) in
-    let next = one_past span true vs _ value n (subst (λ zs. ArePassed span true vs zs n) is past) (span_has span value low here) in
+    let inside : value <ℤ span.below = omega (arith, ints, high) in
+    let next : IsWithin limit value = record { above = omega (arith, ints, half, here.above); below = omega (arith, ints, end, there.below) } in
+    let is = value_after limit total narrow b (bs ++ more) (omega (arith, each.0.0)) next in
+    let first = one_past span true vs _ value n (subst (λ zs. ArePassed span true vs zs n) is past) (span_has span value low inside) in
     let count : suc n + length bs ≡ n + length (b ∷ bs) = omega arith in
-    let more_past = run_past bs more span vs limit value (room - 1) (suc n) narrow (room_after limit total room b roomy first small) (omega (arith, some)) each.1 low high next in
+    let more_past = run_past bs more span vs limit value (suc n) narrow each.1 next (subst (IsWithin limit) (sym end) there) low high first in
     subst (λ m. ArePassed span true vs (values limit (total +ℤ pos (sum (b ∷ bs) / 2)) narrow more) m) count (subst (λ t. ArePassed span true vs (values limit t narrow more) (suc n + length bs)) end more_past)
 
 -- ---- of cursors
 
-pub run_is : (old new : Sums) (entries : Column) (front : List ℕ) (rise : ℕ) (span : Span) (vs : List ℤ) (n : ℕ) → 16 ≤ old.room → AreRising front rise → numbers_left old.entries ≡ front ++ numbers_left entries → span.above <ℤ old.total → new.total <ℤ span.below
-    → new.total ≡ old.total +ℤ pos rise → new.entries ≡ entries → new.limit ≡ old.limit → new.narrow ≡ old.narrow → ArePassed span true vs (sums_left old) n → ArePassed span true vs (sums_left new) (n + 16)
-run_is old new entries front rise span vs n some h numbers above below total_is entries_are limit_is narrow_is past =
-    let end : new.total ≡ old.total +ℤ pos (sum front / 2) = total_is ∙ ap (λ (r : ℕ). old.total +ℤ pos r) h.all in
+pub run_is : (old new : Sums) (entries : Column) (rise : ℕ) (span : Span) (vs : List ℤ) (n : ℕ) → AreRising (take 16 old.entries.packed.now) rise → numbers_left old.entries ≡ take 16 old.entries.packed.now ++ numbers_left entries → span.above <ℤ old.total → new.total <ℤ span.below
+    → new.total ≡ old.total +ℤ unzigzag (2 * rise) → new.entries ≡ entries → new.limit ≡ old.limit → new.narrow ≡ old.narrow → ArePassed span true vs (sums_left old) n → ArePassed span true vs (sums_left new) (n + 16)
+run_is old new entries rise span vs n h numbers above below is entries_are limit_is narrow_is past =
+    let front = take 16 old.entries.packed.now in
+    let end : new.total ≡ old.total +ℤ pos (sum front / 2) = is ∙ ap (λ (d : ℤ). old.total +ℤ d) (rise_doubled rise) ∙ ap (λ (r : ℕ). old.total +ℤ pos r) h.all in
+    let within : IsWithin old.limit new.total = subst (λ z. IsWithin z new.total) limit_is new.within in
     let before : ArePassed span true vs (values old.limit old.total old.narrow (front ++ numbers_left entries)) n = subst (λ ns. ArePassed span true vs (values old.limit old.total old.narrow ns) n) numbers past in
-    let after = run_past front (numbers_left entries) span vs old.limit old.total old.room n old.narrow old.roomy (omega (arith, some, h.many)) h.each above (subst (λ z. z <ℤ span.below) end below) before in
+    let after = run_past front (numbers_left entries) span vs old.limit old.total n old.narrow h.each old.within (subst (IsWithin old.limit) end within) above (subst (λ z. z <ℤ span.below) end below) before in
     let counted = subst (λ m. ArePassed span true vs (values old.limit (old.total +ℤ pos (sum front / 2)) old.narrow (numbers_left entries)) (n + m)) h.many after in
     rw (end, entries_are, limit_is, narrow_is) counted
-
-pub rise_stored : (limit total rise : ℤ) (room n : ℕ) → SFits w64 limit → SFits w64 total → HasRoom limit total room → 16 ≤ room → n < 2 ^ 16 → rise ≡ pos n
-    → to_z w64 (of_z w64 (to_z w64 (of_z w64 total) +ℤ to_z w64 (of_z w64 rise))) ≡ total +ℤ rise
-rise_stored limit total rise room n limit_fits total_fits h some small e =
-    let rise_fits : SFits w64 rise = omega (arith, ints, small, e) in
-    let fits : SFits w64 (total +ℤ rise) = omega (arith, ints, h.above, h.below, small, limit_fits, total_fits, some, e) in
-    rw (to_z-of_z w64 total total_fits, to_z-of_z w64 rise rise_fits) (to_z-of_z w64 (total +ℤ rise) fits)
-
-pub room_after_rise : (limit total rise : ℤ) (room n : ℕ) → SFits w64 limit → SFits w64 total → HasRoom limit total room → 16 ≤ room → n < 2 ^ 16 → rise ≡ pos n
-    → HasRoom limit (to_z w64 (of_z w64 (to_z w64 (of_z w64 total) +ℤ to_z w64 (of_z w64 rise)))) (room - 16)
-room_after_rise limit total rise room n limit_fits total_fits h some small e =
-    rw (rise_stored limit total rise room n limit_fits total_fits h some small e) (record { above = omega (arith, ints, h.above, h.below, small, some, e); below = omega (arith, ints, h.above, h.below, small, some, e) })

@@ -40,7 +40,7 @@ wider_has span wider n above below h =
 
 -- ---- how many there are
 
-sums_fit : (limit start : ℤ) (ds : List ℤ) → length (sums_within limit start ds) ≤ length ds
+pub sums_fit : (limit start : ℤ) (ds : List ℤ) → length (sums_within limit start ds) ≤ length ds
 sums_fit limit start [] = omega arith
 sums_fit limit start (d ∷ ds) =
     elim (added limit start d) as (λ r. length (then_more limit ds r) ≤ suc (length ds)) [

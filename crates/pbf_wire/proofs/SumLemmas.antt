@@ -108,10 +108,10 @@ shifted : {X : Type 0} (f : ℕ → X) (a n : ℕ) → map f (range_with_len (a 
 shifted f a zero = refl
 shifted {X = X} f a (suc n) = ap (λ (xs : List X). f (a + 1) ∷ xs) (shifted f (a + 1) n)
 
-from_index : {X : Type 0} (f : ℕ → X) (n : ℕ) → map f (range_with_len 0 (suc n)) ≡ f 0 ∷ map (λ i. f (i + 1)) (range_with_len 0 n)
+pub from_index : {X : Type 0} (f : ℕ → X) (n : ℕ) → map f (range_with_len 0 (suc n)) ≡ f 0 ∷ map (λ i. f (i + 1)) (range_with_len 0 n)
 from_index {X = X} f n = ap (λ (xs : List X). f 0 ∷ xs) (shifted f 0 n)
 
-same_map : {X : Type 0} (f g : ℕ → X) (a n : ℕ) → ((i : ℕ) → f i ≡ g i) → map f (range_with_len a n) ≡ map g (range_with_len a n)
+pub same_map : {X : Type 0} (f g : ℕ → X) (a n : ℕ) → ((i : ℕ) → f i ≡ g i) → map f (range_with_len a n) ≡ map g (range_with_len a n)
 same_map f g a zero h = refl
 same_map {X = X} f g a (suc n) h = ap₂ (λ (x : X) (xs : List X). x ∷ xs) (h a) (same_map f g (a + 1) n h)
 

@@ -1,6 +1,5 @@
 -- Values that are taken over as they are spelled.
-use Rattle.std.proofs.Common.{◌≡◌, ◌+◌, ◌-◌, ◌/◌, ◌%◌, ◌^◌, ◌<◌, ◌≤◌, ℕ, zero, suc, Bool, true, false, cond, eqb, ℤ, pos, negsuc, ◌+ℤ◌, ◌-ℤ◌, List, [], ◌∷◌, ◌++◌, length, map, take, drop, refl, sym, ap, ap₂, subst, ◌∙◌, arith, append_assoc, append-nil, length-append, take-append-drop}
-use Rattle.std.specs.Prelude.{IsTrue}
+use Rattle.std.proofs.Common.{◌≡◌, ◌+◌, ◌-◌, ◌*◌, ◌/◌, ◌%◌, ◌<◌, ◌≤◌, ℕ, zero, suc, Bool, true, false, cond, eqb, ℤ, pos, negsuc, ◌+ℤ◌, ◌-ℤ◌, List, [], ◌∷◌, ◌++◌, length, map, take, drop, refl, sym, ap, ap₂, subst, ◌∙◌, arith, append_assoc, append-nil, length-append, take-append-drop}
 use Rattle.std.specs.List.{AllByRecursion, sum}
 use Rattle.std.proofs.lemmas.Bool.Decides.{nat_tests}
 use Rattle.std.proofs.lemmas.Int.{ints}
@@ -12,17 +11,17 @@ use Rattle.pbf_wire.specs.Columns.{packed}
 use Rattle.pbf_wire.specs.Cursors.{numbers_left}
 use Rattle.pbf_wire.specs.Packed.{HoldsDeltas, last_from, values_of}
 use Rattle.pbf_wire.specs.Rising.{IsHalved, AreRising}
-use Rattle.pbf_wire.specs.Signed.{zigzag, unzigzag, delta_in, IsWithin}
-use Rattle.pbf_wire.specs.Sums.{differences, sums_within}
+use Rattle.pbf_wire.specs.Signed.{zigzag, unzigzag, IsNear, IsWithin}
+use Rattle.pbf_wire.specs.Sums.{differences}
 use Rattle.pbf_wire.specs.Taking.{Left, left_of, written_after, AreSpelled}
 use Rattle.pbf_wire.specs.declared.column.Column.{Column}
 use Rattle.pbf_wire.specs.declared.sums.Sums.{Sums}
 use Rattle.pbf_wire.proofs.MessageLemmas.{all_append}
+use Rattle.pbf_wire.proofs.NextLemmas.{value_after, next_is}
 use Rattle.pbf_wire.proofs.PackedLemmas.{values_held}
-use Rattle.pbf_wire.proofs.RisingRuns.{half_is, sum_cons}
+use Rattle.pbf_wire.proofs.RisingRuns.{values, half_is, rise_doubled, sum_cons}
 use Rattle.pbf_wire.proofs.Shortest.{one_byte}
-use Rattle.pbf_wire.proofs.SumLemmas.{IsSmall, added_within, then_more}
-use Rattle.pbf_wire.proofs.SumRoomLemmas.{room_within}
+use Rattle.pbf_wire.proofs.SumLemmas.{IsSmall}
 
 -- ---- joined runs
 
@@ -78,23 +77,14 @@ one_taken old new number sum values bytes =
 
 -- ---- entries of one byte
 
-abbrev values : ℤ → ℤ → Bool → List ℕ → List ℤ
-values limit total narrow ns = sums_within limit total (map (delta_in narrow) ns)
-
 abbrev left_at : ℤ → ℤ → Bool → List ℕ → List ℕ → Left
 left_at limit total narrow bytes ns = record { bytes = bytes; values = values limit total narrow ns; last = total }
-
--- an entry of which the low 32 bits are all
-delta_whole : (narrow : Bool) (n : ℕ) → n < 2 ^ 32 → delta_in narrow n ≡ unzigzag n
-delta_whole false n small = refl
-delta_whole true n small = ap unzigzag (omega arith)
 
 byte_taken : (limit total : ℤ) (narrow : Bool) (b : ℕ) (bytes ns : List ℕ) → b < 128 → IsWithin limit (total +ℤ unzigzag b)
     → AreSpelled (left_at limit total narrow (b ∷ bytes) (b ∷ ns)) (left_at limit (total +ℤ unzigzag b) narrow bytes ns) 1
 byte_taken limit total narrow b bytes ns small within =
-    let ds = map (delta_in narrow) ns in
     one_taken (left_at limit total narrow (b ∷ bytes) (b ∷ ns)) (left_at limit (total +ℤ unzigzag b) narrow bytes ns) b refl
-    (ap (λ (d : ℤ). sums_within limit total (d ∷ ds)) (delta_whole narrow b (omega (arith, small))) ∙ ap (then_more limit ds) (added_within limit total (unzigzag b) within))
+    (value_after limit total narrow b ns (omega (arith, small)) within)
     (ap (λ (w : List ℕ). w ++ bytes) (sym (one_byte b small)))
 
 module _ (limit total : ℤ) (narrow : Bool) (within : IsWithin limit total) where
@@ -151,41 +141,30 @@ holds_more bytes last values more h small = record {
 abbrev pub left_with : Sums → Column → ℤ → Left
 left_with sums entries total = left_at sums.limit total sums.narrow entries.packed.now (numbers_left entries)
 
--- an entry of a column, the low 32 bits of which are all if only those count
-pub entry_taken : (old : Sums) (entries : Column) (number : ℕ) (total : ℤ) → (IsTrue old.narrow → number < 2 ^ 32) → numbers_left old.entries ≡ number ∷ numbers_left entries → old.entries.packed.now ≡ shortest number ++ entries.packed.now
-    → total ≡ old.total +ℤ unzigzag number → IsWithin old.limit total → AreSpelled (left_of old) (left_with old entries total) 1
-entry_taken old entries number total low numbers bytes is within =
-    let ds = map (delta_in old.narrow) (numbers_left entries) in
-    let whole : delta_in old.narrow number ≡ unzigzag number = by old.narrow low in
-    one_taken (left_of old) (left_with old entries total) number is
-    (ap (λ (ns : List ℕ). sums_within old.limit old.total (map (delta_in old.narrow) ns)) numbers
-    ∙ ap (λ (d : ℤ). sums_within old.limit old.total (d ∷ ds)) whole
-    ∙ ap (then_more old.limit ds) (added_within old.limit old.total (unzigzag number) (subst (IsWithin old.limit) is within))
-    ∙ ap (λ (z : ℤ). z ∷ sums_within old.limit z ds) (sym is))
-    bytes
-  where
-    by : (narrow : Bool) → (IsTrue narrow → number < 2 ^ 32) → delta_in narrow number ≡ unzigzag number
-    by false low = refl
-    by true low = delta_whole true number (low refl)
+pub entry_taken : (old new : Sums) (entries : Column) (number : ℕ) → IsNear old.narrow number → numbers_left old.entries ≡ number ∷ numbers_left entries → old.entries.packed.now ≡ shortest number ++ entries.packed.now
+    → new.total ≡ old.total +ℤ unzigzag number → new.entries ≡ entries → new.limit ≡ old.limit → new.narrow ≡ old.narrow → AreSpelled (left_of old) (left_of new) 1
+entry_taken old new entries number small numbers bytes is entries_are limit_is narrow_is =
+    one_taken (left_of old) (left_of new) number is (next_is old new entries old.narrow number (λ h. h) small numbers is entries_are limit_is narrow_is) (rw entries_are bytes)
 
 pub zeros_taken : (old : Sums) (entries : Column) → numbers_left old.entries ≡ 0 ∷ 0 ∷ 0 ∷ 0 ∷ 0 ∷ 0 ∷ 0 ∷ 0 ∷ numbers_left entries → old.entries.packed.now ≡ 0 ∷ 0 ∷ 0 ∷ 0 ∷ 0 ∷ 0 ∷ 0 ∷ 0 ∷ entries.packed.now
     → AreSpelled (left_of old) (left_with old entries old.total) 8
 zeros_taken old entries numbers bytes =
     subst (λ (w : List ℕ). AreSpelled (left_at old.limit old.total old.narrow w (numbers_left old.entries)) (left_with old entries old.total) 8) (sym bytes)
     (subst (λ (ns : List ℕ). AreSpelled (left_at old.limit old.total old.narrow (0 ∷ 0 ∷ 0 ∷ 0 ∷ 0 ∷ 0 ∷ 0 ∷ 0 ∷ entries.packed.now) ns) (left_with old entries old.total) 8) (sym numbers)
-    (eight_taken old.limit old.total old.narrow (room_within old.limit old.total old.room old.roomy) entries.packed.now (numbers_left entries)))
+    (eight_taken old.limit old.total old.narrow old.within entries.packed.now (numbers_left entries)))
 
-pub rising_taken : (old : Sums) (entries : Column) (rise : ℕ) (total : ℤ) → AreRising (take 16 old.entries.packed.now) rise → numbers_left old.entries ≡ take 16 old.entries.packed.now ++ numbers_left entries → entries.packed.now ≡ drop 16 old.entries.packed.now
-    → total ≡ old.total +ℤ pos rise → IsWithin old.limit total → AreSpelled (left_of old) (left_with old entries total) 16
-rising_taken old entries rise total rising numbers bytes is within =
+pub rising_taken : (old new : Sums) (entries : Column) (rise : ℕ) → AreRising (take 16 old.entries.packed.now) rise → numbers_left old.entries ≡ take 16 old.entries.packed.now ++ numbers_left entries → entries.packed.now ≡ drop 16 old.entries.packed.now
+    → new.total ≡ old.total +ℤ unzigzag (2 * rise) → new.entries ≡ entries → new.limit ≡ old.limit → new.narrow ≡ old.narrow → AreSpelled (left_of old) (left_of new) 16
+rising_taken old new entries rise rising numbers bytes is entries_are limit_is narrow_is =
     let front = take 16 old.entries.packed.now in
     let whole : old.entries.packed.now ≡ front ++ entries.packed.now = sym (take-append-drop 16 old.entries.packed.now) ∙ ap (λ (w : List ℕ). front ++ w) (sym bytes) in
-    let end : total ≡ old.total +ℤ pos (sum front / 2) = is ∙ ap (λ (r : ℕ). old.total +ℤ pos r) rising.all in
-    let run = run_taken front entries.packed.now (numbers_left entries) old.limit old.total old.narrow rising.each (room_within old.limit old.total old.room old.roomy) (subst (IsWithin old.limit) end within) in
+    let end : new.total ≡ old.total +ℤ pos (sum front / 2) = is ∙ ap (λ (d : ℤ). old.total +ℤ d) (rise_doubled rise) ∙ ap (λ (r : ℕ). old.total +ℤ pos r) rising.all in
+    let within : IsWithin old.limit new.total = subst (λ z. IsWithin z new.total) limit_is new.within in
+    let run = run_taken front entries.packed.now (numbers_left entries) old.limit old.total old.narrow rising.each old.within (subst (IsWithin old.limit) end within) in
     let counted = subst (λ n. AreSpelled (left_at old.limit old.total old.narrow (front ++ entries.packed.now) (front ++ numbers_left entries)) (left_with old entries (old.total +ℤ pos (sum front / 2))) n) rising.many run in
     let ended = subst (λ z. AreSpelled (left_at old.limit old.total old.narrow (front ++ entries.packed.now) (front ++ numbers_left entries)) (left_with old entries z) 16) (sym end) counted in
-    subst (λ (w : List ℕ). AreSpelled (left_at old.limit old.total old.narrow w (numbers_left old.entries)) (left_with old entries total) 16) (sym whole)
-    (subst (λ (ns : List ℕ). AreSpelled (left_at old.limit old.total old.narrow (front ++ entries.packed.now) ns) (left_with old entries total) 16) (sym numbers) ended)
+    rw (entries_are, limit_is, narrow_is) (subst (λ (w : List ℕ). AreSpelled (left_at old.limit old.total old.narrow w (numbers_left old.entries)) (left_with old entries new.total) 16) (sym whole)
+    (subst (λ (ns : List ℕ). AreSpelled (left_at old.limit old.total old.narrow (front ++ entries.packed.now) ns) (left_with old entries new.total) 16) (sym numbers) ended))
 
 -- one run more, of those that are counted down
 pub more_taken : (a b c : Left) (count left n : ℕ) → left ≤ count → n ≤ left → AreSpelled a b (count - left) → AreSpelled b c n → AreSpelled a c (count - (left - n))

@@ -1,5 +1,5 @@
 -- Signed numbers as varints hold them.
-use Rattle.std.specs.Prelude.{ℕ, ℤ, pos, negsuc, Bool, ◌&&◌, ◌+◌, ◌*◌, ◌/◌, ◌%◌, ◌^◌, ◌==◌, ◌<ℤ◌, int_lt, neg_ℤ, ◌-◌, nat_lt, if◌then◌else◌}
+use Rattle.std.specs.Prelude.{ℕ, ℤ, pos, negsuc, Bool, ◌&&◌, ◌+◌, ◌*◌, ◌/◌, ◌%◌, ◌^◌, ◌==◌, ◌<◌, ◌<ℤ◌, int_lt, neg_ℤ, ◌-◌, nat_lt, if◌then◌else◌}
 
 -- in order of size: 0, -1, 1, -2, ..
 abbrev pub zigzag : ℤ → ℕ
@@ -16,6 +16,10 @@ low_sint32 v = unzigzag (v % 2 ^ 32)
 -- an entry of a delta column: all 64 bits of the number, or its low 32 bits
 abbrev pub delta_in : Bool → ℕ → ℤ
 delta_in narrow number = if narrow then low_sint32 number else unzigzag number
+
+-- a number of at most five bytes, or three if it is narrow
+abbrev pub IsNear : Bool → ℕ → Type 0
+IsNear narrow number = number < (if narrow then 2 ^ 21 else 2 ^ 35)
 
 -- two's complement in 32 bits, of the low 32 bits
 abbrev pub low_i32 : ℕ → ℤ

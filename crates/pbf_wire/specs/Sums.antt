@@ -1,5 +1,5 @@
 -- Columns of differences and their sums.
-use Rattle.std.specs.Prelude.{ℕ, ℤ, pos, neg_ℤ, ◌+◌, ◌*◌, ◌^◌, ◌+ℤ◌, ◌-ℤ◌, ◌<ℤ◌, if◌then◌else◌, Option, Some, None, List, [], ◌∷◌, length, map, take}
+use Rattle.std.specs.Prelude.{ℕ, ℤ, pos, ◌+◌, ◌+ℤ◌, ◌-ℤ◌, if◌then◌else◌, Option, Some, None, List, [], ◌∷◌, length, map, take}
 use Rattle.std.specs.List.{range_with_len}
 use Rattle.pbf_wire.specs.Signed.{zigzag, is_within}
 
@@ -43,8 +43,3 @@ differences start (v ∷ vs) = (v -ℤ start) ∷ differences v vs
 -- the numbers of the column that is written for these values
 abbrev pub deltas : List ℤ → List ℕ
 deltas values = map zigzag (differences (pos 0) values)
-
--- so many numbers that are at most 2^20 from 0 can be added to a sum, and it stays within its limit
-pub record HasRoom (limit total : ℤ) (room : ℕ) : Type 0 where
-  pub above : neg_ℤ limit <ℤ (total -ℤ pos (room * 2 ^ 20))
-  pub below : (total +ℤ pos (room * 2 ^ 20)) <ℤ limit

@@ -1,6 +1,7 @@
 //! A column: the numbers of all occurrences of one field, packed or single, joined.
 
 ghost use Rattle.std.specs.Prelude.{◌≡◌, ◌<◌, ◌≤◌, ◌^◌, ◌∷◌, ◌++◌, [], MatchOption, ⊤, IsTrue, false, length, take};
+ghost use Rattle.pbf_wire.specs.Signed.{IsNear};
 ghost use Rattle.pbf_wire.specs.Varint.{shortest};
 ghost use Rattle.pbf_wire.specs.Columns.{entries, read_entries};
 ghost use Rattle.pbf_wire.specs.declared.limits.TheConstants.{OFFSET_LIMIT};
@@ -9,7 +10,7 @@ use crate::field::Payload;
 use crate::fields::{Fields, FoundFields};
 use crate::runs::{after_singles, rise_of};
 use crate::short::{MOST_BYTES, count_left_if_small, count_short};
-use crate::varint::{far_varint, first_varint, short_varint, spelled_varint};
+use crate::varint::{first_varint, near_varint, spelled_varint};
 
 /// The first number of a packed column, and the bytes after it; `None` if the bytes don't begin with a varint.
 pub fn first_number(packed: &[u8]) -> Option<(u64, &[u8])>
@@ -23,35 +24,25 @@ pub fn first_number(packed: &[u8]) -> Option<(u64, &[u8])>
     }
 }
 
-/// Like [`first_number`], if it takes at most three bytes.
+/// Like [`first_number`], if it takes at most five bytes, or three if it is narrow.
 #[inline(always)]
-fn first_short(packed: &[u8]) -> Option<(u64, &[u8])>
+fn first_near(packed: &[u8], narrow: bool) -> Option<(u64, &[u8])>
     ensures { MatchOption result ⊤ (λ found. (read_entries (entries packed.now)
-        ≡ found.0 ∷ read_entries (entries found.1.now)) × (found.0 < 2 ^ 21)) }
+        ≡ found.0 ∷ read_entries (entries found.1.now)) × IsNear narrow found.0) }
 {
-    let (value, length) = short_varint(packed)?;
+    let (value, length) = near_varint(packed, narrow)?;
     Some((value, &packed[length..]))
 }
 
-/// Like [`first_number`], if it takes four or five bytes.
+/// Like [`first_near`], if it is spelled as it is written.
 #[inline(always)]
-fn first_far(packed: &[u8]) -> Option<(u64, &[u8])>
-    ensures { MatchOption result ⊤ (λ found. (read_entries (entries packed.now)
-        ≡ found.0 ∷ read_entries (entries found.1.now)) × (found.0 < 2 ^ 35)) }
-{
-    let (number, length) = far_varint(packed)?;
-    Some((number, &packed[length..]))
-}
-
-/// Like [`first_number`], if it takes at most five bytes and is spelled as it is written.
-#[inline(always)]
-fn first_spelled(packed: &[u8]) -> Option<(u64, &[u8])>
+fn first_spelled(packed: &[u8], narrow: bool) -> Option<(u64, &[u8])>
     ensures number { MatchOption result ⊤ (λ found. (read_entries (entries packed.now)
-        ≡ found.0 ∷ read_entries (entries found.1.now)) × (found.0 < 2 ^ 35)) }
+        ≡ found.0 ∷ read_entries (entries found.1.now)) × IsNear narrow found.0) }
     ensures spelled { MatchOption result ⊤
         (λ found. packed.now ≡ shortest found.0 ++ found.1.now) }
 {
-    let (spelled, length) = spelled_varint(packed)?;
+    let (spelled, length) = spelled_varint(packed, narrow)?;
     Some((spelled, &packed[length..]))
 }
 
@@ -221,41 +212,31 @@ impl<'a> Column<'a> {
         Some(value)
     }
 
-    /// The next number, if it takes at most three bytes of the packed occurrence that was begun. The place is left as it is.
+    /// The next number, if it takes at most five bytes of the packed occurrence that was begun, or three if it is narrow. The place is left
+    /// as it is.
     #[inline(always)]
     #[tactic(auto, unfolding(crate::specs::Cursors::column_left))]
-    pub(crate) fn next_short(&mut self) -> Option<u64>
+    pub(crate) fn next_near(&mut self, narrow: bool) -> Option<u64>
         ensures { MatchOption result (self.new ≡ self.old)
-            (λ value. (numbers_left self.old ≡ value ∷ numbers_left self.new) × (value < 2 ^ 21)) }
+            (λ value. (numbers_left self.old ≡ value ∷ numbers_left self.new)
+            × IsNear narrow value) }
     {
-        let (value, rest) = first_short(self.packed)?;
+        let (value, rest) = first_near(self.packed, narrow)?;
         self.packed = rest;
         Some(value)
     }
 
-    /// The next number, if it takes four or five bytes of the packed occurrence that was begun. The place is left as it is.
+    /// Like [`Column::next_near`], if the number is spelled as it is written.
     #[inline(always)]
     #[tactic(auto, unfolding(crate::specs::Cursors::column_left))]
-    pub(crate) fn next_far(&mut self) -> Option<u64>
-        ensures { MatchOption result (self.new ≡ self.old)
-            (λ value. (numbers_left self.old ≡ value ∷ numbers_left self.new) × (value < 2 ^ 35)) }
-    {
-        let (value, rest) = first_far(self.packed)?;
-        self.packed = rest;
-        Some(value)
-    }
-
-    /// The next number, if it takes at most five bytes of the packed occurrence that was begun and is spelled as it is written. The place
-    /// is left as it is.
-    #[inline(always)]
-    #[tactic(auto, unfolding(crate::specs::Cursors::column_left))]
-    pub(crate) fn next_spelled(&mut self) -> Option<u64>
+    pub(crate) fn next_spelled(&mut self, narrow: bool) -> Option<u64>
         ensures number { MatchOption result (self.new ≡ self.old)
-            (λ value. (numbers_left self.old ≡ value ∷ numbers_left self.new) × (value < 2 ^ 35)) }
+            (λ value. (numbers_left self.old ≡ value ∷ numbers_left self.new)
+            × IsNear narrow value) }
         ensures spelled { MatchOption result ⊤
             (λ value. self.old.packed.now ≡ shortest value ++ self.new.packed.now) }
     {
-        let (value, rest) = first_spelled(self.packed)?;
+        let (value, rest) = first_spelled(self.packed, narrow)?;
         self.packed = rest;
         Some(value)
     }

@@ -1,10 +1,9 @@
 //! A running sum that stays within its limit.
 
-ghost use Rattle.std.specs.Prelude.{◌≡◌, ◌^◌, pos, ◌+ℤ◌, ◌≤ℤ◌, ⊤, MatchOption, IfNone};
+ghost use Rattle.std.specs.Prelude.{◌≡◌, pos, ◌+ℤ◌, ◌≤ℤ◌, MatchOption, IfNone};
 ghost use Rattle.pbf_wire.specs.Signed.{IsWithin};
-ghost use Rattle.pbf_wire.specs.Sums.{HasRoom, Total, added};
+ghost use Rattle.pbf_wire.specs.Sums.{Total, added};
 
-use crate::limits::STORED_LIMIT;
 use std::marker::Model;
 
 /// The sum of the numbers that were added, strictly between `-limit` and `limit`. The value of a delta column is the sum of
@@ -40,41 +39,6 @@ pub(crate) fn added(total: i64, number: i64, limit: i64) -> Option<i64>
         None
     }
 }
-
-/// Like [`added`], and quicker, for numbers that aren't far from 0. `None` says nothing if the limit is above 2^62.
-#[inline(always)]
-pub(crate) fn added_near(total: i64, number: i64, limit: i64) -> Option<i64>
-    requires within { IsWithin limit total }
-    requires near { IsWithin (pos (2 ^ 35)) number }
-    ensures { MatchOption result ⊤ (λ sum. (sum ≡ total +ℤ number) × IsWithin limit sum) }
-{
-    // Below that limit no sum overflows.
-    if limit > STORED_LIMIT {
-        return None;
-    }
-    let sum = total + number;
-    if sum <= -limit || limit <= sum {
-        return None;
-    }
-    Some(sum)
-}
-
-/// How many entries of at most three bytes can be added to a sum before one may be out of range, or 2^32 - 1 if there are more. Each
-/// is at most 2^20 from 0.
-pub(crate) fn room_of(total: i64, limit: i64) -> u32
-    requires { IsWithin limit total }
-    ensures { HasRoom limit total result }
-{
-    let room = (limit.unsigned_abs() - 1 - total.unsigned_abs()) >> 20;
-    if room < 1 << 32 {
-        room as u32
-    } else {
-        u32::MAX
-    }
-}
-
-/// An entry of at most five bytes is at most so many times 2^20 from 0.
-pub(crate) const FAR_ROOM: u32 = 1 << 14;
 
 impl Sum {
     /// The sum of nothing, which is 0.

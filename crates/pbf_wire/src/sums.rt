@@ -1,8 +1,7 @@
 //! The values of a delta column.
 
-ghost use Rattle.std.specs.Prelude.{◌≡◌, ◌<◌, ◌≤ℤ◌, ◌+ℤ◌, ◌^◌, pos};
+ghost use Rattle.std.specs.Prelude.{◌≡◌, ◌≤ℤ◌, pos};
 ghost use Rattle.pbf_wire.specs.Signed.{IsWithin};
-ghost use Rattle.pbf_wire.specs.Sums.{HasRoom};
 ghost use Rattle.pbf_wire.specs.declared.limits.TheConstants.{SUM_LIMIT};
 
 use crate::column::Column;
@@ -10,10 +9,16 @@ use crate::fields::Fields;
 use crate::limits::STORED_LIMIT;
 use crate::signed::{delta_in, unzigzag};
 use crate::span::{Span, WHOLE_SPAN};
-use crate::sum::{FAR_ROOM, added, room_of};
+use crate::sum::added;
 
 /// Few small entries, added to a number nearer to 0, stay within the limit of stored numbers.
 const NEAR: u64 = 1 << 61;
+
+/// Entries of at most five bytes are nearer to 0.
+const REACH: i64 = 1 << 35;
+
+/// Entries of at most three bytes are nearer to 0.
+const NARROW_REACH: i64 = 1 << 21;
 
 /// A cursor over the values of a delta column: the running sums of its entries, up to the first that isn't strictly between
 /// `-limit` and `limit`. It does not allocate, and a copy of it continues by itself.
@@ -25,18 +30,15 @@ pub struct Sums<'a> {
     pub(crate) limit: i64,
     /// Whether the entries are `sint32`, of which the low 32 bits count.
     pub(crate) narrow: bool,
-    /// How many entries of at most three bytes can still be added without a test of the limit. In 32 bits, which lie free beside
-    /// `narrow`: a larger cursor would be copied by a call.
-    pub(crate) room: u32,
     ghost positive: { pos 1 ≤ℤ limit },
-    ghost roomy: { HasRoom limit total room },
+    ghost within: { IsWithin limit total },
 }
 
 impl<'a> Sums<'a> {
-    ghost use Rattle.std.specs.Prelude.{◌+◌, ◌-◌, ◌≤◌, ◌∷◌, ◌++◌, List, ℕ, ℤ, ⊤, true, false, IsTrue, MatchOption, drop, length, map};
+    ghost use Rattle.std.specs.Prelude.{◌+◌, ◌-◌, ◌≤◌, ◌+ℤ◌, ◌∷◌, ◌++◌, List, ℕ, ℤ, ⊤, true, false, IsTrue, MatchOption, drop, length, map};
     ghost use Rattle.std.specs.Iterator.{YieldsFirst};
     ghost use Rattle.std.specs.List.{AllByRecursion};
-    ghost use Rattle.pbf_wire.specs.Signed.{unzigzag, low_sint32};
+    ghost use Rattle.pbf_wire.specs.Signed.{unzigzag, low_sint32, IsNear};
     ghost use Rattle.pbf_wire.specs.Sums.{sums_within};
     ghost use Rattle.pbf_wire.specs.Cursors.{numbers_left, sums_left, last_given};
     ghost use Rattle.pbf_wire.specs.Passing.{PassesSome, eight_of};
@@ -53,7 +55,6 @@ impl<'a> Sums<'a> {
             total: 0,
             limit,
             narrow: false,
-            room: room_of(0, limit),
         }
     }
 
@@ -68,64 +69,50 @@ impl<'a> Sums<'a> {
             total: 0,
             limit,
             narrow: true,
-            room: room_of(0, limit),
         }
     }
 
-    /// Adds the entry of a short number to the sum.
+    /// Whether the sum stays within its limit by one more entry, of at most five bytes, or three if it is narrow.
     #[inline(always)]
-    fn add_short(&mut self, number: u64)
-        requires { (0 < self.old.room) × (number < 2 ^ 21) }
+    pub(crate) fn is_near(&self, narrow: bool) -> bool
+        ensures { IsTrue result → (number : ℕ) → IsNear narrow number
+            → IsWithin self.now.limit (self.now.total +ℤ unzigzag number) }
+    {
+        let Sums { total, limit, .. } = *self;
+        if narrow {
+            return total.abs() < limit - NARROW_REACH;
+        }
+        total.abs() < limit - REACH
+    }
+
+    /// Adds the entry of a number to the sum, which stays within its limit.
+    #[inline(always)]
+    pub(crate) fn add_near(&mut self, number: u64)
+        requires { IsWithin self.old.limit (self.old.total +ℤ unzigzag number) }
         ensures total { self.new.total ≡ self.old.total +ℤ unzigzag number }
         ensures entries { self.new.entries ≡ self.old.entries }
         ensures same { (self.new.limit ≡ self.old.limit) × (self.new.narrow ≡ self.old.narrow) }
     {
-        self.room -= 1;
+        // A proof knows the range of a field that was read.
+        let _limit = self.limit;
         self.total += unzigzag(number);
     }
 
-    /// The next value, if its entry takes at most three bytes and there is room for it. Nearly all values of a file are read so.
+    /// The next value, if its entry takes at most five bytes of the packed occurrence that was begun, or three if it is narrow, and the sum
+    /// is near. Nearly all values of a file are read so.
     #[inline(always)]
-    fn next_short(&mut self) -> Option<i64>
+    fn next_near(&mut self, narrow: bool) -> Option<i64>
+        requires { IsTrue self.old.narrow → IsTrue narrow }
         ensures { MatchOption result (sums_left self.new ≡ sums_left self.old)
             (λ value. sums_left self.old ≡ value ∷ sums_left self.new) }
     {
-        if self.room == 0 {
+        if !self.is_near(narrow) {
             return None;
         }
-        let Some(number) = self.entries.next_short() else {
+        let Some(number) = self.entries.next_near(narrow) else {
             return None;
         };
-        self.add_short(number);
-        Some(self.total)
-    }
-
-    /// Adds the entry of a number of four or five bytes to the sum. It takes the room of 2^14 entries of at most three bytes.
-    #[inline(always)]
-    fn add_far(&mut self, number: u64)
-        requires room { 2 ^ 14 ≤ self.old.room }
-        requires far { number < 2 ^ 35 }
-        ensures total { self.new.total ≡ self.old.total +ℤ unzigzag number }
-        ensures entries { self.new.entries ≡ self.old.entries }
-        ensures same { (self.new.limit ≡ self.old.limit) × (self.new.narrow ≡ self.old.narrow) }
-    {
-        self.room -= FAR_ROOM;
-        self.total += unzigzag(number);
-    }
-
-    /// The next value, if its entry takes four or five bytes and all bits of it count, and there is room for it.
-    #[inline(always)]
-    fn next_far(&mut self) -> Option<i64>
-        ensures { MatchOption result (sums_left self.new ≡ sums_left self.old)
-            (λ value. sums_left self.old ≡ value ∷ sums_left self.new) }
-    {
-        if self.narrow || self.room < FAR_ROOM {
-            return None;
-        }
-        let Some(number) = self.entries.next_far() else {
-            return None;
-        };
-        self.add_far(number);
+        self.add_near(number);
         Some(self.total)
     }
 
@@ -135,7 +122,7 @@ impl<'a> Sums<'a> {
     fn next_any(&mut self) -> Option<i64>
         ensures { YieldsFirst sums_left self.old result self.new }
     {
-        if let Some(value) = self.next_far() {
+        if let Some(value) = self.next_near(self.narrow) {
             return Some(value);
         }
         let number = self.entries.next()?;
@@ -143,9 +130,7 @@ impl<'a> Sums<'a> {
             self.entries = Column::over(Fields::new(&[], 0), 0);
             return None;
         };
-        self.room = 0;
         self.total = total;
-        self.room = room_of(total, self.limit);
         Some(total)
     }
 
@@ -158,10 +143,7 @@ impl<'a> Sums<'a> {
             → length (sums_left self.old) ≡ length (sums_left self.new) + 1 }
         ensures kept { result ≡ false → sums_left self.new ≡ sums_left self.old }
     {
-        if self.next_short().is_some() {
-            return true;
-        }
-        self.next_far().is_some()
+        self.next_near(self.narrow).is_some()
     }
 
     /// Skips the next value, if it is the last one again, by a 0 of one byte in the packed occurrence that was begun.
@@ -213,18 +195,6 @@ impl<'a> Sums<'a> {
         left
     }
 
-    /// Adds the sum of sixteen entries of one byte that aren't negative.
-    #[inline(always)]
-    fn add_rise(&mut self, rise: u16)
-        requires { 16 ≤ self.old.room }
-        ensures total { self.new.total ≡ self.old.total +ℤ pos rise }
-        ensures entries { self.new.entries ≡ self.old.entries }
-        ensures same { (self.new.limit ≡ self.old.limit) × (self.new.narrow ≡ self.old.narrow) }
-    {
-        self.room -= 16;
-        self.total += i64::from(rise);
-    }
-
     /// Skips the next sixteen values, if they rise by entries of one byte and a span has them all. Of these only the sum is needed: all
     /// values are between the one before them and their last.
     #[inline(always)]
@@ -238,10 +208,10 @@ impl<'a> Sums<'a> {
         let Some(rise) = next.entries.pass_rising() else {
             return false;
         };
-        if next.room < 16 || next.total <= span.above {
+        if !next.is_near(true) || next.total <= span.above {
             return false;
         }
-        next.add_rise(rise);
+        next.add_near(2 * u64::from(rise));
         if span.below <= next.total {
             return false;
         }
@@ -325,7 +295,7 @@ impl<'a> Sums<'a> {
         let mut left = rest.pass_runs(span, is_there, most);
         'alike: while left > 0 {
             let mut next = rest;
-            let Some(value) = next.next_short() else {
+            let Some(value) = next.next_near(true) else {
                 break;
             };
             if span.has(value) != is_there {
@@ -404,7 +374,7 @@ impl<'a> Iterator for Sums<'a> {
 
     #[inline(always)]
     fn next(&mut self) -> Option<i64> {
-        if let Some(value) = self.next_short() {
+        if let Some(value) = self.next_near(true) {
             return Some(value);
         }
         if self.entries.is_done() {

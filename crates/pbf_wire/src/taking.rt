@@ -1,7 +1,5 @@
 //! Values that are taken over as they are spelled.
 
-use crate::signed::unzigzag;
-use crate::sum::{added_near, room_of};
 use crate::sums::Sums;
 
 /// What was taken: the bytes of the entries, and how many values are still to be taken.
@@ -17,26 +15,20 @@ impl<'a> Sums<'a> {
     ghost use Rattle.pbf_wire.specs.Packed.{last_from};
     ghost use Rattle.pbf_wire.specs.Taking.{AreSpelled, left_of, written_after};
 
-    /// Takes the next value, if its entry takes at most five bytes of the packed occurrence that was begun and is spelled as it is written.
-    /// Of `sint32` the low 32 bits count, so no more may be set.
+    /// Takes the next value, if its entry takes at most five bytes of the packed occurrence that was begun, or three if it is narrow, and
+    /// is spelled as it is written.
     #[inline(always)]
     fn take_entry(&mut self) -> bool
         ensures taken { IsTrue result → AreSpelled (left_of self.old) (left_of self.new) 1 }
         ensures kept { result ≡ false → left_of self.new ≡ left_of self.old }
     {
-        let mut entries = self.entries;
-        let Some(number) = entries.next_spelled() else {
-            return false;
-        };
-        if self.narrow && number >= 1 << 32 {
+        if !self.is_near(self.narrow) {
             return false;
         }
-        let Some(total) = added_near(self.total, unzigzag(number), self.limit) else {
+        let Some(number) = self.entries.next_spelled(self.narrow) else {
             return false;
         };
-        self.entries = entries;
-        self.room = 0;
-        self.total = total;
+        self.add_near(number);
         true
     }
 
@@ -55,16 +47,13 @@ impl<'a> Sums<'a> {
         ensures taken { IsTrue result → AreSpelled (left_of self.old) (left_of self.new) 16 }
         ensures kept { result ≡ false → left_of self.new ≡ left_of self.old }
     {
-        let mut entries = self.entries;
-        let Some(rise) = entries.pass_rising() else {
+        if !self.is_near(true) {
+            return false;
+        }
+        let Some(rise) = self.entries.pass_rising() else {
             return false;
         };
-        let Some(total) = added_near(self.total, i64::from(rise), self.limit) else {
-            return false;
-        };
-        self.entries = entries;
-        self.room = 0;
-        self.total = total;
+        self.add_near(2 * u64::from(rise));
         true
     }
 
@@ -134,14 +123,6 @@ impl<'a> Sums<'a> {
         left
     }
 
-    /// Counts again how many entries there is room for.
-    #[inline(always)]
-    fn renew_room(&mut self)
-        ensures { left_of self.new ≡ left_of self.old }
-    {
-        self.room = room_of(self.total, self.limit);
-    }
-
     /// Takes values, at most so many, as long as their entries are spelled as they are written. They are read from a copy, which stays in
     /// registers.
     pub(crate) fn take_spelled(&mut self, count: usize) -> Spelled<'a>
@@ -154,7 +135,6 @@ impl<'a> Sums<'a> {
     {
         let mut rest = *self;
         let left = rest.take_runs(count);
-        rest.renew_room();
         let bytes = self.entries.bytes_until(&rest.entries);
         *self = rest;
         Spelled { bytes, left }

@@ -1,6 +1,7 @@
 //! Varints: numbers of 64 bits, seven bits a byte, the lowest first. The top bit is set on every byte but the last.
 
 ghost use Rattle.std.specs.Prelude.{◌≡◌, ◌≤◌, ◌<◌, ◌^◌, ℕ, IfOk, MatchOption, ⊤, Result, Ok, Err, ◌↔◌, length, take, drop, slice_index, slice_range};
+ghost use Rattle.pbf_wire.specs.Signed.{IsNear};
 ghost use Rattle.pbf_wire.specs.Varint.{AppendsVarint, IsVarint, IsCut, IsLong, number_or_reason, varint_at, moved_by, shortest};
 
 use crate::fault::Reason;
@@ -28,7 +29,7 @@ fn any_varint(bytes: &[u8]) -> (u64, usize)
 /// The number that the bytes begin with, and how many bytes it takes, if they are four or five: most numbers that take more than three
 /// take so many. It is inlined.
 #[inline(always)]
-pub(crate) fn far_varint(bytes: &[u8]) -> Option<(u64, usize)>
+fn far_varint(bytes: &[u8]) -> Option<(u64, usize)>
     ensures { MatchOption result ⊤ (λ found. (varint_at bytes.now ≡ Ok found) × (0 < found.1)
         × (found.1 ≤ length bytes.now) × (found.0 < 2 ^ 35)) }
 {
@@ -70,7 +71,7 @@ fn longer_varint(bytes: &[u8]) -> (u64, usize)
 /// The number that the bytes begin with, and how many bytes it takes, if they are at most three: nearly all numbers of a file
 /// are so short. It is inlined.
 #[inline(always)]
-pub(crate) fn short_varint(bytes: &[u8]) -> Option<(u64, usize)>
+fn short_varint(bytes: &[u8]) -> Option<(u64, usize)>
     ensures { MatchOption result ⊤ (λ found. (varint_at bytes.now ≡ Ok found) × (0 < found.1)
         × (found.1 ≤ length bytes.now) × (found.0 < 2 ^ 21)) }
 {
@@ -99,55 +100,29 @@ pub(crate) fn short_varint(bytes: &[u8]) -> Option<(u64, usize)>
     None
 }
 
-/// Like [`short_varint`], for a number of two or three bytes, if there are at least four: these are read at once.
+/// The number that the bytes begin with, and how many bytes it takes, if they are at most five, or three if it is narrow. It is
+/// inlined.
 #[inline(always)]
-fn two_or_three(bytes: &[u8]) -> Option<(u64, usize)>
-    requires { (0 < length bytes.now) × (128 ≤ slice_index bytes.now 0) }
+#[tactic(auto, using(crate::proofs::NextLemmas::short_near, crate::proofs::NextLemmas::far_near))]
+pub(crate) fn near_varint(bytes: &[u8], narrow: bool) -> Option<(u64, usize)>
     ensures { MatchOption result ⊤ (λ found. (varint_at bytes.now ≡ Ok found) × (0 < found.1)
-        × (found.1 ≤ length bytes.now) × (found.0 < 2 ^ 21)) }
+        × (found.1 ≤ length bytes.now) × IsNear narrow found.0) }
 {
-    let word = u64::from(u32::from_le_bytes(*bytes.first_chunk::<4>()?));
-    let low = word % 128 + word / 256 % 128 * 128;
-    if word / 256 % 256 < 128 {
-        return Some((low, 2));
-    }
-    if word / 256 / 256 % 256 < 128 {
-        return Some((low + word / 256 / 256 % 128 * 16384, 3));
-    }
-    None
-}
-
-/// Like [`short_varint`], for numbers of at most five bytes.
-#[inline(always)]
-fn usual_varint(bytes: &[u8]) -> Option<(u64, usize)>
-    ensures { MatchOption result ⊤ (λ found. (varint_at bytes.now ≡ Ok found) × (0 < found.1)
-        × (found.1 ≤ length bytes.now) × (found.0 < 2 ^ 35)) }
-{
-    let [first, ..] = bytes else {
-        return None;
-    };
-    if *first < 128 {
-        return Some((u64::from(*first), 1));
-    }
-    if let Some(found) = two_or_three(bytes) {
-        return Some(found);
-    }
-    // Of less than four bytes one may still be the last of a number.
-    match far_varint(bytes) {
+    match short_varint(bytes) {
         Some(found) => Some(found),
-        None => short_varint(bytes),
+        None if narrow => None,
+        None => far_varint(bytes),
     }
 }
 
-/// The number that the bytes begin with, and how many bytes it takes, if they are at most five and none of them is needless: the number
-/// is spelled as it is written.
+/// Like [`near_varint`], if none of the bytes is needless: the number is spelled as it is written.
 #[inline(always)]
-pub(crate) fn spelled_varint(bytes: &[u8]) -> Option<(u64, usize)>
+pub(crate) fn spelled_varint(bytes: &[u8], narrow: bool) -> Option<(u64, usize)>
     ensures number { MatchOption result ⊤ (λ found. (varint_at bytes.now ≡ Ok found)
-        × (0 < found.1) × (found.1 ≤ length bytes.now) × (found.0 < 2 ^ 35)) }
+        × (0 < found.1) × (found.1 ≤ length bytes.now) × IsNear narrow found.0) }
     ensures spelled { MatchOption result ⊤ (λ found. take found.1 bytes.now ≡ shortest found.0) }
 {
-    let (number, length) = usual_varint(bytes)?;
+    let (number, length) = near_varint(bytes, narrow)?;
     if length > 1 && bytes[length - 1] == 0 {
         return None;
     }

@@ -12,7 +12,7 @@ alike-init c = record { past = c.pass_runs-left.ensures.past; fewer = c.pass_run
 pub alike-preserved : goal.alike-preserved
 alike-preserved c =
     let values = sums_left c.args.self.now in
-    let left = sums_left c.next_short.new.self in
+    let left = sums_left c.next_near.new.self in
     let value = c.in-Some.value in
     let fits : SFits w64 value = search rules in
     let one_more : c.args.most - (c.alike.left - 1) ≡ suc (c.args.most - c.alike.left) = omega (arith, c.alike.invariant.fewer, c.alike-test.true) in

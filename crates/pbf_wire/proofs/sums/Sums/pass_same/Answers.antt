@@ -1,5 +1,5 @@
 use Rattle.std.proofs.Common.{ap, map}
-use Rattle.pbf_wire.proofs.SumRoomLemmas.{zero_gives_last}
+use Rattle.pbf_wire.proofs.NextLemmas.{zero_gives_last}
 use Rattle.pbf_wire.proofs.sums.Sums.pass_same.Goals as goal
 
 pub returns-clause-passed : goal.returns-clause-passed

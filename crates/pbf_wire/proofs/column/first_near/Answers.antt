@@ -2,7 +2,7 @@ use Rattle.std.proofs.Common.{ap}
 use Rattle.std.proofs.lemmas.List.{take_rest}
 use Rattle.pbf_wire.specs.Columns.{read_entries}
 use Rattle.pbf_wire.proofs.Columns.{entries_ok}
-use Rattle.pbf_wire.proofs.column.first_short.Goals as goal
+use Rattle.pbf_wire.proofs.column.first_near.Goals as goal
 
 pub returns : goal.returns
 returns c =

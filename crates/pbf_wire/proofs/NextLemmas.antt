@@ -1,0 +1,96 @@
+-- The next values of a delta column.
+use Rattle.std.proofs.Common.{◌≡◌, Bool, true, false, true≢false, ℕ, suc, ◌+◌, ◌^◌, ◌<◌, ℤ, pos, ◌+ℤ◌, w64, to_z, of_z, FitsSigned, List, ◌∷◌, drop, length, map, refl, ap, subst, sym, ◌∙◌, arith}
+use Rattle.std.specs.Prelude.{IsTrue}
+use Rattle.std.proofs.lemmas.Int.{ints, to_z-of_z}
+use mir.Val.{SFits}
+use Rattle.pbf_wire.specs.declared.column.Column.{Column}
+use Rattle.pbf_wire.specs.declared.sums.Sums.{Sums}
+use Rattle.pbf_wire.specs.Cursors.{numbers_left, sums_left}
+use Rattle.pbf_wire.specs.Signed.{delta_in, unzigzag, IsNear, IsWithin}
+use Rattle.pbf_wire.specs.Sums.{sums_within}
+use Rattle.pbf_wire.proofs.SumLemmas.{added_within, then_more}
+
+-- ---- near numbers
+
+pub short_near : (narrow : Bool) (number : ℕ) → number < 2 ^ 21 → IsNear narrow number
+short_near false number small = omega (arith, small)
+short_near true number small = small
+
+pub far_near : (narrow : Bool) (number : ℕ) → narrow ≡ false → number < 2 ^ 35 → IsNear narrow number
+far_near false number wide small = small
+far_near true number wide small = absurd (true≢false wide)
+
+-- all bits of a near number count
+pub delta_near : (narrow near : Bool) (number : ℕ) → (IsTrue narrow → IsTrue near) → IsNear near number → delta_in narrow number ≡ unzigzag number
+delta_near false near number only small = refl
+delta_near true true number only small = ap unzigzag (omega (arith, small))
+delta_near true false number only small = absurd (true≢false (sym (only refl)))
+
+-- ---- as they are stored
+
+pub sum_fits : (limit total entry d : ℤ) → SFits w64 limit → SFits w64 total → SFits w64 entry → entry ≡ d → IsWithin limit (total +ℤ d) → FitsSigned w64 (to_z w64 (of_z w64 total) +ℤ to_z w64 (of_z w64 entry))
+sum_fits limit total entry d limit_fits total_fits entry_fits is within =
+    rw (to_z-of_z w64 total total_fits, to_z-of_z w64 entry entry_fits) (omega (arith, ints, within.above, within.below, limit_fits, is))
+
+pub sum_is : (limit total entry d : ℤ) → SFits w64 limit → SFits w64 total → SFits w64 entry → entry ≡ d → IsWithin limit (total +ℤ d) → to_z w64 (of_z w64 (to_z w64 (of_z w64 total) +ℤ to_z w64 (of_z w64 entry))) ≡ total +ℤ d
+sum_is limit total entry d limit_fits total_fits entry_fits is within =
+    let fits : SFits w64 (total +ℤ d) = omega (arith, ints, within.above, within.below, limit_fits) in
+    rw (to_z-of_z w64 total total_fits, to_z-of_z w64 entry entry_fits, is) (to_z-of_z w64 (total +ℤ d) fits)
+
+-- ---- values
+
+pub value_after : (limit total : ℤ) (narrow : Bool) (number : ℕ) (more : List ℕ) → IsNear true number → IsWithin limit (total +ℤ unzigzag number)
+    → sums_within limit total (map (delta_in narrow) (number ∷ more)) ≡ (total +ℤ unzigzag number) ∷ sums_within limit (total +ℤ unzigzag number) (map (delta_in narrow) more)
+value_after limit total narrow number more small within =
+    let ds = map (delta_in narrow) more in
+    ap (λ (d : ℤ). sums_within limit total (d ∷ ds)) (delta_near narrow true number (λ _. refl) small) ∙ ap (then_more limit ds) (added_within limit total (unzigzag number) within)
+
+-- ---- of cursors
+
+-- an entry gives the sum
+entry_gives : (sums : Sums) (entries : Column) (near : Bool) (number : ℕ) (total : ℤ) → (IsTrue sums.narrow → IsTrue near) → IsNear near number → numbers_left sums.entries ≡ number ∷ numbers_left entries → total ≡ sums.total +ℤ unzigzag number → IsWithin sums.limit total
+    → sums_left sums ≡ total ∷ sums_within sums.limit total (map (delta_in sums.narrow) (numbers_left entries))
+entry_gives sums entries near number total only small numbers is within =
+    let ds = map (delta_in sums.narrow) (numbers_left entries) in
+    ap (λ (ns : List ℕ). sums_within sums.limit sums.total (map (delta_in sums.narrow) ns)) numbers
+    ∙ ap (λ (d : ℤ). sums_within sums.limit sums.total (d ∷ ds)) (delta_near sums.narrow near number only small)
+    ∙ ap (then_more sums.limit ds) (added_within sums.limit sums.total (unzigzag number) (subst (IsWithin sums.limit) is within))
+    ∙ ap (λ (z : ℤ). z ∷ sums_within sums.limit z ds) (sym is)
+
+pub next_is : (old new : Sums) (entries : Column) (near : Bool) (number : ℕ) → (IsTrue old.narrow → IsTrue near) → IsNear near number → numbers_left old.entries ≡ number ∷ numbers_left entries
+    → new.total ≡ old.total +ℤ unzigzag number → new.entries ≡ entries → new.limit ≡ old.limit → new.narrow ≡ old.narrow → sums_left old ≡ new.total ∷ sums_left new
+next_is old new entries near number only small numbers total_is entries_are limit_is narrow_is =
+    let within : IsWithin old.limit new.total = subst (λ z. IsWithin z new.total) limit_is new.within in
+    rw (entries_are, limit_is, narrow_is) (entry_gives old entries near number new.total only small numbers total_is within)
+
+-- an entry 0 gives the last value again
+pub zero_gives_last : (sums : Sums) (entries : Column) → numbers_left sums.entries ≡ 0 ∷ numbers_left entries
+    → sums_left sums ≡ sums.total ∷ sums_within sums.limit sums.total (map (delta_in sums.narrow) (numbers_left entries))
+zero_gives_last sums entries numbers = let still : sums.total ≡ sums.total +ℤ pos 0 = omega (arith, ints) in entry_gives sums entries true 0 sums.total (λ _. refl) (omega arith) numbers still sums.within
+
+-- eight entries 0 give it eight times
+module _ (limit total : ℤ) (narrow : Bool) (within : IsWithin limit total) where
+  abbrev pub values : List ℕ → List ℤ
+  values ns = sums_within limit total (map (delta_in narrow) ns)
+
+  once : (ns : List ℕ) → values (0 ∷ ns) ≡ total ∷ values ns
+  once ns =
+      let still : total +ℤ pos 0 ≡ total = omega (arith, ints) in
+      value_after limit total narrow 0 ns (omega arith) (subst (IsWithin limit) (sym still) within) ∙ ap (λ (t : ℤ). t ∷ sums_within limit t (map (delta_in narrow) ns)) still
+
+  twice : (ns : List ℕ) → values (0 ∷ 0 ∷ ns) ≡ total ∷ total ∷ values ns
+  twice ns = once (0 ∷ ns) ∙ ap (λ (zs : List ℤ). total ∷ zs) (once ns)
+
+  four_times : (ns : List ℕ) → values (0 ∷ 0 ∷ 0 ∷ 0 ∷ ns) ≡ total ∷ total ∷ total ∷ total ∷ values ns
+  four_times ns = twice (0 ∷ 0 ∷ ns) ∙ ap (λ (zs : List ℤ). total ∷ total ∷ zs) (twice ns)
+
+  pub eight_times : (ns : List ℕ) → values (0 ∷ 0 ∷ 0 ∷ 0 ∷ 0 ∷ 0 ∷ 0 ∷ 0 ∷ ns) ≡ total ∷ total ∷ total ∷ total ∷ total ∷ total ∷ total ∷ total ∷ values ns
+  eight_times ns = four_times (0 ∷ 0 ∷ 0 ∷ 0 ∷ ns) ∙ ap (λ (zs : List ℤ). total ∷ total ∷ total ∷ total ∷ zs) (four_times ns)
+
+  pub eight_passed : (n : ℕ) (ns : List ℕ) → drop (n + 8) (values (0 ∷ 0 ∷ 0 ∷ 0 ∷ 0 ∷ 0 ∷ 0 ∷ 0 ∷ ns)) ≡ drop n (values ns)
+  eight_passed n ns =
+      let count : n + 8 ≡ suc (suc (suc (suc (suc (suc (suc (suc n))))))) = omega arith in
+      ap (drop (n + 8)) (eight_times ns) ∙ ap (λ k. drop k (total ∷ total ∷ total ∷ total ∷ total ∷ total ∷ total ∷ total ∷ values ns)) count
+
+  pub eight_there : (ns : List ℕ) → length (values (0 ∷ 0 ∷ 0 ∷ 0 ∷ 0 ∷ 0 ∷ 0 ∷ 0 ∷ ns)) ≡ length (values ns) + 8
+  eight_there ns = ap (λ (zs : List ℤ). length zs) (eight_times ns) ∙ omega arith
