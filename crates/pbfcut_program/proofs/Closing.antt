@@ -1,5 +1,5 @@
 -- What a call of the engine did, as events, once its devices are handed back.
-use Rattle.std.proofs.Common.{◌≡◌, ◌⊎◌, inl, inr, ℕ, zero, suc, ◌+◌, ◌<◌, List, [], ◌∷◌, ◌++◌, length, map, Bool, true, false, Option, Some, Result, Ok, Err, refl, ap, sym, subst, ◌∙◌, arith}
+use Rattle.std.proofs.Common.{◌≡◌, ◌⊎◌, inl, inr, ℕ, zero, suc, ◌+◌, ◌<◌, List, [], ◌∷◌, ◌++◌, length, map, Bool, true, false, Option, Some, None, Result, Ok, Err, IfErr, OnOk, refl, ap, sym, subst, ◌∙◌, arith}
 use Rattle.std.proofs.lemmas.List.{append-nil}
 use Rattle.pbf_frame.specs.declared.device.Feed as feed
 use Rattle.pbf_frame.specs.declared.device.Drain as drain
@@ -7,6 +7,7 @@ use Rattle.pbf_frame.specs.declared.stop.Stop.{Stop}
 use Rattle.pbf_frame.specs.declared.stop.Stop.TheVariants as stop
 use Rattle.pbf_frame.specs.Devices.{HasRisen}
 use Rattle.pbf_frame.specs.Verdict.{Verdict}
+use Rattle.pbf_wire.specs.declared.fault.Fault.{Fault}
 use Rattle.pbf_pass.specs.Hashing.{digest_if}
 use Rattle.pbfcut_cli.specs.declared.endings.Ending.{Ending}
 use Rattle.pbfcut_cli.specs.declared.endings.Ending.TheVariants as ending
@@ -14,14 +15,15 @@ use Rattle.pbfcut_cli.specs.declared.programs.Program.{Program}
 use Rattle.pbfcut_cli.specs.declared.programs.Program.TheVariants.{Pbfcut, Pbfcutz}
 use Rattle.pbfcut_program.specs.declared.engine.Report.{Report}
 use Rattle.pbfcut_program.specs.declared.engine.Halted.{Halted}
-use Rattle.pbfcut_program.specs.Devices.{AnyFailed, AreFresh, Change, CloseAll, Closes, EndsFor, Finishes, FirstGivesFaulty, GiveAll, GiveLater, GivesOrNot, GivesOtherAt, IsFresh, Reports, StopsFor, Works, WorksBy}
+use Rattle.pbfcut_program.specs.Devices.{AnyFailed, AreFresh, Change, CloseAll, Closes, EndsFor, Finishes, FirstGivesFaulty, GiveAll, GiveLater, GivesOrNot, GivesOtherAt, IsAsked, IsFresh, Reports, StopsFor, TakenBy, Works, WorksBy}
 use Rattle.pbfcut_program.specs.Events.{Event, Reading, Writing, read, wrote, then_all, then_one}
 use Rattle.pbfcut_program.specs.Fails.{Each, Fails, FailsFor, FailsToFinish, FailsToRead, FailsToWrite, Has, IsRefused, TookNothing, readings}
 use Rattle.pbfcut_program.specs.Outcomes.{EndsPacked}
-use Rattle.pbfcut_program.specs.Program.{IsWorkOf}
+use Rattle.pbfcut_program.specs.Program.{IsHashed, IsWorkOf}
 use Rattle.pbfcut_program.specs.Readings.{IsOther, IsWholeOrSpared, ReadAll, ReadLater}
 use Rattle.pbfcut_program.specs.Tasks.{Holds, Task, judge_of, spares}
 use Rattle.pbfcut_program.proofs.EventLemmas.{each_both, has_after, has_before, nothing_read, readings_both, readings_of}
+use Rattle.pbfcut_program.proofs.FailLemmas.{write_stops}
 use Rattle.pbfcut_program.proofs.Logging.{and_then, then_none}
 
 -- what a feed gave
@@ -238,7 +240,7 @@ module _ {F : Type 0} (f : feed.Ghosts F) (judge : Option (List ℕ) → Option 
   end_fails (ending.Choice b) olds news fresh c e = absurd e
   end_fails (ending.RefusedPacked r) olds news fresh c e = absurd e
 
-pub packed_fails : (refused : _) (how : Ending) (events : List Event) → EndsPacked how → Fails Pbfcutz refused how events
+pub packed_fails : (refused : Fault → List Event → Type 0) (how : Ending) (events : List Event) → EndsPacked how → Fails Pbfcutz refused how events
 packed_fails refused (ending.Stopped s) events e = tt
 packed_fails refused (ending.RefusedPacked r) events e = tt
 packed_fails refused ending.CannotOpen events e = absurd e
@@ -257,7 +259,7 @@ pub work_fails : (program : Program) {F : Type 0} (f : feed.Ghosts F) (hashes : 
 work_fails Pbfcut f hashes task took failed l m n olds news halted tail fresh c works = end_fails f (judge_of task) took failed l m n tail halted.ending olds news fresh c works
 work_fails Pbfcutz f hashes task took failed l m n olds news halted tail fresh c works =
     let some = some_events f (judge_of task) took failed l m n tail news c in
-    (some.0, some.1, packed_fails _ halted.ending some.0 works)
+    (some.0, some.1, packed_fails (IsRefused (judge_of task)) halted.ending some.0 works)
 
 -- ---- what it does
 
@@ -309,3 +311,47 @@ finish_fails f d out went l m n news c fin e =
       has_after _ (reads rest.0) _ (inl (inr e)),
       has_after _ (reads rest.0) _ (inl e),
     )
+
+-- the same of one pass
+pub work_read_once : (program : Program) {F : Type 0} (f : feed.Ghosts F) (hashes : Bool) (task : Task) (failed : Type 0) (l m : Option (List Event)) (old now : F) (report : Report)
+    → IsFresh f old → Closes f now l m → WorksBy program f hashes task (old ∷ []) (now ∷ []) (λ took. took ≡ []) failed (Ok report)
+    → (first : Reading) × (m ≡ then_one l (read first)) × IsWorkOf program hashes task (first ∷ []) [] report.counts report.input report.raw
+work_read_once program f hashes task failed l m old now report fresh c works = only given.0 given.1 given.2 given.3 where
+  given : (rs : List Reading) × (m ≡ then_all l (reads rs)) × (length rs ≡ 1) × IsWorkOf program hashes task rs [] report.counts report.input report.raw
+  given = work_read program f hashes task failed l m (old ∷ []) (now ∷ []) report (fresh, tt) (m, c, refl) works
+
+  only : (rs : List Reading) → m ≡ then_all l (reads rs) → length rs ≡ 1 → IsWorkOf program hashes task rs [] report.counts report.input report.raw → (first : Reading) × (m ≡ then_one l (read first)) × IsWorkOf program hashes task (first ∷ []) [] report.counts report.input report.raw
+  only [] e n w = absurd (none n) where
+    none : ◌≡◌ {A = ℕ} 0 1 → ⊥
+    none n = omega (arith, n)
+  only (r ∷ []) e n w = (r, e, w)
+  only (r ∷ s ∷ rs) e n w = absurd (more (length rs) n) where
+    more : (k : ℕ) → ◌≡◌ {A = ℕ} (suc (suc k)) 1 → ⊥
+    more k n = omega (arith, n)
+
+-- what a call did, however it ended
+pub if_done : (program : Program) {F D : Type 0} (f : feed.Ghosts F) (d : drain.Ghosts D) (out : D) (went : Bool) (hashes : Bool) (task : Task) (took : List ℕ → Type 0) (failed : Type 0) (l m n : Option (List Event)) (olds news : List F) (outcome : Result Report Halted)
+    → AreFresh f olds → CloseAll f news l m → Finishes d out went m n → ((w : List ℕ) → took w → d.has_taken out 0 w) → WorksBy program f hashes task olds news took failed outcome
+    → OnOk outcome ((report : Report) × (rs : List Reading) × (w : Writing) × (n ≡ then_all l (reads rs ++ wrote w ∷ [])) × (w.out ≡ went) × IsWorkOf program hashes task rs w.bytes report.counts report.input report.raw)
+if_done program f d out went hashes task took failed l m n olds news (Ok report) fresh c fin taken works =
+    let done = work_done program f d out went hashes task took failed l m n olds news report fresh c fin taken works in (report, done.0, done.1, done.2, done.3, done.5)
+if_done program f d out went hashes task took failed l m n olds news (Err halted) fresh c fin taken works = tt
+
+pub if_fails : (program : Program) {F : Type 0} (f : feed.Ghosts F) (hashes : Bool) (task : Task) (took : List ℕ → Type 0) (failed : Type 0) (l m n : Option (List Event)) (olds news : List F) (outcome : Result Report Halted)
+    → Ends took failed m n → AreFresh f olds → CloseAll f news l m → WorksBy program f hashes task olds news took failed outcome
+    → IfErr outcome (λ halted. (events : List Event) × (n ≡ then_all l events) × Fails program (IsRefused (judge_of task)) halted.ending events)
+if_fails program f hashes task took failed l m n olds news (Ok report) tail fresh c works = tt
+if_fails program f hashes task took failed l m n olds news (Err halted) tail fresh c works = work_fails program f hashes task took failed l m n olds news halted tail fresh c works
+
+-- the digest that was asked for
+pub hashed_as : (program : Program) {D : Type 0} (d : drain.Ghosts D) (out : D) (digests : Bool) (known : Option (List ℕ)) (w : List ℕ) → TookBy program (TakenBy d out known) w → IsAsked digests known → IsHashed program digests w known
+hashed_as Pbfcut d out true (Some known) w took asked = ap (λ (x : List ℕ). Some x) took.1
+hashed_as Pbfcut d out true None w took asked = absurd asked
+hashed_as Pbfcut d out false (Some known) w took asked = absurd asked
+hashed_as Pbfcut d out false None w took asked = refl
+hashed_as Pbfcutz d out digests known w took asked = asked
+
+-- not all went out, or OUT didn't get its name
+pub keep_fails : (program : Program) (refused : Fault → List Event → Type 0) (how : Ending) (events : List Event) → ((how ≡ ending.Stopped stop.Write) ⊎ (how ≡ ending.OutExists)) → Has FailsToWrite events → Has FailsToFinish events → Fails program refused how events
+keep_fails program refused how events (inl e) written finished = subst (λ h. Fails program refused h events) (sym e) (write_stops program refused events written)
+keep_fails program refused how events (inr e) written finished = subst (λ h. Fails program refused h events) (sym e) (inr finished)

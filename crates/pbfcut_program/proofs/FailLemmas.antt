@@ -1,5 +1,5 @@
 -- Why commands fail, put together.
-use Rattle.std.proofs.Common.{◌≡◌, ◌⊎◌, inl, inr, ℕ, List, [], ◌∷◌, ◌++◌, refl, Option, Result, Ok, Err, ap, sym, subst, ◌∙◌}
+use Rattle.std.proofs.Common.{◌≡◌, ◌⊎◌, inl, inr, ℕ, List, [], ◌∷◌, ◌++◌, Bool, true, false, refl, IfErr, OnOk, Option, Result, Ok, Err, ap, sym, subst, ◌∙◌}
 use Rattle.pbf_frame.specs.Verdict.{Verdict}
 use Rattle.pbf_frame.specs.declared.stop.Stop.{Stop}
 use Rattle.pbf_frame.specs.declared.stop.Stop.TheVariants as stop
@@ -10,6 +10,8 @@ use Rattle.pbfcut_cli.specs.declared.programs.Program.{Program}
 use Rattle.pbfcut_cli.specs.declared.programs.Program.TheVariants.{Pbfcut, Pbfcutz}
 use Rattle.pbfcut_program.specs.Events.{Event, then_all, then_one}
 use Rattle.pbfcut_program.specs.Fails.{CauseOfOpening, Each, Fails, FailsFor, FailsOpening, FailsPrinting, FailsToRead, FailsToWrite, Has, IsChanged, IsRefused, Quiet, TookNothing, readings}
+use Rattle.pbfcut_program.specs.declared.engine.Halted.{Halted}
+use Rattle.pbfcut_program.specs.Outcomes.{EndsAs}
 use Rattle.pbfcut_program.specs.Telling.{Tells, TellsQuietly}
 use Rattle.pbfcut_program.proofs.EventLemmas.{each_both, has_after, has_before, nothing_in, readings_after, readings_before, readings_of_quiet}
 use Rattle.pbfcut_program.proofs.Logging.{and_then}
@@ -175,15 +177,51 @@ printing_after how xs ys (inl f) = inl (f.0, has_after _ xs ys f.1)
 printing_after how xs ys (inr f) = inr f
 
 -- one line after others
-pub tells_more : {A B : Type 0} (l m n : Option (List Event)) (xs ys : List Event) (a : A) (r : Result B Ending) → Tells l m xs (Ok {E = Ending} a) → Tells m n ys r → Tells l n (xs ++ ys) r
-tells_more l m n xs ys a (Ok b) e t = and_then l m n xs ys e t
-tells_more l m n xs ys a (Err how) e t = (xs ++ t.0, and_then l m n xs t.0 e t.1, printing_after how xs t.0 t.2)
+pub tells_more : {B : Type 0} (l m n : Option (List Event)) (xs ys : List Event) (r : Result B Ending) → m ≡ then_all l xs → Tells m n ys r → Tells l n (xs ++ ys) r
+tells_more l m n xs ys (Ok b) e t = and_then l m n xs ys e t
+tells_more l m n xs ys (Err how) e t = (xs ++ t.0, and_then l m n xs t.0 e t.1, printing_after how xs t.0 t.2)
+
+pub printing_more : (how : Ending) (l m n : Option (List Event)) (xs : List Event) → m ≡ then_all l xs → ((some : List Event) × (n ≡ then_all m some) × FailsPrinting how some) → (some : List Event) × (n ≡ then_all l some) × FailsPrinting how some
+printing_more how l m n xs e t = (xs ++ t.0, and_then l m n xs t.0 e t.1, printing_after how xs t.0 t.2)
 
 print_stops : (program : Program) (refused : Fault → List Event → Type 0) (how : Ending) (events : List Event) → FailsPrinting how events → Fails program refused how events
 print_stops program refused how events (inl f) = subst (λ h. Fails program refused h events) (sym f.0) (write_fails program refused events f.1)
 print_stops program refused how events (inr e) = subst (λ h. Fails program refused h events) (sym e) (memory_fails program refused events)
 
 -- lines couldn't be printed after what had happened
-pub print_fails : {A : Type 0} (program : Program) (refused : Fault → List Event → Type 0) (how : Ending) (l m n : Option (List Event)) (xs ys : List Event) → m ≡ then_all l xs → Tells m n ys (Err {A = A} how)
+pub print_fails : (program : Program) (refused : Fault → List Event → Type 0) (how : Ending) (l m n : Option (List Event)) (xs : List Event) → m ≡ then_all l xs → ((some : List Event) × (n ≡ then_all m some) × FailsPrinting how some)
     → (events : List Event) × (n ≡ then_all l events) × Fails program refused how events
-print_fails program refused how l m n xs ys e t = (xs ++ t.0, and_then l m n xs t.0 e t.1, print_stops program refused how (xs ++ t.0) (printing_after how xs t.0 t.2))
+print_fails program refused how l m n xs e t = (xs ++ t.0, and_then l m n xs t.0 e t.1, print_stops program refused how (xs ++ t.0) (printing_after how xs t.0 t.2))
+
+pub tells_ok : {A : Type 0} (l m : Option (List Event)) (xs : List Event) (r : Result A Ending) → Tells l m xs r → OnOk r (m ≡ then_all l xs)
+tells_ok l m xs (Ok a) t = t
+tells_ok l m xs (Err how) t = tt
+
+pub tells_err : {A : Type 0} (l m : Option (List Event)) (xs : List Event) (r : Result A Ending) → Tells l m xs r → IfErr r (λ how. (some : List Event) × (m ≡ then_all l some) × FailsPrinting how some)
+tells_err l m xs (Ok a) t = tt
+tells_err l m xs (Err how) t = t
+
+-- ---- texts
+
+-- what went out, if it did; and why not
+pub text_ok : {T A : Type 0} (went : Bool) (outcome : Result T Halted) (result : Result A Ending) (P : Type 0) → EndsAs went outcome result → (went ≡ true → OnOk outcome P) → OnOk result P
+text_ok true (Ok t) (Ok a) P ends p = p refl
+text_ok true (Ok t) (Err how) P ends p = tt
+text_ok true (Err h) (Ok a) P ends p = absurd ends
+text_ok true (Err h) (Err how) P ends p = tt
+text_ok false (Ok t) (Ok a) P ends p = absurd ends
+text_ok false (Err h) (Ok a) P ends p = absurd ends
+text_ok false outcome (Err how) P ends p = tt
+
+pub text_err : {T A : Type 0} (went : Bool) (outcome : Result T Halted) (result : Result A Ending) (Q : Ending → Type 0) → EndsAs went outcome result → (went ≡ false → Q (ending.Stopped stop.Write)) → IfErr outcome (λ halted. Q halted.ending) → IfErr result Q
+text_err true (Ok t) (Ok a) Q ends q r = tt
+text_err true (Ok t) (Err how) Q ends q r = absurd ends
+text_err true (Err h) (Ok a) Q ends q r = absurd ends
+text_err true (Err h) (Err how) Q ends q r = subst Q (sym ends) r
+text_err false (Ok t) (Ok a) Q ends q r = tt
+text_err false (Err h) (Ok a) Q ends q r = tt
+text_err false (Ok t) (Err how) Q ends q r = subst Q (sym ends) (q refl)
+text_err false (Err h) (Err how) Q ends q r = subst Q (sym ends) (q refl)
+
+pub write_stops : (program : Program) (refused : Fault → List Event → Type 0) (events : List Event) → Has FailsToWrite events → Fails program refused (ending.Stopped stop.Write) events
+write_stops program refused events h = write_fails program refused events h

@@ -44,8 +44,10 @@ pub(crate) fn print_counts<H: Host>(
 ) -> Result<(), Ending>
     ensures { Tells (H.log host.old) (H.log host.new) (prints screen (counts_text counts ∷ [])) result }
 {
-    let line = counts_line(alloc, counts)?;
-    print_text(host, screen, line.as_str().as_bytes())
+    match counts_line(alloc, counts) {
+        Ok(line) => print_text(host, screen, line.as_str().as_bytes()),
+        Err(_) => Err(Ending::Stopped(Stop::Memory)),
+    }
 }
 
 /// The line of a file and its digest, as `sha256sum` prints it.
@@ -68,8 +70,10 @@ pub(crate) fn print_digest<H: Host>(
     ensures { Tells (H.log host.old) (H.log host.new)
         (prints screen (digest_line digest path.now ∷ [])) result }
 {
-    let line = digest_text(alloc, digest, path.as_bytes())?;
-    print_text(host, screen, &line)
+    match digest_text(alloc, digest, path.as_bytes()) {
+        Ok(line) => print_text(host, screen, &line),
+        Err(_) => Err(Ending::Stopped(Stop::Memory)),
+    }
 }
 
 /// The line of the digest of IN unpacked. It is a comment to `sha256sum -c`, since there is no such file.
@@ -81,6 +85,22 @@ fn unpacked_line(alloc: Global, digest: [u8; 32]) -> Result<Vec<u8>, AllocError>
     put_hex(&mut line, &digest)?;
     line.push(b'\n')?;
     Ok(line)
+}
+
+/// Prints the digest of IN unpacked.
+fn print_unpacked<H: Host>(
+    alloc: Global,
+    host: &mut H,
+    screen: Screen,
+    digest: [u8; 32],
+) -> Result<(), Ending>
+    ensures { Tells (H.log host.old) (H.log host.new)
+        (prints screen (unpacked_text digest ∷ [])) result }
+{
+    match unpacked_line(alloc, digest) {
+        Ok(line) => print_text(host, screen, &line),
+        Err(_) => Err(Ending::Stopped(Stop::Memory)),
+    }
 }
 
 /// Prints the digest of IN, and that of IN unpacked, if it is.
@@ -96,10 +116,7 @@ pub(crate) fn print_input<H: Host>(
 {
     print_digest(alloc, host, screen, report.input, input)?;
     match report.raw {
-        Some(raw) => {
-            let line = unpacked_line(alloc, raw)?;
-            print_text(host, screen, &line)
-        }
+        Some(raw) => print_unpacked(alloc, host, screen, raw),
         None => Ok(()),
     }
 }

@@ -1,7 +1,9 @@
 //! The commands that write a file. Before anything is written it is settled that OUT is new, IN is opened once for each pass, and there is
 //! a seed.
 
-ghost use Rattle.std.specs.Prelude.{◌≡◌, ◌∷◌, ◌++◌, ◌<◌, [], ℕ, List, length, map, IfErr, IfOk, IfSome, OnOk, Some, true, false};
+ghost use Rattle.std.specs.Prelude.{◌≡◌, ◌⊎◌, ◌∷◌, ◌++◌, ◌<◌, [], List, length, map, is_ok, IfErr, IfOk, OnOk, true, false};
+ghost use Rattle.pbf_frame.specs.declared.stop.Stop.TheVariants as stop;
+ghost use Rattle.pbfcut_cli.specs.declared.endings.Ending.TheVariants as ending;
 ghost use Rattle.pbf_pass.specs.HeaderLimit.{judged_writable};
 ghost use Rattle.pbfcut_program.specs.Devices.{AreFresh, IsAsked, IsFreshOut, TakenBy, WorksBy};
 ghost use Rattle.pbfcut_program.specs.Events.{Event, Reading, Writing, read, seeded, wrote, then_all, then_one};
@@ -171,6 +173,39 @@ fn run_plain<F: Feed, D: Drain + Drop, S: BuildHasher + Drop>(
     }
 }
 
+/// Does a job, and hashes what OUT takes if its digest is printed.
+fn run_into<F: Feed, D: Drain + Drop, S: BuildHasher + Drop>(
+    engine: Engine,
+    job: &mut Job<F>,
+    out: D,
+    hasher: S,
+) -> Ran<D>
+    requires { IsFreshOut D.Drain out }
+    ensures works { WorksBy engine.program F.Feed true (task_of job.old) (feeds_of job.old)
+        (feeds_of job.new) (TakenBy D.Drain result.out result.output)
+        (0 < D.failures result.out) result.result }
+    ensures hashed { IsAsked engine.digests result.output }
+{
+    if engine.digests {
+        run_hashed(engine, job, out, hasher)
+    } else {
+        run_plain(engine, job, out, hasher)
+    }
+}
+
+/// What is reported once OUT was handed back.
+fn kept(finished: Result<(), FinishFault>, done: Done) -> Result<Done, Ending>
+    ensures ok { IfOk result (λ d. (d ≡ done) × (is_ok finished ≡ true)) }
+    ensures err { IfErr result (λ how. (is_ok finished ≡ false)
+        × ((how ≡ ending.Stopped stop.Write) ⊎ (how ≡ ending.OutExists))) }
+{
+    match finished {
+        Ok(()) => Ok(done),
+        Err(FinishFault::Failed) => Err(Ending::Stopped(Stop::Write)),
+        Err(FinishFault::Exists) => Err(Ending::OutExists),
+    }
+}
+
 /// Does a job, hands all files back, and returns what it reports: then all that OUT took went out.
 fn run_job<H: Host>(
     engine: Engine,
@@ -190,24 +225,15 @@ fn run_job<H: Host>(
 {
     let Ready { job, out, hasher } = ready;
     let mut job = job;
-    let ran = if engine.digests {
-        run_hashed(engine, &mut job, out, hasher)
-    } else {
-        run_plain(engine, &mut job, out, hasher)
-    };
     let Ran {
         result,
         out,
         output,
-    } = ran;
+    } = run_into(engine, &mut job, out, hasher);
     close_job(host, job);
     let finished = host.finish(out, result.is_ok());
     match result {
-        Ok(report) => match finished {
-            Ok(()) => Ok(Done { report, output }),
-            Err(FinishFault::Failed) => Err(Ending::Stopped(Stop::Write)),
-            Err(FinishFault::Exists) => Err(Ending::OutExists),
-        },
+        Ok(report) => kept(finished, Done { report, output }),
         Err(halted) => Err(tell_refusal(engine, host, halted, path)),
     }
 }

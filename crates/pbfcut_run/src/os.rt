@@ -17,6 +17,7 @@ use std::hash::RandomState;
 use std::io::{self, IsTerminal, Write};
 
 /// Files by their paths, and the standard streams.
+#[derive(Drop)]
 pub(crate) struct Os<'a> {
     rt: &'a HostRuntime,
     program: Program,
