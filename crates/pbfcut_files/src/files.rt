@@ -9,14 +9,6 @@ use std::os::unix::fs::FileTypeExt;
 /// How many bytes a file has whose progress is shown on a terminal: ten million.
 const LONG: u64 = 10_000_000;
 
-/// IN, and whether the run reports how far it has come.
-#[derive(Clone, Copy)]
-pub struct Input<'a> {
-    /// The path of IN.
-    pub path: &'a str,
-    pub progress: bool,
-}
-
 /// Whether IN is a pipe, which gives its bytes once. Its type is looked up by name, since to open it may wait for a writer.
 fn is_pipe(rt: &HostRuntime, input: &str) -> bool {
     match fs::metadata(rt, input) {
@@ -44,17 +36,18 @@ pub fn is_long(rt: &HostRuntime, input: &str) -> bool {
 /// Opens IN for this pass of so many. A pipe is refused if there is more than one pass.
 pub fn open_pass(
     rt: &HostRuntime,
-    input: Input<'_>,
+    path: &str,
     pass: u8,
     passes: u8,
+    progress: bool,
 ) -> Result<Watched<FromRead<File>>, Ending> {
-    if passes > 1 && is_pipe(rt, input.path) {
+    if passes > 1 && is_pipe(rt, path) {
         return Err(Ending::IsPipe);
     }
-    let Ok(file) = File::open(rt, input.path) else {
+    let Ok(file) = File::open(rt, path) else {
         return Err(Ending::CannotOpen);
     };
-    let line = if input.progress {
+    let line = if progress {
         Some(Line::new(rt, pass, passes, length_of(&file)))
     } else {
         None

@@ -1,10 +1,9 @@
 //! The line below pbfcut's own that says what to do next. It is for people, so it is written only if standard error is a terminal; IN is
 //! read again for it only if it is a plain file.
 
-use crate::failure::{FailedWrite, Failure, Target};
+use crate::failure::{FailedWrite, Target};
 use crate::formats::of_start;
 use pbf_frame::Stop;
-use pbf_pass::Counts;
 use pbf_unpack::{InflateFault, Place, UnpackReason};
 use pbf_wire::Reason;
 use pbfcut_cli::{Command, Ending, PackedRefusal, Program, Region};
@@ -230,9 +229,14 @@ fn of_write(rt: &HostRuntime, asked: Asked<'_>, failed: FailedWrite) -> Option<S
     }
 }
 
-/// What to do next after a run that ended so.
-fn hint(rt: &HostRuntime, asked: Asked<'_>, failure: &Failure) -> Option<String> {
-    match &failure.ending {
+/// What to do next after a run that ended so; the last write that failed, if one did.
+fn hint(
+    rt: &HostRuntime,
+    asked: Asked<'_>,
+    ending: &Ending,
+    failed: Option<FailedWrite>,
+) -> Option<String> {
+    match ending {
         Ending::Words(_) | Ending::NotText | Ending::Box(_) | Ending::Choice(_) => None,
         Ending::Polygon(_) => text(
             rt,
@@ -277,20 +281,21 @@ fn hint(rt: &HostRuntime, asked: Asked<'_>, failure: &Failure) -> Option<String>
         }
         Ending::Stopped(Stop::Memory) => None,
         Ending::Stopped(Stop::Read) => of_read(rt, asked),
-        Ending::Stopped(Stop::Write) => of_write(rt, asked, failure.write?),
+        Ending::Stopped(Stop::Write) => of_write(rt, asked, failed?),
     }
 }
 
 /// Writes the line below that of an ending, on a terminal.
-pub fn tell_hint(rt: &HostRuntime, asked: Option<Asked<'_>>, failure: &Failure) {
+pub fn tell_hint(
+    rt: &HostRuntime,
+    asked: Asked<'_>,
+    ending: &Ending,
+    failed: Option<FailedWrite>,
+) {
     if !rt.stderr().is_terminal() {
         return;
     }
-    let hint = match asked {
-        Some(asked) => hint(rt, asked, failure),
-        None => None,
-    };
-    if let Some(hint) = hint {
+    if let Some(hint) = hint(rt, asked, ending, failed) {
         let _ = eprintln!(rt; "hint: {hint}");
     }
 }
@@ -305,13 +310,8 @@ pub fn tell_order(rt: &HostRuntime) {
 }
 
 /// Says on a terminal that an extract is empty.
-pub fn tell_empty(rt: &HostRuntime, region: Region<'_>, counts: Counts) {
-    let Counts {
-        nodes,
-        ways,
-        relations,
-    } = counts;
-    if nodes > 0 || ways > 0 || relations > 0 || !rt.stderr().is_terminal() {
+pub fn tell_empty(rt: &HostRuntime, region: Region<'_>) {
+    if !rt.stderr().is_terminal() {
         return;
     }
     let place = match region {

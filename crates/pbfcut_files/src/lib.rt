@@ -1,4 +1,4 @@
-//! What the program does with files and a terminal: IN and OUT, counts and digests, the report of progress, and hints.
+//! What the program's host does with files and a terminal: IN and OUT, the report of progress, and hints.
 #![tactic(auto)]
 
 mod failure;
@@ -6,14 +6,10 @@ mod files;
 mod formats;
 mod hints;
 mod out;
-mod output;
-mod polygon;
 mod progress;
 
-pub use failure::{Failure, Noted, Target};
-pub use files::{Input, is_long, open_pass};
+pub use failure::{FailedWrite, Target};
+pub use files::{is_long, open_pass};
 pub use hints::{Asked, tell_empty, tell_hint, tell_order};
-pub use out::{OUTPUT_BUFFER, Output, Place, create_output, refuse_existing};
-pub use output::{Screen, print_help, report_refusal};
-pub use polygon::read_polygon;
-pub use progress::{Line, Watched, end_line};
+pub use out::{NotKept, Output, Place, create_output, is_taken, open_screen};
+pub use progress::Watched;

@@ -1,13 +1,13 @@
 //! OUT: a file that is made new, and which gets its name from pbfcutz only when it is whole; or standard output.
 
-use crate::failure::{Failure, Noted, Target};
+use crate::failure::{Noted, Target};
 use pbf_frame::Stop;
-use pbfcut_cli::{Ending, Files, Program};
+use pbfcut_cli::{Ending, Program};
 use std::fs::{self, File, OpenOptions};
 use std::io::{self, BufWriter, Stdout, Write};
 
 /// The length of the buffers of OUT and of standard output.
-pub const OUTPUT_BUFFER: usize = 65_536;
+const OUTPUT_BUFFER: usize = 65_536;
 
 /// How many names are tried for an OUT that isn't whole: more than one only if earlier runs were killed.
 const MOST_PARTS: u32 = 1_000;
@@ -44,28 +44,29 @@ pub struct Place<'a> {
     pub overwrite: bool,
 }
 
-impl<'a> Place<'a> {
-    /// The place of the OUT of a command.
-    pub fn of(program: Program, files: &Files<'a>) -> Place<'a> {
-        Place {
-            program,
-            path: files.output,
-            overwrite: files.overwrite,
-        }
-    }
-
-    /// Whether it is standard output, which only pbfcutz writes to.
-    pub fn is_screen(self) -> bool {
-        self.program == Program::Pbfcutz && (self.path == "-" || self.path == "/dev/stdout")
-    }
+/// The name that a file has until it is whole, and the one that it gets then.
+#[derive(Drop)]
+struct Part {
+    name: String,
+    output: String,
+    overwrite: bool,
 }
 
-/// OUT as it is written.
+/// OUT as it is written; or standard output.
 #[derive(Drop)]
 pub struct Output {
     writer: BufWriter<Noted<Sink>>,
-    /// The name that it has until it is whole, if that isn't OUT's own.
-    part: Option<String>,
+    /// If it has another name than OUT's own.
+    part: Option<Part>,
+}
+
+/// Why OUT doesn't get its name.
+#[derive(Clone, Copy)]
+pub enum NotKept {
+    /// Another file has it.
+    Exists,
+    /// The system says so, with its number of the reason.
+    Failed(Option<i32>),
 }
 
 /// Whether a plain file is there, and no link to one.
@@ -76,15 +77,12 @@ fn is_plain(rt: &HostRuntime, path: &str) -> bool {
     }
 }
 
-/// Refuses an OUT that can be opened for reading, unless it is a plain file that is to be replaced.
-pub fn refuse_existing(rt: &HostRuntime, place: Place<'_>) -> Result<(), Ending> {
-    if place.is_screen() || place.overwrite && is_plain(rt, place.path) {
-        return Ok(());
+/// Whether OUT can be opened for reading, unless it is a plain file that is to be replaced.
+pub fn is_taken(rt: &HostRuntime, place: Place<'_>) -> bool {
+    if place.overwrite && is_plain(rt, place.path) {
+        return false;
     }
-    if File::open(rt, place.path).is_ok() {
-        return Err(Ending::OutExists);
-    }
-    Ok(())
+    File::open(rt, place.path).is_ok()
 }
 
 /// Makes a new file. One that exists is never opened, so none is ever emptied.
@@ -115,25 +113,28 @@ fn open_part(rt: &HostRuntime, place: Place<'_>) -> Result<(File, String), Endin
     Err(Ending::CannotOpen)
 }
 
-fn remove(rt: &HostRuntime, part: Option<&str>) {
-    if let Some(part) = part {
-        // If it can't be removed, it is a file by a name of its own, and no OUT.
-        let _ = fs::remove_file(rt, part);
-    }
+fn remove(rt: &HostRuntime, part: &str) {
+    // If it can't be removed, it is a file by a name of its own, and no OUT.
+    let _ = fs::remove_file(rt, part);
 }
 
-/// What OUT is written to: of pbfcut a file by its own name, of pbfcutz standard output, or a file by another name in the same folder.
-fn open_sink(rt: &HostRuntime, place: Place<'_>) -> Result<(Sink, Option<String>), Ending> {
-    if place.is_screen() {
-        return Ok((Sink::Screen(rt.stdout()), None));
-    }
+/// What OUT is written to: of pbfcut a file by its own name, of pbfcutz one by another name in the same folder.
+fn open_sink(rt: &HostRuntime, place: Place<'_>) -> Result<(Sink, Option<Part>), Ending> {
     match place.program {
         Program::Pbfcut => match open_new(rt, place.path) {
             Ok(file) => Ok((Sink::File(file), None)),
             Err(_) => Err(Ending::CannotOpen),
         },
         Program::Pbfcutz => {
-            let (file, part) = open_part(rt, place)?;
+            let Ok(output) = String::from_str(rt.alloc(), place.path) else {
+                return Err(Ending::Stopped(Stop::Memory));
+            };
+            let (file, name) = open_part(rt, place)?;
+            let part = Part {
+                name,
+                output,
+                overwrite: place.overwrite,
+            };
             Ok((Sink::File(file), Some(part)))
         }
     }
@@ -145,29 +146,41 @@ pub fn create_output(rt: &HostRuntime, place: Place<'_>) -> Result<Output, Endin
     match BufWriter::with_capacity(rt.alloc(), OUTPUT_BUFFER, Noted::new(sink)) {
         Ok(writer) => Ok(Output { writer, part }),
         Err(_) => {
-            remove(rt, part.as_deref());
+            if let Some(part) = &part {
+                remove(rt, part.name.as_str());
+            }
             Err(Ending::Stopped(Stop::Memory))
         }
     }
 }
 
+/// Standard output, with a buffer.
+pub fn open_screen(rt: &HostRuntime) -> Result<Output, Ending> {
+    let sink = Sink::Screen(rt.stdout());
+    match BufWriter::with_capacity(rt.alloc(), OUTPUT_BUFFER, Noted::new(sink)) {
+        Ok(writer) => Ok(Output { writer, part: None }),
+        Err(_) => Err(Ending::Stopped(Stop::Memory)),
+    }
+}
+
 /// Gives a whole file OUT's name, in place of the plain file that has it.
-fn replace(rt: &HostRuntime, part: &str, output: &str) -> Result<(), Failure> {
-    match fs::rename(rt, part, output) {
+fn replace(rt: &HostRuntime, part: &Part) -> Result<(), NotKept> {
+    match fs::rename(rt, part.name.as_str(), part.output.as_str()) {
         Ok(()) => Ok(()),
-        Err(error) => Err(Failure::of_write(Target::Out, error.raw_os_error())),
+        Err(error) => Err(NotKept::Failed(error.raw_os_error())),
     }
 }
 
 /// Gives a whole file OUT's name, unless another file has it meanwhile. A file system without links moves it.
-fn name(rt: &HostRuntime, part: &str, output: &str) -> Result<(), Failure> {
-    let Err(error) = fs::hard_link(rt, part, output) else {
+fn name(rt: &HostRuntime, part: &Part) -> Result<(), NotKept> {
+    let output = part.output.as_str();
+    let Err(error) = fs::hard_link(rt, part.name.as_str(), output) else {
         return Ok(());
     };
     if error.kind() == io::ErrorKind::AlreadyExists || fs::symlink_metadata(rt, output).is_ok() {
-        return Err(Failure::from(Ending::OutExists));
+        return Err(NotKept::Exists);
     }
-    replace(rt, part, output)
+    replace(rt, part)
 }
 
 impl Output {
@@ -194,22 +207,32 @@ impl Output {
         }
     }
 
+    /// What it is.
+    pub fn target(&self) -> Target {
+        match self.writer.get_ref().inner() {
+            Sink::File(_) => Target::Out,
+            Sink::Screen(_) => Target::StandardOutput,
+        }
+    }
+
     /// OUT is whole: it is on the disk, by its name.
-    pub fn keep(self, rt: &HostRuntime, place: Place<'_>) -> Result<(), Failure> {
-        let Some(part) = self.part.as_deref() else {
+    pub fn keep(&self, rt: &HostRuntime) -> Result<(), NotKept> {
+        let Some(part) = &self.part else {
             return Ok(());
         };
         let kept = match self.sync() {
-            Ok(()) if place.overwrite && is_plain(rt, place.path) => replace(rt, part, place.path),
-            Ok(()) => name(rt, part, place.path),
-            Err(error) => Err(Failure::of_write(Target::Out, error.raw_os_error())),
+            Ok(()) if part.overwrite && is_plain(rt, part.output.as_str()) => replace(rt, part),
+            Ok(()) => name(rt, part),
+            Err(error) => Err(NotKept::Failed(error.raw_os_error())),
         };
-        remove(rt, Some(part));
+        remove(rt, part.name.as_str());
         kept
     }
 
     /// OUT isn't whole, and won't be: pbfcut leaves it to its user, pbfcutz removes it.
     pub fn discard(&self, rt: &HostRuntime) {
-        remove(rt, self.part.as_deref());
+        if let Some(part) = &self.part {
+            remove(rt, part.name.as_str());
+        }
     }
 }

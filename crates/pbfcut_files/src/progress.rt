@@ -1,5 +1,7 @@
 //! The progress of a run: one line on standard error, which is rewritten as the run goes on.
 
+ghost use Rattle.std.specs.Prelude.{◌≡◌};
+
 use pbf_frame::{Feed, FeedFault};
 use std::alloc::Global;
 use std::io::{Stderr, Write};
@@ -9,7 +11,7 @@ const MEGABYTE: u64 = 1_000_000;
 
 /// The line of progress of one pass.
 #[derive(Drop)]
-pub struct Line {
+pub(crate) struct Line {
     alloc: Global,
     screen: Stderr,
     pass: u8,
@@ -24,7 +26,7 @@ pub struct Line {
 
 impl Line {
     /// A line that is not shown yet.
-    pub fn new(rt: &HostRuntime, pass: u8, passes: u8, length: u64) -> Line {
+    pub(crate) fn new(rt: &HostRuntime, pass: u8, passes: u8, length: u64) -> Line {
         Line {
             alloc: rt.alloc(),
             screen: rt.stderr(),
@@ -66,13 +68,6 @@ impl Line {
     }
 }
 
-/// Ends the line of the last pass, if there is one.
-pub fn end_line(rt: &HostRuntime, progress: bool) {
-    if progress {
-        let _ = eprintln!(rt; "");
-    }
-}
-
 /// A feed that reports what is read of it, if there is a line for it.
 #[derive(Drop)]
 pub struct Watched<F> {
@@ -81,8 +76,19 @@ pub struct Watched<F> {
 }
 
 impl<F: Feed> Watched<F> {
-    pub fn new(feed: F, line: Option<Line>) -> Watched<F> {
+    pub(crate) fn new(feed: F, line: Option<Line>) -> Watched<F>
+        ensures { result.feed ≡ feed }
+    {
         Watched { feed, line }
+    }
+
+    /// Ends the line of the last pass, if there is one.
+    pub fn end(&self, rt: &HostRuntime) {
+        if let Some(line) = &self.line {
+            if line.pass == line.passes {
+                let _ = eprintln!(rt; "");
+            }
+        }
     }
 }
 

@@ -1,0 +1,357 @@
+-- What a call of the engine did, as events, once its devices are handed back.
+use Rattle.std.proofs.Common.{◌≡◌, ◌⊎◌, inl, inr, ℕ, zero, suc, ◌+◌, ◌<◌, List, [], ◌∷◌, ◌++◌, length, map, Bool, true, false, Option, Some, None, Result, Ok, Err, IfErr, OnOk, refl, ap, sym, subst, ◌∙◌, arith}
+use Rattle.std.proofs.lemmas.List.{append-nil}
+use Rattle.pbf_frame.specs.declared.device.Feed as feed
+use Rattle.pbf_frame.specs.declared.device.Drain as drain
+use Rattle.pbf_frame.specs.declared.stop.Stop.{Stop}
+use Rattle.pbf_frame.specs.declared.stop.Stop.TheVariants as stop
+use Rattle.pbf_frame.specs.Devices.{HasRisen}
+use Rattle.pbf_frame.specs.Verdict.{Verdict}
+use Rattle.pbf_wire.specs.declared.fault.Fault.{Fault}
+use Rattle.pbf_pass.specs.Hashing.{digest_if}
+use Rattle.pbfcut_cli.specs.declared.endings.Ending.{Ending}
+use Rattle.pbfcut_cli.specs.declared.endings.Ending.TheVariants as ending
+use Rattle.pbfcut_cli.specs.declared.programs.Program.{Program}
+use Rattle.pbfcut_cli.specs.declared.programs.Program.TheVariants.{Pbfcut, Pbfcutz}
+use Rattle.pbfcut_program.specs.declared.engine.Report.{Report}
+use Rattle.pbfcut_program.specs.declared.engine.Halted.{Halted}
+use Rattle.pbfcut_program.specs.Devices.{AnyFailed, AreFresh, Change, CloseAll, Closes, EndsFor, Finishes, FirstGivesFaulty, GiveAll, GiveLater, GivesOrNot, GivesOtherAt, IsAsked, IsFresh, Reports, StopsFor, TakenBy, Works, WorksBy}
+use Rattle.pbfcut_program.specs.Events.{Event, Reading, Writing, read, wrote, then_all, then_one}
+use Rattle.pbfcut_program.specs.Fails.{Each, Fails, FailsFor, FailsToFinish, FailsToRead, FailsToWrite, Has, IsRefused, TookNothing, readings}
+use Rattle.pbfcut_program.specs.Outcomes.{EndsPacked}
+use Rattle.pbfcut_program.specs.Program.{IsHashed, IsWorkOf}
+use Rattle.pbfcut_program.specs.Readings.{IsOther, IsWholeOrSpared, ReadAll, ReadLater}
+use Rattle.pbfcut_program.specs.Tasks.{Holds, Task, judge_of, spares}
+use Rattle.pbfcut_program.proofs.EventLemmas.{each_both, has_after, has_before, nothing_read, readings_both, readings_of}
+use Rattle.pbfcut_program.proofs.FailLemmas.{write_stops}
+use Rattle.pbfcut_program.proofs.Logging.{and_then, then_none}
+
+-- what a feed gave
+abbrev pub reading : {F : Type 0} → feed.Ghosts F → F → List ℕ → Reading
+reading f now bytes = record { bytes = bytes; left = f.remaining now; failures = f.failures now }
+
+-- the events of readings
+abbrev pub reads : List Reading → List Event
+reads rs = map (λ r. read r) rs
+
+-- a count that was 0 has risen
+pub has_failed : (old new : ℕ) → old ≡ 0 → HasRisen old new → 0 < new
+has_failed old new e risen = omega (arith, subst (λ (n : ℕ). HasRisen n new) e risen)
+
+-- ---- feeds
+
+module _ {F : Type 0} (f : feed.Ghosts F) where
+  -- whatever they gave
+  pub close_rest : (news : List F) (l m : Option (List Event)) → CloseAll f news l m → (rs : List Reading) × (m ≡ then_all l (reads rs)) × (length rs ≡ length news)
+  close_rest [] l m c = ([], c ∙ then_none l, refl)
+  close_rest (now ∷ news) l m c =
+      let rest = close_rest news c.0 m c.2 in
+      (reading f now c.1.0.0 ∷ rest.0, and_then l c.0 m (read (reading f now c.1.0.0) ∷ []) (reads rest.0) c.1.0.1 rest.1, ap (λ n. suc n) rest.2)
+
+  close_next : (digest : Option (List ℕ)) (may : Bool) (first : List ℕ) (old now : F) (file : List ℕ) (l m : Option (List Event)) → IsFresh f old → Closes f now l m → GivesOrNot f digest may first old now file
+      → (r : Reading) × (m ≡ then_one l (read r)) × IsWholeOrSpared digest may first r file
+  close_next digest may first old now file l m fresh c (inl g) = (reading f now file, c.1 file (g.passed fresh.0), inl (record { are = refl; end = g.end; digest_is = g.digest_is }))
+  close_next digest may first old now file l m fresh c (inr g) = (reading f now [], c.1 [] (subst (λ x. f.has_passed x 0 []) (sym g.1) fresh.0), inr (g.0, refl, g.2))
+
+  close_later : (digest : Option (List ℕ)) (may : Bool) (first : List ℕ) (olds news : List F) (files : List (List ℕ)) (l m : Option (List Event)) → AreFresh f olds → CloseAll f news l m → GiveLater f digest may first olds news files
+      → (rs : List Reading) × (m ≡ then_all l (reads rs)) × ReadLater digest may first rs files × (length rs ≡ length news)
+  close_later digest may first [] [] [] l m fresh c g = ([], c ∙ then_none l, tt, refl)
+  close_later digest may first (old ∷ olds) (now ∷ news) (b ∷ bs) l m fresh c g =
+      let one = close_next digest may first old now b l c.0 fresh.0 c.1 g.0 in
+      let rest = close_later digest false first olds news bs c.0 m fresh.1 c.2 g.1 in
+      (one.0 ∷ rest.0, and_then l c.0 m (read one.0 ∷ []) (reads rest.0) one.1 rest.1, (one.2, rest.2), ap (λ n. suc n) rest.3)
+  close_later digest may first [] [] (b ∷ bs) l m fresh c g = absurd g
+  close_later digest may first [] (now ∷ news) [] l m fresh c g = absurd g
+  close_later digest may first [] (now ∷ news) (b ∷ bs) l m fresh c g = absurd g
+  close_later digest may first (old ∷ olds) [] [] l m fresh c g = absurd g
+  close_later digest may first (old ∷ olds) [] (b ∷ bs) l m fresh c g = absurd g
+  close_later digest may first (old ∷ olds) (now ∷ news) [] l m fresh c g = absurd g
+
+  -- each gave its file
+  pub close_given : (digest : Option (List ℕ)) (may : Bool) (olds news : List F) (files : List (List ℕ)) (l m : Option (List Event)) → AreFresh f olds → CloseAll f news l m → GiveAll f digest may olds news files
+      → (rs : List Reading) × (m ≡ then_all l (reads rs)) × ReadAll digest may rs files × (length rs ≡ length news)
+  close_given digest may (old ∷ olds) (now ∷ news) (b ∷ bs) l m fresh c g =
+      let one = c.1.1 b (g.0.passed fresh.0.0) in
+      let rest = close_later digest may b olds news bs c.0 m fresh.1 c.2 g.1 in
+      (reading f now b ∷ rest.0, and_then l c.0 m (read (reading f now b) ∷ []) (reads rest.0) one rest.1, (record { are = refl; end = g.0.end; digest_is = g.0.digest_is }, rest.2), ap (λ n. suc n) rest.3)
+  close_given digest may [] [] [] l m fresh c g = absurd g
+  close_given digest may [] [] (b ∷ bs) l m fresh c g = absurd g
+  close_given digest may [] (now ∷ news) [] l m fresh c g = absurd g
+  close_given digest may [] (now ∷ news) (b ∷ bs) l m fresh c g = absurd g
+  close_given digest may (old ∷ olds) [] [] l m fresh c g = absurd g
+  close_given digest may (old ∷ olds) [] (b ∷ bs) l m fresh c g = absurd g
+  close_given digest may (old ∷ olds) (now ∷ news) [] l m fresh c g = absurd g
+
+  -- one of them failed
+  close_failed : (olds news : List F) (l m : Option (List Event)) → AreFresh f olds → CloseAll f news l m → AnyFailed f olds news → (rs : List Reading) × (m ≡ then_all l (reads rs)) × Has FailsToRead (reads rs)
+  close_failed (old ∷ olds) (now ∷ news) l m fresh c (inl risen) =
+      let rest = close_rest news c.0 m c.2 in
+      (reading f now c.1.0.0 ∷ rest.0, and_then l c.0 m (read (reading f now c.1.0.0) ∷ []) (reads rest.0) c.1.0.1 rest.1, inl (has_failed _ _ fresh.0.1 risen))
+  close_failed (old ∷ olds) (now ∷ news) l m fresh c (inr later) =
+      let rest = close_failed olds news c.0 m fresh.1 c.2 later in
+      (reading f now c.1.0.0 ∷ rest.0, and_then l c.0 m (read (reading f now c.1.0.0) ∷ []) (reads rest.0) c.1.0.1 rest.1, inr rest.2)
+  close_failed [] [] l m fresh c g = absurd g
+  close_failed [] (now ∷ news) l m fresh c g = absurd g
+  close_failed (old ∷ olds) [] l m fresh c g = absurd g
+
+  -- one of them gave other bytes than a file: what was read before it, of it, and after it
+  abbrev ReadOther : List ℕ → ℕ → ℕ → List Reading → Type 0
+  ReadOther file at count rs = (between : List Reading) × (other : Reading) × (later : List Reading) × (rs ≡ between ++ other ∷ later) × (at ≡ length between) × IsOther file other.bytes other.left × (count ≡ length later + at + 1)
+
+  one_more : (n at : ℕ) (later : List Reading) → n ≡ length later + at + 1 → suc n ≡ length later + suc at + 1
+  one_more n at later e = omega (arith, e)
+
+  close_other : (file : List ℕ) (at : ℕ) (olds news : List F) (l m : Option (List Event)) → AreFresh f olds → CloseAll f news l m → GivesOtherAt f file at olds news
+      → (rs : List Reading) × (m ≡ then_all l (reads rs)) × ReadOther file at (length news) rs
+  close_other file zero (old ∷ olds) (now ∷ news) l m fresh c g =
+      let rest = close_rest news c.0 m c.2 in
+      let one = c.1.1 g.bytes (g.passed fresh.0.0) in
+      (reading f now g.bytes ∷ rest.0, and_then l c.0 m (read (reading f now g.bytes) ∷ []) (reads rest.0) one rest.1, ([], reading f now g.bytes, rest.0, refl, refl, g.other, count (length news) rest.0 rest.2)) where
+    count : (n : ℕ) (rs : List Reading) → length rs ≡ n → suc n ≡ length rs + zero + 1
+    count n rs e = omega (arith, e)
+  close_other file (suc at) (old ∷ olds) (now ∷ news) l m fresh c g =
+      let rest = close_other file at olds news c.0 m fresh.1 c.2 g in
+      let found = rest.2 in (
+        reading f now c.1.0.0 ∷ rest.0,
+        and_then l c.0 m (read (reading f now c.1.0.0) ∷ []) (reads rest.0) c.1.0.1 rest.1,
+        (reading f now c.1.0.0 ∷ found.0, found.1, found.2, ap (λ rs. reading f now c.1.0.0 ∷ rs) found.3, ap (λ n. suc n) found.4, found.5, one_more (length news) at found.2 found.6),
+      )
+  close_other file zero [] [] l m fresh c g = absurd g
+  close_other file zero [] (now ∷ news) l m fresh c g = absurd g
+  close_other file zero (old ∷ olds) [] l m fresh c g = absurd g
+  close_other file (suc at) [] [] l m fresh c g = absurd g
+  close_other file (suc at) [] (now ∷ news) l m fresh c g = absurd g
+  close_other file (suc at) (old ∷ olds) [] l m fresh c g = absurd g
+
+-- ---- what comes after the feeds
+
+-- OUT, or nothing, is handed back: whatever it took, and if it took nothing
+abbrev pub Ends : (took : List ℕ → Type 0) → (failed : Type 0) → Option (List Event) → Option (List Event) → Type 0
+Ends took failed m n =
+    ((es : List Event) × (n ≡ then_all m es) × (readings es ≡ []) × (failed → Has FailsToWrite es))
+    × (took [] → (es : List Event) × (n ≡ then_all m es) × (readings es ≡ []) × Each TookNothing es)
+
+pub ends_with_none : (m : Option (List Event)) (took : List ℕ → Type 0) → Ends took ⊥ m m
+ends_with_none m took = (([], then_none m, refl, λ x. absurd x), λ t. ([], then_none m, refl, tt))
+
+pub ends_with_out : {D : Type 0} (d : drain.Ghosts D) (out : D) (went : Bool) (took : List ℕ → Type 0) (failed : Type 0) (m n : Option (List Event)) → ((w : List ℕ) → took w → d.has_taken out 0 w) → (failed → 0 < d.failures out) → Finishes d out went m n → Ends took failed m n
+ends_with_out d out went took failed m n taken risen fin =
+    ((_, fin.0.1, refl, λ x. inl (inl (risen x))), λ t. (_, fin.1 [] (taken [] t), refl, (refl, tt)))
+
+-- ---- why it fails
+
+are_readings : (rs : List Reading) (es : List Event) → readings es ≡ [] → readings (reads rs ++ es) ≡ rs
+are_readings rs es none = readings_both (reads rs) es ∙ ap (λ more. readings (reads rs) ++ more) none ∙ append-nil (readings (reads rs)) ∙ readings_of rs
+
+none_left : (rs : List Reading) (n at : ℕ) → n ≡ at + 1 → n ≡ length rs + at + 1 → rs ≡ []
+none_left [] n at e h = refl
+none_left (r ∷ rs) n at e h = absurd (some_left (length rs) n at e h) where
+  some_left : (k n at : ℕ) → n ≡ at + 1 → n ≡ suc k + at + 1 → ⊥
+  some_left k n at e h = omega (arith, e, h)
+
+module _ {F : Type 0} (f : feed.Ghosts F) (judge : Option (List ℕ) → Option Verdict) (took : List ℕ → Type 0) (failed : Type 0) (l m n : Option (List Event)) (tail : Ends took failed m n) where
+  abbrev StopFails : Stop → Type 0
+  StopFails s = (events : List Event) × (n ≡ then_all l events) × FailsFor Pbfcut (IsRefused judge) s events
+
+  pub stop_fails : (s : Stop) (olds news : List F) → AreFresh f olds → CloseAll f news l m → StopsFor f judge olds news (took []) failed s → StopFails s
+  stop_fails (stop.Refused e) (old ∷ olds) (now ∷ news) fresh c stops =
+      let rest = close_rest f news c.0 m c.2 in
+      let end = tail.1 stops.1 in
+      let bytes = stops.0.bytes in
+      let one = reading f now bytes in
+      let all = and_then l c.0 m (read one ∷ []) (reads rest.0) (c.1.1 bytes (stops.0.passed fresh.0.0)) rest.1 in (
+        reads (one ∷ rest.0) ++ end.0,
+        and_then l m n (reads (one ∷ rest.0)) end.0 all end.1,
+        record { first = one; later = rest.0; are = are_readings (one ∷ rest.0) end.0 end.2; faulty = stops.0.faulty; nothing = each_both _ (reads (one ∷ rest.0)) end.0 (nothing_read (one ∷ rest.0)) end.3 },
+      )
+  stop_fails (stop.Refused e) [] [] fresh c stops = absurd stops.0
+  stop_fails (stop.Refused e) [] (now ∷ news) fresh c stops = absurd stops.0
+  stop_fails (stop.Refused e) (old ∷ olds) [] fresh c stops = absurd stops.0
+  stop_fails stop.Read olds news fresh c stops =
+      let rest = close_failed f olds news l m fresh c stops in
+      (reads rest.0 ++ tail.0.0, and_then l m n (reads rest.0) tail.0.0 rest.1 tail.0.1, has_before _ (reads rest.0) tail.0.0 rest.2)
+  stop_fails stop.Write olds news fresh c stops =
+      let rest = close_rest f news l m c in
+      (reads rest.0 ++ tail.0.0, and_then l m n (reads rest.0) tail.0.0 rest.1 tail.0.1, has_after _ (reads rest.0) tail.0.0 (tail.0.3 stops))
+  stop_fails stop.Memory olds news fresh c stops =
+      let rest = close_rest f news l m c in
+      (reads rest.0 ++ tail.0.0, and_then l m n (reads rest.0) tail.0.0 rest.1 tail.0.1, tt)
+  stop_fails (stop.Changed pass) (old ∷ olds) (now ∷ news) fresh c stops = by_last stops.last where
+    one : Reading
+    one = reading f now stops.file
+
+    rest : (rs : List Reading) × (m ≡ then_all c.0 (reads rs)) × ReadOther f stops.file stops.at (length news) rs
+    rest = close_other f stops.file stops.at olds news c.0 m fresh.1 c.2 stops.other
+
+    all : m ≡ then_all l (reads (one ∷ rest.0))
+    all = and_then l c.0 m (read one ∷ []) (reads rest.0) (c.1.1 stops.file (stops.first.passed fresh.0.0)) rest.1
+
+    by_last : ((length news ≡ stops.at + 1) ⊎ took []) → StopFails (stop.Changed pass)
+    by_last (inl last) = (
+      reads (one ∷ rest.0) ++ tail.0.0,
+      and_then l m n (reads (one ∷ rest.0)) tail.0.0 all tail.0.1,
+      record {
+        first = one;
+        between = rest.2.0;
+        other = rest.2.1;
+        later = rest.2.2;
+        are = are_readings (one ∷ rest.0) tail.0.0 tail.0.2 ∙ ap (λ rs. one ∷ rs) rest.2.3;
+        pass_is = stops.pass_is ∙ ap (λ k. k + 2) rest.2.4;
+        whole = stops.first.end;
+        differs = rest.2.5;
+        last = inl (none_left rest.2.2 (length news) stops.at last rest.2.6);
+      },
+    )
+    by_last (inr nothing) =
+        let end = tail.1 nothing in (
+          reads (one ∷ rest.0) ++ end.0,
+          and_then l m n (reads (one ∷ rest.0)) end.0 all end.1,
+          record {
+            first = one;
+            between = rest.2.0;
+            other = rest.2.1;
+            later = rest.2.2;
+            are = are_readings (one ∷ rest.0) end.0 end.2 ∙ ap (λ rs. one ∷ rs) rest.2.3;
+            pass_is = stops.pass_is ∙ ap (λ k. k + 2) rest.2.4;
+            whole = stops.first.end;
+            differs = rest.2.5;
+            last = inr (each_both _ (reads (one ∷ rest.0)) end.0 (nothing_read (one ∷ rest.0)) end.3);
+          },
+        )
+  stop_fails (stop.Changed pass) [] [] fresh c stops = absurd stops
+  stop_fails (stop.Changed pass) [] (now ∷ news) fresh c stops = absurd stops
+  stop_fails (stop.Changed pass) (old ∷ olds) [] fresh c stops = absurd stops
+
+  -- whatever happened
+  some_events : (news : List F) → CloseAll f news l m → (events : List Event) × (n ≡ then_all l events)
+  some_events news c =
+      let rest = close_rest f news l m c in
+      (reads rest.0 ++ tail.0.0, and_then l m n (reads rest.0) tail.0.0 rest.1 tail.0.1)
+
+  end_fails : (how : Ending) (olds news : List F) → AreFresh f olds → CloseAll f news l m → EndsFor f judge olds news (took []) failed how → (events : List Event) × (n ≡ then_all l events) × Fails Pbfcut (IsRefused judge) how events
+  end_fails (ending.Stopped s) olds news fresh c e = stop_fails s olds news fresh c e
+  end_fails ending.CannotOpen olds news fresh c e = absurd e
+  end_fails ending.IsPipe olds news fresh c e = absurd e
+  end_fails ending.OutExists olds news fresh c e = absurd e
+  end_fails (ending.Polygon x) olds news fresh c e = absurd e
+  end_fails (ending.Words t) olds news fresh c e = absurd e
+  end_fails ending.NotText olds news fresh c e = absurd e
+  end_fails (ending.Box b) olds news fresh c e = absurd e
+  end_fails (ending.Choice b) olds news fresh c e = absurd e
+  end_fails (ending.RefusedPacked r) olds news fresh c e = absurd e
+
+pub packed_fails : (refused : Fault → List Event → Type 0) (how : Ending) (events : List Event) → EndsPacked how → Fails Pbfcutz refused how events
+packed_fails refused (ending.Stopped s) events e = tt
+packed_fails refused (ending.RefusedPacked r) events e = tt
+packed_fails refused ending.CannotOpen events e = absurd e
+packed_fails refused ending.IsPipe events e = absurd e
+packed_fails refused ending.OutExists events e = absurd e
+packed_fails refused (ending.Polygon x) events e = absurd e
+packed_fails refused (ending.Words t) events e = absurd e
+packed_fails refused ending.NotText events e = absurd e
+packed_fails refused (ending.Box b) events e = absurd e
+packed_fails refused (ending.Choice b) events e = absurd e
+
+-- a call stopped, and all devices were handed back
+pub work_fails : (program : Program) {F : Type 0} (f : feed.Ghosts F) (hashes : Bool) (task : Task) (took : List ℕ → Type 0) (failed : Type 0) (l m n : Option (List Event)) (olds news : List F) (halted : Halted)
+    → Ends took failed m n → AreFresh f olds → CloseAll f news l m → WorksBy program f hashes task olds news took failed (Err halted)
+    → (events : List Event) × (n ≡ then_all l events) × Fails program (IsRefused (judge_of task)) halted.ending events
+work_fails Pbfcut f hashes task took failed l m n olds news halted tail fresh c works = end_fails f (judge_of task) took failed l m n tail halted.ending olds news fresh c works
+work_fails Pbfcutz f hashes task took failed l m n olds news halted tail fresh c works =
+    let some = some_events f (judge_of task) took failed l m n tail news c in
+    (some.0, some.1, packed_fails (IsRefused (judge_of task)) halted.ending some.0 works)
+
+-- ---- what it does
+
+-- a call ended well, and its feeds were handed back
+pub work_read : (program : Program) {F : Type 0} (f : feed.Ghosts F) (hashes : Bool) (task : Task) (failed : Type 0) (l m : Option (List Event)) (olds news : List F) (report : Report)
+    → AreFresh f olds → CloseAll f news l m → WorksBy program f hashes task olds news (λ took. took ≡ []) failed (Ok report)
+    → (rs : List Reading) × (m ≡ then_all l (reads rs)) × (length rs ≡ length news) × IsWorkOf program hashes task rs [] report.counts report.input report.raw
+work_read Pbfcut f hashes task failed l m olds news report fresh c works =
+    let given = close_given f (digest_if hashes report.input) (spares task) olds news works.files l m fresh c works.gave in
+    (given.0, given.1, given.3, (record { files = works.files; read = given.2; holds = subst (λ (w : List ℕ). Holds task works.files report.counts w) works.took_them works.holds }, works.raw))
+work_read Pbfcutz f hashes task failed l m olds news report fresh c works =
+    let rest = close_rest f news l m c in (rest.0, rest.1, rest.2, tt)
+
+-- what pbfcut's drain took
+abbrev pub TookBy : Program → (List ℕ → Type 0) → List ℕ → Type 0
+TookBy Pbfcut took written = took written
+TookBy Pbfcutz took written = Unit {0}
+
+-- the same, and its drain too
+pub work_done : (program : Program) {F D : Type 0} (f : feed.Ghosts F) (d : drain.Ghosts D) (out : D) (went : Bool) (hashes : Bool) (task : Task) (took : List ℕ → Type 0) (failed : Type 0) (l m n : Option (List Event)) (olds news : List F) (report : Report)
+    → AreFresh f olds → CloseAll f news l m → Finishes d out went m n → ((w : List ℕ) → took w → d.has_taken out 0 w) → WorksBy program f hashes task olds news took failed (Ok report)
+    → (rs : List Reading) × (w : Writing) × (n ≡ then_all l (reads rs ++ wrote w ∷ [])) × (w.out ≡ went) × TookBy program took w.bytes × IsWorkOf program hashes task rs w.bytes report.counts report.input report.raw
+work_done Pbfcut f d out went hashes task took failed l m n olds news report fresh c fin taken works =
+    let given = close_given f (digest_if hashes report.input) (spares task) olds news works.files l m fresh c works.gave in (
+      given.0,
+      record { bytes = works.written; failures = d.failures out; out = went },
+      and_then l m n (reads given.0) (wrote (record { bytes = works.written; failures = d.failures out; out = went }) ∷ []) given.1 (fin.1 works.written (taken works.written works.took_them)),
+      refl,
+      works.took_them,
+      (record { files = works.files; read = given.2; holds = works.holds }, works.raw),
+    )
+work_done Pbfcutz f d out went hashes task took failed l m n olds news report fresh c fin taken works =
+    let rest = close_rest f news l m c in (
+      rest.0,
+      record { bytes = fin.0.0; failures = d.failures out; out = went },
+      and_then l m n (reads rest.0) (wrote (record { bytes = fin.0.0; failures = d.failures out; out = went }) ∷ []) rest.1 fin.0.1,
+      refl,
+      tt,
+      tt,
+    )
+
+-- a call ended well, but not all went out
+pub finish_fails : {F D : Type 0} (f : feed.Ghosts F) (d : drain.Ghosts D) (out : D) (went : Bool) (l m n : Option (List Event)) (news : List F) → CloseAll f news l m → Finishes d out went m n → went ≡ false
+    → (events : List Event) × (n ≡ then_all l events) × Has FailsToWrite events × Has FailsToFinish events
+finish_fails f d out went l m n news c fin e =
+    let rest = close_rest f news l m c in (
+      reads rest.0 ++ wrote (record { bytes = fin.0.0; failures = d.failures out; out = went }) ∷ [],
+      and_then l m n (reads rest.0) (wrote (record { bytes = fin.0.0; failures = d.failures out; out = went }) ∷ []) rest.1 fin.0.1,
+      has_after _ (reads rest.0) _ (inl (inr e)),
+      has_after _ (reads rest.0) _ (inl e),
+    )
+
+-- the same of one pass
+pub work_read_once : (program : Program) {F : Type 0} (f : feed.Ghosts F) (hashes : Bool) (task : Task) (failed : Type 0) (l m : Option (List Event)) (old now : F) (report : Report)
+    → IsFresh f old → Closes f now l m → WorksBy program f hashes task (old ∷ []) (now ∷ []) (λ took. took ≡ []) failed (Ok report)
+    → (first : Reading) × (m ≡ then_one l (read first)) × IsWorkOf program hashes task (first ∷ []) [] report.counts report.input report.raw
+work_read_once program f hashes task failed l m old now report fresh c works = only given.0 given.1 given.2 given.3 where
+  given : (rs : List Reading) × (m ≡ then_all l (reads rs)) × (length rs ≡ 1) × IsWorkOf program hashes task rs [] report.counts report.input report.raw
+  given = work_read program f hashes task failed l m (old ∷ []) (now ∷ []) report (fresh, tt) (m, c, refl) works
+
+  only : (rs : List Reading) → m ≡ then_all l (reads rs) → length rs ≡ 1 → IsWorkOf program hashes task rs [] report.counts report.input report.raw → (first : Reading) × (m ≡ then_one l (read first)) × IsWorkOf program hashes task (first ∷ []) [] report.counts report.input report.raw
+  only [] e n w = absurd (none n) where
+    none : ◌≡◌ {A = ℕ} 0 1 → ⊥
+    none n = omega (arith, n)
+  only (r ∷ []) e n w = (r, e, w)
+  only (r ∷ s ∷ rs) e n w = absurd (more (length rs) n) where
+    more : (k : ℕ) → ◌≡◌ {A = ℕ} (suc (suc k)) 1 → ⊥
+    more k n = omega (arith, n)
+
+-- what a call did, however it ended
+pub if_done : (program : Program) {F D : Type 0} (f : feed.Ghosts F) (d : drain.Ghosts D) (out : D) (went : Bool) (hashes : Bool) (task : Task) (took : List ℕ → Type 0) (failed : Type 0) (l m n : Option (List Event)) (olds news : List F) (outcome : Result Report Halted)
+    → AreFresh f olds → CloseAll f news l m → Finishes d out went m n → ((w : List ℕ) → took w → d.has_taken out 0 w) → WorksBy program f hashes task olds news took failed outcome
+    → OnOk outcome ((report : Report) × (rs : List Reading) × (w : Writing) × (n ≡ then_all l (reads rs ++ wrote w ∷ [])) × (w.out ≡ went) × IsWorkOf program hashes task rs w.bytes report.counts report.input report.raw)
+if_done program f d out went hashes task took failed l m n olds news (Ok report) fresh c fin taken works =
+    let done = work_done program f d out went hashes task took failed l m n olds news report fresh c fin taken works in (report, done.0, done.1, done.2, done.3, done.5)
+if_done program f d out went hashes task took failed l m n olds news (Err halted) fresh c fin taken works = tt
+
+pub if_fails : (program : Program) {F : Type 0} (f : feed.Ghosts F) (hashes : Bool) (task : Task) (took : List ℕ → Type 0) (failed : Type 0) (l m n : Option (List Event)) (olds news : List F) (outcome : Result Report Halted)
+    → Ends took failed m n → AreFresh f olds → CloseAll f news l m → WorksBy program f hashes task olds news took failed outcome
+    → IfErr outcome (λ halted. (events : List Event) × (n ≡ then_all l events) × Fails program (IsRefused (judge_of task)) halted.ending events)
+if_fails program f hashes task took failed l m n olds news (Ok report) tail fresh c works = tt
+if_fails program f hashes task took failed l m n olds news (Err halted) tail fresh c works = work_fails program f hashes task took failed l m n olds news halted tail fresh c works
+
+-- the digest that was asked for
+pub hashed_as : (program : Program) {D : Type 0} (d : drain.Ghosts D) (out : D) (digests : Bool) (known : Option (List ℕ)) (w : List ℕ) → TookBy program (TakenBy d out known) w → IsAsked digests known → IsHashed program digests w known
+hashed_as Pbfcut d out true (Some known) w took asked = ap (λ (x : List ℕ). Some x) took.1
+hashed_as Pbfcut d out true None w took asked = absurd asked
+hashed_as Pbfcut d out false (Some known) w took asked = absurd asked
+hashed_as Pbfcut d out false None w took asked = refl
+hashed_as Pbfcutz d out digests known w took asked = asked
+
+-- not all went out, or OUT didn't get its name
+pub keep_fails : (program : Program) (refused : Fault → List Event → Type 0) (how : Ending) (events : List Event) → ((how ≡ ending.Stopped stop.Write) ⊎ (how ≡ ending.OutExists)) → Has FailsToWrite events → Has FailsToFinish events → Fails program refused how events
+keep_fails program refused how events (inl e) written finished = subst (λ h. Fails program refused h events) (sym e) (write_stops program refused events written)
+keep_fails program refused how events (inr e) written finished = subst (λ h. Fails program refused h events) (sym e) (inr finished)

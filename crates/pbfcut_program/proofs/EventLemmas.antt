@@ -1,0 +1,59 @@
+-- Events before and after others.
+use Rattle.std.proofs.Common.{◌≡◌, ◌⊎◌, inl, inr, List, [], ◌∷◌, ◌++◌, map, refl, ap, ◌∙◌}
+use Rattle.std.proofs.lemmas.List.{append-nil}
+use Rattle.pbfcut_program.specs.Events.{Event, Reading, read, wrote}
+use Rattle.pbfcut_program.specs.Fails.{Has, Each, Quiet, TookNothing, readings}
+
+pub has_after : (p : Event → Type 0) (xs ys : List Event) → Has p ys → Has p (xs ++ ys)
+has_after p [] ys h = h
+has_after p (x ∷ xs) ys h = inr (has_after p xs ys h)
+
+pub has_before : (p : Event → Type 0) (xs ys : List Event) → Has p xs → Has p (xs ++ ys)
+has_before p [] ys h = absurd h
+has_before p (x ∷ xs) ys (inl h) = inl h
+has_before p (x ∷ xs) ys (inr h) = inr (has_before p xs ys h)
+
+pub each_both : (p : Event → Type 0) (xs ys : List Event) → Each p xs → Each p ys → Each p (xs ++ ys)
+each_both p [] ys h k = k
+each_both p (x ∷ xs) ys h k = (h.0, each_both p xs ys h.1 k)
+
+quiet_nothing : (e : Event) → Quiet e → TookNothing e
+quiet_nothing (wrote w) q = absurd q
+quiet_nothing _ q = tt
+
+pub nothing_in : (xs : List Event) → Each Quiet xs → Each TookNothing xs
+nothing_in [] q = tt
+nothing_in (x ∷ xs) q = (quiet_nothing x q.0, nothing_in xs q.1)
+
+-- ---- readings
+
+reading_first : (e : Event) (xs ys : List Event) → readings (xs ++ ys) ≡ readings xs ++ readings ys → readings (e ∷ xs ++ ys) ≡ readings (e ∷ xs) ++ readings ys
+reading_first (read r) xs ys h = ap (λ rs. r ∷ rs) h
+reading_first _ xs ys h = h
+
+pub readings_both : (xs ys : List Event) → readings (xs ++ ys) ≡ readings xs ++ readings ys
+readings_both [] ys = refl
+readings_both (x ∷ xs) ys = reading_first x xs ys (readings_both xs ys)
+
+quiet_one : (e : Event) (ys : List Event) → Quiet e → readings (e ∷ ys) ≡ readings ys
+quiet_one (read r) ys q = absurd q
+quiet_one _ ys q = refl
+
+pub readings_after : (xs ys : List Event) → Each Quiet xs → readings (xs ++ ys) ≡ readings ys
+readings_after [] ys q = refl
+readings_after (x ∷ xs) ys q = quiet_one x (xs ++ ys) q.0 ∙ readings_after xs ys q.1
+
+pub readings_of_quiet : (xs : List Event) → Each Quiet xs → readings xs ≡ []
+readings_of_quiet [] q = refl
+readings_of_quiet (x ∷ xs) q = quiet_one x xs q.0 ∙ readings_of_quiet xs q.1
+
+pub readings_before : (xs ys : List Event) → readings ys ≡ [] → readings (xs ++ ys) ≡ readings xs
+readings_before xs ys none = readings_both xs ys ∙ ap (λ rs. readings xs ++ rs) none ∙ append-nil (readings xs)
+
+pub readings_of : (rs : List Reading) → readings (map (λ r. read r) rs) ≡ rs
+readings_of [] = refl
+readings_of (r ∷ rs) = ap (λ more. r ∷ more) (readings_of rs)
+
+pub nothing_read : (rs : List Reading) → Each TookNothing (map (λ r. read r) rs)
+nothing_read [] = tt
+nothing_read (r ∷ rs) = (tt, nothing_read rs)

@@ -1,0 +1,10 @@
+pub mod Beginning
+pub mod Closing
+pub mod EventLemmas
+pub mod FailLemmas
+pub mod Listings
+pub mod Logging
+pub mod Meaning
+pub mod Printed
+pub mod RawCalls
+pub mod Weaker

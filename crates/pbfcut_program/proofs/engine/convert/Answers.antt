@@ -1,0 +1,10 @@
+use Rattle.pbfcut_program.proofs.RawCalls.{convert_works}
+use Rattle.std.proofs.Common.{true, rules, subst, ◌≡◌}
+use Rattle.pbfcut_program.proofs.engine.convert.Goals as goal
+
+pub returns-in-Pbfcut : goal.returns-in-Pbfcut
+returns-in-Pbfcut g c =
+    let h = c.raw_passes-how.ensures in
+    let receipt = c.convert_with_receipt.ensures.receipt in
+    let ends = c.convert_with_receipt.ensures.ends in
+    rw c.in-Pbfcut.is (convert_works g.F.Feed g.D.Drain c.args.drain.now c.convert_with_receipt.new.drain c.args.passes.now.one c.convert_with_receipt.new.first c.args.passes.now.two c.convert_with_receipt.new.second c.convert_with_receipt.result c.reported.result (rw h at receipt) (rw h at ends) c.reported.ensures)

@@ -1,0 +1,10 @@
+use Rattle.pbfcut_program.proofs.RawCalls.{copy_works}
+use Rattle.std.proofs.Common.{true, rules, subst, ◌≡◌}
+use Rattle.pbfcut_program.proofs.engine.copy.Goals as goal
+
+pub returns-in-Pbfcut : goal.returns-in-Pbfcut
+returns-in-Pbfcut g c =
+    let h = c.raw_passes-how.ensures in
+    let receipt = c.copy_with_receipt.ensures.receipt in
+    let ends = c.copy_with_receipt.ensures.ends in
+    rw c.in-Pbfcut.is (copy_works g.F.Feed g.D.Drain c.args.drain.now c.copy_with_receipt.new.drain c.args.passes.now.one c.copy_with_receipt.new.first c.args.passes.now.two c.copy_with_receipt.new.second c.copy_with_receipt.result c.reported.result (rw h at receipt) (rw h at ends) c.reported.ensures)

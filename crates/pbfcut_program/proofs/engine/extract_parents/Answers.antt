@@ -1,0 +1,10 @@
+use Rattle.pbfcut_program.proofs.RawCalls.{extract_parents_works}
+use Rattle.std.proofs.Common.{true, rules, subst, ◌≡◌}
+use Rattle.pbfcut_program.proofs.engine.extract_parents.Goals as goal
+
+pub returns-in-Pbfcut : goal.returns-in-Pbfcut
+returns-in-Pbfcut g c =
+    let h = c.raw_passes-how.ensures in
+    let receipt = c.extract_parents_sorted_with_receipt.ensures.receipt in
+    let ends = c.extract_parents_sorted_with_receipt.ensures.ends in
+    rw c.in-Pbfcut.is (extract_parents_works g.F.Feed g.D.Drain c.args.drain.now c.extract_parents_sorted_with_receipt.new.drain (g.A.Area.area c.args.area) c.args.passes.now.one c.extract_parents_sorted_with_receipt.new.first c.args.passes.now.two c.extract_parents_sorted_with_receipt.new.second c.args.passes.now.three c.extract_parents_sorted_with_receipt.new.third c.args.passes.now.four c.extract_parents_sorted_with_receipt.new.fourth c.extract_parents_sorted_with_receipt.result c.reported.result (rw h at receipt) (rw h at ends) c.reported.ensures)

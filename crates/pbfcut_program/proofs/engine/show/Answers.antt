@@ -1,0 +1,10 @@
+use Rattle.pbfcut_program.proofs.RawCalls.{show_works}
+use Rattle.std.proofs.Common.{true, rules, subst, ◌≡◌}
+use Rattle.pbfcut_program.proofs.engine.show.Goals as goal
+
+pub returns-in-Pbfcut : goal.returns-in-Pbfcut
+returns-in-Pbfcut g c =
+    let h = c.raw_passes-how.ensures in
+    let receipt = c.show_with_receipt.ensures.receipt in
+    let ends = c.show_with_receipt.ensures.ends in
+    rw c.in-Pbfcut.is (show_works g.F.Feed g.D.Drain c.args.drain.now c.show_with_receipt.new.drain c.args.dates c.args.passes.now.one c.show_with_receipt.new.first c.args.passes.now.two c.show_with_receipt.new.second c.show_with_receipt.result c.reported.result (rw h at receipt) (rw h at ends) c.reported.ensures)

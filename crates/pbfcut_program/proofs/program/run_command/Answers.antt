@@ -1,0 +1,58 @@
+use Rattle.std.proofs.Common.{◌≡◌, ◌∙◌, [], ◌∷◌, ap, refl, rules, string_bytes, true}
+use Rattle.std.proofs.lemmas.Result.{IfErr-weaker, on_ok_weaker}
+use Rattle.pbfcut_program.specs.declared.host.Screen.TheVariants.{Output}
+use Rattle.pbfcut_program.specs.Events.{printed}
+use Rattle.pbfcut_program.proofs.FailLemmas.{print_fails, tells_err, tells_ok}
+use Rattle.pbfcut_program.proofs.Logging.{then_none}
+use Rattle.pbfcut_program.proofs.program.run_command.Goals as goal
+
+pub returns-in-Help-clause-ok : goal.returns-in-Help-clause-ok
+returns-in-Help-clause-ok g c =
+    let same : c.as_bytes.result.now ≡ string_bytes c.in-Help.text.now = search rules in
+    rw c.in-Help.is (on_ok_weaker c.print_text.result (λ e. (_, e, ap (λ t. printed Output t true ∷ []) same)) (tells_ok _ _ _ c.print_text.result c.print_text.ensures))
+
+pub returns-in-Help-clause-err : goal.returns-in-Help-clause-err
+returns-in-Help-clause-err g c =
+    rw c.in-Help.is (IfErr-weaker c.print_text.result _ _ (λ how f. print_fails c.args.engine.program _ how _ _ _ [] (then_none _) f) (tells_err _ _ _ c.print_text.result c.print_text.ensures))
+
+pub returns-in-Blobs-clause-ok : goal.returns-in-Blobs-clause-ok
+returns-in-Blobs-clause-ok g c = rw c.in-Blobs.is c.run_blobs.ensures.ok
+
+pub returns-in-Blobs-clause-err : goal.returns-in-Blobs-clause-err
+returns-in-Blobs-clause-err g c = rw c.in-Blobs.is c.run_blobs.ensures.err
+
+pub returns-in-Info-clause-ok : goal.returns-in-Info-clause-ok
+returns-in-Info-clause-ok g c = rw c.in-Info.is c.run_info.ensures.ok
+
+pub returns-in-Info-clause-err : goal.returns-in-Info-clause-err
+returns-in-Info-clause-err g c = rw c.in-Info.is c.run_info.ensures.err
+
+pub returns-in-Show-clause-ok : goal.returns-in-Show-clause-ok
+returns-in-Show-clause-ok g c = rw c.in-Show.is c.run_show.ensures.ok
+
+pub returns-in-Show-clause-err : goal.returns-in-Show-clause-err
+returns-in-Show-clause-err g c = rw c.in-Show.is c.run_show.ensures.err
+
+pub returns-in-Check-clause-ok : goal.returns-in-Check-clause-ok
+returns-in-Check-clause-ok g c =
+    let asked = rw c.in-Check.is at c.requires in
+    let done = rw asked at c.run_check.ensures.ok in
+    rw c.in-Check.is done
+
+pub returns-in-Check-clause-err : goal.returns-in-Check-clause-err
+returns-in-Check-clause-err g c = rw c.in-Check.is c.run_check.ensures.err
+
+pub returns-in-Extract-clause-ok : goal.returns-in-Extract-clause-ok
+returns-in-Extract-clause-ok g c =
+    let asked = rw c.in-Extract.is at c.requires in
+    let done = rw asked at c.run_extract.ensures.ok in
+    rw c.in-Extract.is done
+
+pub returns-in-Extract-clause-err : goal.returns-in-Extract-clause-err
+returns-in-Extract-clause-err g c = rw c.in-Extract.is c.run_extract.ensures.err
+
+pub returns-in-Convert-clause-ok : goal.returns-in-Convert-clause-ok
+returns-in-Convert-clause-ok g c = rw c.in-Convert.is c.run_writing.ensures.ok
+
+pub returns-in-Convert-clause-err : goal.returns-in-Convert-clause-err
+returns-in-Convert-clause-err g c = rw c.in-Convert.is c.run_writing.ensures.err

@@ -1,0 +1,75 @@
+use Rattle.std.proofs.Common.{◌≡◌, ◌∙◌, [], ◌∷◌, ◌++◌, List, map, true, refl, ap, subst, sym}
+use Rattle.std.proofs.lemmas.Result.{err_from_is_err_and}
+use Rattle.pbfcut_program.specs.Events.{Event, read, seeded, wrote, then_all}
+use Rattle.pbfcut_program.specs.Fails.{Fails, IsRefused}
+use Rattle.pbfcut_program.specs.Jobs.{feeds_of, plan_of, task_of}
+use Rattle.pbfcut_program.specs.Program.{IsWorkOf, counts_text, done_lines, is_screen, looks, makes, openings, prints, screen_of}
+use Rattle.pbfcut_program.specs.Tasks.{judge_of}
+use Rattle.pbfcut_program.proofs.Beginning.{all_events, begun, length_has, quiet_begun}
+use Rattle.pbfcut_program.proofs.FailLemmas.{fails_after, opening_fails, print_fails, refused_keeps}
+use Rattle.pbfcut_program.proofs.Logging.{and_then}
+use Rattle.pbfcut_program.proofs.writing.write.Goals as goal
+
+pub returns-in_err-ready-clause-err : goal.returns-in_err-ready-clause-err
+returns-in_err-ready-clause-err g c =
+    let p = err_from_is_err_and c.from_residual.result c.from_residual.ensures.1 in
+    let f = c.in_err-ready.ensures.err in
+    rw (p.1, p.2) (f.0, f.1, opening_fails c.args.engine.program _ c.in_err-ready.field-0.0 f.0 f.2)
+
+pub returns-in_err-done-clause-err : goal.returns-in_err-done-clause-err
+returns-in_err-done-clause-err g c =
+    let log = g.H.Host.log c.args.host.now in
+    let p = err_from_is_err_and c.from_residual-in_err-done.result c.from_residual-in_err-done.ensures.1 in
+    let f = c.in_err-done.ensures.err in
+    let how = c.in_err-done.field-0.0 in
+    let files = c.args.files.now in
+    let is = is_screen c.args.engine.program files.output.now in
+    let has = map g.H.In.Feed.remaining (feeds_of c.in_ok-ready.ready.job) in
+    let judge = judge_of (plan_of c.args.plan) in
+    let fails = subst (λ t. Fails c.args.engine.program (IsRefused (judge_of t)) how f.0) c.in_ok-ready.ensures.planned.0 f.2 in
+    let opened = rw c.is_screen-to_screen.ensures at c.in_ok-ready.ensures.ok in
+    rw (p.1, p.2) (_, and_then log _ _ (begun is files.input.now files.output.now has) f.0 opened f.1, fails_after c.args.engine.program (IsRefused judge) how (begun is files.input.now files.output.now has) f.0 (refused_keeps judge) (quiet_begun is files.input.now files.output.now has) fails)
+
+pub returns-in_err-print_done-clause-err : goal.returns-in_err-print_done-clause-err
+returns-in_err-print_done-clause-err g c =
+    let log = g.H.Host.log c.args.host.now in
+    let p = err_from_is_err_and c.from_residual-in_err-print_done.result c.from_residual-in_err-print_done.ensures.1 in
+    let d = c.in_ok-done.ensures.ok in
+    let files = c.args.files.now in
+    let is = is_screen c.args.engine.program files.output.now in
+    let has = map g.H.In.Feed.remaining (feeds_of c.in_ok-ready.ready.job) in
+    let opened = rw c.is_screen-to_screen.ensures at c.in_ok-ready.ensures.ok in
+    let done = and_then log _ _ (begun is files.input.now files.output.now has) (map (λ r. read r) d.0 ++ wrote d.1 ∷ []) opened d.2 in
+    rw (p.1, p.2) (print_fails c.args.engine.program (IsRefused (judge_of (plan_of c.args.plan))) c.in_err-print_done.field-0.0 log _ _ _ done c.in_err-print_done.ensures)
+
+pub returns-clause-ok : goal.returns-clause-ok
+returns-clause-ok g c =
+    let log = g.H.Host.log c.args.host.now in
+    let d = c.in_ok-done.ensures.ok in
+    let r = c.in_ok-done.done in
+    let files = c.args.files.now in
+    let is = is_screen c.args.engine.program files.output.now in
+    let has = map g.H.In.Feed.remaining (feeds_of c.in_ok-ready.ready.job) in
+    let rs : List Event = map (λ r. read r) d.0 in
+    let lines = prints (screen_of is) (counts_text r.report.counts ∷ done_lines r.output r.report.input r.report.raw files.input.now files.output.now) in
+    let opened = rw c.is_screen-to_screen.ensures at c.in_ok-ready.ensures.ok in
+    let done = and_then log _ _ (begun is files.input.now files.output.now has) (rs ++ wrote d.1 ∷ []) opened d.2 in
+    let printed = rw (c.screen_of.ensures, c.is_screen-to_screen.ensures) at c.in_ok-print_done.ensures in
+    let all = and_then log _ _ (begun is files.input.now files.output.now has ++ (rs ++ wrote d.1 ∷ [])) lines done printed in
+    let same = all_events (looks is files.output.now ++ openings files.input.now 1 has) rs lines (seeded true) (makes is files.output.now) (wrote d.1) in (
+      _,
+      all ∙ ap (λ es. then_all log es) same,
+      record {
+        has = has;
+        rs = d.0;
+        out = d.1;
+        digest = r.report.input;
+        raw = r.report.raw;
+        known = r.output;
+        happened = refl;
+        passes = length_has g.H.In.Feed.remaining (feeds_of c.in_ok-ready.ready.job) ∙ c.in_ok-ready.ensures.planned.1;
+        whole = d.3;
+        hashed = d.4;
+        work = subst (λ t. IsWorkOf c.args.engine.program true t d.0 d.1.bytes r.report.counts r.report.input r.report.raw) c.in_ok-ready.ensures.planned.0 d.5;
+      },
+    )

@@ -1,0 +1,158 @@
+-- What went through the devices of a command, before they are handed back to the host.
+use Rattle.std.specs.Prelude.{◌≡◌, ◌⊎◌, ℕ, zero, suc, ◌+◌, List, [], ◌∷◌, length, Bool, true, false, Option, Some, None, Result, Ok, Err, IfOk, IfErr, IfSome}
+use Rattle.pbf_frame.specs.declared.device.Feed as feed
+use Rattle.pbf_frame.specs.declared.device.Drain as drain
+use Rattle.pbf_frame.specs.declared.stop.Stop.{Stop}
+use Rattle.pbf_frame.specs.declared.stop.Stop.TheVariants as stop
+use Rattle.pbf_frame.specs.Devices.{HasRisen, IsAtEnd, Passes}
+use Rattle.pbf_frame.specs.Verdict.{Verdict}
+use Rattle.pbf_pass.specs.Hashing.{IsDigestOf, digest_if}
+use Rattle.pbf_wire.specs.declared.fault.Fault.{Fault}
+use Rattle.sha2.specs.Sha256.{sha256}
+use Rattle.pbfcut_cli.specs.declared.endings.Ending.{Ending}
+use Rattle.pbfcut_cli.specs.declared.endings.Ending.TheVariants as ending
+use Rattle.pbfcut_cli.specs.declared.programs.Program.{Program}
+use Rattle.pbfcut_cli.specs.declared.programs.Program.TheVariants.{Pbfcut, Pbfcutz}
+use Rattle.pbfcut_program.specs.declared.engine.Report.{Report}
+use Rattle.pbfcut_program.specs.declared.engine.Halted.{Halted}
+use Rattle.pbfcut_program.specs.Events.{Event, read, wrote, then_one}
+use Rattle.pbfcut_program.specs.Outcomes.{EndsPacked}
+use Rattle.pbfcut_program.specs.Readings.{IsFaulty, IsOther}
+use Rattle.pbfcut_program.specs.Tasks.{Task, Holds, judge_of, spares}
+
+-- ---- devices of which nothing was read, and that took nothing
+
+abbrev pub IsFresh : {F : Type 0} → feed.Ghosts F → F → Type 0
+IsFresh f one = f.has_passed one 0 [] × (f.failures one ≡ 0)
+
+abbrev pub AreFresh : {F : Type 0} → feed.Ghosts F → List F → Type 0
+AreFresh f [] = Unit {0}
+AreFresh f (one ∷ more) = IsFresh f one × AreFresh f more
+
+abbrev pub IsFreshOut : {D : Type 0} → drain.Ghosts D → D → Type 0
+IsFreshOut d out = d.has_taken out 0 [] × IfSome (d.taken out) (λ taken. taken ≡ []) × (d.failures out ≡ 0)
+
+-- ---- devices that are handed back
+
+abbrev pub Closes : {F : Type 0} → feed.Ghosts F → F → Option (List Event) → Option (List Event) → Type 0
+Closes f now before after =
+    ((bytes : List ℕ) × (after ≡ then_one before (read (record { bytes = bytes; left = f.remaining now; failures = f.failures now }))))
+    × ((bytes : List ℕ) → f.has_passed now 0 bytes → after ≡ then_one before (read (record { bytes = bytes; left = f.remaining now; failures = f.failures now })))
+
+-- OUT, of which all went out, or not
+abbrev pub Finishes : {D : Type 0} → drain.Ghosts D → D → Bool → Option (List Event) → Option (List Event) → Type 0
+Finishes d now out before after =
+    ((bytes : List ℕ) × (after ≡ then_one before (wrote (record { bytes = bytes; failures = d.failures now; out = out }))))
+    × ((bytes : List ℕ) → d.has_taken now 0 bytes → after ≡ then_one before (wrote (record { bytes = bytes; failures = d.failures now; out = out })))
+
+-- one feed after the other
+abbrev pub CloseAll : {F : Type 0} → feed.Ghosts F → List F → Option (List Event) → Option (List Event) → Type 0
+CloseAll f [] before after = after ≡ before
+CloseAll f (now ∷ more) before after = (between : Option (List Event)) × Closes f now before between × CloseAll f more between after
+
+-- ---- what feeds gave
+
+-- a feed gave this file, to its end, which has this digest, if there is one
+pub record Gives {F : Type 0} (f : feed.Ghosts F) (digest : Option (List ℕ)) (old now : F) (file : List ℕ) : Type 0 where
+  pub passed : f.has_passed old 0 [] → f.has_passed now 0 file
+  pub end : IsAtEnd (f.remaining now)
+  pub digest_is : IsDigestOf digest file
+
+-- a later one did; or it was spared
+abbrev pub GivesOrNot : {F : Type 0} → feed.Ghosts F → Option (List ℕ) → Bool → (first : List ℕ) → (old now : F) → List ℕ → Type 0
+GivesOrNot f digest may first old now file = Gives f digest old now file ⊎ ((may ≡ true) × (now ≡ old) × (file ≡ first))
+
+abbrev pub GiveLater : {F : Type 0} → feed.Ghosts F → Option (List ℕ) → Bool → (first : List ℕ) → (olds news : List F) → List (List ℕ) → Type 0
+GiveLater f digest may first [] [] [] = Unit {0}
+GiveLater f digest may first (old ∷ olds) (now ∷ news) (b ∷ bs) = GivesOrNot f digest may first old now b × GiveLater f digest false first olds news bs
+GiveLater f digest may first _ _ _ = ⊥
+
+abbrev pub GiveAll : {F : Type 0} → feed.Ghosts F → Option (List ℕ) → Bool → (olds news : List F) → List (List ℕ) → Type 0
+GiveAll f digest may (old ∷ olds) (now ∷ news) (b ∷ bs) = Gives f digest old now b × GiveLater f digest may b olds news bs
+GiveAll f digest may _ _ _ = ⊥
+
+-- ---- why a call stops
+
+abbrev pub AnyFailed : {F : Type 0} → feed.Ghosts F → (olds news : List F) → Type 0
+AnyFailed f (old ∷ olds) (now ∷ news) = HasRisen (f.failures old) (f.failures now) ⊎ AnyFailed f olds news
+AnyFailed f _ _ = ⊥
+
+-- a feed gave faulty bytes
+pub record GivesFaulty {F : Type 0} (f : feed.Ghosts F) (judge : Option (List ℕ) → Option Verdict) (fault : Fault) (old now : F) : Type 0 where
+  pub bytes : List ℕ
+  pub passed : f.has_passed old 0 [] → f.has_passed now 0 bytes
+  pub faulty : IsFaulty judge fault bytes (f.remaining now)
+
+abbrev pub FirstGivesFaulty : {F : Type 0} → feed.Ghosts F → (Option (List ℕ) → Option Verdict) → Fault → (olds news : List F) → Type 0
+FirstGivesFaulty f judge fault (old ∷ olds) (now ∷ news) = GivesFaulty f judge fault old now
+FirstGivesFaulty f judge fault _ _ = ⊥
+
+-- a feed gave other bytes than this file
+pub record GivesOther {F : Type 0} (f : feed.Ghosts F) (file : List ℕ) (old now : F) : Type 0 where
+  pub bytes : List ℕ
+  pub passed : f.has_passed old 0 [] → f.has_passed now 0 bytes
+  pub other : IsOther file bytes (f.remaining now)
+
+-- the feed at this place did
+abbrev pub GivesOtherAt : {F : Type 0} → feed.Ghosts F → (file : List ℕ) → ℕ → (olds news : List F) → Type 0
+GivesOtherAt f file zero (old ∷ olds) (now ∷ news) = GivesOther f file old now
+GivesOtherAt f file (suc at) (old ∷ olds) (now ∷ news) = GivesOtherAt f file at olds news
+GivesOtherAt f file _ _ _ = ⊥
+
+-- the first feed gave a file, and that of this pass another; unless it is the last pass, nothing went out
+pub record ChangeIn {F : Type 0} (f : feed.Ghosts F) (nothing : Type 0) (pass : ℕ) (old now : F) (olds news : List F) : Type 0 where
+  pub file : List ℕ
+  pub first : Gives f None old now file
+  pub at : ℕ
+  pub pass_is : pass ≡ at + 2
+  pub other : GivesOtherAt f file at olds news
+  pub last : (length news ≡ at + 1) ⊎ nothing
+
+abbrev pub Change : {F : Type 0} → feed.Ghosts F → (nothing : Type 0) → ℕ → (olds news : List F) → Type 0
+Change f nothing pass (old ∷ olds) (now ∷ news) = ChangeIn f nothing pass old now olds news
+Change f nothing pass _ _ = ⊥
+
+abbrev pub StopsFor : {F : Type 0} → feed.Ghosts F → (Option (List ℕ) → Option Verdict) → (olds news : List F) → (nothing failed : Type 0) → Stop → Type 0
+StopsFor f judge olds news nothing failed (stop.Refused e) = FirstGivesFaulty f judge e olds news × nothing
+StopsFor f judge olds news nothing failed stop.Read = AnyFailed f olds news
+StopsFor f judge olds news nothing failed stop.Write = failed
+StopsFor f judge olds news nothing failed stop.Memory = Unit {0}
+StopsFor f judge olds news nothing failed (stop.Changed pass) = Change f nothing pass olds news
+
+abbrev pub EndsFor : {F : Type 0} → feed.Ghosts F → (Option (List ℕ) → Option Verdict) → (olds news : List F) → (nothing failed : Type 0) → Ending → Type 0
+EndsFor f judge olds news nothing failed (ending.Stopped s) = StopsFor f judge olds news nothing failed s
+EndsFor f judge olds news nothing failed _ = ⊥
+
+-- ---- a call of the engine
+
+-- a drain took these bytes
+abbrev pub Takes : {D : Type 0} → drain.Ghosts D → (old new : D) → List ℕ → Type 0
+Takes d old new bytes = Passes (d.has_taken old) bytes (d.has_taken new)
+
+-- what it reports of what went through its devices: its feeds gave files, its drain took these bytes, and what the task means holds of them
+pub record Reports {F : Type 0} (f : feed.Ghosts F) (hashes : Bool) (task : Task) (olds news : List F) (took : List ℕ → Type 0) (report : Report) : Type 0 where
+  pub files : List (List ℕ)
+  pub written : List ℕ
+  pub gave : GiveAll f (digest_if hashes report.input) (spares task) olds news files
+  pub took_them : took written
+  pub holds : Holds task files report.counts written
+  pub raw : report.raw ≡ None
+
+abbrev pub Works : {F : Type 0} → feed.Ghosts F → (hashes : Bool) → Task → (olds news : List F) → (took : List ℕ → Type 0) → (failed : Type 0) → Result Report Halted → Type 0
+Works f hashes task olds news took failed (Ok report) = Reports f hashes task olds news took report
+Works f hashes task olds news took failed (Err halted) = EndsFor f (judge_of task) olds news (took []) failed halted.ending
+
+-- the same of a program: of pbfcutz only how it ends
+abbrev pub WorksBy : Program → {F : Type 0} → feed.Ghosts F → (hashes : Bool) → Task → (olds news : List F) → (took : List ℕ → Type 0) → (failed : Type 0) → Result Report Halted → Type 0
+WorksBy Pbfcut f hashes task olds news took failed result = Works f hashes task olds news took failed result
+WorksBy Pbfcutz f hashes task olds news took failed result = IfErr result (λ halted. EndsPacked halted.ending)
+
+-- OUT took these bytes, and this is their digest, if there is one
+abbrev pub TakenBy : {D : Type 0} → drain.Ghosts D → D → (digest : Option (List ℕ)) → List ℕ → Type 0
+TakenBy d out digest written = d.has_taken out 0 written × IfSome digest (λ known. known ≡ sha256 written)
+
+-- there is a digest if it is asked for
+abbrev pub IsAsked : Bool → Option (List ℕ) → Type 0
+IsAsked true (Some digest) = Unit {0}
+IsAsked false None = Unit {0}
+IsAsked _ _ = ⊥

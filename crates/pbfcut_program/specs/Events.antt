@@ -1,0 +1,49 @@
+-- What a program asks of its host, and what came of it, in order.
+use Rattle.std.specs.Prelude.{ℕ, List, [], ◌∷◌, ◌++◌, Bool, Option}
+use Rattle.std.specs.Option.{option_map}
+use Rattle.pbfcut_program.specs.declared.host.OpenFault.{OpenFault}
+use Rattle.pbfcut_program.specs.declared.host.Screen.{Screen}
+
+-- a pass is over: these bytes were read of IN; what was left of it, if the host tells; and how many reads failed
+pub record Reading : Type 0 where
+  pub bytes : List ℕ
+  pub left : Option (List ℕ)
+  pub failures : ℕ
+
+-- OUT is closed: it took these bytes; how many writes failed; and whether all that it took went out
+pub record Writing : Type 0 where
+  pub bytes : List ℕ
+  pub failures : ℕ
+  pub out : Bool
+
+pub data Event : Type 0 where
+  -- a whole text is read, or isn't
+  text_read : (path text : List ℕ) → Event
+  text_not_read : (path : List ℕ) → Event
+  -- whether there is a file that isn't to be replaced
+  looked : (path : List ℕ) → (there : Bool) → Event
+  -- IN is opened for this pass, and has these bytes, if the host tells; or it isn't
+  opened : (path : List ℕ) → (pass : ℕ) → (has : Option (List ℕ)) → Event
+  not_opened : (path : List ℕ) → OpenFault → Event
+  -- a seed is drawn, if there is one
+  seeded : (there : Bool) → Event
+  -- OUT is created, or isn't
+  created : (path : List ℕ) → Event
+  not_created : (path : List ℕ) → Event
+  -- standard output is taken to be written to, if there is memory
+  screened : (there : Bool) → Event
+  read : Reading → Event
+  wrote : Writing → Event
+  -- this went to a screen, or only a part of it
+  printed : Screen → (text : List ℕ) → (whole : Bool) → Event
+  -- this was to go to standard error
+  told : (text : List ℕ) → Event
+  -- on a terminal a line may say what to do next
+  advised : Event
+
+-- what happened, if the host tells it: what had happened before, and then these
+abbrev pub then_all : Option (List Event) → List Event → Option (List Event)
+then_all before events = option_map (λ past. past ++ events) before
+
+abbrev pub then_one : Option (List Event) → Event → Option (List Event)
+then_one before event = then_all before (event ∷ [])

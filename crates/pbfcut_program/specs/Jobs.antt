@@ -1,0 +1,33 @@
+-- What a job is for, and its feeds.
+use Rattle.std.specs.Prelude.{List, [], ◌∷◌}
+use Rattle.osm_area.specs.Area.{AreaSpec, box_area}
+use Rattle.osm_polygon.specs.Polygon.{polygon_area}
+use Rattle.pbfcut_program.specs.declared.jobs.Cut.{Cut}
+use Rattle.pbfcut_program.specs.declared.jobs.Cut.TheVariants as cut
+use Rattle.pbfcut_program.specs.declared.jobs.Job.{Job}
+use Rattle.pbfcut_program.specs.declared.jobs.Job.TheVariants as job
+use Rattle.pbfcut_program.specs.declared.jobs.Plan.{Plan}
+use Rattle.pbfcut_program.specs.declared.jobs.Plan.TheVariants as plan
+use Rattle.pbfcut_program.specs.Tasks.{Task, converting, copying, extracting, extracting_parents}
+
+abbrev pub area_of : Cut → AreaSpec
+area_of (cut.Box box) = box_area box
+area_of (cut.Polygon polygon) = polygon_area polygon
+
+abbrev pub plan_of : Plan → Task
+plan_of plan.Convert = converting
+plan_of plan.Copy = copying
+plan_of (plan.Extract c) = extracting (area_of c)
+plan_of (plan.ExtractParents c) = extracting_parents (area_of c)
+
+abbrev pub task_of : {F : Type 0} → Job F → Task
+task_of (job.Convert p) = converting
+task_of (job.Copy p) = copying
+task_of (job.Extract c) = extracting (area_of c.cut)
+task_of (job.ExtractParents c) = extracting_parents (area_of c.cut)
+
+abbrev pub feeds_of : {F : Type 0} → Job F → List F
+feeds_of (job.Convert p) = p.one ∷ p.two ∷ []
+feeds_of (job.Copy p) = p.one ∷ p.two ∷ []
+feeds_of (job.Extract c) = c.passes.one ∷ c.passes.two ∷ c.passes.three ∷ []
+feeds_of (job.ExtractParents c) = c.passes.one ∷ c.passes.two ∷ c.passes.three ∷ c.passes.four ∷ []

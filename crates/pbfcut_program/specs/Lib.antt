@@ -1,0 +1,9 @@
+pub mod Devices
+pub mod Events
+pub mod Fails
+pub mod Jobs
+pub mod Outcomes
+pub mod Program
+pub mod Readings
+pub mod Tasks
+pub mod Telling

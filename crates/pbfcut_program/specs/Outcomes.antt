@@ -1,0 +1,47 @@
+-- What a call of the engine came to, as the program reports it.
+use Rattle.std.specs.Prelude.{◌≡◌, ℕ, false, Bool, true, None, Result, Ok, Err}
+use Rattle.pbf_frame.specs.declared.device.Feed as feed
+use Rattle.pbf_frame.specs.declared.device.Drain as drain
+use Rattle.pbf_frame.specs.declared.stop.Stop.TheVariants as stop
+use Rattle.pbf_frame.specs.Verdict.{judged_known}
+use Rattle.pbf_pass.specs.Stops.{Caused, FaultOf, ReadFailed, WriteFailed, unchanged}
+use Rattle.pbfcut.specs.Listing.{Lists}
+use Rattle.pbfcut_cli.specs.declared.endings.Ending.{Ending}
+use Rattle.pbfcut_cli.specs.declared.programs.Program.{Program}
+use Rattle.pbfcut_cli.specs.declared.programs.Program.TheVariants.{Pbfcut, Pbfcutz}
+use Rattle.pbf_pass.specs.declared.receipt.Halt.{Halt}
+use Rattle.pbf_pass.specs.declared.receipt.InputReceipt.{InputReceipt}
+use Rattle.pbf_pass.specs.Refused.{stop_of}
+use Rattle.pbfcut_cli.specs.declared.endings.Ending.TheVariants as ending
+use Rattle.pbfcut_program.specs.declared.engine.Report.{Report}
+use Rattle.pbfcut_program.specs.declared.engine.Halted.{Halted}
+
+abbrev pub ReportsRaw : Result InputReceipt Halt → Result Report Halted → Type 0
+ReportsRaw (Ok receipt) (Ok report) = (report.counts ≡ receipt.counts) × (report.input ≡ receipt.input) × (report.raw ≡ None)
+ReportsRaw (Err halt) (Err halted) = halted.ending ≡ ending.Stopped (stop_of halt)
+ReportsRaw _ _ = ⊥
+
+-- a stop, or a refusal of a published file
+abbrev pub EndsPacked : Ending → Type 0
+EndsPacked (ending.Stopped s) = Unit {0}
+EndsPacked (ending.RefusedPacked refusal) = Unit {0}
+EndsPacked _ = ⊥
+
+-- the stop of a listing has its cause
+abbrev pub EndsListing : {F D : Type 0} → feed.Ghosts F → drain.Ghosts D → (old now : F) → (before after : D) → Ending → Type 0
+EndsListing f d old now before after (ending.Stopped s) = Caused (FaultOf (judged_known false 0 (f.remaining old))) (ReadFailed f old now) (WriteFailed d before after) unchanged s
+EndsListing f d old now before after _ = ⊥
+
+-- a listing of pbfcut has the lines of all frames; of pbfcutz only how it ends is said
+abbrev pub ListsBy : {F D : Type 0} → Program → feed.Ghosts F → drain.Ghosts D → (old now : F) → (before after : D) → Result ℕ Halted → Type 0
+ListsBy Pbfcut f d old now before after (Ok count) = Lists d before after (judged_known false 0 (f.remaining old)) count
+ListsBy Pbfcut f d old now before after (Err halted) = EndsListing f d old now before after halted.ending
+ListsBy Pbfcutz f d old now before after (Ok count) = Unit {0}
+ListsBy Pbfcutz f d old now before after (Err halted) = EndsPacked halted.ending
+
+-- a text was written, and the rest of it went out or not: then it is that which failed
+abbrev pub EndsAs : {A B : Type 0} → (went : Bool) → Result A Halted → Result B Ending → Type 0
+EndsAs true (Ok _) (Ok _) = Unit {0}
+EndsAs true (Err halted) (Err how) = how ≡ halted.ending
+EndsAs false outcome (Err how) = how ≡ ending.Stopped stop.Write
+EndsAs _ _ _ = ⊥

@@ -1,0 +1,271 @@
+-- What a run of the program is: its words, what happened, and its exit status. To be read from the end upwards.
+use Rattle.std.specs.Prelude.{◌≡◌, ◌⊎◌, ℕ, ◌+◌, List, [], ◌∷◌, ◌++◌, length, map, Bool, true, false, ◌||◌, ◌&&◌, ◌==◌, if◌then◌else◌, Option, Some, None, Ok, codes, decimal}
+use Rattle.std.specs.List.{flat_map}
+use Rattle.std.specs.Str.{bytes_eq}
+use Rattle.std.specs.String.{string_bytes}
+use Rattle.clap.specs.Words.{Text, subcommand_of, takes}
+use Rattle.osm_area.specs.Area.{AreaSpec, box_area}
+use Rattle.osm_polygon.specs.Polygon.{Point, polygon_area}
+use Rattle.osm_polygon.specs.PolyFile.{rings_of_text}
+use Rattle.osm_polygon.specs.Rings.{polygon_of}
+use Rattle.osm_text.specs.Digests.{digest_line, hex_byte}
+use Rattle.sha2.specs.Sha256.{sha256}
+use Rattle.pbf_block.specs.declared.counts.Counts.{Counts}
+use Rattle.pbf_wire.specs.declared.fault.Fault.{Fault}
+use Rattle.pbf_frame.specs.Frames.{FrameSpec}
+use Rattle.pbf_frame.specs.Verdict.{Says, Verdict, judged_known}
+use Rattle.pbf_frame.specs.declared.stop.Stop.TheVariants as stop
+use Rattle.pbf_pass.specs.HeaderLimit.{judged_writable}
+use Rattle.pbf_pass.specs.Judged.{judged_file}
+use Rattle.pbf_pass.specs.Stops.{FaultOf}
+use Rattle.pbfcut.specs.Blobs as blobs
+use Rattle.pbfcut_cli.specs.Endings.{message_of, ending_status, program_name}
+use Rattle.pbfcut_cli.specs.Joined.{normalized}
+use Rattle.pbfcut_cli.specs.Words.{FitsFault, IsHelp, IsOfWords, IsRead, program_app}
+use Rattle.pbfcut_cli.specs.declared.endings.Ending.{Ending}
+use Rattle.pbfcut_cli.specs.declared.endings.Ending.TheVariants as ending
+use Rattle.pbfcut_cli.specs.declared.programs.Program.{Program}
+use Rattle.pbfcut_cli.specs.declared.programs.Program.TheVariants.{Pbfcut, Pbfcutz}
+use Rattle.pbfcut_cli.specs.declared.words.CliFault.TheVariants as fault
+use Rattle.pbfcut_cli.specs.declared.words.Command.{Command}
+use Rattle.pbfcut_cli.specs.declared.words.Command.TheVariants.{Blobs, Info, Show, Check, Convert, Pack, Unpack, Extract, Help}
+use Rattle.pbfcut_cli.specs.declared.words.Files.{Files}
+use Rattle.pbfcut_cli.specs.declared.words.Region.{Region}
+use Rattle.pbfcut_cli.specs.declared.words.Region.TheVariants as region
+use Rattle.pbfcut_program.specs.declared.host.Screen.{Screen}
+use Rattle.pbfcut_program.specs.declared.host.Screen.TheVariants.{Output, Error}
+use Rattle.pbfcut_program.specs.Devices.{IsAsked}
+use Rattle.pbfcut_program.specs.Events.{Event, text_read, looked, opened, seeded, created, screened, read, wrote, printed, told, advised, Reading, Writing}
+use Rattle.pbfcut_program.specs.Fails.{Fails, Has, IsRefused}
+use Rattle.pbfcut_program.specs.Readings.{IsWork}
+use Rattle.pbfcut_program.specs.Tasks.{Task, checking, showing, converting, copying, extracting, extracting_parents, passes_of}
+
+-- ---- lines
+
+abbrev pub counts_text : Counts → List ℕ
+counts_text c = codes "nodes " ++ decimal c.nodes ++ codes " ways " ++ decimal c.ways ++ codes " relations " ++ decimal c.relations ++ codes "\n"
+
+abbrev pub unpacked_text : List ℕ → List ℕ
+unpacked_text digest = codes "# unpacked " ++ flat_map hex_byte digest ++ codes "\n"
+
+-- the digest of IN, and that of IN unpacked, if it is
+abbrev pub input_lines : (digest : List ℕ) → (raw : Option (List ℕ)) → (input : List ℕ) → List (List ℕ)
+input_lines digest None input = digest_line digest input ∷ []
+input_lines digest (Some raw) input = digest_line digest input ∷ unpacked_text raw ∷ []
+
+-- with `--digests`
+abbrev pub check_lines : Bool → (digest : List ℕ) → Option (List ℕ) → (input : List ℕ) → List (List ℕ)
+check_lines true digest raw input = input_lines digest raw input
+check_lines false digest raw input = []
+
+-- the same, and the digest of what OUT took, if it is known
+abbrev pub done_lines : (output_digest : Option (List ℕ)) → (digest : List ℕ) → Option (List ℕ) → (input output : List ℕ) → List (List ℕ)
+done_lines (Some known) digest raw input output = input_lines digest raw input ++ digest_line known output ∷ []
+done_lines None digest raw input output = []
+
+abbrev pub digest_if_asked : Bool → (written : List ℕ) → Option (List ℕ)
+digest_if_asked true written = Some (sha256 written)
+digest_if_asked false written = None
+
+-- of pbfcut it is that digest; of pbfcutz it is only said whether there is one
+abbrev pub IsHashed : Program → Bool → (written : List ℕ) → Option (List ℕ) → Type 0
+IsHashed Pbfcut digests written known = known ≡ digest_if_asked digests written
+IsHashed Pbfcutz digests written known = IsAsked digests known
+
+abbrev pub prints : Screen → List (List ℕ) → List Event
+prints screen lines = map (λ line. printed screen line true) lines
+
+-- ---- what a command does that ends well
+
+-- IN is opened for each pass, from this one on
+abbrev pub openings : (input : List ℕ) → ℕ → List (Option (List ℕ)) → List Event
+openings input pass [] = []
+openings input pass (has ∷ more) = opened input pass has ∷ openings input (pass + 1) more
+
+-- the passes of pbfcut do what the task means; of pbfcutz nothing is said yet
+abbrev pub IsWorkOf : Program → (hashes : Bool) → Task → List Reading → (written : List ℕ) → Counts → (digest : List ℕ) → (raw : Option (List ℕ)) → Type 0
+IsWorkOf Pbfcut hashes task readings written counts digest raw = IsWork hashes task readings written counts digest × (raw ≡ None)
+IsWorkOf Pbfcutz hashes task readings written counts digest raw = Unit {0}
+
+-- `check`: one pass was made, and the counts were printed; with `--digests` also the digest
+pub record Checks (program : Program) (digests : Bool) (input : List ℕ) (events : List Event) : Type 0 where
+  pub has : Option (List ℕ)
+  pub first : Reading
+  pub counts : Counts
+  pub digest : List ℕ
+  pub raw : Option (List ℕ)
+  pub happened : events ≡ opened input 1 has ∷ read first ∷ prints Output (counts_text counts ∷ check_lines digests digest raw input)
+  pub work : IsWorkOf program digests checking (first ∷ []) [] counts digest raw
+
+-- `show`: two passes were made, and all of the text went to standard output
+pub record Shows (program : Program) (dates : Bool) (input : List ℕ) (events : List Event) : Type 0 where
+  pub has : List (Option (List ℕ))
+  pub rs : List Reading
+  pub out : Writing
+  pub counts : Counts
+  pub digest : List ℕ
+  pub raw : Option (List ℕ)
+  pub happened : events ≡ openings input 1 has ++ screened true ∷ map read rs ++ wrote out ∷ []
+  pub passes : length has ≡ 2
+  pub whole : out.out ≡ true
+  pub work : IsWorkOf program true (showing dates) rs out.bytes counts digest raw
+
+-- what went out are the lines of the frames of what IN has, as far as the host tells that
+abbrev pub IsListing : Program → Option (List ℕ) → List ℕ → Type 0
+IsListing Pbfcut has written = (frames : List FrameSpec) × Says (judged_known false 0 has) (frames, None) × (written ≡ blobs.lines frames)
+IsListing Pbfcutz has written = Unit {0}
+
+-- `blobs`, and `info`: one pass was made, and all of the text went to standard output
+pub record Lists (program : Program) (input : List ℕ) (events : List Event) : Type 0 where
+  pub has : Option (List ℕ)
+  pub first : Reading
+  pub out : Writing
+  pub happened : events ≡ opened input 1 has ∷ screened true ∷ read first ∷ wrote out ∷ []
+  pub whole : out.out ≡ true
+  pub lines : IsListing program has out.bytes
+
+-- OUT is standard output, of pbfcutz
+abbrev pub is_screen : Program → List ℕ → Bool
+is_screen Pbfcut output = false
+is_screen Pbfcutz output = bytes_eq output (codes "-") || bytes_eq output (codes "/dev/stdout")
+
+-- it was looked for, and not found
+abbrev pub looks : (is_screen : Bool) → List ℕ → List Event
+looks true output = []
+looks false output = looked output false ∷ []
+
+abbrev pub makes : (is_screen : Bool) → List ℕ → Event
+makes true output = screened true
+makes false output = created output
+
+-- where counts and digests go
+abbrev pub screen_of : (is_screen : Bool) → Screen
+screen_of true = Error
+screen_of false = Output
+
+-- nothing lies in what was cut out
+abbrev pub is_empty : Counts → Bool
+is_empty counts = counts.nodes == 0 && (counts.ways == 0 && counts.relations == 0)
+
+-- a command that writes: OUT was not there, IN was opened for each pass, OUT was made, all that it took went out, and then these counts were
+-- printed, with `--digests` also the digests
+pub record WritesCounts (program : Program) (digests : Bool) (task : Task) (files : Files) (counts : Counts) (events : List Event) : Type 0 where
+  pub has : List (Option (List ℕ))
+  pub rs : List Reading
+  pub out : Writing
+  pub digest : List ℕ
+  pub raw : Option (List ℕ)
+  pub known : Option (List ℕ)
+  pub happened : events ≡ looks (is_screen program files.output.now) files.output.now ++ openings files.input.now 1 has
+      ++ seeded true ∷ makes (is_screen program files.output.now) files.output.now ∷ map read rs
+      ++ wrote out ∷ prints (screen_of (is_screen program files.output.now))
+      (counts_text counts ∷ done_lines known digest raw files.input.now files.output.now)
+  pub passes : length has ≡ passes_of task
+  pub whole : out.out ≡ true
+  pub hashed : IsHashed program digests out.bytes known
+  pub work : IsWorkOf program true task rs out.bytes counts digest raw
+
+abbrev pub Writes : Program → Task → Files → List Event → Type 0
+Writes program task files events = (counts : Counts) × WritesCounts program files.digests task files counts events
+
+-- what is cut out: a box, or the polygon of a text that was read
+abbrev pub MeansArea : Region → List Event → AreaSpec → Type 0
+MeansArea (region.Box box) events area = (events ≡ []) × (area ≡ box_area box)
+MeansArea (region.Polygon path) events area = (text : List ℕ) × (rings : List (List Point))
+    × (events ≡ text_read path.now text ∷ []) × (rings_of_text text ≡ Ok rings) × (area ≡ polygon_area (polygon_of rings))
+
+abbrev pub extract_task : (parents : Bool) → AreaSpec → Task
+extract_task true area = extracting_parents area
+extract_task false area = extracting area
+
+-- on a terminal it is said that nothing lies in it
+abbrev pub advice : Counts → List Event
+advice counts = if is_empty counts then advised ∷ [] else []
+
+pub record Extracts (program : Program) (digests : Bool) (cut : Region) (parents : Bool) (files : Files) (events : List Event) : Type 0 where
+  pub area : AreaSpec
+  pub before : List Event
+  pub after : List Event
+  pub counts : Counts
+  pub happened : events ≡ before ++ after ++ advice counts
+  pub means : MeansArea cut before area
+  pub writes : WritesCounts program digests (extract_task parents area) files counts after
+
+-- the digests of what a command reads are printed
+abbrev pub digests_of : Command → Bool
+digests_of (Check input progress digests) = digests
+digests_of (Convert files) = files.digests
+digests_of (Pack files) = files.digests
+digests_of (Unpack files) = files.digests
+digests_of (Extract region parents files) = files.digests
+digests_of _ = false
+
+-- `info` reads as pbfcutz does
+abbrev pub Does : Program → Command → List Event → Type 0
+Does program (Help text) events = events ≡ printed Output (string_bytes text) true ∷ []
+Does program (Blobs input) events = Lists program input.now events
+Does program (Info input) events = Lists Pbfcutz input.now events
+Does program (Show input dates progress) events = Shows program dates input.now events
+Does program (Check input progress digests) events = Checks program digests input.now events
+Does program (Convert files) events = Writes program converting files events
+Does program (Pack files) events = Writes program copying files events
+Does program (Unpack files) events = Writes program copying files events
+Does program (Extract region parents files) events = Extracts program files.digests region parents files events
+
+-- ---- why a command fails
+
+-- the first frame fault of what IN has, as far as the host tells that
+abbrev pub HasFrameFault : Fault → Event → Type 0
+HasFrameFault fault (opened path pass has) = FaultOf (judged_known false 0 has) fault
+HasFrameFault fault _ = ⊥
+
+-- how a listing is refused
+abbrev pub refused_listing : Fault → List Event → Type 0
+refused_listing fault events = Has (HasFrameFault fault) events
+
+abbrev pub refused_by : Command → Fault → List Event → Type 0
+refused_by (Blobs input) fault events = refused_listing fault events
+refused_by (Check input progress digests) fault events = IsRefused judged_file fault events
+refused_by (Show input dates progress) fault events = IsRefused judged_file fault events
+refused_by (Convert files) fault events = IsRefused judged_writable fault events
+refused_by (Pack files) fault events = IsRefused judged_file fault events
+refused_by (Unpack files) fault events = IsRefused judged_file fault events
+refused_by (Extract region parents files) fault events = IsRefused judged_writable fault events
+refused_by _ fault events = Unit {0}
+
+-- the program whose way of reading a command has
+abbrev pub reader_of : Program → Command → Program
+reader_of program (Info input) = Pbfcutz
+reader_of program _ = program
+
+abbrev pub FailsIn : Program → Command → Ending → List Event → Type 0
+FailsIn program command how events = Fails (reader_of program command) (refused_by command) how events
+
+-- ---- the whole run
+
+-- the command that the words mean, as `clap` reads them; or help
+abbrev pub IsMeant : Program → List Text → Command → Type 0
+IsMeant program words command = IsHelp command ⊎ IsRead (subcommand_of (program_app program) (normalized words)) command
+
+-- it did its work
+abbrev pub IsDone : Program → List Text → List Event → Type 0
+IsDone program words events = (command : Command) × IsMeant program words command × Does program command events
+
+-- it failed: for wrong words nothing had happened
+abbrev pub IsWhy : Program → List Text → Ending → List Event → Type 0
+IsWhy program words (ending.Words text) events = (takes (program_app program) (normalized words) ≡ true → ⊥) × (events ≡ [])
+IsWhy program words (ending.Box f) events = FitsFault (subcommand_of (program_app program) (normalized words)) (fault.Box f) × (events ≡ [])
+IsWhy program words (ending.Choice f) events = FitsFault (subcommand_of (program_app program) (normalized words)) (fault.Choice f) × (events ≡ [])
+IsWhy program words (ending.Stopped stop.Memory) events = Unit {0}
+IsWhy program words how events = (command : Command) × IsMeant program words command × FailsIn program command how events
+
+-- it failed, and its line was told: the exit status and the line are those of one ending
+pub record IsFailed (program : Program) (words : List Text) (events : List Event) (status : ℕ) : Type 0 where
+  pub how : Ending
+  pub before : List Event
+  pub happened : events ≡ before ++ told (message_of (program_name program) how) ∷ advised ∷ []
+  pub status_is : status ≡ ending_status how
+  pub why : IsWhy program words how before
+
+abbrev pub IsRun : Program → List Text → List Event → ℕ → Type 0
+IsRun program words events status = ((status ≡ 0) × IsDone program words events) ⊎ IsFailed program words events status

@@ -1,0 +1,60 @@
+-- What a command does with IN: what holds of the files that its passes read, of the counts, and of what it writes.
+use Rattle.std.specs.Prelude.{◌≡◌, ℕ, List, [], ◌∷◌, Bool, true, false, Option, Some}
+use Rattle.osm_area.specs.Area.{AreaSpec}
+use Rattle.osm_ways.specs.Parents.{extract_with_parents}
+use Rattle.osm_ways.specs.Seen.{seen_decoded}
+use Rattle.osm_ways.specs.Selection as select
+use Rattle.pbf_block.specs.declared.counts.Counts.{Counts}
+use Rattle.pbf_frame.specs.Verdict.{Verdict}
+use Rattle.pbf_pass.specs.HeaderLimit.{judged_writable}
+use Rattle.pbf_pass.specs.Judged.{judged_file}
+use Rattle.pbf_pass.specs.Pass.{CountsFile}
+use Rattle.pbfcut.specs.Extracting.{all_parents, complete_ways}
+use Rattle.pbfcut.specs.Kept.{IsWritable}
+use Rattle.pbfcut.specs.Showing.{Shown}
+use Rattle.pbfcut.specs.Theorem.{IsConverted, IsExtraction}
+
+pub data Task : Type 0 where
+  checking : Task
+  showing : (dates : Bool) → Task
+  converting : Task
+  -- the same bytes in other blobs
+  copying : Task
+  extracting : AreaSpec → Task
+  extracting_parents : AreaSpec → Task
+
+-- how often IN is read
+abbrev pub passes_of : Task → ℕ
+passes_of checking = 1
+passes_of (showing dates) = 2
+passes_of converting = 2
+passes_of copying = 2
+passes_of (extracting area) = 3
+passes_of (extracting_parents area) = 4
+
+-- nothing may have been read in the second pass, if the first was enough
+abbrev pub spares : Task → Bool
+spares (extracting area) = true
+spares (extracting_parents area) = true
+spares _ = false
+
+-- the verdict by which the first file is refused
+abbrev pub judge_of : Task → Option (List ℕ) → Option Verdict
+judge_of checking = judged_file
+judge_of (showing dates) = judged_file
+judge_of converting = judged_writable
+judge_of copying = judged_file
+judge_of (extracting area) = judged_writable
+judge_of (extracting_parents area) = judged_writable
+
+-- what holds of the files, one for each pass. Their digests are the same; where a file that was read later has to be the first one, that is a premise
+abbrev pub Holds : Task → List (List ℕ) → Counts → (written : List ℕ) → Type 0
+Holds checking (b ∷ []) counts written = CountsFile (judged_file (Some b)) counts
+Holds (showing dates) (b ∷ c ∷ []) counts written = CountsFile (judged_file (Some b)) counts × Shown dates (judged_file (Some c)) written
+Holds converting (b ∷ c ∷ []) counts written = IsWritable b × (b ≡ c → IsConverted b counts written)
+Holds copying (b ∷ c ∷ []) counts written = CountsFile (judged_file (Some b)) counts × (written ≡ c)
+Holds (extracting area) (b ∷ c ∷ d ∷ []) counts written = IsWritable b
+    × (b ≡ c → b ≡ d → IsExtraction (complete_ways area) (select.extract (seen_decoded area)) area b counts written)
+Holds (extracting_parents area) (b ∷ c ∷ d ∷ e ∷ []) counts written = IsWritable b
+    × (b ≡ c → b ≡ d → b ≡ e → IsExtraction (all_parents area) (extract_with_parents (seen_decoded area)) area b counts written)
+Holds _ files counts written = ⊥

@@ -1,0 +1,438 @@
+//! The calls of both programs: those of pbfcut over raw files, and those of pbfcutz over published ones.
+
+ghost use Rattle.std.specs.Prelude.{◌≡◌, ℕ, [], ◌∷◌, List, IfSome, IfErr, true};
+ghost use Rattle.pbfcut_cli.specs.declared.endings.Ending.TheVariants as ending;
+ghost use Rattle.pbf_pass.specs.Stops.{WriteFailed};
+ghost use Rattle.pbfcut_program.specs.Devices.{Takes, WorksBy};
+ghost use Rattle.pbfcut_program.specs.Outcomes.{EndsPacked, ListsBy, ReportsRaw};
+ghost use Rattle.pbfcut_program.specs.Tasks.{checking, showing, converting, copying, extracting, extracting_parents};
+
+use crate::opening::{FourPasses, ThreePasses, TwoPasses};
+use osm_area::Area;
+use pbf_frame::{Drain, Feed, Stop};
+use pbf_pass::{Counts, Halt, InputReceipt, Passes, Refusal};
+use pbf_published::{PublishedHalt, PublishedInput};
+use pbf_unpack::{Deflater, PackedDrain, Place, UnpackFault};
+use pbf_wire::{Fault, Reason};
+use pbfcut_cli::{Ending, PackedRefusal, Program};
+use std::alloc::Global;
+use std::hash::BuildHasher;
+
+/// What a call reports that ended well.
+#[derive(Clone, Copy)]
+pub(crate) struct Report {
+    pub(crate) counts: Counts,
+    /// The digest of IN.
+    pub(crate) input: [u8; 32],
+    /// The digest of IN unpacked, if it is.
+    pub(crate) raw: Option<[u8; 32]>,
+}
+
+/// How a call ended that did not end well, and what was read of IN, or of IN unpacked, until a refusal.
+#[derive(Drop)]
+pub(crate) struct Halted {
+    pub(crate) ending: Ending,
+    pub(crate) refusal: Option<Refusal>,
+}
+
+impl From<Stop> for Halted {
+    ghost from_gives = { λ s e. e.ending ≡ ending.Stopped s };
+
+    fn from(stop: Stop) -> Halted {
+        Halted {
+            ending: Ending::Stopped(stop),
+            refusal: None,
+        }
+    }
+}
+
+/// What a call over raw files came to.
+fn reported(outcome: Result<InputReceipt, Halt>) -> Result<Report, Halted>
+    ensures { ReportsRaw outcome result }
+{
+    match outcome {
+        Ok(receipt) => {
+            let input = receipt.input;
+            Ok(Report {
+                counts: receipt.counts,
+                input,
+                raw: None,
+            })
+        }
+        Err(halt) => {
+            let refusal = match halt {
+                Halt::Refused(refusal) => Some(refusal),
+                Halt::Stopped(_) => None,
+            };
+            Err(Halted {
+                ending: Ending::Stopped(Stop::from(halt)),
+                refusal,
+            })
+        }
+    }
+}
+
+/// What is wrong with zlib data and where, if that is what the refusal is for.
+fn zlib_fault_of(halt: &PublishedHalt, fault: Fault) -> Option<UnpackFault> {
+    halt.fault.filter(|_| fault.reason == Reason::Zlib)
+}
+
+/// How pbfcutz ends after such a halt. A blob may have more than one occurrence of zlib data, of which the last counts: that is where a
+/// fault of such data is.
+fn ending_of(halt: &PublishedHalt) -> Ending
+    ensures { EndsPacked result }
+{
+    match (halt.stop, halt.place) {
+        (Stop::Refused(fault), Some(place)) => {
+            let found = zlib_fault_of(halt, fault);
+            Ending::RefusedPacked(PackedRefusal {
+                reason: fault.reason,
+                place: found.map_or(place, |found| Place::Byte(found.offset)),
+                detail: found.map(|found| found.reason),
+            })
+        }
+        (stop, _) => Ending::Stopped(stop),
+    }
+}
+
+impl From<PublishedHalt> for Halted {
+    ghost from_gives = { λ _ e. EndsPacked e.ending };
+
+    fn from(halt: PublishedHalt) -> Halted {
+        Halted {
+            ending: ending_of(&halt),
+            refusal: halt.refusal,
+        }
+    }
+}
+
+/// What a call over published files came to.
+fn published(outcome: Result<PublishedInput, PublishedHalt>) -> Result<Report, Halted>
+    ensures { IfErr result (λ halted. EndsPacked halted.ending) }
+{
+    match outcome {
+        Ok(receipt) => {
+            let (input, raw) = (receipt.input, receipt.raw);
+            Ok(Report {
+                counts: receipt.counts,
+                input,
+                raw: Some(raw),
+            })
+        }
+        Err(halt) => Err(Halted::from(halt)),
+    }
+}
+
+/// How a program's calls are made.
+#[derive(Clone, Copy)]
+pub(crate) struct Engine {
+    pub(crate) program: Program,
+    pub(crate) alloc: Global,
+    /// Whether the digests of what is read are printed.
+    pub(crate) digests: bool,
+    /// Whether OUT has zlib blobs.
+    pub(crate) packs: bool,
+}
+
+impl Engine {
+    /// How a call makes one pass: what it reads is hashed only for its digest.
+    fn one_pass(self) -> Passes
+        ensures { result.hashes ≡ self.digests }
+    {
+        Passes {
+            alloc: self.alloc,
+            hashes: self.digests,
+        }
+    }
+
+    /// How a call makes passes that have to read the same bytes.
+    fn raw_passes(self) -> Passes
+        ensures { result.hashes ≡ true }
+    {
+        Passes {
+            alloc: self.alloc,
+            hashes: true,
+        }
+    }
+
+    /// The same of a published file: it is the packed bytes that are compared, and the raw ones are hashed only for their digest.
+    fn packed_passes(self) -> Passes {
+        self.one_pass()
+    }
+
+    /// A drain that gives OUT zlib blobs.
+    fn packed<D: Drain + Drop>(self, drain: D) -> Result<PackedDrain<D>, Stop>
+        requires { IfSome (D.taken drain) (λ taken. taken ≡ []) }
+    {
+        match Deflater::new(self.alloc) {
+            Ok(deflater) => Ok(PackedDrain::new(self.alloc, deflater, drain)),
+            Err(_) => Err(Stop::Memory),
+        }
+    }
+}
+
+/// Judges IN, and counts its entities.
+pub(crate) fn check<F: Feed>(engine: Engine, pass: &mut F) -> Result<Report, Halted>
+    ensures { WorksBy engine.program F.Feed engine.digests checking (pass.old ∷ []) (pass.new ∷ [])
+        (λ took. took ≡ []) ⊥ result }
+{
+    let how = engine.one_pass();
+    match engine.program {
+        Program::Pbfcut => reported(pbf_pass::check_with_receipt(how, pass)),
+        Program::Pbfcutz => published(pbf_published::check_with_receipt(how, pass)),
+    }
+}
+
+/// Writes the text of all that IN has.
+pub(crate) fn show<F: Feed, D: Drain>(
+    engine: Engine,
+    passes: &mut TwoPasses<F>,
+    drain: &mut D,
+    dates: bool,
+) -> Result<Report, Halted>
+    ensures { WorksBy engine.program F.Feed true (showing dates)
+        (passes.old.one ∷ passes.old.two ∷ []) (passes.new.one ∷ passes.new.two ∷ [])
+        (Takes D.Drain drain.old drain.new) (WriteFailed D.Drain drain.old drain.new) result }
+{
+    let TwoPasses { one, two } = passes;
+    match engine.program {
+        Program::Pbfcut => {
+            let how = engine.raw_passes();
+            reported(pbfcut::show_with_receipt(how, one, two, drain, dates))
+        }
+        Program::Pbfcutz => {
+            let how = engine.packed_passes();
+            published(pbf_published::show_with_receipt(how, one, two, drain, dates))
+        }
+    }
+}
+
+/// Converts a published file.
+fn convert_published<F: Feed, D: Drain, S: BuildHasher + Drop>(
+    engine: Engine,
+    passes: &mut TwoPasses<F>,
+    drain: &mut D,
+    hasher: S,
+) -> Result<Report, Halted>
+    requires { IfSome (D.taken drain.old) (λ taken. taken ≡ []) }
+    ensures { IfErr result (λ halted. EndsPacked halted.ending) }
+{
+    let how = engine.packed_passes();
+    let TwoPasses { one, two } = passes;
+    if !engine.packs {
+        return published(pbf_published::convert_with_receipt(how, one, two, drain, hasher));
+    }
+    let mut packed = engine.packed(drain)?;
+    published(pbf_published::convert_packed(how, one, two, &mut packed, hasher))
+}
+
+/// Writes all entities of IN.
+pub(crate) fn convert<F: Feed, D: Drain, S: BuildHasher + Drop>(
+    engine: Engine,
+    passes: &mut TwoPasses<F>,
+    drain: &mut D,
+    hasher: S,
+) -> Result<Report, Halted>
+    requires { IfSome (D.taken drain.old) (λ taken. taken ≡ []) }
+    ensures { WorksBy engine.program F.Feed true converting
+        (passes.old.one ∷ passes.old.two ∷ []) (passes.new.one ∷ passes.new.two ∷ [])
+        (Takes D.Drain drain.old drain.new) (WriteFailed D.Drain drain.old drain.new) result }
+{
+    match engine.program {
+        Program::Pbfcut => {
+            let how = engine.raw_passes();
+            let TwoPasses { one, two } = passes;
+            reported(pbfcut::convert_with_receipt(how, one, two, drain, hasher))
+        }
+        Program::Pbfcutz => convert_published(engine, passes, drain, hasher),
+    }
+}
+
+/// Copies a published file.
+fn copy_published<F: Feed, D: Drain>(
+    engine: Engine,
+    passes: &mut TwoPasses<F>,
+    drain: &mut D,
+) -> Result<Report, Halted>
+    requires { IfSome (D.taken drain.old) (λ taken. taken ≡ []) }
+    ensures { IfErr result (λ halted. EndsPacked halted.ending) }
+{
+    let how = engine.packed_passes();
+    let TwoPasses { one, two } = passes;
+    if !engine.packs {
+        return published(pbf_published::copy_with_receipt(how, one, two, drain));
+    }
+    let mut packed = engine.packed(drain)?;
+    published(pbf_published::copy_packed(how, one, two, &mut packed))
+}
+
+/// Writes the bytes of IN unpacked, in raw blobs, or packed again.
+pub(crate) fn copy<F: Feed, D: Drain>(
+    engine: Engine,
+    passes: &mut TwoPasses<F>,
+    drain: &mut D,
+) -> Result<Report, Halted>
+    requires { IfSome (D.taken drain.old) (λ taken. taken ≡ []) }
+    ensures { WorksBy engine.program F.Feed true copying
+        (passes.old.one ∷ passes.old.two ∷ []) (passes.new.one ∷ passes.new.two ∷ [])
+        (Takes D.Drain drain.old drain.new) (WriteFailed D.Drain drain.old drain.new) result }
+{
+    match engine.program {
+        Program::Pbfcut => {
+            let how = engine.raw_passes();
+            let TwoPasses { one, two } = passes;
+            reported(pbfcut::copy_with_receipt(how, one, two, drain))
+        }
+        Program::Pbfcutz => copy_published(engine, passes, drain),
+    }
+}
+
+/// Extracts from a published file.
+fn extract_published<A: Area + Copy, F: Feed, D: Drain, S: BuildHasher + Drop>(
+    engine: Engine,
+    passes: &mut ThreePasses<F>,
+    area: A,
+    drain: &mut D,
+    hasher: S,
+) -> Result<Report, Halted>
+    requires { IfSome (D.taken drain.old) (λ taken. taken ≡ []) }
+    ensures { IfErr result (λ halted. EndsPacked halted.ending) }
+{
+    let how = engine.packed_passes();
+    let ThreePasses { one, two, three } = passes;
+    if !engine.packs {
+        return published(pbf_published::extract_sorted_with_receipt(
+            how, one, two, three, area, drain, hasher,
+        ));
+    }
+    let mut packed = engine.packed(drain)?;
+    published(pbf_published::extract_packed(how, one, two, three, area, &mut packed, hasher))
+}
+
+/// Writes what lies in an area.
+pub(crate) fn extract<A: Area + Copy, F: Feed, D: Drain, S: BuildHasher + Drop>(
+    engine: Engine,
+    passes: &mut ThreePasses<F>,
+    area: A,
+    drain: &mut D,
+    hasher: S,
+) -> Result<Report, Halted>
+    requires { IfSome (D.taken drain.old) (λ taken. taken ≡ []) }
+    ensures { WorksBy engine.program F.Feed true (extracting (A.area area))
+        (passes.old.one ∷ passes.old.two ∷ passes.old.three ∷ [])
+        (passes.new.one ∷ passes.new.two ∷ passes.new.three ∷ [])
+        (Takes D.Drain drain.old drain.new) (WriteFailed D.Drain drain.old drain.new) result }
+{
+    match engine.program {
+        Program::Pbfcut => {
+            let how = engine.raw_passes();
+            let ThreePasses { one, two, three } = passes;
+            reported(pbfcut::extract_sorted_with_receipt(
+                how, one, two, three, area, drain, hasher,
+            ))
+        }
+        Program::Pbfcutz => extract_published(engine, passes, area, drain, hasher),
+    }
+}
+
+/// Extracts with all parents from a published file.
+fn extract_parents_published<A: Area + Copy, F: Feed, D: Drain, S: BuildHasher + Drop>(
+    engine: Engine,
+    passes: &mut FourPasses<F>,
+    area: A,
+    drain: &mut D,
+    hasher: S,
+) -> Result<Report, Halted>
+    requires { IfSome (D.taken drain.old) (λ taken. taken ≡ []) }
+    ensures { IfErr result (λ halted. EndsPacked halted.ending) }
+{
+    let how = engine.packed_passes();
+    let FourPasses {
+        one,
+        two,
+        three,
+        four,
+    } = passes;
+    if !engine.packs {
+        return published(pbf_published::extract_parents_sorted_with_receipt(
+            how, one, two, three, four, area, drain, hasher,
+        ));
+    }
+    let mut packed = engine.packed(drain)?;
+    published(pbf_published::extract_parents_packed(
+        how,
+        one,
+        two,
+        three,
+        four,
+        area,
+        &mut packed,
+        hasher,
+    ))
+}
+
+/// Writes what lies in an area, with all parents, for which IN is read once more.
+pub(crate) fn extract_parents<A: Area + Copy, F: Feed, D: Drain, S: BuildHasher + Drop>(
+    engine: Engine,
+    passes: &mut FourPasses<F>,
+    area: A,
+    drain: &mut D,
+    hasher: S,
+) -> Result<Report, Halted>
+    requires { IfSome (D.taken drain.old) (λ taken. taken ≡ []) }
+    ensures { WorksBy engine.program F.Feed true (extracting_parents (A.area area))
+        (passes.old.one ∷ passes.old.two ∷ passes.old.three ∷ passes.old.four ∷ [])
+        (passes.new.one ∷ passes.new.two ∷ passes.new.three ∷ passes.new.four ∷ [])
+        (Takes D.Drain drain.old drain.new) (WriteFailed D.Drain drain.old drain.new) result }
+{
+    match engine.program {
+        Program::Pbfcut => {
+            let how = engine.raw_passes();
+            let FourPasses {
+                one,
+                two,
+                three,
+                four,
+            } = passes;
+            reported(pbfcut::extract_parents_sorted_with_receipt(
+                how, one, two, three, four, area, drain, hasher,
+            ))
+        }
+        Program::Pbfcutz => extract_parents_published(engine, passes, area, drain, hasher),
+    }
+}
+
+/// Writes the lines of the frames, and returns how many.
+pub(crate) fn list_blobs<F: Feed, D: Drain>(
+    engine: Engine,
+    pass: &mut F,
+    drain: &mut D,
+) -> Result<u64, Halted>
+    ensures { ListsBy engine.program F.Feed D.Drain pass.old pass.new drain.old drain.new result }
+{
+    let alloc = engine.alloc;
+    match engine.program {
+        Program::Pbfcut => match pbfcut::list_blobs(alloc, pass, drain) {
+            Ok(frames) => Ok(frames),
+            Err(stop) => Err(Halted::from(stop)),
+        },
+        Program::Pbfcutz => match pbf_published::list_blobs(alloc, pass, drain) {
+            Ok(frames) => Ok(frames),
+            Err(halt) => Err(Halted::from(halt)),
+        },
+    }
+}
+
+/// Writes the lines of the header, and how it is stored.
+pub(crate) fn show_header<F: Feed, D: Drain>(
+    engine: Engine,
+    pass: &mut F,
+    drain: &mut D,
+) -> Result<(), Halted>
+    ensures { IfErr result (λ halted. EndsPacked halted.ending) }
+{
+    match pbf_published::show_header(engine.alloc, pass, drain) {
+        Ok(()) => Ok(()),
+        Err(halt) => Err(Halted::from(halt)),
+    }
+}

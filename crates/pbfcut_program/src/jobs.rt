@@ -1,0 +1,241 @@
+//! What is done with IN, opened for each pass that it takes.
+
+ghost use Rattle.std.specs.Prelude.{◌≡◌, ◌∷◌, ℕ, [], List, length, map, IfOk, IfErr, IfSome, Ok, true};
+ghost use Rattle.osm_polygon.specs.Polygon.{Point};
+ghost use Rattle.osm_polygon.specs.PolyFile.{rings_of_text};
+ghost use Rattle.osm_polygon.specs.Rings.{polygon_of};
+ghost use Rattle.pbf_pass.specs.Stops.{WriteFailed};
+ghost use Rattle.pbfcut_program.specs.Devices.{AreFresh, CloseAll, Takes, WorksBy};
+ghost use Rattle.pbfcut_program.specs.Events.{Event, text_read, then_all};
+ghost use Rattle.pbfcut_program.specs.Fails.{FailsOpening};
+ghost use Rattle.pbfcut_program.specs.Jobs.{area_of, feeds_of, plan_of, task_of};
+ghost use Rattle.pbfcut_program.specs.Program.{MeansArea, openings};
+ghost use Rattle.pbfcut_program.specs.Tasks.{extracting, extracting_parents, passes_of};
+
+use crate::engine::{Engine, Halted, Report, convert, copy, extract, extract_parents};
+use crate::host::{Host, TextFault};
+use crate::opening::{FourPasses, Input, ThreePasses, TwoPasses, open_four, open_three, open_two};
+use osm_box::BoundingBox;
+use osm_polygon::{Polygon, read_poly};
+use pbf_frame::{Drain, Feed, Stop};
+use pbfcut_cli::{Ending, Region};
+use std::alloc::Global;
+use std::hash::BuildHasher;
+
+/// What is cut out.
+#[derive(Drop)]
+pub(crate) enum Cut {
+    Box(BoundingBox),
+    Polygon(Polygon),
+}
+
+/// The polygon of a `.poly` file.
+fn read_polygon<H: Host>(alloc: Global, host: &mut H, path: &str) -> Result<Polygon, Ending>
+    ensures ok { IfOk result (λ polygon. (text : List ℕ) × (rings : List (List Point))
+        × (H.log host.new ≡ then_all (H.log host.old) (text_read path.now text ∷ []))
+        × (rings_of_text text ≡ Ok rings) × (polygon ≡ polygon_of rings)) }
+    ensures err { IfErr result (λ how. (events : List Event)
+        × (H.log host.new ≡ then_all (H.log host.old) events) × FailsOpening how events) }
+{
+    let text = match host.read_text(path) {
+        Ok(text) => text,
+        Err(TextFault::Memory) => return Err(Ending::Stopped(Stop::Memory)),
+        Err(TextFault::Failed) => return Err(Ending::CannotOpen),
+    };
+    let rings = read_poly(alloc, text.as_str())?;
+    match Polygon::new(alloc, rings.as_slice()) {
+        Ok(polygon) => Ok(polygon),
+        Err(_) => Err(Ending::Stopped(Stop::Memory)),
+    }
+}
+
+/// Reads what is cut out, if it is in a file.
+pub(crate) fn read_region<H: Host>(
+    alloc: Global,
+    host: &mut H,
+    region: &Region<'_>,
+) -> Result<Cut, Ending>
+    ensures ok { IfOk result (λ cut. (events : List Event)
+        × (H.log host.new ≡ then_all (H.log host.old) events)
+        × MeansArea region.now events (area_of cut)) }
+    ensures err { IfErr result (λ how. (events : List Event)
+        × (H.log host.new ≡ then_all (H.log host.old) events) × FailsOpening how events) }
+{
+    match region {
+        Region::Box(area) => Ok(Cut::Box(*area)),
+        Region::Polygon(path) => Ok(Cut::Polygon(read_polygon(alloc, host, path)?)),
+    }
+}
+
+/// What is to be done with IN.
+#[derive(Drop)]
+pub(crate) enum Plan {
+    Convert,
+    Copy,
+    Extract(Cut),
+    ExtractParents(Cut),
+}
+
+/// An extract, of so many passes.
+#[derive(Drop)]
+pub(crate) struct Cutting<P> {
+    passes: P,
+    cut: Cut,
+}
+
+/// What is done with IN, opened for each pass.
+#[derive(Drop)]
+pub(crate) enum Job<F> {
+    Convert(TwoPasses<F>),
+    Copy(TwoPasses<F>),
+    Extract(Cutting<ThreePasses<F>>),
+    ExtractParents(Cutting<FourPasses<F>>),
+}
+
+/// Opens IN for each pass of what is to be done.
+pub(crate) fn open_job<H: Host>(
+    host: &mut H,
+    path: &str,
+    progress: bool,
+    plan: Plan,
+) -> Result<Job<H::In>, Ending>
+    ensures opened { IfOk result (λ job. H.log host.new ≡ then_all (H.log host.old)
+        (openings path.now 1 (map H.In.remaining (feeds_of job)))) }
+    ensures fresh { IfOk result (λ job. AreFresh H.In.Feed (feeds_of job)) }
+    ensures planned { IfOk result (λ job. (task_of job ≡ plan_of plan)
+        × (length (feeds_of job) ≡ passes_of (plan_of plan))) }
+    ensures failed { IfErr result (λ how. (events : List Event)
+        × (H.log host.new ≡ then_all (H.log host.old) events) × FailsOpening how events) }
+{
+    let passes = match &plan {
+        Plan::Convert | Plan::Copy => 2,
+        Plan::Extract(_) => 3,
+        Plan::ExtractParents(_) => 4,
+    };
+    let input = Input {
+        path,
+        passes,
+        progress,
+    };
+    match plan {
+        Plan::Convert => Ok(Job::Convert(open_two(host, &input)?)),
+        Plan::Copy => Ok(Job::Copy(open_two(host, &input)?)),
+        Plan::Extract(cut) => {
+            let passes = open_three(host, &input)?;
+            Ok(Job::Extract(Cutting { passes, cut }))
+        }
+        Plan::ExtractParents(cut) => {
+            let passes = open_four(host, &input)?;
+            Ok(Job::ExtractParents(Cutting { passes, cut }))
+        }
+    }
+}
+
+/// Cuts out of IN.
+fn cut_out<F: Feed, D: Drain, S: BuildHasher + Drop>(
+    engine: Engine,
+    cutting: &mut Cutting<ThreePasses<F>>,
+    drain: &mut D,
+    hasher: S,
+) -> Result<Report, Halted>
+    requires { IfSome (D.taken drain.old) (λ taken. taken ≡ []) }
+    ensures { let old = cutting.old.passes in let now = cutting.new.passes in
+        WorksBy engine.program F.Feed true (extracting (area_of cutting.old.cut))
+        (old.one ∷ old.two ∷ old.three ∷ []) (now.one ∷ now.two ∷ now.three ∷ [])
+        (Takes D.Drain drain.old drain.new) (WriteFailed D.Drain drain.old drain.new) result }
+{
+    let Cutting { passes, cut } = cutting;
+    match &*cut {
+        Cut::Box(area) => extract(engine, passes, area, drain, hasher),
+        Cut::Polygon(area) => extract(engine, passes, area, drain, hasher),
+    }
+}
+
+/// Cuts out of IN with all parents.
+fn cut_out_parents<F: Feed, D: Drain, S: BuildHasher + Drop>(
+    engine: Engine,
+    cutting: &mut Cutting<FourPasses<F>>,
+    drain: &mut D,
+    hasher: S,
+) -> Result<Report, Halted>
+    requires { IfSome (D.taken drain.old) (λ taken. taken ≡ []) }
+    ensures { let old = cutting.old.passes in let now = cutting.new.passes in
+        WorksBy engine.program F.Feed true (extracting_parents (area_of cutting.old.cut))
+        (old.one ∷ old.two ∷ old.three ∷ old.four ∷ [])
+        (now.one ∷ now.two ∷ now.three ∷ now.four ∷ [])
+        (Takes D.Drain drain.old drain.new) (WriteFailed D.Drain drain.old drain.new) result }
+{
+    let Cutting { passes, cut } = cutting;
+    match &*cut {
+        Cut::Box(area) => extract_parents(engine, passes, area, drain, hasher),
+        Cut::Polygon(area) => extract_parents(engine, passes, area, drain, hasher),
+    }
+}
+
+/// Does it, into a drain that took nothing.
+pub(crate) fn do_job<F: Feed, D: Drain, S: BuildHasher + Drop>(
+    engine: Engine,
+    job: &mut Job<F>,
+    drain: &mut D,
+    hasher: S,
+) -> Result<Report, Halted>
+    requires { IfSome (D.taken drain.old) (λ taken. taken ≡ []) }
+    ensures { WorksBy engine.program F.Feed true (task_of job.old) (feeds_of job.old)
+        (feeds_of job.new) (Takes D.Drain drain.old drain.new)
+        (WriteFailed D.Drain drain.old drain.new) result }
+{
+    match job {
+        Job::Convert(passes) => convert(engine, passes, drain, hasher),
+        Job::Copy(passes) => copy(engine, passes, drain),
+        Job::Extract(cutting) => cut_out(engine, cutting, drain, hasher),
+        Job::ExtractParents(cutting) => cut_out_parents(engine, cutting, drain, hasher),
+    }
+}
+
+/// Hands two feeds back.
+pub(crate) fn close_two<H: Host>(host: &mut H, passes: TwoPasses<H::In>)
+    ensures { CloseAll H.In.Feed (passes.one ∷ passes.two ∷ []) (H.log host.old) (H.log host.new) }
+{
+    let TwoPasses { one, two } = passes;
+    host.close(one);
+    host.close(two);
+}
+
+/// Hands three feeds back.
+fn close_three<H: Host>(host: &mut H, passes: ThreePasses<H::In>)
+    ensures { CloseAll H.In.Feed (passes.one ∷ passes.two ∷ passes.three ∷ [])
+        (H.log host.old) (H.log host.new) }
+{
+    let ThreePasses { one, two, three } = passes;
+    host.close(one);
+    host.close(two);
+    host.close(three);
+}
+
+/// Hands four feeds back.
+fn close_four<H: Host>(host: &mut H, passes: FourPasses<H::In>)
+    ensures { CloseAll H.In.Feed (passes.one ∷ passes.two ∷ passes.three ∷ passes.four ∷ [])
+        (H.log host.old) (H.log host.new) }
+{
+    let FourPasses {
+        one,
+        two,
+        three,
+        four,
+    } = passes;
+    host.close(one);
+    host.close(two);
+    host.close(three);
+    host.close(four);
+}
+
+/// Hands all feeds of a job back.
+pub(crate) fn close_job<H: Host>(host: &mut H, job: Job<H::In>)
+    ensures { CloseAll H.In.Feed (feeds_of job) (H.log host.old) (H.log host.new) }
+{
+    match job {
+        Job::Convert(passes) | Job::Copy(passes) => close_two(host, passes),
+        Job::Extract(cutting) => close_three(host, cutting.passes),
+        Job::ExtractParents(cutting) => close_four(host, cutting.passes),
+    }
+}

@@ -1,0 +1,16 @@
+//! The program: what a command does to its host, for every host.
+#![tactic(auto)]
+
+mod ending;
+mod engine;
+mod host;
+mod jobs;
+mod opening;
+mod printing;
+mod program;
+mod reading;
+mod writing;
+
+pub use ending::report;
+pub use host::{CreateFault, FinishFault, Host, NotDone, OpenFault, Screen, TextFault, Turn};
+pub use program::run;

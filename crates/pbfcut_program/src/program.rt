@@ -1,0 +1,189 @@
+//! The whole run of a command.
+
+ghost use Rattle.std.specs.Prelude.{◌≡◌, [], List, IfErr, IfOk, OnOk, map, string_bytes};
+ghost use Rattle.pbfcut_cli.specs.Words.{word_texts};
+ghost use Rattle.pbfcut_program.specs.Events.{Event, then_all};
+ghost use Rattle.pbfcut_program.specs.Fails.{Fails, IsRefused};
+ghost use Rattle.pbfcut_program.specs.Jobs.{plan_of};
+ghost use Rattle.pbfcut_program.specs.Tasks.{judge_of};
+ghost use Rattle.pbfcut_program.specs.Program.{Does, FailsIn, IsRun, IsWhy, Writes, digests_of};
+
+use crate::ending::{report, report_command};
+use crate::engine::Engine;
+use crate::host::{Host, Screen};
+use crate::jobs::Plan;
+use crate::opening::Input;
+use crate::printing::print_text;
+use crate::reading::{run_blobs, run_check, run_info, run_show};
+use crate::writing::{run_extract, write};
+use pbfcut_cli::{Command, Ending, Files, Program, normalize_words, read_words};
+use std::alloc::{AllocError, Global};
+
+/// Whether a command prints the digests of what it reads.
+fn prints_digests(command: &Command<'_>) -> bool
+    ensures { result ≡ digests_of command.now }
+{
+    match command {
+        Command::Check { digests, .. } => *digests,
+        Command::Convert(files) | Command::Pack(files) | Command::Unpack(files) => files.digests,
+        Command::Extract { files, .. } => files.digests,
+        Command::Help(_) | Command::Blobs { .. } | Command::Info { .. } | Command::Show { .. } => {
+            false
+        }
+    }
+}
+
+/// Whether a command writes zlib blobs: of pbfcutz, unless raw ones are wanted.
+fn packs(program: Program, command: &Command<'_>) -> bool {
+    let raw = match command {
+        Command::Convert(files) => files.raw,
+        Command::Extract { files, .. } => files.raw,
+        Command::Pack(_) => false,
+        _ => true,
+    };
+    program == Program::Pbfcutz && !raw
+}
+
+/// Whether the progress of a run is shown: with `--progress`, and by pbfcutz also if the host shows it by itself.
+fn shows_progress<H: Host>(host: &H, program: Program, asked: bool, path: &str) -> bool {
+    asked || program == Program::Pbfcutz && host.shows_progress(path)
+}
+
+/// Converts or copies.
+fn run_writing<H: Host>(
+    engine: Engine,
+    host: &mut H,
+    files: &Files<'_>,
+    plan: Plan,
+) -> Result<(), Ending>
+    requires { engine.digests ≡ files.now.digests }
+    ensures ok { OnOk result ((events : List Event)
+        × (H.log host.new ≡ then_all (H.log host.old) events)
+        × Writes engine.program (plan_of plan) files.now events) }
+    ensures err { IfErr result (λ how. (events : List Event)
+        × (H.log host.new ≡ then_all (H.log host.old) events)
+        × Fails engine.program (IsRefused (judge_of (plan_of plan))) how events) }
+{
+    let progress = shows_progress(&*host, engine.program, files.progress, files.input);
+    write(engine, host, files, plan, progress)?;
+    Ok(())
+}
+
+/// Runs a command.
+fn run_command<H: Host>(
+    engine: Engine,
+    host: &mut H,
+    command: &Command<'_>,
+) -> Result<(), Ending>
+    requires { engine.digests ≡ digests_of command.now }
+    ensures ok { OnOk result ((events : List Event)
+        × (H.log host.new ≡ then_all (H.log host.old) events)
+        × Does engine.program command.now events) }
+    ensures err { IfErr result (λ how. (events : List Event)
+        × (H.log host.new ≡ then_all (H.log host.old) events)
+        × FailsIn engine.program command.now how events) }
+{
+    match command {
+        Command::Help(text) => print_text(host, Screen::Output, text.as_str().as_bytes()),
+        Command::Blobs { input: path } => {
+            let input = Input {
+                path: *path,
+                passes: 1,
+                progress: false,
+            };
+            run_blobs(engine, host, &input)
+        }
+        Command::Info { input: path } => {
+            let input = Input {
+                path: *path,
+                passes: 1,
+                progress: false,
+            };
+            run_info(engine, host, &input)
+        }
+        Command::Show {
+            input: path,
+            dates,
+            progress,
+        } => {
+            let input = Input {
+                path: *path,
+                passes: 2,
+                progress: *progress,
+            };
+            run_show(engine, host, &input, *dates)
+        }
+        Command::Check {
+            input: path,
+            progress,
+            ..
+        } => {
+            let progress = shows_progress(&*host, engine.program, *progress, path);
+            run_check(engine, host, path, progress)
+        }
+        Command::Convert(files) => run_writing(engine, host, files, Plan::Convert),
+        Command::Pack(files) | Command::Unpack(files) => {
+            run_writing(engine, host, files, Plan::Copy)
+        }
+        Command::Extract {
+            region,
+            parents,
+            files,
+        } => {
+            let progress = shows_progress(&*host, engine.program, files.progress, files.input);
+            run_extract(engine, host, region, *parents, files, progress)
+        }
+    }
+}
+
+/// The words as `clap` reads them.
+fn texts_of<'a>(alloc: Global, words: &'a [String]) -> Result<Vec<&'a str>, AllocError>
+    ensures { IfOk result (λ texts. word_texts texts.items ≡ map string_bytes words.now) }
+{
+    let mut texts = Vec::new(alloc);
+    for word in words {
+        texts.push(word.as_str())?;
+    }
+    Ok(texts)
+}
+
+/// Runs the command that the words mean, and tells how it ended if it fails. `Err` says why the words mean none.
+fn work<H: Host>(
+    alloc: Global,
+    host: &mut H,
+    program: Program,
+    words: &[String],
+) -> Result<u8, Ending>
+    ensures ok { IfOk result (λ status. (events : List Event)
+        × (H.log host.new ≡ then_all (H.log host.old) events)
+        × IsRun program (map string_bytes words.now) events status) }
+    ensures err { IfErr result (λ how. (H.log host.new ≡ H.log host.old)
+        × IsWhy program (map string_bytes words.now) how []) }
+{
+    let normalized = normalize_words(alloc, words)?;
+    let texts = texts_of(alloc, &normalized)?;
+    let command = read_words(alloc, program, texts.as_slice())?;
+    let engine = Engine {
+        program,
+        alloc,
+        digests: prints_digests(&command),
+        packs: packs(program, &command),
+    };
+    match run_command(engine, host, &command) {
+        Ok(()) => Ok(0),
+        Err(how) => Ok(report_command(alloc, host, program, &command, &how)),
+    }
+}
+
+/// Runs the command that the words after the program's name mean, over any host, tells how it ended if it fails, and returns the exit
+/// status.
+pub fn run<H: Host>(alloc: Global, host: &mut H, program: Program, words: &[String]) -> u8
+    // What happened, and the exit status, is a run of these words.
+    ensures { (events : List Event) × (H.log host.new ≡ then_all (H.log host.old) events)
+        × IsRun program (map string_bytes words.now) events result }
+{
+    match work(alloc, host, program, words) {
+        Ok(status) => status,
+        Err(how) => report(alloc, host, program, &how),
+    }
+}

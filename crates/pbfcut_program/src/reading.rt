@@ -1,0 +1,147 @@
+//! The commands that write no file: `blobs`, `info`, `show` and `check`.
+
+ghost use Rattle.std.specs.Prelude.{◌≡◌, ◌∷◌, [], ℕ, Bool, List, Option, IfErr, IfOk, OnOk};
+ghost use Rattle.pbf_pass.specs.Judged.{judged_file};
+ghost use Rattle.pbfcut_cli.specs.declared.programs.Program.TheVariants as program;
+ghost use Rattle.pbfcut_program.specs.Devices.{Finishes};
+ghost use Rattle.pbfcut_program.specs.Events.{Event, Reading, opened, read, then_all};
+ghost use Rattle.pbfcut_program.specs.Fails.{Fails, IsRefused};
+ghost use Rattle.pbfcut_program.specs.Outcomes.{EndsAs};
+ghost use Rattle.pbfcut_program.specs.Program.{Checks, IsWorkOf, Lists, Shows, refused_listing};
+ghost use Rattle.pbfcut_program.specs.Tasks.{checking};
+
+use crate::engine::{Engine, Halted, Report, check, list_blobs, show, show_header};
+use crate::host::Host;
+use crate::jobs::close_two;
+use crate::opening::{Input, open_pass, open_screen, open_two};
+use crate::printing::{print_checked, tell_refusal};
+use pbf_frame::Stop;
+use pbfcut_cli::Ending;
+
+/// The one pass of `check`.
+fn read_once<H: Host>(
+    engine: Engine,
+    host: &mut H,
+    path: &str,
+    progress: bool,
+) -> Result<Report, Ending>
+    ensures ok { IfOk result (λ report. (has : Option (List ℕ)) × (first : Reading)
+        × (H.log host.new ≡ then_all (H.log host.old) (opened path.now 1 has ∷ read first ∷ []))
+        × IsWorkOf engine.program engine.digests checking (first ∷ []) [] report.counts
+        report.input report.raw) }
+    ensures err { IfErr result (λ how. (events : List Event)
+        × (H.log host.new ≡ then_all (H.log host.old) events)
+        × Fails engine.program (IsRefused judged_file) how events) }
+{
+    let input = Input {
+        path,
+        passes: 1,
+        progress,
+    };
+    let mut pass = open_pass(host, &input, 1)?;
+    let outcome = check(engine, &mut pass);
+    host.close(pass);
+    match outcome {
+        Ok(report) => Ok(report),
+        Err(halted) => Err(tell_refusal(engine, host, halted, path)),
+    }
+}
+
+/// `check IN`: the numbers of entities go to standard output if the file is accepted, and with `--digests` the digest of IN.
+pub(crate) fn run_check<H: Host>(
+    engine: Engine,
+    host: &mut H,
+    path: &str,
+    progress: bool,
+) -> Result<(), Ending>
+    ensures ok { OnOk result ((events : List Event)
+        × (H.log host.new ≡ then_all (H.log host.old) events)
+        × Checks engine.program engine.digests path.now events) }
+    ensures err { IfErr result (λ how. (events : List Event)
+        × (H.log host.new ≡ then_all (H.log host.old) events)
+        × Fails engine.program (IsRefused judged_file) how events) }
+{
+    let report = read_once(engine, host, path, progress)?;
+    print_checked(engine, host, &report, path)
+}
+
+/// Hands standard output back after a call whose text goes to it. A text that can't be written is reported in place of a later refusal,
+/// since it came first.
+fn ended<H: Host, T: Drop>(
+    host: &mut H,
+    out: H::Out,
+    outcome: Result<T, Halted>,
+) -> Result<(), Ending>
+    ensures { (went : Bool) × Finishes H.Out.Drain out went (H.log host.old) (H.log host.new)
+        × EndsAs went outcome result }
+{
+    if host.finish(out, outcome.is_ok()).is_err() {
+        return Err(Ending::Stopped(Stop::Write));
+    }
+    match outcome {
+        Ok(_done) => Ok(()),
+        Err(halted) => Err(halted.ending),
+    }
+}
+
+/// `show IN`: IN is opened for each of the two passes, and the text goes to standard output. Nothing is written of a file that is
+/// refused.
+pub(crate) fn run_show<H: Host>(
+    engine: Engine,
+    host: &mut H,
+    input: &Input<'_>,
+    dates: bool,
+) -> Result<(), Ending>
+    ensures ok { OnOk result ((events : List Event)
+        × (H.log host.new ≡ then_all (H.log host.old) events)
+        × Shows engine.program dates input.now.path.now events) }
+    ensures err { IfErr result (λ how. (events : List Event)
+        × (H.log host.new ≡ then_all (H.log host.old) events)
+        × Fails engine.program (IsRefused judged_file) how events) }
+{
+    let mut passes = open_two(host, input)?;
+    let mut out = open_screen(host)?;
+    let outcome = show(engine, &mut passes, &mut out, dates);
+    close_two(host, passes);
+    ended(host, out, outcome)
+}
+
+/// `blobs IN`: the lines go to standard output, even if the file is refused.
+pub(crate) fn run_blobs<H: Host>(
+    engine: Engine,
+    host: &mut H,
+    input: &Input<'_>,
+) -> Result<(), Ending>
+    ensures ok { OnOk result ((events : List Event)
+        × (H.log host.new ≡ then_all (H.log host.old) events)
+        × Lists engine.program input.now.path.now events) }
+    ensures err { IfErr result (λ how. (events : List Event)
+        × (H.log host.new ≡ then_all (H.log host.old) events)
+        × Fails engine.program refused_listing how events) }
+{
+    let mut pass = open_pass(host, input, 1)?;
+    let mut out = open_screen(host)?;
+    let outcome = list_blobs(engine, &mut pass, &mut out);
+    host.close(pass);
+    ended(host, out, outcome)
+}
+
+/// `info IN`: the lines of the header go to standard output.
+pub(crate) fn run_info<H: Host>(
+    engine: Engine,
+    host: &mut H,
+    input: &Input<'_>,
+) -> Result<(), Ending>
+    ensures ok { OnOk result ((events : List Event)
+        × (H.log host.new ≡ then_all (H.log host.old) events)
+        × Lists program.Pbfcutz input.now.path.now events) }
+    ensures err { IfErr result (λ how. (events : List Event)
+        × (H.log host.new ≡ then_all (H.log host.old) events)
+        × Fails program.Pbfcutz (λ _ _. Unit {0}) how events) }
+{
+    let mut pass = open_pass(host, input, 1)?;
+    let mut out = open_screen(host)?;
+    let outcome = show_header(engine, &mut pass, &mut out);
+    host.close(pass);
+    ended(host, out, outcome)
+}

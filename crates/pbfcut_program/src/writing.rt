@@ -1,0 +1,303 @@
+//! The commands that write a file. Before anything is written it is settled that OUT is new, IN is opened once for each pass, and there is
+//! a seed.
+
+ghost use Rattle.std.specs.Prelude.{◌≡◌, ◌⊎◌, ◌∷◌, ◌++◌, ◌<◌, [], List, length, map, is_ok, IfErr, IfOk, OnOk, true, false};
+ghost use Rattle.pbf_frame.specs.declared.stop.Stop.TheVariants as stop;
+ghost use Rattle.pbfcut_cli.specs.declared.endings.Ending.TheVariants as ending;
+ghost use Rattle.pbf_pass.specs.HeaderLimit.{judged_writable};
+ghost use Rattle.pbfcut_program.specs.Devices.{AreFresh, IsAsked, IsFreshOut, TakenBy, WorksBy};
+ghost use Rattle.pbfcut_program.specs.Events.{Event, Reading, Writing, read, seeded, wrote, then_all, then_one};
+ghost use Rattle.pbfcut_program.specs.Fails.{Fails, FailsOpening, IsRefused};
+ghost use Rattle.pbfcut_program.specs.Jobs.{area_of, feeds_of, plan_of, task_of};
+ghost use Rattle.pbfcut_program.specs.Program.{Extracts, IsWorkOf, IsHashed, WritesCounts, extract_task, is_empty, is_screen, looks, makes, openings, screen_of};
+ghost use Rattle.pbfcut_program.specs.Tasks.{judge_of, passes_of};
+
+use crate::engine::{Engine, Halted, Report};
+use crate::host::{CreateFault, FinishFault, Host, Screen};
+use crate::jobs::{Cut, Job, Plan, close_job, do_job, open_job, read_region};
+use crate::opening::open_screen;
+use crate::printing::{Done, print_done, tell_refusal};
+use pbf_frame::{Drain, Feed, Stop};
+use pbf_pass::{Counts, HashedDrain};
+use pbfcut_cli::{Ending, Files, Program, Region};
+use std::hash::BuildHasher;
+
+/// Whether OUT is standard output, which only pbfcutz writes to.
+fn is_screen(program: Program, output: &str) -> bool
+    ensures { result ≡ is_screen program output.now }
+{
+    program == Program::Pbfcutz && (output == "-" || output == "/dev/stdout")
+}
+
+/// Where counts and digests go.
+fn screen_of(is_screen: bool) -> Screen
+    ensures { result ≡ screen_of is_screen }
+{
+    if is_screen { Screen::Error } else { Screen::Output }
+}
+
+/// Refuses an OUT that is there, unless it is standard output.
+fn refuse_existing<H: Host>(
+    host: &mut H,
+    is_screen: bool,
+    files: &Files<'_>,
+) -> Result<(), Ending>
+    ensures ok { OnOk result (H.log host.new
+        ≡ then_all (H.log host.old) (looks is_screen files.now.output.now)) }
+    ensures err { IfErr result (λ how. (events : List Event)
+        × (H.log host.new ≡ then_all (H.log host.old) events) × FailsOpening how events) }
+{
+    if is_screen {
+        return Ok(());
+    }
+    if host.exists(files.output, files.overwrite) {
+        return Err(Ending::OutExists);
+    }
+    Ok(())
+}
+
+/// Makes OUT, unless it is standard output.
+fn make_out<H: Host>(host: &mut H, is_screen: bool, files: &Files<'_>) -> Result<H::Out, Ending>
+    ensures ok { IfOk result (λ out. (H.log host.new
+        ≡ then_one (H.log host.old) (makes is_screen files.now.output.now))
+        × IsFreshOut H.Out.Drain out) }
+    ensures err { IfErr result (λ how. (events : List Event)
+        × (H.log host.new ≡ then_all (H.log host.old) events) × FailsOpening how events) }
+{
+    if is_screen {
+        return open_screen(host);
+    }
+    match host.create(files.output, files.overwrite) {
+        Ok(out) => Ok(out),
+        Err(CreateFault::Failed) => Err(Ending::CannotOpen),
+        Err(CreateFault::Memory) => Err(Ending::Stopped(Stop::Memory)),
+    }
+}
+
+/// A seed of this run's own: IN is untrusted, and its strings are hashed.
+fn draw_seed<H: Host>(host: &mut H) -> Result<H::Hasher, Ending>
+    ensures ok { OnOk result (H.log host.new ≡ then_one (H.log host.old) (seeded true)) }
+    ensures err { IfErr result (λ how. (events : List Event)
+        × (H.log host.new ≡ then_all (H.log host.old) events) × FailsOpening how events) }
+{
+    match host.seed() {
+        Ok(hasher) => Ok(hasher),
+        Err(_) => Err(Ending::CannotOpen),
+    }
+}
+
+/// All that is needed before a command writes.
+#[derive(Drop)]
+struct Ready<F, D, S> {
+    job: Job<F>,
+    out: D,
+    hasher: S,
+}
+
+/// Settles that OUT is new, opens IN for each pass, draws a seed, and makes OUT.
+fn prepare<H: Host>(
+    host: &mut H,
+    is_screen: bool,
+    files: &Files<'_>,
+    plan: Plan,
+    progress: bool,
+) -> Result<Ready<H::In, H::Out, H::Hasher>, Ending>
+    ensures ok { IfOk result (λ r. H.log host.new ≡ then_all (H.log host.old)
+        (looks is_screen files.now.output.now
+        ++ openings files.now.input.now 1 (map H.In.remaining (feeds_of r.job))
+        ++ seeded true ∷ makes is_screen files.now.output.now ∷ [])) }
+    ensures fresh { IfOk result (λ r. AreFresh H.In.Feed (feeds_of r.job)
+        × IsFreshOut H.Out.Drain r.out) }
+    ensures planned { IfOk result (λ r. (task_of r.job ≡ plan_of plan)
+        × (length (feeds_of r.job) ≡ passes_of (plan_of plan))) }
+    ensures err { IfErr result (λ how. (events : List Event)
+        × (H.log host.new ≡ then_all (H.log host.old) events) × FailsOpening how events) }
+{
+    refuse_existing(host, is_screen, files)?;
+    let job = open_job(host, files.input, progress, plan)?;
+    let hasher = draw_seed(host)?;
+    let out = make_out(host, is_screen, files)?;
+    Ok(Ready { job, out, hasher })
+}
+
+/// What a job came to, and the digest of what OUT took, if it was hashed.
+#[derive(Drop)]
+struct Ran<D> {
+    result: Result<Report, Halted>,
+    out: D,
+    output: Option<[u8; 32]>,
+}
+
+/// Does a job, and hashes what OUT takes.
+fn run_hashed<F: Feed, D: Drain + Drop, S: BuildHasher + Drop>(
+    engine: Engine,
+    job: &mut Job<F>,
+    out: D,
+    hasher: S,
+) -> Ran<D>
+    requires { IsFreshOut D.Drain out }
+    ensures works { WorksBy engine.program F.Feed true (task_of job.old) (feeds_of job.old)
+        (feeds_of job.new) (TakenBy D.Drain result.out result.output)
+        (0 < D.failures result.out) result.result }
+    ensures hashed { IsAsked true result.output }
+{
+    let mut hashed = HashedDrain::new(out);
+    let result = do_job(engine, job, &mut hashed, hasher);
+    let digest = hashed.digest();
+    Ran {
+        result,
+        out: hashed.into_inner(),
+        output: Some(digest),
+    }
+}
+
+/// Does a job.
+fn run_plain<F: Feed, D: Drain + Drop, S: BuildHasher + Drop>(
+    engine: Engine,
+    job: &mut Job<F>,
+    out: D,
+    hasher: S,
+) -> Ran<D>
+    requires { IsFreshOut D.Drain out }
+    ensures works { WorksBy engine.program F.Feed true (task_of job.old) (feeds_of job.old)
+        (feeds_of job.new) (TakenBy D.Drain result.out result.output)
+        (0 < D.failures result.out) result.result }
+    ensures hashed { IsAsked false result.output }
+{
+    let mut out = out;
+    let result = do_job(engine, job, &mut out, hasher);
+    Ran {
+        result,
+        out,
+        output: None,
+    }
+}
+
+/// Does a job, and hashes what OUT takes if its digest is printed.
+fn run_into<F: Feed, D: Drain + Drop, S: BuildHasher + Drop>(
+    engine: Engine,
+    job: &mut Job<F>,
+    out: D,
+    hasher: S,
+) -> Ran<D>
+    requires { IsFreshOut D.Drain out }
+    ensures works { WorksBy engine.program F.Feed true (task_of job.old) (feeds_of job.old)
+        (feeds_of job.new) (TakenBy D.Drain result.out result.output)
+        (0 < D.failures result.out) result.result }
+    ensures hashed { IsAsked engine.digests result.output }
+{
+    if engine.digests {
+        run_hashed(engine, job, out, hasher)
+    } else {
+        run_plain(engine, job, out, hasher)
+    }
+}
+
+/// What is reported once OUT was handed back.
+fn kept(finished: Result<(), FinishFault>, done: Done) -> Result<Done, Ending>
+    ensures ok { IfOk result (λ d. (d ≡ done) × (is_ok finished ≡ true)) }
+    ensures err { IfErr result (λ how. (is_ok finished ≡ false)
+        × ((how ≡ ending.Stopped stop.Write) ⊎ (how ≡ ending.OutExists))) }
+{
+    match finished {
+        Ok(()) => Ok(done),
+        Err(FinishFault::Failed) => Err(Ending::Stopped(Stop::Write)),
+        Err(FinishFault::Exists) => Err(Ending::OutExists),
+    }
+}
+
+/// Does a job, hands all files back, and returns what it reports: then all that OUT took went out.
+fn run_job<H: Host>(
+    engine: Engine,
+    host: &mut H,
+    ready: Ready<H::In, H::Out, H::Hasher>,
+    path: &str,
+) -> Result<Done, Ending>
+    requires fresh { AreFresh H.In.Feed (feeds_of ready.job) × IsFreshOut H.Out.Drain ready.out }
+    ensures ok { IfOk result (λ done. (rs : List Reading) × (out : Writing)
+        × (H.log host.new ≡ then_all (H.log host.old) (map read rs ++ wrote out ∷ []))
+        × (out.out ≡ true) × IsHashed engine.program engine.digests out.bytes done.output
+        × IsWorkOf engine.program true (task_of ready.job) rs out.bytes done.report.counts
+        done.report.input done.report.raw) }
+    ensures err { IfErr result (λ how. (events : List Event)
+        × (H.log host.new ≡ then_all (H.log host.old) events)
+        × Fails engine.program (IsRefused (judge_of (task_of ready.job))) how events) }
+{
+    let Ready { job, out, hasher } = ready;
+    let mut job = job;
+    let Ran {
+        result,
+        out,
+        output,
+    } = run_into(engine, &mut job, out, hasher);
+    close_job(host, job);
+    let finished = host.finish(out, result.is_ok());
+    match result {
+        Ok(report) => kept(finished, Done { report, output }),
+        Err(halted) => Err(tell_refusal(engine, host, halted, path)),
+    }
+}
+
+/// Does what is to be done with IN, and returns the counts of what was written.
+pub(crate) fn write<H: Host>(
+    engine: Engine,
+    host: &mut H,
+    files: &Files<'_>,
+    plan: Plan,
+    progress: bool,
+) -> Result<Counts, Ending>
+    ensures ok { IfOk result (λ counts. (events : List Event)
+        × (H.log host.new ≡ then_all (H.log host.old) events)
+        × WritesCounts engine.program engine.digests (plan_of plan) files.now counts events) }
+    ensures err { IfErr result (λ how. (events : List Event)
+        × (H.log host.new ≡ then_all (H.log host.old) events)
+        × Fails engine.program (IsRefused (judge_of (plan_of plan))) how events) }
+{
+    let to_screen = is_screen(engine.program, files.output);
+    let ready = prepare(host, to_screen, files, plan, progress)?;
+    let done = run_job(engine, host, ready, files.input)?;
+    print_done(engine.alloc, host, screen_of(to_screen), &done, files)?;
+    Ok(done.report.counts)
+}
+
+/// Whether there is no entity.
+fn is_empty(counts: Counts) -> bool
+    ensures { result ≡ is_empty counts }
+{
+    counts.nodes == 0 && counts.ways == 0 && counts.relations == 0
+}
+
+/// The plan of an extract.
+fn plan_extract(cut: Cut, parents: bool) -> Plan
+    ensures { plan_of result ≡ extract_task parents (area_of cut) }
+{
+    if parents {
+        Plan::ExtractParents(cut)
+    } else {
+        Plan::Extract(cut)
+    }
+}
+
+/// `extract IN OUT`, with all parents or without.
+pub(crate) fn run_extract<H: Host>(
+    engine: Engine,
+    host: &mut H,
+    region: &Region<'_>,
+    parents: bool,
+    files: &Files<'_>,
+    progress: bool,
+) -> Result<(), Ending>
+    ensures ok { OnOk result ((events : List Event)
+        × (H.log host.new ≡ then_all (H.log host.old) events)
+        × Extracts engine.program engine.digests region.now parents files.now events) }
+    ensures err { IfErr result (λ how. (events : List Event)
+        × (H.log host.new ≡ then_all (H.log host.old) events)
+        × Fails engine.program (IsRefused judged_writable) how events) }
+{
+    let cut = read_region(engine.alloc, host, region)?;
+    let counts = write(engine, host, files, plan_extract(cut, parents), progress)?;
+    if is_empty(counts) {
+        host.advise_empty(region);
+    }
+    Ok(())
+}

@@ -1,0 +1,179 @@
+//! The operating system as a host: it is trusted to be one, and tested. It tells a proof nothing of what happens.
+
+ghost use Rattle.std.specs.Prelude.{None};
+
+use crate::out::OutFile;
+use pbf_frame::FromRead;
+use pbfcut_cli::{Command, Ending, Program, Region};
+use pbfcut_files::{
+    Asked, FailedWrite, NotKept, Place, Target, Watched, create_output, is_long, is_taken,
+    open_pass, open_screen, tell_empty, tell_hint, tell_order,
+};
+use pbfcut_program::{
+    CreateFault, FinishFault, Host, NotDone, OpenFault, Screen, TextFault, Turn,
+};
+use std::fs::{self, File};
+use std::hash::RandomState;
+use std::io::{self, IsTerminal, Write};
+
+/// Files by their paths, and the standard streams.
+#[derive(Drop)]
+pub(crate) struct Os<'a> {
+    rt: &'a HostRuntime,
+    program: Program,
+    /// The last write that failed, for a hint.
+    failed: Option<FailedWrite>,
+}
+
+impl<'a> Os<'a> {
+    pub(crate) fn new(rt: &'a HostRuntime, program: Program) -> Os<'a> {
+        Os {
+            rt,
+            program,
+            failed: None,
+        }
+    }
+
+    /// The place of an OUT.
+    fn place<'p>(&self, path: &'p str, overwrite: bool) -> Place<'p> {
+        Place {
+            program: self.program,
+            path,
+            overwrite,
+        }
+    }
+
+    /// Notes the system's number of the reason why a write failed, if there is one.
+    fn note(&mut self, target: Target, code: Option<i32>) {
+        self.failed = code.map(|code| FailedWrite { target, code });
+    }
+}
+
+impl Host for Os<'_> {
+    type In = Watched<FromRead<File>>;
+
+    type Out = OutFile;
+
+    type Hasher = RandomState;
+
+    ghost log = { λ _. None };
+
+    fn shows_progress(&self, path: &str) -> bool {
+        self.rt.stderr().is_terminal() && is_long(self.rt, path)
+    }
+
+    fn read_text(&mut self, path: &str) -> Result<String, TextFault> {
+        match fs::read_to_string(self.rt, path) {
+            Ok(text) => Ok(text),
+            Err(error) if error.kind() == io::ErrorKind::OutOfMemory => Err(TextFault::Memory),
+            Err(_) => Err(TextFault::Failed),
+        }
+    }
+
+    fn exists(&mut self, path: &str, overwrite: bool) -> bool {
+        is_taken(self.rt, self.place(path, overwrite))
+    }
+
+    fn open(&mut self, path: &str, turn: Turn) -> Result<Watched<FromRead<File>>, OpenFault> {
+        let Turn {
+            pass,
+            passes,
+            progress,
+        } = turn;
+        match open_pass(self.rt, path, pass, passes, progress) {
+            Ok(feed) => Ok(feed),
+            Err(Ending::IsPipe) => Err(OpenFault::Pipe),
+            Err(_) => Err(OpenFault::Failed),
+        }
+    }
+
+    fn close(&mut self, feed: Watched<FromRead<File>>) {
+        feed.end(self.rt);
+    }
+
+    fn seed(&mut self) -> Result<RandomState, NotDone> {
+        match RandomState::new(self.rt) {
+            Ok(hasher) => Ok(hasher),
+            Err(_) => Err(NotDone),
+        }
+    }
+
+    fn create(&mut self, path: &str, overwrite: bool) -> Result<OutFile, CreateFault> {
+        match create_output(self.rt, self.place(path, overwrite)) {
+            Ok(output) => Ok(OutFile::new(output)),
+            Err(Ending::CannotOpen) => Err(CreateFault::Failed),
+            Err(_) => Err(CreateFault::Memory),
+        }
+    }
+
+    fn screen(&mut self) -> Result<OutFile, NotDone> {
+        match open_screen(self.rt) {
+            Ok(output) => Ok(OutFile::new(output)),
+            Err(_) => Err(NotDone),
+        }
+    }
+
+    fn finish(&mut self, out: OutFile, whole: bool) -> Result<(), FinishFault> {
+        let mut output = out.into_inner();
+        let flushed = output.flush();
+        self.note(output.target(), output.code());
+        if !whole {
+            output.discard(self.rt);
+            return match flushed {
+                Ok(()) => Ok(()),
+                Err(_) => Err(FinishFault::Failed),
+            };
+        }
+        if flushed.is_err() {
+            output.discard(self.rt);
+            return Err(FinishFault::Failed);
+        }
+        match output.keep(self.rt) {
+            Ok(()) => Ok(()),
+            Err(NotKept::Exists) => Err(FinishFault::Exists),
+            Err(NotKept::Failed(code)) => {
+                self.note(Target::Out, code);
+                Err(FinishFault::Failed)
+            }
+        }
+    }
+
+    fn print(&mut self, screen: Screen, text: &[u8]) -> Result<(), NotDone> {
+        if screen == Screen::Error {
+            // If it can't be written, OUT is there all the same.
+            let _ = self.rt.stderr().write_all(text);
+            return Ok(());
+        }
+        let mut output = self.rt.stdout();
+        let printed = match output.write_all(text) {
+            Ok(()) => output.flush(),
+            Err(error) => Err(error),
+        };
+        if let Err(error) = printed {
+            self.note(Target::StandardOutput, error.raw_os_error());
+            return Err(NotDone);
+        }
+        Ok(())
+    }
+
+    fn tell(&mut self, text: &[u8]) {
+        // If it can't be written, nothing more can be reported.
+        let _ = self.rt.stderr().write_all(text);
+    }
+
+    fn advise_words(&mut self, ending: &Ending) {
+        if matches!(ending, Ending::Box(_)) {
+            tell_order(self.rt);
+        }
+    }
+
+    fn advise(&mut self, command: &Command<'_>, ending: &Ending) {
+        if let Some(asked) = Asked::of(self.program, command) {
+            tell_hint(self.rt, asked, ending, self.failed);
+        }
+    }
+
+    fn advise_empty(&mut self, region: &Region<'_>) {
+        tell_empty(self.rt, *region);
+    }
+}

@@ -1,0 +1,46 @@
+//! OUT, or standard output, as a drain.
+
+ghost use Rattle.std.specs.Prelude.{◌≡◌, None};
+
+use pbf_frame::{Drain, DrainFault};
+use pbfcut_files::Output;
+use std::io::Write;
+
+/// OUT, to which so many writes failed.
+#[derive(Drop)]
+pub(crate) struct OutFile {
+    output: Output,
+    failures: u64,
+}
+
+impl OutFile {
+    pub(crate) fn new(output: Output) -> OutFile
+        ensures { result.failures ≡ 0 }
+    {
+        OutFile {
+            output,
+            failures: 0,
+        }
+    }
+
+    /// What it writes to.
+    pub(crate) fn into_inner(self) -> Output {
+        self.output
+    }
+}
+
+impl Drain for OutFile {
+    ghost taken = { λ _. None };
+
+    ghost failures = { λ out. out.failures };
+
+    fn write(&mut self, bytes: &[u8]) -> Result<usize, DrainFault> {
+        match self.output.writer().write(bytes) {
+            Ok(count) if count > 0 || bytes.is_empty() => Ok(count),
+            _ => {
+                self.failures = self.failures.saturating_add(1);
+                Err(DrainFault)
+            }
+        }
+    }
+}
