@@ -14,7 +14,7 @@ const MOST_PARTS: u32 = 1_000;
 
 /// What OUT is written to.
 #[derive(Drop)]
-pub enum Sink {
+enum Sink {
     File(File),
     Screen(Stdout),
 }
@@ -184,9 +184,9 @@ fn name(rt: &HostRuntime, part: &Part) -> Result<(), NotKept> {
 }
 
 impl Output {
-    /// The writer of OUT.
-    pub fn writer(&mut self) -> &mut BufWriter<Noted<Sink>> {
-        &mut self.writer
+    /// Writes to the buffer.
+    pub fn write(&mut self, bytes: &[u8]) -> io::Result<usize> {
+        self.writer.write(bytes)
     }
 
     /// Writes what is left in the buffer.
