@@ -1,20 +1,15 @@
 -- The numbers of a dense message's nodes are in their ranges, whatever is wrong with it: its columns end before one that isn't.
-use Rattle.std.proofs.Common.{◌≡◌, ℕ, ℤ, List, [], ◌∷◌, ◌++◌, drop, subst, sym, ap, ◌∙◌}
+use Rattle.std.proofs.Common.{ℕ, ℤ, List, [], ◌∷◌, drop}
 use Rattle.std.specs.Prelude.{slice_get}
 use Rattle.std.specs.List.{AllByRecursion}
-use Rattle.pbf_wire.specs.Occurrence.{Occurrence}
-use Rattle.pbf_wire.specs.Signed.{IsWithin}
-use Rattle.pbf_wire.specs.Sums.{sums_within}
 use Rattle.osm_entity.specs.declared.scale.Scale.{Scale}
-use Rattle.osm_entity.specs.Entity.{NodeSpec}
 use Rattle.osm_entity.specs.Ranges.{IsStored, IsUid, IfPresent}
 use Rattle.pbf_dense.specs.Cursors.{dense_left}
-use Rattle.pbf_dense.specs.Info.{InfoSpec, info_along, info_rest}
+use Rattle.pbf_dense.specs.Info.{InfoSpec, info_rest}
 use Rattle.pbf_dense.specs.Runs.{after_run}
-use Rattle.pbf_dense.specs.Nodes.{nodes_along, nodes_of_columns}
+use Rattle.pbf_dense.specs.Nodes.{nodes_of_columns}
 use Rattle.pbf_dense.specs.Steady.{NumbersFit}
 use Rattle.pbf_dense.specs.declared.dense.Dense.{Dense}
-use Rattle.pbf_dense.proofs.InfoLemmas.{sums_are_within}
 use Rattle.pbf_dense.proofs.InfoTakenLemmas.{stored_all}
 
 -- the columns of metadata

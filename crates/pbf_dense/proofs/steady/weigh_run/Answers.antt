@@ -1,4 +1,4 @@
-use Rattle.std.proofs.Common.{◌≡◌, ◌<◌, ℕ, List, ◌∷◌, length, map, ap, sym, ◌∙◌, arith}
+use Rattle.std.proofs.Common.{◌≡◌, ◌<◌, ℕ, List, ◌∷◌, map, ap, sym, ◌∙◌, arith}
 use Rattle.pbf_wire.specs.Cursors.{numbers_left}
 use Rattle.osm_entity.specs.Sources.{low_32, run_tags}
 use Rattle.osm_entity.specs.Weight.{tags_weight}

@@ -1,4 +1,4 @@
-use Rattle.std.proofs.Common.{sym, ◌∙◌, arith}
+use Rattle.std.proofs.Common.{arith}
 use Rattle.pbf_dense.proofs.SteadyLemmas.{steady_is}
 use Rattle.pbf_dense.proofs.dense.Dense.steady_count.Goals as goal
 
