@@ -3,7 +3,7 @@ use Rattle.pbf_wire.specs.declared.fault.Reason.TheVariants.{EntityLarge}
 use Rattle.std.proofs.lemmas.Bool.{le-ltb}
 use Rattle.osm_entity.proofs.TagLemmas.{run_goes_on}
 use Rattle.pbf_dense.specs.Judged.{node_weight_fault, dense_weights, as_stored, early_fault, dense_fault}
-use Rattle.std.proofs.Common.{◌≡◌, ℕ, suc, ◌<◌, ◌||◌, ℤ, Bool, true, false, List, [], ◌∷◌, ◌++◌, length, map, Option, refl, sym, ap, ap₂, ◌∙◌, arith, true≢false, zero, None}
+use Rattle.std.proofs.Common.{◌≡◌, ℕ, ◌||◌, ℤ, Bool, true, false, List, [], ◌∷◌, ◌++◌, length, map, Option, refl, sym, ap, ap₂, ◌∙◌, arith, true≢false, None}
 use Rattle.std.specs.Prelude.{unwrap_or}
 use Rattle.std.specs.List.{flat_map, list_any, range_with_len, AllByRecursion}
 use Rattle.std.proofs.lemmas.List.{append-nil, length-map}

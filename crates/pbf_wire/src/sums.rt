@@ -134,7 +134,7 @@ impl<'a> Sums<'a> {
         Some(total)
     }
 
-    /// Skips the next value, if its entry takes at most five bytes and there is room for it.
+    /// Skips the next value, if it is read at once.
     #[inline(always)]
     fn pass_one(&mut self) -> bool
         ensures passed { IsTrue result
