@@ -15,7 +15,7 @@ returns-in-Err-clause-err g c =
     let one = c.in_ok-pass.pass in
     let now = c.check-outcome.new.pass in
     let fail = work_fails c.args.engine.program g.H.In.Feed c.args.engine.digests checking (λ took. took ≡ []) ⊥ (log c.open_pass.new.host) (log c.close.new.self) (log c.close.new.self)
-        (one ∷ []) (now ∷ []) c.in-Err.halted (ends_with_none (log c.close.new.self) (λ took. took ≡ [])) (c.in_ok-pass.ensures.fresh, tt) (log c.close.new.self, (c.close.ensures.some, c.close.ensures.logged), refl) c.in-Err.ensures in
+    (one ∷ []) (now ∷ []) c.in-Err.halted (ends_with_none (log c.close.new.self) (λ took. took ≡ [])) (c.in_ok-pass.ensures.fresh, tt) (log c.close.new.self, (c.close.ensures.some, c.close.ensures.logged), refl) c.in-Err.ensures in
     let begun : List Event = opened c.args.path.now 1 (g.H.In.Feed.remaining one) ∷ [] in
     told_fails c.args.engine.program judged_file c.in-Err.halted.ending c.tell_refusal.result (log c.args.host.now) (log c.close.new.self) (log c.tell_refusal.new.host) (_)
     (and_then (log c.args.host.now) (log c.open_pass.new.host) (log c.close.new.self) begun fail.0 c.in_ok-pass.ensures.opened fail.1)
