@@ -184,9 +184,9 @@ fn name(rt: &HostRuntime, part: &Part) -> Result<(), NotKept> {
 }
 
 impl Output {
-    /// The writer of OUT.
-    pub fn writer(&mut self) -> &mut impl Write {
-        &mut self.writer
+    /// Writes some of the bytes, by way of the buffer.
+    pub fn write(&mut self, bytes: &[u8]) -> io::Result<usize> {
+        self.writer.write(bytes)
     }
 
     /// Writes what is left in the buffer.

@@ -15,7 +15,7 @@ use Rattle.pbfcut_cli.specs.declared.programs.Program.{Program}
 use Rattle.pbfcut_cli.specs.declared.programs.Program.TheVariants.{Pbfcut, Pbfcutz}
 use Rattle.pbfcut_program.specs.declared.engine.Report.{Report}
 use Rattle.pbfcut_program.specs.declared.engine.Halted.{Halted}
-use Rattle.pbfcut_program.specs.Devices.{AnyFailed, AreFresh, Change, CloseAll, Closes, EndsFor, Finishes, FirstGivesFaulty, GiveAll, GiveLater, GivesOrNot, GivesOtherAt, IsAsked, IsFresh, Reports, StopsFor, TakenBy, Works, WorksBy}
+use Rattle.pbfcut_program.specs.Devices.{AnyFailed, AreFresh, CloseAll, Closes, EndsFor, Finishes, GiveAll, GiveLater, GivesOrNot, GivesOtherAt, IsAsked, IsFresh, StopsFor, TakenBy, WorksBy}
 use Rattle.pbfcut_program.specs.Events.{Event, Reading, Writing, read, wrote, then_all, then_one}
 use Rattle.pbfcut_program.specs.Fails.{Each, Fails, FailsFor, FailsToFinish, FailsToRead, FailsToWrite, Has, IsRefused, TookNothing, readings}
 use Rattle.pbfcut_program.specs.Outcomes.{EndsPacked}

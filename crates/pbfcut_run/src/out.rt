@@ -4,7 +4,6 @@ ghost use Rattle.std.specs.Prelude.{◌≡◌, None};
 
 use pbf_frame::{Drain, DrainFault};
 use pbfcut_files::Output;
-use std::io::Write;
 
 /// OUT, to which so many writes failed.
 #[derive(Drop)]
@@ -35,7 +34,7 @@ impl Drain for OutFile {
     ghost failures = { λ out. out.failures };
 
     fn write(&mut self, bytes: &[u8]) -> Result<usize, DrainFault> {
-        match self.output.writer().write(bytes) {
+        match self.output.write(bytes) {
             Ok(count) if count > 0 || bytes.is_empty() => Ok(count),
             _ => {
                 self.failures = self.failures.saturating_add(1);

@@ -1,11 +1,10 @@
-use Rattle.std.proofs.Common.{[], ◌∷◌, ◌≡◌, List, refl, rules}
-use Rattle.std.proofs.lemmas.Result.{err_from_is_err_and}
+use Rattle.std.proofs.Common.{[], ◌∷◌, ◌≡◌, List, refl}
 use Rattle.pbf_pass.specs.Judged.{judged_file}
 use Rattle.pbfcut_program.specs.Events.{Event, opened, read}
 use Rattle.pbfcut_program.specs.Fails.{IsRefused}
 use Rattle.pbfcut_program.specs.Tasks.{checking}
-use Rattle.pbfcut_program.proofs.Closing.{Ends, ends_with_none, work_fails, work_read_once}
-use Rattle.pbfcut_program.proofs.FailLemmas.{fails_after, opening_fails, refused_keeps, told_fails}
+use Rattle.pbfcut_program.proofs.Closing.{ends_with_none, work_fails, work_read_once}
+use Rattle.pbfcut_program.proofs.FailLemmas.{fails_after, refused_keeps, told_fails}
 use Rattle.pbfcut_program.proofs.Logging.{and_then}
 use Rattle.pbfcut_program.proofs.reading.read_once.Goals as goal
 

@@ -3,9 +3,9 @@ use Rattle.std.proofs.lemmas.Result.{err_from_is_err_and, on_ok_weaker}
 use Rattle.pbfcut_cli.specs.declared.programs.Program.TheVariants.{Pbfcutz}
 use Rattle.pbfcut_program.specs.Events.{Event, Reading, Writing, opened, read, screened, wrote, then_all}
 use Rattle.pbfcut_program.specs.Fails.{Fails}
-use Rattle.pbfcut_program.specs.Program.{IsListing, refused_listing}
+use Rattle.pbfcut_program.specs.Program.{IsListing}
 use Rattle.pbfcut_program.proofs.FailLemmas.{opening_after, opening_fails, text_err, text_ok}
-use Rattle.pbfcut_program.proofs.Listings.{any_done, any_fails, list_done, list_fails, listing_lost}
+use Rattle.pbfcut_program.proofs.Listings.{any_done, any_fails, listing_lost}
 use Rattle.pbfcut_program.proofs.Logging.{and_then}
 use Rattle.pbfcut_program.proofs.reading.run_info.Goals as goal
 

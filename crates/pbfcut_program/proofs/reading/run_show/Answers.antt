@@ -1,4 +1,4 @@
-use Rattle.std.proofs.Common.{◌≡◌, ◌∙◌, [], ◌∷◌, ◌++◌, List, OnOk, map, Bool, true, refl, subst}
+use Rattle.std.proofs.Common.{◌≡◌, [], ◌∷◌, ◌++◌, List, OnOk, map, Bool, true, refl, subst}
 use Rattle.std.proofs.lemmas.Result.{err_from_is_err_and, IfErr-weaker, on_ok_weaker}
 use Rattle.pbf_pass.specs.Judged.{judged_file}
 use Rattle.pbf_pass.specs.Stops.{WriteFailed}
@@ -6,7 +6,7 @@ use Rattle.pbfcut_program.specs.declared.engine.Report.{Report}
 use Rattle.pbfcut_program.specs.Devices.{Takes}
 use Rattle.pbfcut_program.specs.Events.{Event, Reading, Writing, opened, read, screened, wrote, then_all}
 use Rattle.pbfcut_program.specs.Fails.{Fails, IsRefused}
-use Rattle.pbfcut_program.specs.Program.{IsWorkOf, Shows}
+use Rattle.pbfcut_program.specs.Program.{IsWorkOf}
 use Rattle.pbfcut_program.specs.Tasks.{showing}
 use Rattle.pbfcut_program.proofs.Closing.{ends_with_out, finish_fails, has_failed, if_done, if_fails}
 use Rattle.pbfcut_program.proofs.FailLemmas.{fails_after, opening_after, opening_fails, refused_keeps, text_err, text_ok, write_stops}

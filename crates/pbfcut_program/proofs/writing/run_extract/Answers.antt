@@ -1,10 +1,9 @@
-use Rattle.std.proofs.Common.{◌≡◌, ◌∙◌, [], ◌∷◌, ◌++◌, ap, refl, subst, sym}
+use Rattle.std.proofs.Common.{◌∙◌, ◌++◌, ap, refl, subst}
 use Rattle.std.proofs.lemmas.Result.{err_from_is_err_and}
 use Rattle.pbf_pass.specs.HeaderLimit.{judged_writable}
-use Rattle.pbfcut_program.specs.Events.{then_all}
 use Rattle.pbfcut_program.specs.Fails.{Fails, IsRefused}
 use Rattle.pbfcut_program.specs.Jobs.{area_of}
-use Rattle.pbfcut_program.specs.Program.{WritesCounts, advice, extract_task}
+use Rattle.pbfcut_program.specs.Program.{WritesCounts, advice}
 use Rattle.pbfcut_program.specs.Tasks.{judge_of}
 use Rattle.pbfcut_program.proofs.Beginning.{judge_extract, quiet_region}
 use Rattle.pbfcut_program.proofs.FailLemmas.{fails_after, opening_fails, refused_keeps}

@@ -1,9 +1,9 @@
-use Rattle.std.proofs.Common.{◌≡◌, ◌∙◌, [], ◌∷◌, ◌++◌, List, map, true, refl, ap, subst, sym}
+use Rattle.std.proofs.Common.{◌≡◌, ◌∙◌, [], ◌∷◌, ◌++◌, List, map, true, refl, ap, subst}
 use Rattle.std.proofs.lemmas.Result.{err_from_is_err_and}
 use Rattle.pbfcut_program.specs.declared.host.Screen.{Screen}
 use Rattle.pbfcut_program.specs.Events.{Event, read, seeded, wrote, then_all}
 use Rattle.pbfcut_program.specs.Fails.{Fails, IsRefused}
-use Rattle.pbfcut_program.specs.Jobs.{feeds_of, plan_of, task_of}
+use Rattle.pbfcut_program.specs.Jobs.{feeds_of, plan_of}
 use Rattle.pbfcut_program.specs.Program.{IsWorkOf, counts_text, done_lines, is_screen, looks, makes, openings, prints, screen_of}
 use Rattle.pbfcut_program.specs.Tasks.{judge_of}
 use Rattle.pbfcut_program.proofs.Beginning.{all_events, begun, length_has, quiet_begun}
