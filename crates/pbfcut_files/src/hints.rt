@@ -286,12 +286,7 @@ fn hint(
 }
 
 /// Writes the line below that of an ending, on a terminal.
-pub fn tell_hint(
-    rt: &HostRuntime,
-    asked: Asked<'_>,
-    ending: &Ending,
-    failed: Option<FailedWrite>,
-) {
+pub fn tell_hint(rt: &HostRuntime, asked: Asked<'_>, ending: &Ending, failed: Option<FailedWrite>) {
     if !rt.stderr().is_terminal() {
         return;
     }

@@ -184,7 +184,7 @@ fn name(rt: &HostRuntime, part: &Part) -> Result<(), NotKept> {
 }
 
 impl Output {
-    /// Writes to the buffer.
+    /// Writes some of the bytes, by way of the buffer.
     pub fn write(&mut self, bytes: &[u8]) -> io::Result<usize> {
         self.writer.write(bytes)
     }

@@ -15,7 +15,7 @@ use Rattle.pbfcut_cli.specs.declared.programs.Program.{Program}
 use Rattle.pbfcut_cli.specs.declared.programs.Program.TheVariants.{Pbfcut, Pbfcutz}
 use Rattle.pbfcut_program.specs.declared.engine.Report.{Report}
 use Rattle.pbfcut_program.specs.declared.engine.Halted.{Halted}
-use Rattle.pbfcut_program.specs.Devices.{AnyFailed, AreFresh, Change, CloseAll, Closes, EndsFor, Finishes, FirstGivesFaulty, GiveAll, GiveLater, GivesOrNot, GivesOtherAt, IsAsked, IsFresh, Reports, StopsFor, TakenBy, Works, WorksBy}
+use Rattle.pbfcut_program.specs.Devices.{AnyFailed, AreFresh, CloseAll, Closes, EndsFor, Finishes, GiveAll, GiveLater, GivesOrNot, GivesOtherAt, IsAsked, IsFresh, StopsFor, TakenBy, WorksBy}
 use Rattle.pbfcut_program.specs.Events.{Event, Reading, Writing, read, wrote, then_all, then_one}
 use Rattle.pbfcut_program.specs.Fails.{Each, Fails, FailsFor, FailsToFinish, FailsToRead, FailsToWrite, Has, IsRefused, TookNothing, readings}
 use Rattle.pbfcut_program.specs.Outcomes.{EndsPacked}
@@ -107,8 +107,8 @@ module _ {F : Type 0} (f : feed.Ghosts F) where
       let rest = close_rest news c.0 m c.2 in
       let one = c.1.1 g.bytes (g.passed fresh.0.0) in
       (reading f now g.bytes ∷ rest.0, and_then l c.0 m (read (reading f now g.bytes) ∷ []) (reads rest.0) one rest.1, ([], reading f now g.bytes, rest.0, refl, refl, g.other, count (length news) rest.0 rest.2)) where
-    count : (n : ℕ) (rs : List Reading) → length rs ≡ n → suc n ≡ length rs + zero + 1
-    count n rs e = omega (arith, e)
+        count : (n : ℕ) (rs : List Reading) → length rs ≡ n → suc n ≡ length rs + zero + 1
+        count n rs e = omega (arith, e)
   close_other file (suc at) (old ∷ olds) (now ∷ news) l m fresh c g =
       let rest = close_other file at olds news c.0 m fresh.1 c.2 g in
       let found = rest.2 in (

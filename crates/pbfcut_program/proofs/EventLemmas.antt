@@ -1,5 +1,5 @@
 -- Events before and after others.
-use Rattle.std.proofs.Common.{◌≡◌, ◌⊎◌, inl, inr, List, [], ◌∷◌, ◌++◌, map, refl, ap, ◌∙◌}
+use Rattle.std.proofs.Common.{◌≡◌, inl, inr, List, [], ◌∷◌, ◌++◌, map, refl, ap, ◌∙◌}
 use Rattle.std.proofs.lemmas.List.{append-nil}
 use Rattle.pbfcut_program.specs.Events.{Event, Reading, read, wrote}
 use Rattle.pbfcut_program.specs.Fails.{Has, Each, Quiet, TookNothing, readings}

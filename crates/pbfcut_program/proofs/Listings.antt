@@ -11,7 +11,7 @@ use Rattle.pbfcut_cli.specs.declared.programs.Program.TheVariants.{Pbfcut, Pbfcu
 use Rattle.pbfcut_program.specs.declared.engine.Halted.{Halted}
 use Rattle.pbfcut_program.specs.Devices.{Closes, Finishes, IsFresh, IsFreshOut}
 use Rattle.pbfcut_program.specs.Events.{Event, Reading, Writing, opened, screened, read, wrote, then_all}
-use Rattle.pbfcut_program.specs.Fails.{Fails, FailsToWrite, Has}
+use Rattle.pbfcut_program.specs.Fails.{Fails}
 use Rattle.pbfcut_program.specs.Outcomes.{EndsListing, EndsPacked, ListsBy}
 use Rattle.pbfcut_program.specs.Program.{IsListing, refused_listing}
 use Rattle.pbfcut_program.proofs.Closing.{has_failed, packed_fails, reading}

@@ -1,10 +1,9 @@
 -- What holds of a call by what its drain took holds by what that says of OUT.
-use Rattle.std.proofs.Common.{◌≡◌, ◌⊎◌, inl, inr, ℕ, ◌<◌, List, [], ◌∷◌, Bool, Option, None, Result, Ok, Err, refl, subst, arith}
+use Rattle.std.proofs.Common.{◌⊎◌, inl, inr, ℕ, ◌<◌, List, [], ◌∷◌, Bool, Option, None, Result, Ok, Err}
 use Rattle.pbf_frame.specs.declared.device.Feed as feed
 use Rattle.pbf_frame.specs.declared.device.Drain as drain
 use Rattle.pbf_frame.specs.declared.stop.Stop.{Stop}
 use Rattle.pbf_frame.specs.declared.stop.Stop.TheVariants as stop
-use Rattle.pbf_frame.specs.Devices.{HasRisen}
 use Rattle.pbf_frame.specs.Verdict.{Verdict}
 use Rattle.pbf_pass.specs.Stops.{WriteFailed}
 use Rattle.pbfcut_cli.specs.declared.endings.Ending.{Ending}
@@ -13,7 +12,7 @@ use Rattle.pbfcut_cli.specs.declared.programs.Program.{Program}
 use Rattle.pbfcut_cli.specs.declared.programs.Program.TheVariants.{Pbfcut, Pbfcutz}
 use Rattle.pbfcut_program.specs.declared.engine.Report.{Report}
 use Rattle.pbfcut_program.specs.declared.engine.Halted.{Halted}
-use Rattle.pbfcut_program.specs.Devices.{Change, EndsFor, IsFreshOut, StopsFor, TakenBy, Takes, Works, WorksBy}
+use Rattle.pbfcut_program.specs.Devices.{Change, EndsFor, IsFreshOut, StopsFor, TakenBy, Takes, WorksBy}
 use Rattle.pbfcut_program.specs.Tasks.{Task, judge_of}
 use Rattle.pbfcut_program.proofs.Closing.{has_failed}
 

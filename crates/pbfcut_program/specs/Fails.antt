@@ -1,5 +1,5 @@
 -- Why a command fails, by what happened.
-use Rattle.std.specs.Prelude.{◌≡◌, ◌⊎◌, ℕ, ◌+◌, ◌<◌, List, [], ◌∷◌, ◌++◌, length, Bool, true, false, Option, Err}
+use Rattle.std.specs.Prelude.{◌≡◌, ◌⊎◌, ℕ, ◌+◌, ◌<◌, List, [], ◌∷◌, ◌++◌, length, true, false, Option, Err}
 use Rattle.osm_polygon.specs.declared.fault.PolyFault.{PolyFault}
 use Rattle.osm_polygon.specs.PolyFile.{rings_of_text}
 use Rattle.pbf_wire.specs.declared.fault.Fault.{Fault}

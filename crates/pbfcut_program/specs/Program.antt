@@ -13,7 +13,7 @@ use Rattle.sha2.specs.Sha256.{sha256}
 use Rattle.pbf_block.specs.declared.counts.Counts.{Counts}
 use Rattle.pbf_wire.specs.declared.fault.Fault.{Fault}
 use Rattle.pbf_frame.specs.Frames.{FrameSpec}
-use Rattle.pbf_frame.specs.Verdict.{Says, Verdict, judged_known}
+use Rattle.pbf_frame.specs.Verdict.{Says, judged_known}
 use Rattle.pbf_frame.specs.declared.stop.Stop.TheVariants as stop
 use Rattle.pbf_pass.specs.HeaderLimit.{judged_writable}
 use Rattle.pbf_pass.specs.Judged.{judged_file}
@@ -21,7 +21,7 @@ use Rattle.pbf_pass.specs.Stops.{FaultOf}
 use Rattle.pbfcut.specs.Blobs as blobs
 use Rattle.pbfcut_cli.specs.Endings.{message_of, ending_status, program_name}
 use Rattle.pbfcut_cli.specs.Joined.{normalized}
-use Rattle.pbfcut_cli.specs.Words.{FitsFault, IsHelp, IsOfWords, IsRead, program_app}
+use Rattle.pbfcut_cli.specs.Words.{FitsFault, IsHelp, IsRead, program_app}
 use Rattle.pbfcut_cli.specs.declared.endings.Ending.{Ending}
 use Rattle.pbfcut_cli.specs.declared.endings.Ending.TheVariants as ending
 use Rattle.pbfcut_cli.specs.declared.programs.Program.{Program}

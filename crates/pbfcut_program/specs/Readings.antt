@@ -1,13 +1,11 @@
 -- What the passes of a command read, and what that was.
-use Rattle.std.specs.Prelude.{◌≡◌, ◌⊎◌, ℕ, List, [], ◌∷◌, ◌++◌, Bool, true, false, Option, Some, None}
+use Rattle.std.specs.Prelude.{◌≡◌, ◌⊎◌, ℕ, List, [], ◌∷◌, ◌++◌, Bool, true, false, Option, Some}
 use Rattle.pbf_block.specs.declared.counts.Counts.{Counts}
 use Rattle.pbf_frame.specs.Devices.{IsAtEnd}
 use Rattle.pbf_frame.specs.Verdict.{Verdict}
 use Rattle.pbf_pass.specs.Hashing.{IsDigestOf, digest_if}
 use Rattle.pbf_pass.specs.Stops.{FaultOf}
 use Rattle.pbf_wire.specs.declared.fault.Fault.{Fault}
-use Rattle.pbfcut_cli.specs.declared.programs.Program.{Program}
-use Rattle.pbfcut_cli.specs.declared.programs.Program.TheVariants.{Pbfcut, Pbfcutz}
 use Rattle.pbfcut_program.specs.Events.{Reading}
 use Rattle.pbfcut_program.specs.Tasks.{Task, Holds, spares}
 

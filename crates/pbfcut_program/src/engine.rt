@@ -327,9 +327,7 @@ pub(crate) fn extract<A: Area + Copy, F: Feed, D: Drain, S: BuildHasher + Drop>(
         Program::Pbfcut => {
             let how = engine.raw_passes();
             let ThreePasses { one, two, three } = passes;
-            reported(pbfcut::extract_sorted_with_receipt(
-                how, one, two, three, area, drain, hasher,
-            ))
+            reported(pbfcut::extract_sorted_with_receipt(how, one, two, three, area, drain, hasher))
         }
         Program::Pbfcutz => extract_published(engine, passes, area, drain, hasher),
     }

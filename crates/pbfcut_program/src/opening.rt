@@ -42,11 +42,7 @@ pub(crate) struct Input<'a> {
 }
 
 /// Opens IN for the pass of this number.
-pub(crate) fn open_pass<H: Host>(
-    host: &mut H,
-    input: &Input<'_>,
-    pass: u8,
-) -> Result<H::In, Ending>
+pub(crate) fn open_pass<H: Host>(host: &mut H, input: &Input<'_>, pass: u8) -> Result<H::In, Ending>
     ensures opened { IfOk result (λ feed. H.log host.new ≡ then_one (H.log host.old)
         (opened input.now.path.now pass (H.In.remaining feed))) }
     ensures fresh { IfOk result (λ feed. IsFresh H.In.Feed feed) }
@@ -66,10 +62,7 @@ pub(crate) fn open_pass<H: Host>(
 }
 
 /// Opens IN for the first two passes.
-pub(crate) fn open_two<H: Host>(
-    host: &mut H,
-    input: &Input<'_>,
-) -> Result<TwoPasses<H::In>, Ending>
+pub(crate) fn open_two<H: Host>(host: &mut H, input: &Input<'_>) -> Result<TwoPasses<H::In>, Ending>
     ensures opened { IfOk result (λ p. H.log host.new ≡ then_all (H.log host.old)
         (opened input.now.path.now 1 (H.In.remaining p.one)
         ∷ opened input.now.path.now 2 (H.In.remaining p.two) ∷ [])) }

@@ -70,11 +70,7 @@ fn run_writing<H: Host>(
 }
 
 /// Runs a command.
-fn run_command<H: Host>(
-    engine: Engine,
-    host: &mut H,
-    command: &Command<'_>,
-) -> Result<(), Ending>
+fn run_command<H: Host>(engine: Engine, host: &mut H, command: &Command<'_>) -> Result<(), Ending>
     requires { engine.digests ≡ digests_of command.now }
     ensures ok { OnOk result ((events : List Event)
         × (H.log host.new ≡ then_all (H.log host.old) events)

@@ -9,7 +9,7 @@ ghost use Rattle.pbfcut_program.specs.Devices.{AreFresh, IsAsked, IsFreshOut, Ta
 ghost use Rattle.pbfcut_program.specs.Events.{Event, Reading, Writing, read, seeded, wrote, then_all, then_one};
 ghost use Rattle.pbfcut_program.specs.Fails.{Fails, FailsOpening, IsRefused};
 ghost use Rattle.pbfcut_program.specs.Jobs.{area_of, feeds_of, plan_of, task_of};
-ghost use Rattle.pbfcut_program.specs.Program.{Extracts, IsWorkOf, IsHashed, WritesCounts, extract_task, is_empty, is_screen, looks, makes, openings, screen_of};
+ghost use Rattle.pbfcut_program.specs.Program.{Extracts, advice, IsWorkOf, IsHashed, WritesCounts, extract_task, is_empty, is_screen, looks, makes, openings, screen_of};
 ghost use Rattle.pbfcut_program.specs.Tasks.{judge_of, passes_of};
 
 use crate::engine::{Engine, Halted, Report};
@@ -33,15 +33,15 @@ fn is_screen(program: Program, output: &str) -> bool
 fn screen_of(is_screen: bool) -> Screen
     ensures { result ≡ screen_of is_screen }
 {
-    if is_screen { Screen::Error } else { Screen::Output }
+    if is_screen {
+        Screen::Error
+    } else {
+        Screen::Output
+    }
 }
 
 /// Refuses an OUT that is there, unless it is standard output.
-fn refuse_existing<H: Host>(
-    host: &mut H,
-    is_screen: bool,
-    files: &Files<'_>,
-) -> Result<(), Ending>
+fn refuse_existing<H: Host>(host: &mut H, is_screen: bool, files: &Files<'_>) -> Result<(), Ending>
     ensures ok { OnOk result (H.log host.new
         ≡ then_all (H.log host.old) (looks is_screen files.now.output.now)) }
     ensures err { IfErr result (λ how. (events : List Event)
@@ -267,6 +267,17 @@ fn is_empty(counts: Counts) -> bool
     counts.nodes == 0 && counts.ways == 0 && counts.relations == 0
 }
 
+/// Says on a terminal that an extract is empty.
+#[tactic(auto, using(crate::proofs::Beginning::advice_none, crate::proofs::Beginning::advice_some, crate::proofs::Logging::then_none))]
+fn advise_empty<H: Host>(host: &mut H, region: &Region<'_>, counts: Counts)
+    ensures { H.log host.new ≡ then_all (H.log host.old) (advice counts) }
+{
+    if !is_empty(counts) {
+        return;
+    }
+    host.advise_empty(region);
+}
+
 /// The plan of an extract.
 fn plan_extract(cut: Cut, parents: bool) -> Plan
     ensures { plan_of result ≡ extract_task parents (area_of cut) }
@@ -296,8 +307,6 @@ pub(crate) fn run_extract<H: Host>(
 {
     let cut = read_region(engine.alloc, host, region)?;
     let counts = write(engine, host, files, plan_extract(cut, parents), progress)?;
-    if is_empty(counts) {
-        host.advise_empty(region);
-    }
+    advise_empty(host, region, counts);
     Ok(())
 }

@@ -57,7 +57,12 @@ fn main(rt: HostRuntime) -> ExitCode {
     let program = program_named(&rt);
     let mut host = Os::new(&rt, program);
     let status = match words(&rt) {
-        Ok(words) => run(rt.alloc(), &mut host, program, words.get(1..).unwrap_or(&[])),
+        Ok(words) => run(
+            rt.alloc(),
+            &mut host,
+            program,
+            words.get(1..).unwrap_or(&[]),
+        ),
         Err(ending) => report(rt.alloc(), &mut host, program, &ending),
     };
     ExitCode::from(status)

@@ -9,9 +9,7 @@ use pbfcut_files::{
     Asked, FailedWrite, NotKept, Place, Target, Watched, create_output, is_long, is_taken,
     open_pass, open_screen, tell_empty, tell_hint, tell_order,
 };
-use pbfcut_program::{
-    CreateFault, FinishFault, Host, NotDone, OpenFault, Screen, TextFault, Turn,
-};
+use pbfcut_program::{CreateFault, FinishFault, Host, NotDone, OpenFault, Screen, TextFault, Turn};
 use std::fs::{self, File};
 use std::hash::RandomState;
 use std::io::{self, IsTerminal, Write};

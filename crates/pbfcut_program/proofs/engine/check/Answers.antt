@@ -1,6 +1,4 @@
 use Rattle.pbfcut_program.proofs.RawCalls.{check_works}
-use Rattle.std.proofs.Common.{rules, subst, ◌≡◌}
-use Rattle.pbf_pass.specs.Refused.{EndsJudging}
 use Rattle.pbfcut_program.proofs.engine.check.Goals as goal
 
 pub returns-in-Pbfcut : goal.returns-in-Pbfcut

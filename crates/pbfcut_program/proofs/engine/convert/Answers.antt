@@ -1,5 +1,4 @@
 use Rattle.pbfcut_program.proofs.RawCalls.{convert_works}
-use Rattle.std.proofs.Common.{true, rules, subst, ◌≡◌}
 use Rattle.pbfcut_program.proofs.engine.convert.Goals as goal
 
 pub returns-in-Pbfcut : goal.returns-in-Pbfcut

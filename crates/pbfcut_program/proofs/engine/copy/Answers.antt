@@ -1,5 +1,4 @@
 use Rattle.pbfcut_program.proofs.RawCalls.{copy_works}
-use Rattle.std.proofs.Common.{true, rules, subst, ◌≡◌}
 use Rattle.pbfcut_program.proofs.engine.copy.Goals as goal
 
 pub returns-in-Pbfcut : goal.returns-in-Pbfcut

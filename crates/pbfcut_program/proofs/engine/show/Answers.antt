@@ -1,5 +1,4 @@
 use Rattle.pbfcut_program.proofs.RawCalls.{show_works}
-use Rattle.std.proofs.Common.{true, rules, subst, ◌≡◌}
 use Rattle.pbfcut_program.proofs.engine.show.Goals as goal
 
 pub returns-in-Pbfcut : goal.returns-in-Pbfcut

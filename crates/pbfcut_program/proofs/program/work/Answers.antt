@@ -1,4 +1,4 @@
-use Rattle.std.proofs.Common.{◌≡◌, ◌∙◌, [], ◌∷◌, ap, inl, inr, refl, map, string_bytes}
+use Rattle.std.proofs.Common.{◌≡◌, ◌∙◌, ap, inl, inr, refl, map, string_bytes}
 use Rattle.std.proofs.lemmas.Result.{err_from_is_err_and}
 use Rattle.pbfcut_cli.specs.Joined.{normalized}
 use Rattle.pbfcut_cli.specs.Words.{word_texts}
@@ -21,8 +21,8 @@ returns-in-Ok-clause-ok g c =
     let d = c.in-Ok.ensures.ok in
     (d.0, d.1, inl (refl, (c.in_ok-command.command, meant, d.2)))
 
-pub returns-in-Err-clause-ok : goal.returns-in-Err-clause-ok
-returns-in-Err-clause-ok g c =
+pub returns-clause-ok : goal.returns-clause-ok
+returns-clause-ok g c =
     let words = map string_bytes c.args.words.now in
     let is : word_texts c.as_slice.result.now ≡ normalized words = ap word_texts c.as_slice.ensures.value ∙ c.in_ok-texts.ensures ∙ ap (map string_bytes) c.deref.ensures.value ∙ c.in_ok-normalized.ensures in
     let meant = is_meant c.args.program words (word_texts c.as_slice.result.now) c.in_ok-command.command is c.in_ok-command.ensures.read in

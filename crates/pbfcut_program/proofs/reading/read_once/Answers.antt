@@ -1,11 +1,10 @@
-use Rattle.std.proofs.Common.{[], ◌∷◌, ◌≡◌, List, refl, rules}
-use Rattle.std.proofs.lemmas.Result.{err_from_is_err_and}
+use Rattle.std.proofs.Common.{[], ◌∷◌, ◌≡◌, List, refl}
 use Rattle.pbf_pass.specs.Judged.{judged_file}
 use Rattle.pbfcut_program.specs.Events.{Event, opened, read}
 use Rattle.pbfcut_program.specs.Fails.{IsRefused}
 use Rattle.pbfcut_program.specs.Tasks.{checking}
-use Rattle.pbfcut_program.proofs.Closing.{Ends, ends_with_none, work_fails, work_read_once}
-use Rattle.pbfcut_program.proofs.FailLemmas.{fails_after, opening_fails, refused_keeps, told_fails}
+use Rattle.pbfcut_program.proofs.Closing.{ends_with_none, work_fails, work_read_once}
+use Rattle.pbfcut_program.proofs.FailLemmas.{fails_after, refused_keeps, told_fails}
 use Rattle.pbfcut_program.proofs.Logging.{and_then}
 use Rattle.pbfcut_program.proofs.reading.read_once.Goals as goal
 
@@ -15,7 +14,7 @@ returns-in-Err-clause-err g c =
     let one = c.in_ok-pass.pass in
     let now = c.check-outcome.new.pass in
     let fail = work_fails c.args.engine.program g.H.In.Feed c.args.engine.digests checking (λ took. took ≡ []) ⊥ (log c.open_pass.new.host) (log c.close.new.self) (log c.close.new.self)
-        (one ∷ []) (now ∷ []) c.in-Err.halted (ends_with_none (log c.close.new.self) (λ took. took ≡ [])) (c.in_ok-pass.ensures.fresh, tt) (log c.close.new.self, (c.close.ensures.some, c.close.ensures.logged), refl) c.in-Err.ensures in
+    (one ∷ []) (now ∷ []) c.in-Err.halted (ends_with_none (log c.close.new.self) (λ took. took ≡ [])) (c.in_ok-pass.ensures.fresh, tt) (log c.close.new.self, (c.close.ensures.some, c.close.ensures.logged), refl) c.in-Err.ensures in
     let begun : List Event = opened c.args.path.now 1 (g.H.In.Feed.remaining one) ∷ [] in
     told_fails c.args.engine.program judged_file c.in-Err.halted.ending c.tell_refusal.result (log c.args.host.now) (log c.close.new.self) (log c.tell_refusal.new.host) (_)
     (and_then (log c.args.host.now) (log c.open_pass.new.host) (log c.close.new.self) begun fail.0 c.in_ok-pass.ensures.opened fail.1)

@@ -1,11 +1,10 @@
 use Rattle.std.proofs.Common.{◌≡◌, [], ◌∷◌, List, OnOk, true, refl, sym}
 use Rattle.std.proofs.lemmas.Result.{err_from_is_err_and, on_ok_weaker}
-use Rattle.pbfcut_cli.specs.declared.programs.Program.TheVariants.{Pbfcutz}
 use Rattle.pbfcut_program.specs.Events.{Event, Reading, Writing, opened, read, screened, wrote, then_all}
 use Rattle.pbfcut_program.specs.Fails.{Fails}
 use Rattle.pbfcut_program.specs.Program.{IsListing, refused_listing}
 use Rattle.pbfcut_program.proofs.FailLemmas.{opening_after, opening_fails, text_err, text_ok}
-use Rattle.pbfcut_program.proofs.Listings.{any_done, any_fails, list_done, list_fails, listing_lost}
+use Rattle.pbfcut_program.proofs.Listings.{list_done, list_fails, listing_lost}
 use Rattle.pbfcut_program.proofs.Logging.{and_then}
 use Rattle.pbfcut_program.proofs.reading.run_blobs.Goals as goal
 
@@ -32,7 +31,7 @@ returns-clause-ok g c =
     let begun = and_then (log c.args.host.now) _ _ (opened input 1 has ∷ []) (screened true ∷ []) c.in_ok-pass.ensures.opened c.in_ok-out.ensures.opened.0 in
     let e = c.ended.ensures in
     let done : OnOk c.ended.result ((r : Reading) × (w : Writing) × (log c.ended.new.host ≡ then_all (log c.open_screen.new.host) (read r ∷ wrote w ∷ [])) × (w.out ≡ true) × IsListing c.args.engine.program has w.bytes) =
-        text_ok e.0 c.list_blobs-outcome.result c.ended.result _ e.2 (λ went. rw (sym went) (list_done g.H.In.Feed g.H.Out.Drain c.list_blobs-outcome.new.pass c.list_blobs-outcome.new.drain e.0 (log c.open_screen.new.host) (log c.close.new.self) (log c.ended.new.host) (c.close.ensures.some, c.close.ensures.logged) e.1 c.args.engine.program c.in_ok-pass.pass c.in_ok-out.out c.list_blobs-outcome.result c.in_ok-out.ensures.opened.1 c.list_blobs-outcome.ensures)) in
+    text_ok e.0 c.list_blobs-outcome.result c.ended.result _ e.2 (λ went. rw (sym went) (list_done g.H.In.Feed g.H.Out.Drain c.list_blobs-outcome.new.pass c.list_blobs-outcome.new.drain e.0 (log c.open_screen.new.host) (log c.close.new.self) (log c.ended.new.host) (c.close.ensures.some, c.close.ensures.logged) e.1 c.args.engine.program c.in_ok-pass.pass c.in_ok-out.out c.list_blobs-outcome.result c.in_ok-out.ensures.opened.1 c.list_blobs-outcome.ensures)) in
     on_ok_weaker c.ended.result (λ d. (_, and_then (log c.args.host.now) _ _ first _ begun d.2, record { has = has; first = d.0; out = d.1; happened = refl; whole = d.3; lines = d.4 })) done
 
 pub returns-clause-err : goal.returns-clause-err

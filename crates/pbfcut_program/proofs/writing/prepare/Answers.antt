@@ -1,6 +1,6 @@
-use Rattle.std.proofs.Common.{◌≡◌, [], ◌∷◌, ◌++◌, List, map, true}
+use Rattle.std.proofs.Common.{[], ◌∷◌, ◌++◌, List, map, true}
 use Rattle.std.proofs.lemmas.Result.{err_from_is_err_and}
-use Rattle.pbfcut_program.specs.Events.{Event, seeded, then_all}
+use Rattle.pbfcut_program.specs.Events.{Event, seeded}
 use Rattle.pbfcut_program.specs.Jobs.{feeds_of}
 use Rattle.pbfcut_program.specs.Program.{looks, makes, openings}
 use Rattle.pbfcut_program.proofs.Beginning.{quiet_looks, quiet_openings}

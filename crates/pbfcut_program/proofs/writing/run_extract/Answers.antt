@@ -1,14 +1,13 @@
-use Rattle.std.proofs.Common.{◌≡◌, ◌∙◌, [], ◌∷◌, ◌++◌, true, false, ap, refl, subst, sym}
+use Rattle.std.proofs.Common.{◌∙◌, ◌++◌, ap, refl, subst}
 use Rattle.std.proofs.lemmas.Result.{err_from_is_err_and}
 use Rattle.pbf_pass.specs.HeaderLimit.{judged_writable}
-use Rattle.pbfcut_program.specs.Events.{advised, then_all}
 use Rattle.pbfcut_program.specs.Fails.{Fails, IsRefused}
 use Rattle.pbfcut_program.specs.Jobs.{area_of}
-use Rattle.pbfcut_program.specs.Program.{WritesCounts, advice, extract_task}
+use Rattle.pbfcut_program.specs.Program.{WritesCounts, advice}
 use Rattle.pbfcut_program.specs.Tasks.{judge_of}
-use Rattle.pbfcut_program.proofs.Beginning.{advice_none, advice_some, judge_extract, quiet_region}
+use Rattle.pbfcut_program.proofs.Beginning.{judge_extract, quiet_region}
 use Rattle.pbfcut_program.proofs.FailLemmas.{fails_after, opening_fails, refused_keeps}
-use Rattle.pbfcut_program.proofs.Logging.{and_then, then_none}
+use Rattle.pbfcut_program.proofs.Logging.{and_then}
 use Rattle.pbfcut_program.proofs.writing.run_extract.Goals as goal
 
 pub returns-in_err-cut-clause-err : goal.returns-in_err-cut-clause-err
@@ -29,8 +28,8 @@ returns-in_err-counts-clause-err g c =
     let fails = subst (λ j. Fails program (IsRefused j) how f.0) (ap judge_of c.plan_extract.ensures ∙ judge_extract c.args.parents area) f.2 in
     rw (p.1, p.2) (_, and_then log _ _ d.0 f.0 d.1 f.1, fails_after program (IsRefused judged_writable) how d.0 f.0 (refused_keeps judged_writable) (quiet_region c.args.region.now d.0 area d.2) fails)
 
-pub returns-then-is_empty-clause-ok : goal.returns-then-is_empty-clause-ok
-returns-then-is_empty-clause-ok g c =
+pub returns-clause-ok : goal.returns-clause-ok
+returns-clause-ok g c =
     let log = g.H.Host.log c.args.host.now in
     let d = c.in_ok-cut.ensures.ok in
     let w = c.in_ok-counts.ensures.ok in
@@ -38,19 +37,5 @@ returns-then-is_empty-clause-ok g c =
     let area = area_of c.in_ok-cut.cut in
     let writes = subst (λ t. WritesCounts c.args.engine.program c.args.engine.digests t c.args.files.now counts w.0) c.plan_extract.ensures w.2 in
     let both = and_then log _ _ d.0 w.0 d.1 w.1 in
-    let all = and_then log _ _ (d.0 ++ w.0) (advised ∷ []) both c.advise_empty.ensures in
-    let told = advice_some counts (sym c.is_empty.ensures ∙ c.if-is_empty.true) in
-    (d.0 ++ w.0 ++ advice counts, all ∙ ap (λ es. then_all log (d.0 ++ w.0 ++ es)) (sym told), record { area = area; before = d.0; after = w.0; counts = counts; happened = refl; means = d.2; writes = writes })
-
-pub returns-else-is_empty-clause-ok : goal.returns-else-is_empty-clause-ok
-returns-else-is_empty-clause-ok g c =
-    let log = g.H.Host.log c.args.host.now in
-    let d = c.in_ok-cut.ensures.ok in
-    let w = c.in_ok-counts.ensures.ok in
-    let counts = c.in_ok-counts.counts in
-    let area = area_of c.in_ok-cut.cut in
-    let writes = subst (λ t. WritesCounts c.args.engine.program c.args.engine.digests t c.args.files.now counts w.0) c.plan_extract.ensures w.2 in
-    let both = and_then log _ _ d.0 w.0 d.1 w.1 in
-    let all = and_then log _ _ (d.0 ++ w.0) [] both (then_none _) in
-    let told = advice_none counts (sym c.is_empty.ensures ∙ c.if-is_empty.false) in
-    (d.0 ++ w.0 ++ advice counts, all ∙ ap (λ es. then_all log (d.0 ++ w.0 ++ es)) (sym told), record { area = area; before = d.0; after = w.0; counts = counts; happened = refl; means = d.2; writes = writes })
+    let all = and_then log _ _ (d.0 ++ w.0) (advice counts) both c.advise_empty.ensures in
+    (d.0 ++ w.0 ++ advice counts, all, record { area = area; before = d.0; after = w.0; counts = counts; happened = refl; means = d.2; writes = writes })

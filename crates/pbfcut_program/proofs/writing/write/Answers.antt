@@ -1,8 +1,9 @@
-use Rattle.std.proofs.Common.{◌≡◌, ◌∙◌, [], ◌∷◌, ◌++◌, List, map, true, refl, ap, subst, sym}
+use Rattle.std.proofs.Common.{◌≡◌, ◌∙◌, [], ◌∷◌, ◌++◌, List, map, true, refl, ap, subst}
 use Rattle.std.proofs.lemmas.Result.{err_from_is_err_and}
+use Rattle.pbfcut_program.specs.declared.host.Screen.{Screen}
 use Rattle.pbfcut_program.specs.Events.{Event, read, seeded, wrote, then_all}
 use Rattle.pbfcut_program.specs.Fails.{Fails, IsRefused}
-use Rattle.pbfcut_program.specs.Jobs.{feeds_of, plan_of, task_of}
+use Rattle.pbfcut_program.specs.Jobs.{feeds_of, plan_of}
 use Rattle.pbfcut_program.specs.Program.{IsWorkOf, counts_text, done_lines, is_screen, looks, makes, openings, prints, screen_of}
 use Rattle.pbfcut_program.specs.Tasks.{judge_of}
 use Rattle.pbfcut_program.proofs.Beginning.{all_events, begun, length_has, quiet_begun}
@@ -54,7 +55,8 @@ returns-clause-ok g c =
     let lines = prints (screen_of is) (counts_text r.report.counts ∷ done_lines r.output r.report.input r.report.raw files.input.now files.output.now) in
     let opened = rw c.is_screen-to_screen.ensures at c.in_ok-ready.ensures.ok in
     let done = and_then log _ _ (begun is files.input.now files.output.now has) (rs ++ wrote d.1 ∷ []) opened d.2 in
-    let printed = rw (c.screen_of.ensures, c.is_screen-to_screen.ensures) at c.in_ok-print_done.ensures in
+    let same_screen = c.screen_of.ensures ∙ ap screen_of c.is_screen-to_screen.ensures in
+    let printed = subst (λ (s : Screen). g.H.Host.log c.print_done.new.host ≡ then_all (g.H.Host.log c.run_job.new.host) (prints s (counts_text r.report.counts ∷ done_lines r.output r.report.input r.report.raw files.input.now files.output.now))) same_screen c.in_ok-print_done.ensures in
     let all = and_then log _ _ (begun is files.input.now files.output.now has ++ (rs ++ wrote d.1 ∷ [])) lines done printed in
     let same = all_events (looks is files.output.now ++ openings files.input.now 1 has) rs lines (seeded true) (makes is files.output.now) (wrote d.1) in (
       _,
