@@ -1,4 +1,4 @@
--- What a call of the engine did, as events, once its devices are handed back.
+-- What a call of the engine did, as events, once its devices are returned.
 use Rattle.std.proofs.Common.{◌≡◌, ◌⊎◌, inl, inr, ℕ, zero, suc, ◌+◌, ◌<◌, List, [], ◌∷◌, ◌++◌, length, map, Bool, true, false, Option, Some, None, Result, Ok, Err, IfErr, OnOk, refl, ap, sym, subst, ◌∙◌, arith}
 use Rattle.std.proofs.lemmas.List.{append-nil}
 use Rattle.pbf_frame.specs.declared.device.Feed as feed
@@ -125,7 +125,7 @@ module _ {F : Type 0} (f : feed.Ghosts F) where
 
 -- ---- what comes after the feeds
 
--- OUT, or nothing, is handed back: whatever it took, and if it took nothing
+-- OUT, or nothing, is returned: whatever it took, and if it took nothing
 abbrev pub Ends : (took : List ℕ → Type 0) → (failed : Type 0) → Option (List Event) → Option (List Event) → Type 0
 Ends took failed m n =
     ((es : List Event) × (n ≡ then_all m es) × (readings es ≡ []) × (failed → Has FailsToWrite es))
@@ -252,7 +252,7 @@ packed_fails refused ending.NotText events e = absurd e
 packed_fails refused (ending.Box b) events e = absurd e
 packed_fails refused (ending.Choice b) events e = absurd e
 
--- a call stopped, and all devices were handed back
+-- a call stopped, and all devices were returned
 pub work_fails : (program : Program) {F : Type 0} (f : feed.Ghosts F) (hashes : Bool) (task : Task) (took : List ℕ → Type 0) (failed : Type 0) (l m n : Option (List Event)) (olds news : List F) (halted : Halted)
     → Ends took failed m n → AreFresh f olds → CloseAll f news l m → WorksBy program f hashes task olds news took failed (Err halted)
     → (events : List Event) × (n ≡ then_all l events) × Fails program (IsRefused (judge_of task)) halted.ending events
@@ -263,7 +263,7 @@ work_fails Pbfcutz f hashes task took failed l m n olds news halted tail fresh c
 
 -- ---- what it does
 
--- a call ended well, and its feeds were handed back
+-- a call ended well, and its feeds were returned
 pub work_read : (program : Program) {F : Type 0} (f : feed.Ghosts F) (hashes : Bool) (task : Task) (failed : Type 0) (l m : Option (List Event)) (olds news : List F) (report : Report)
     → AreFresh f olds → CloseAll f news l m → WorksBy program f hashes task olds news (λ took. took ≡ []) failed (Ok report)
     → (rs : List Reading) × (m ≡ then_all l (reads rs)) × (length rs ≡ length news) × IsWorkOf program hashes task rs [] report.counts report.input report.raw
@@ -343,7 +343,7 @@ pub if_fails : (program : Program) {F : Type 0} (f : feed.Ghosts F) (hashes : Bo
 if_fails program f hashes task took failed l m n olds news (Ok report) tail fresh c works = tt
 if_fails program f hashes task took failed l m n olds news (Err halted) tail fresh c works = work_fails program f hashes task took failed l m n olds news halted tail fresh c works
 
--- the digest that was asked for
+-- the digest that was wanted
 pub hashed_as : (program : Program) {D : Type 0} (d : drain.Ghosts D) (out : D) (digests : Bool) (known : Option (List ℕ)) (w : List ℕ) → TookBy program (TakenBy d out known) w → IsAsked digests known → IsHashed program digests w known
 hashed_as Pbfcut d out true (Some known) w took asked = ap (λ (x : List ℕ). Some x) took.1
 hashed_as Pbfcut d out true None w took asked = absurd asked

@@ -164,7 +164,7 @@ shown_fails : (program : Program) (judge : Option (List ℕ) → Option Verdict)
 shown_fails program judge how shown events (inl e) f = subst (λ h. Fails program (IsRefused judge) h events) (sym e) f
 shown_fails program judge how shown events (inr e) f = subst (λ h. Fails program (IsRefused judge) h events) (sym e) (memory_fails program (IsRefused judge) events)
 
--- how it ended is shown, after more was told quietly
+-- how it ended is shown, after more was reported quietly
 pub told_fails : (program : Program) (judge : Option (List ℕ) → Option Verdict) (how shown : Ending) (l m n : Option (List Event)) (xs : List Event) → m ≡ then_all l xs → Fails program (IsRefused judge) how xs
     → TellsQuietly m n how shown → (events : List Event) × (n ≡ then_all l events) × Fails program (IsRefused judge) shown events
 told_fails program judge how shown l m n xs e f t =

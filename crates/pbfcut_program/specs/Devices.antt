@@ -1,4 +1,4 @@
--- What went through the devices of a command, before they are handed back to the host.
+-- What went through the devices of a command, before they are returned to the host.
 use Rattle.std.specs.Prelude.{◌≡◌, ◌⊎◌, ℕ, zero, suc, ◌+◌, List, [], ◌∷◌, length, Bool, true, false, Option, Some, None, Result, Ok, Err, IfErr, IfSome}
 use Rattle.pbf_frame.specs.declared.device.Feed as feed
 use Rattle.pbf_frame.specs.declared.device.Drain as drain
@@ -32,7 +32,7 @@ AreFresh f (one ∷ more) = IsFresh f one × AreFresh f more
 abbrev pub IsFreshOut : {D : Type 0} → drain.Ghosts D → D → Type 0
 IsFreshOut d out = d.has_taken out 0 [] × IfSome (d.taken out) (λ taken. taken ≡ []) × (d.failures out ≡ 0)
 
--- ---- devices that are handed back
+-- ---- devices that are returned
 
 abbrev pub Closes : {F : Type 0} → feed.Ghosts F → F → Option (List Event) → Option (List Event) → Type 0
 Closes f now before after =
@@ -151,7 +151,7 @@ WorksBy Pbfcutz f hashes task olds news took failed result = IfErr result (λ ha
 abbrev pub TakenBy : {D : Type 0} → drain.Ghosts D → D → (digest : Option (List ℕ)) → List ℕ → Type 0
 TakenBy d out digest written = d.has_taken out 0 written × IfSome digest (λ known. known ≡ sha256 written)
 
--- there is a digest if it is asked for
+-- there is a digest if it is wanted
 abbrev pub IsAsked : Bool → Option (List ℕ) → Type 0
 IsAsked true (Some digest) = Unit {0}
 IsAsked false None = Unit {0}

@@ -1,10 +1,10 @@
--- What a program asks of its host, and what came of it, in order.
+-- What a program does with its host, and what came of it, in order.
 use Rattle.std.specs.Prelude.{ℕ, List, [], ◌∷◌, ◌++◌, Bool, Option}
 use Rattle.std.specs.Option.{option_map}
 use Rattle.pbfcut_program.specs.declared.host.OpenFault.{OpenFault}
 use Rattle.pbfcut_program.specs.declared.host.Screen.{Screen}
 
--- a pass is over: these bytes were read of IN; what was left of it, if the host tells; and how many reads failed
+-- a pass is over: these bytes were read of IN; what was left of it, if the host reports it; and how many reads failed
 pub record Reading : Type 0 where
   pub bytes : List ℕ
   pub left : Option (List ℕ)
@@ -22,7 +22,7 @@ pub data Event : Type 0 where
   text_not_read : (path : List ℕ) → Event
   -- whether there is a file that isn't to be replaced
   looked : (path : List ℕ) → (there : Bool) → Event
-  -- IN is opened for this pass, and has these bytes, if the host tells; or it isn't
+  -- IN is opened for this pass, and has these bytes, if the host reports them; or it isn't
   opened : (path : List ℕ) → (pass : ℕ) → (has : Option (List ℕ)) → Event
   not_opened : (path : List ℕ) → OpenFault → Event
   -- a seed is drawn, if there is one
@@ -41,7 +41,7 @@ pub data Event : Type 0 where
   -- on a terminal a line may say what to do next
   advised : Event
 
--- what happened, if the host tells it: what had happened before, and then these
+-- what happened, if the host reports it: what had happened before, and then these
 abbrev pub then_all : Option (List Event) → List Event → Option (List Event)
 then_all before events = option_map (λ past. past ++ events) before
 

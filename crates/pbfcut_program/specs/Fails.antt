@@ -30,7 +30,7 @@ abbrev pub TookNothing : Event → Type 0
 TookNothing (wrote w) = w.bytes ≡ []
 TookNothing _ = Unit {0}
 
--- neither IN nor OUT is handed back
+-- neither IN nor OUT is returned
 abbrev pub Quiet : Event → Type 0
 Quiet (read r) = ⊥
 Quiet (wrote w) = ⊥
@@ -115,7 +115,7 @@ FailsOpening how events = Each Quiet events × CauseOfOpening how events
 abbrev pub FailsPrinting : Ending → List Event → Type 0
 FailsPrinting how events = ((how ≡ ending.Stopped stop.Write) × Has FailsToWrite events) ⊎ (how ≡ ending.Stopped stop.Memory)
 
--- what is refused is said by `refused`; of pbfcutz only the events tell why, and nothing is said yet
+-- what is refused is said by `refused`; of pbfcutz only the events say why, and nothing is said yet
 abbrev pub FailsFor : Program → (refused : Fault → List Event → Type 0) → Stop → List Event → Type 0
 FailsFor Pbfcut refused (stop.Refused fault) events = refused fault events
 FailsFor Pbfcut refused stop.Read events = Has FailsToRead events

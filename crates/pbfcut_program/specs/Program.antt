@@ -110,7 +110,7 @@ pub record Shows (program : Program) (dates : Bool) (input : List ℕ) (events :
   pub whole : out.out ≡ true
   pub work : IsWorkOf program true (showing dates) rs out.bytes counts digest raw
 
--- what went out are the lines of the frames of what IN has, as far as the host tells that
+-- what went out are the lines of the frames of what IN has, as far as the host reports it
 abbrev pub IsListing : Program → Option (List ℕ) → List ℕ → Type 0
 IsListing Pbfcut has written = (frames : List FrameSpec) × Says (judged_known false 0 has) (frames, None) × (written ≡ blobs.lines frames)
 IsListing Pbfcutz has written = Unit {0}
@@ -214,7 +214,7 @@ Does program (Extract region parents files) events = Extracts program files.dige
 
 -- ---- why a command fails
 
--- the first frame fault of what IN has, as far as the host tells that
+-- the first frame fault of what IN has, as far as the host reports it
 abbrev pub HasFrameFault : Fault → Event → Type 0
 HasFrameFault fault (opened path pass has) = FaultOf (judged_known false 0 has) fault
 HasFrameFault fault _ = ⊥
@@ -259,7 +259,7 @@ IsWhy program words (ending.Choice f) events = FitsFault (subcommand_of (program
 IsWhy program words (ending.Stopped stop.Memory) events = Unit {0}
 IsWhy program words how events = (command : Command) × IsMeant program words command × FailsIn program command how events
 
--- it failed, and its line was told: the exit status and the line are those of one ending
+-- it failed, and its line was written: the exit status and the line are those of one ending
 pub record IsFailed (program : Program) (words : List Text) (events : List Event) (status : ℕ) : Type 0 where
   pub how : Ending
   pub before : List Event

@@ -11,7 +11,7 @@ abbrev pub Tells : {A : Type 0} → (before after : Option (List Event)) → Lis
 Tells before after events (Ok _) = after ≡ then_all before events
 Tells before after events (Err how) = (some : List Event) × (after ≡ then_all before some) × FailsPrinting how some
 
--- what is shown is how a call ended, or that there was no memory to tell more
+-- what is shown is how a call ended, or that there was no memory to say more
 pub record TellsQuietly (before after : Option (List Event)) (how shown : Ending) : Type 0 where
   pub events : List Event
   pub log : after ≡ then_all before events

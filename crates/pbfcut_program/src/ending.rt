@@ -1,4 +1,4 @@
-//! How a run that failed is told.
+//! How a run that failed is reported.
 
 ghost use Rattle.std.specs.Prelude.{◌≡◌, ◌⊎◌, ◌∷◌, []};
 ghost use Rattle.pbf_frame.specs.declared.stop.Stop.TheVariants as stop;
@@ -12,7 +12,7 @@ use pbf_frame::Stop;
 use pbfcut_cli::{Command, Ending, Program, status};
 use std::alloc::Global;
 
-/// What is told if there is no memory for the text of an ending.
+/// What is reported if there is no memory for the text of an ending.
 fn memory_line(program: Program) -> &'static str
     ensures { result.now ≡ message_of (program_name program) (ending.Stopped stop.Memory) }
 {
@@ -22,7 +22,7 @@ fn memory_line(program: Program) -> &'static str
     }
 }
 
-/// Tells how a run ended, and returns its exit status; or, if there is no memory for that, tells so.
+/// Tells how a run ended, and returns its exit status; or, if there is no memory for that, reports that.
 fn tell_ending<H: Host>(alloc: Global, host: &mut H, program: Program, how: &Ending) -> u8
     ensures { (shown : Ending)
         × (H.log host.new ≡ then_one (H.log host.old) (told (message_of (program_name program) shown)))

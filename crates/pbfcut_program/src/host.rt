@@ -76,7 +76,7 @@ pub trait Host {
     /// What hashes with a seed of this run's own.
     type Hasher: BuildHasher + Drop;
 
-    /// What happened so far, if the host tells it.
+    /// What happened so far, if the host reports it.
     ghost log: { Self → Option (List Event) };
 
     /// Whether the progress of a run over this file is shown although nobody asked.
@@ -114,7 +114,7 @@ pub trait Host {
     fn seed(&mut self) -> Result<Self::Hasher, NotDone>
         ensures { log self.new ≡ then_one (log self.old) (seeded (is_ok result)) };
 
-    /// Makes OUT. With `overwrite` it takes the place of a plain file; else there must be none. It took nothing, and no write has failed.
+    /// Makes OUT. With `overwrite` it takes the place of a plain file; otherwise there must be none. It took nothing, and no write has failed.
     fn create(&mut self, path: &str, overwrite: bool) -> Result<Self::Out, CreateFault>
         ensures created { IfOk result (λ _. log self.new
             ≡ then_one (log self.old) (created path.now)) }

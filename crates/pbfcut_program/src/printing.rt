@@ -181,7 +181,7 @@ pub(crate) fn print_checked<H: Host>(
     Ok(())
 }
 
-/// What a command that writes reports: what was read, and the digest of what OUT took, if it is asked for.
+/// What a command that writes reports: what was read, and the digest of what OUT took, if it is wanted.
 #[derive(Clone, Copy)]
 pub(crate) struct Done {
     pub(crate) report: Report,

@@ -143,7 +143,7 @@ fn texts_of<'a>(alloc: Global, words: &'a [String]) -> Result<Vec<&'a str>, Allo
     Ok(texts)
 }
 
-/// Runs the command that the words mean, and tells how it ended if it fails. `Err` says why the words mean none.
+/// Runs the command that the words mean, and reports how it ended if it fails. `Err` says why the words mean none.
 fn work<H: Host>(
     alloc: Global,
     host: &mut H,
@@ -171,7 +171,7 @@ fn work<H: Host>(
     }
 }
 
-/// Runs the command that the words after the program's name mean, over any host, tells how it ended if it fails, and returns the exit
+/// Runs the command that the words after the program's name mean, over any host, reports how it ended if it fails, and returns the exit
 /// status.
 pub fn run<H: Host>(alloc: Global, host: &mut H, program: Program, words: &[String]) -> u8
     // What happened, and the exit status, is a run of these words.

@@ -193,7 +193,7 @@ fn run_into<F: Feed, D: Drain + Drop, S: BuildHasher + Drop>(
     }
 }
 
-/// What is reported once OUT was handed back.
+/// What is reported once OUT was returned.
 fn kept(finished: Result<(), FinishFault>, done: Done) -> Result<Done, Ending>
     ensures ok { IfOk result (λ d. (d ≡ done) × (is_ok finished ≡ true)) }
     ensures err { IfErr result (λ how. (is_ok finished ≡ false)

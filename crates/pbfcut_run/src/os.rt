@@ -1,4 +1,4 @@
-//! The operating system as a host: it is trusted to be one, and tested. It tells a proof nothing of what happens.
+//! The operating system as a host: it is trusted to be one, and tested. It reports nothing to a proof of what happens.
 
 ghost use Rattle.std.specs.Prelude.{None};
 
