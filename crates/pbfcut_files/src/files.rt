@@ -1,7 +1,9 @@
 //! IN, opened once for each pass.
 
+ghost use Rattle.std.specs.Prelude.{◌≡◌, IfOk};
+
 use crate::progress::{Line, Watched};
-use pbf_frame::FromRead;
+use pbf_frame::{Feed, FromRead};
 use pbfcut_cli::Ending;
 use std::fs::{self, File};
 use std::os::unix::fs::FileTypeExt;
@@ -40,7 +42,9 @@ pub fn open_pass(
     pass: u8,
     passes: u8,
     progress: bool,
-) -> Result<Watched<FromRead<File>>, Ending> {
+) -> Result<Watched<FromRead<File>>, Ending>
+    ensures { IfOk result (λ feed. ⟦<Watched<FromRead<File>> as Feed>⟧.failures feed ≡ 0) }
+{
     if passes > 1 && is_pipe(rt, path) {
         return Err(Ending::IsPipe);
     }

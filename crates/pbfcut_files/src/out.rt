@@ -1,5 +1,7 @@
 //! OUT: a file that is made new, and which gets its name from pbfcutz only when it is whole; or standard output.
 
+ghost use Rattle.std.specs.Prelude.{◌≤◌, IfOk, length};
+
 use crate::failure::{Noted, Target};
 use pbf_frame::Stop;
 use pbfcut_cli::{Ending, Program};
@@ -185,7 +187,9 @@ fn name(rt: &HostRuntime, part: &Part) -> Result<(), NotKept> {
 
 impl Output {
     /// Writes some of the bytes, by way of the buffer.
-    pub fn write(&mut self, bytes: &[u8]) -> io::Result<usize> {
+    pub fn write(&mut self, bytes: &[u8]) -> io::Result<usize>
+        ensures { IfOk result (λ n. n ≤ length bytes.now) }
+    {
         self.writer.write(bytes)
     }
 
