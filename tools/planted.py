@@ -149,7 +149,9 @@ def functions_of(file, text):
         if line.startswith("impl"):
             name = re.match(r"impl\b(?:<.*>)? ?(\w+)", line)[1]
             is_here = re.search(rf"^(?:pub(?:\([a-z]+\))? )?(?:struct|enum) {name}\b", text, re.M)
-            owner = name if is_here and " for " not in line else None
+            # an impl for given types has a folder of another name
+            is_general = not re.match(r"impl \w+<(?:[^<>]*, )?[A-Z]", line)
+            owner = name if is_here and is_general and " for " not in line else None
         elif line.startswith("}"):
             owner = ""
         found = re.match(r"( *)(?:pub(?:\([a-z]+\))? )?(?:const )?fn (\w+)", line)
