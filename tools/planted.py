@@ -1,10 +1,11 @@
 #!/usr/bin/env python3
 """Tries planted bugs: the prover must refuse each.
 
-usage: tools/planted.py [--set must-fail|more-edits|all] [--libraries FOLDER] [--beside PID --log FILE] [--lanes N] [CRATE..]
+usage: tools/planted.py [--set must-fail|more-edits|all] [--sample N --seed WORD] [--libraries FOLDER] [--beside PID --log FILE] [--lanes N]
+       [CRATE..]
 
-Those of crates/NAME/must-fail/ are tried, where no other set is named. The edits that are not tried are read all the same: each has
-to fit the files that it changes.
+Those of crates/NAME/must-fail/ are tried, where no other set is named, and with --sample N of the others, which WORD chooses. The edits
+that are not tried are read all the same: each has to fit the files that it changes.
 
 The prover judges each function by the contracts of those that it calls, and names each function that it refuses. So one check of a
 crate tries many bugs, one in a function, and asks for the proofs of these functions alone: the others have a hole instead of one, and
@@ -218,13 +219,20 @@ def read_bug(crate, folder, name):
     return Bug(f"{folder}/{name}", changes)
 
 
+def edits_of(crate, folder):
+    path = os.path.join(crate, folder)
+    names = sorted(os.listdir(path)) if os.path.isdir(path) else []
+    return [name for name in names if name.endswith(".edit")]
+
+
 def read_bugs(crate):
-    found = []
-    for folder in FOLDERS:
-        path = os.path.join(crate, folder)
-        names = sorted(os.listdir(path)) if os.path.isdir(path) else []
-        found += [read_bug(crate, folder, name) for name in names if name.endswith(".edit")]
-    return found
+    return [read_bug(crate, folder, name) for folder in FOLDERS for name in edits_of(crate, folder)]
+
+
+def sample_of(crates, count, seed):
+    """So many bugs of the crates' second folders, by the crate and the bug's name: other ones for another seed."""
+    names = [(crate, f"{FOLDERS[1]}/{name}") for crate in crates for name in edits_of(os.path.join(TOP, "crates", crate), FOLDERS[1])]
+    return set(sorted(names, key=lambda name: hashlib.sha256(f"{seed} {'/'.join(name)}".encode()).digest())[:count])
 
 
 def apart(bugs):
@@ -437,9 +445,9 @@ class Crate:
                 return True, found
         return False, "THE CRATE IS STILL PROVED" if verdict.is_proved else "refused for a name alone"
 
-    def try_all(self, folders):
-        """Tries the bugs of these folders of the crate. Answers for each its name, whether it is refused, and where."""
-        bugs = [bug for bug in read_bugs(self.folder) if bug.name.startswith(folders)]
+    def try_all(self, folders, sample):
+        """Tries the bugs of these folders of the crate, and those of the sample. Answers for each its name, whether it is refused, and where."""
+        bugs = [bug for bug in read_bugs(self.folder) if bug.name.startswith(folders) or (self.name, bug.name) in sample]
         told = [(bug.name, True, found) for bug in bugs for found in [self.refusals.found(bug.name)] if found]
         self.kept, known = len(told), {name for name, _, _ in told}
         bugs = [bug for bug in bugs if bug.name not in known]
@@ -516,12 +524,12 @@ class Lanes:
             self.changed.notify()
 
 
-def try_crate(crate, folders, gate, lanes):
+def try_crate(crate, folders, sample, gate, lanes):
     try:
         if not gate.wait_for(crate):
             return [("each", False, "the libraries that its crate stands on are not built")]
         with lanes:
-            return crate.try_all(folders)
+            return crate.try_all(folders, sample)
     except Unusable as why:
         return [("each", False, str(why))]
     finally:
@@ -538,9 +546,12 @@ def build_libraries(crates, names):
 
 def main():
     asked = argparse.ArgumentParser(
-        usage="tools/planted.py [--set must-fail|more-edits|all] [--libraries FOLDER] [--beside PID --log FILE] [--lanes N] [CRATE..]"
+        usage="tools/planted.py [--set must-fail|more-edits|all] [--sample N --seed WORD] [--libraries FOLDER] [--beside PID --log FILE]"
+        " [--lanes N] [CRATE..]"
     )
     asked.add_argument("--set", choices=SETS, default="must-fail")
+    asked.add_argument("--sample", type=int, default=0)
+    asked.add_argument("--seed", default="")
     asked.add_argument("--libraries")
     asked.add_argument("--beside", type=int)
     asked.add_argument("--log")
@@ -553,6 +564,7 @@ def main():
     folders = SETS[given.set]
     known = [name for name in crates if any(os.path.isdir(os.path.join(TOP, "crates", name, it)) for it in folders)]
     names = given.crates or known
+    sample = sample_of(names, given.sample, given.seed)
     if set(names) - set(known):
         sys.exit(f"planted: no bugs in {' or '.join(folders)} of {', '.join(sorted(set(names) - set(known)))}")
     if not given.libraries:
@@ -563,7 +575,7 @@ def main():
     gate = Gate(given.beside, given.log)
     room = Lanes(given.lanes, gate)
     with ThreadPoolExecutor(len(tried)) as pool:
-        for crate, told in zip(tried, pool.map(lambda crate: try_crate(crate, folders, gate, room), tried)):
+        for crate, told in zip(tried, pool.map(lambda crate: try_crate(crate, folders, sample, gate, room), tried)):
             for name, is_refused, found in told:
                 print(f"planted {crate.name}/{name}: {'refused, as it must be' if is_refused else 'NOT REFUSED'}: {found[:160]}", flush=True)
                 failed += not is_refused
