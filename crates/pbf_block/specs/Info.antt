@@ -1,16 +1,15 @@
 -- An Info: what is judged of its values, and the metadata that it says.
-use Rattle.std.specs.Prelude.{◌≡◌, ℕ, ℤ, pos, ◌^◌, List, ◌==◌, not, ◌++◌}
+use Rattle.std.specs.Prelude.{ℕ, ℤ, pos, ◌^◌, List, ◌==◌, not, ◌++◌}
 use Rattle.std.specs.Option.{option_map}
 use Rattle.pbf_wire.specs.declared.fault.Fault.{Fault}
 use Rattle.pbf_wire.specs.declared.fault.Reason.TheVariants.{StringIndex}
 use Rattle.pbf_wire.specs.Faults.{below_fault, fields_in, in_last, range_fault}
 use Rattle.pbf_wire.specs.Occurrence.{Occurrence}
-use Rattle.pbf_wire.specs.Reading.{last_value, last_number}
+use Rattle.pbf_wire.specs.Reading.{last_number}
 use Rattle.pbf_wire.specs.Signed.{low_i32, low_i64}
 use Rattle.osm_entity.specs.Entity.{MetaSpec}
 use Rattle.osm_entity.specs.Sources.{named}
 use Rattle.pbf_dense.specs.declared.dense_info.TheConstants.{VERSION, TIMESTAMP, CHANGESET, UID, USER_SID, VISIBLE}
-use Rattle.pbf_block.specs.declared.info.InfoNumbers.{InfoNumbers}
 
 -- a number, as it is read, isn't strictly between -2^bits and 2^bits
 abbrev pub out_of_range : ℕ → (ℕ → ℤ) → ℕ → ℕ → List Fault
@@ -33,14 +32,3 @@ info_in table os = record {
   user = option_map (named table) (last_number USER_SID os);
   visible = option_map (λ n. not (n == 0)) (last_number VISIBLE os);
 }
-
--- ---- what one pass over an Info finds
-
--- the last numbers, each with its place
-pub record AreNumbers (found : InfoNumbers) (os : List Occurrence) : Type 0 where
-  pub version : found.version ≡ last_value VERSION os
-  pub timestamp : found.timestamp ≡ last_value TIMESTAMP os
-  pub changeset : found.changeset ≡ last_value CHANGESET os
-  pub uid : found.uid ≡ last_value UID os
-  pub user : found.user ≡ last_value USER_SID os
-  pub visible : found.visible ≡ last_value VISIBLE os

@@ -6,7 +6,6 @@ pub mod Way
 pub mod Relation
 pub mod Group
 pub mod PrimitiveBlock
-pub mod Passes
 pub mod Kinds
 pub mod Numbers
 pub mod Runs

@@ -1,17 +1,26 @@
-//! What a Node, a Way and a Relation have in common: fields, and rules phase by phase. Each phase finds the fields that it judges in
-//! one pass over the message, together with those that the kind has of its own.
+//! What a Node, a Way and a Relation have in common: fields, rules phase by phase, and what is read of a message.
 
-ghost use Rattle.std.specs.Prelude.{◌≡◌, ◌+◌, ℕ, List};
-ghost use Rattle.pbf_wire.specs.Faults.{twice, found_in};
+ghost use Rattle.std.specs.Prelude.{◌≡◌, pos};
+ghost use Rattle.pbf_wire.specs.Cursors.{sums_left};
+ghost use Rattle.pbf_wire.specs.Faults.{embedded, found_in};
 ghost use Rattle.pbf_wire.specs.Least.{least};
-ghost use Rattle.pbf_wire.specs.Occurrence.{Occurrence};
-ghost use Rattle.pbf_block.specs.Entity.{AreCounts, AreOwnCounts, AreValues, entity_structure, entity_values};
-ghost use Rattle.pbf_block.specs.Passes.{HasRisingNumbers, AreOwn};
+ghost use Rattle.pbf_wire.specs.Signed.{unzigzag, low_i64};
+ghost use Rattle.osm_entity.specs.Sources.{tags_left};
+ghost use Rattle.osm_entity.specs.Views.{meta_of};
+ghost use Rattle.pbf_block.specs.Entity.{entity_structure, entity_values, tags_in, values_in};
+ghost use Rattle.pbf_block.specs.Info.{info_in};
+ghost use Rattle.pbf_block.specs.PrimitiveBlock.{streaming};
+ghost use Rattle.pbf_block.specs.Scale.{number_or};
 ghost use Rattle.pbf_block.specs.declared.entity.TheConstants.{INFO};
 
-use crate::info::InfoRanges;
-use crate::ranges::{judge_texts, value_in};
-use pbf_wire::{Fault, Fields, InField, Judge, Message, Reason, fault_where, judge_twice, lesser};
+use crate::info::{InfoRanges, meta_in};
+use osm_entity::{MetaRef, PairedTags, STORED_LIMIT, Tags};
+use pbf_strings::Table;
+use pbf_wire::{
+    Fault, InField, Message, Reason, Sums, column_count, fault_where, judge_fields,
+    judge_low_numbers, judge_missing, judge_twice, last_field, last_number, lesser, low_i64,
+    unzigzag,
+};
 
 pub(crate) const ID: u64 = 1;
 
@@ -21,147 +30,60 @@ pub(crate) const VALS: u64 = 3;
 
 pub(crate) const INFO: u64 = 4;
 
-/// No field has this number: they end at 2^29 - 1.
-pub(crate) const NO_FIELD: u64 = 1 << 29;
-
-/// The counts of what all entities have.
-#[derive(Clone, Copy)]
-pub(crate) struct EntityCounts {
-    has_id: bool,
-    /// Whether there is more than one info.
-    many_infos: bool,
-    keys: usize,
-    vals: usize,
-}
-
-/// The counts of a message: of what all entities have, and of the numbers in the three columns that its kind has of its own. No
-/// packed payload is decoded. It is inlined into what judges a kind, so that the result is not copied.
-#[inline(always)]
-pub(crate) fn entity_counts<const FIRST: u64, const SECOND: u64, const THIRD: u64>(
-    message: Message<'_>,
-) -> (EntityCounts, usize, usize, usize)
-    requires apart { HasRisingNumbers (FIRST, SECOND, THIRD) }
-    ensures alike { AreCounts result.0 (found_in message.entry) }
-    ensures own { AreOwnCounts (FIRST, SECOND, THIRD) (result.1, result.2, result.3)
-        (found_in message.entry) }
+/// The least fault of structure of what all entities have: an id, at most one Info, and as many keys as values.
+#[tactic(auto, using(crate::proofs::Parts::lesser_parts))]
+pub(crate) fn judge_structure(message: Message<'_>, place: u64) -> Option<Fault>
+    ensures { result ≡ least (entity_structure place (found_in message.entry)) }
 {
-    let mut counts = EntityCounts {
-        has_id: false,
-        many_infos: false,
-        keys: 0,
-        vals: 0,
-    };
-    let (mut first, mut second, mut third) = (0, 0, 0);
-    let mut has_info = false;
-    for field in message.found() {
-        match field.number {
-            ID => counts.has_id = true,
-            INFO => {
-                counts.many_infos = counts.many_infos || has_info;
-                has_info = true;
-            }
-            KEYS => counts.keys += field.payload.count(),
-            VALS => counts.vals += field.payload.count(),
-            number if number == FIRST => first += field.payload.count(),
-            number if number == SECOND => second += field.payload.count(),
-            number if number == THIRD => third += field.payload.count(),
-            _ => {}
-        }
-    }
-    (counts, first, second, third)
+    let id = judge_missing(message, place, ID);
+    let infos = judge_twice(message, INFO);
+    let (keys, vals) = (column_count(message, KEYS), column_count(message, VALS));
+    let tags = fault_where(keys != vals, place, Reason::TagColumns);
+    lesser(lesser(id, infos), tags)
 }
 
-impl EntityCounts {
-    /// The least of the infos after the first.
-    fn judge_infos(self, message: Message<'_>) -> Option<Fault>
-        requires counted { AreCounts self (found_in message) }
-        ensures { result ≡ least (twice INFO (found_in message.entry)) }
-    {
-        if !self.many_infos {
-            return None;
-        }
-        judge_twice(message, INFO)
-    }
-
-    /// The least fault of structure of what all entities have, in the message that was counted: an id, at most one info, and as many
-    /// keys as values.
-    #[inline(always)]
-    #[tactic(auto, using(crate::proofs::Parts::lesser_parts))]
-    pub(crate) fn judge(self, message: Message<'_>, place: u64) -> Option<Fault>
-        requires counted { AreCounts self (found_in message) }
-        ensures { result ≡ least (entity_structure place (found_in message.entry)) }
-    {
-        let id = fault_where(!self.has_id, place, Reason::Missing(ID));
-        let infos = self.judge_infos(message);
-        let tags = fault_where(self.keys != self.vals, place, Reason::TagColumns);
-        lesser(lesser(id, infos), tags)
-    }
-}
-
-/// What one pass over an entity's message judges.
-#[derive(Clone, Copy)]
-pub(crate) struct EntityValues {
-    /// The last id and its place.
-    pub(crate) id: Option<(u64, u64)>,
-    keys: Option<Fault>,
-    vals: Option<Fault>,
-    infos: Option<Fault>,
-}
-
-/// The values of a message whose texts are named in a table of `limit` texts: what is judged of all entities, and the fields of
-/// the three numbers that its kind has of its own, which are judged after it. These begin at the first of their number, so that
-/// an absent column takes no pass. It is inlined into what judges a kind, so that the result is not copied.
-#[inline(always)]
-#[tactic(auto, using(crate::proofs::Parts::least_more, crate::proofs::Parts::lesser_nothing, crate::proofs::ValueLemmas::texts_are))]
-pub(crate) fn entity_values<const FIRST: u64, const SECOND: u64, const THIRD: u64>(
-    message: Message<'_>,
-    limit: u64,
-) -> (EntityValues, Fields<'_>, Fields<'_>, Fields<'_>)
-    requires apart { HasRisingNumbers (FIRST, SECOND, THIRD) }
-    ensures alike { AreValues limit result.0 (found_in message.entry) }
-    ensures own { AreOwn (FIRST, SECOND, THIRD) (result.1, result.2, result.3)
-        (found_in message.entry) }
+/// The least fault of the values of tags and Infos, if the table has `limit` texts. An id is stored in two ways, and judged by its kind.
+#[tactic(auto, using(crate::proofs::Parts::lesser_parts))]
+pub(crate) fn judge_values(message: Message<'_>, limit: u64) -> Option<Fault>
+    ensures { result ≡ least (entity_values limit (found_in message.entry)) }
 {
-    let mut fields = message.fields();
-    let (mut id, mut keys, mut vals, mut infos) = (None, None, None, None);
-    let (mut first, mut second, mut third) = (None, None, None);
-    'fields: loop {
-        let rest = fields;
-        let Some(Ok(field)) = fields.next() else {
-            let alike = EntityValues {
-                id,
-                keys,
-                vals,
-                infos,
-            };
-            return (
-                alike,
-                first.unwrap_or(rest),
-                second.unwrap_or(rest),
-                third.unwrap_or(rest),
-            );
-        };
-        match field.number {
-            ID => id = value_in(field).or(id),
-            KEYS => keys = lesser(keys, judge_texts(field, limit)),
-            VALS => vals = lesser(vals, judge_texts(field, limit)),
-            INFO => infos = lesser(infos, InField(INFO, InfoRanges { limit }).judge(field)),
-            number if number == FIRST => first = first.or(Some(rest)),
-            number if number == SECOND => second = second.or(Some(rest)),
-            number if number == THIRD => third = third.or(Some(rest)),
-            _ => {}
-        }
-    }
+    let keys = judge_low_numbers(message, KEYS, limit, Reason::StringIndex);
+    let vals = judge_low_numbers(message, VALS, limit, Reason::StringIndex);
+    let infos = judge_fields(message, &InField(INFO, InfoRanges { limit }));
+    lesser(lesser(keys, vals), infos)
 }
 
-impl EntityValues {
-    /// The least fault of the values of the tags and the info.
-    #[inline(always)]
-    #[tactic(auto, using(crate::proofs::Parts::lesser_parts))]
-    pub(crate) fn judge(&self) -> Option<Fault>
-        ensures { (limit : ℕ) (os : List Occurrence) → AreValues limit self.now os
-            → result ≡ least (entity_values limit os) }
-    {
-        lesser(lesser(self.keys, self.vals), self.infos)
-    }
+/// The last number of a field that stores it in zigzag; 0 if it is absent.
+pub(crate) fn last_signed(message: Message<'_>, number: u64) -> i64
+    ensures { result ≡ number_or (pos 0) unzigzag number (found_in message.entry) }
+{
+    last_number(message, number).map_or(0, |last| unzigzag(last))
+}
+
+/// The same of a field that stores it in two's complement.
+pub(crate) fn last_wide(message: Message<'_>, number: u64) -> i64
+    ensures { result ≡ number_or (pos 0) low_i64 number (found_in message.entry) }
+{
+    last_number(message, number).map_or(0, |last| low_i64(last))
+}
+
+/// The values of a column of differences.
+pub(crate) fn values(message: Message<'_>, number: u64) -> Sums<'_>
+    ensures { sums_left result ≡ values_in streaming number (found_in message.entry) }
+{
+    Sums::new(message.column(number), STORED_LIMIT)
+}
+
+/// The tags of an entity, whose texts are in this table.
+pub(crate) fn tags_in<'a>(message: Message<'a>, table: &'a Table<'a>) -> Tags<'a>
+    ensures { tags_left result ≡ tags_in table.now (found_in message.entry) }
+{
+    Tags::Paired(PairedTags::new(message.column(KEYS), message.column(VALS), table))
+}
+
+/// The metadata of an entity, whose user is in this table.
+pub(crate) fn entity_meta<'a>(message: Message<'a>, table: &'a Table<'a>) -> MetaRef<'a>
+    ensures { meta_of result ≡ info_in table.now (embedded INFO (found_in message.entry)) }
+{
+    meta_in(last_field(message, INFO), table)
 }

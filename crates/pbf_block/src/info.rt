@@ -4,16 +4,19 @@ ghost use Rattle.std.specs.Prelude.{◌≡◌};
 ghost use Rattle.std.specs.Option.{option_map};
 ghost use Rattle.pbf_wire.specs.Fields.{occurrence};
 ghost use Rattle.pbf_wire.specs.Faults.{fields_of, found_in};
+ghost use Rattle.pbf_wire.specs.Reading.{last_number};
 ghost use Rattle.osm_entity.specs.Sources.{named};
 ghost use Rattle.osm_entity.specs.Views.{meta_of};
-ghost use Rattle.pbf_block.specs.Info.{info_in, info_values, AreNumbers};
+ghost use Rattle.pbf_dense.specs.declared.dense_info.TheConstants.{USER_SID};
+ghost use Rattle.pbf_block.specs.Info.{info_in, info_values};
 
-use crate::ranges::{judge_uid, judge_user, judge_wide, value_in};
+use crate::ranges::{judge_uid, judge_user, judge_wide};
 use osm_entity::MetaRef;
 use pbf_dense::dense_info::{CHANGESET, TIMESTAMP, UID, USER_SID, VERSION, VISIBLE};
 use pbf_strings::Table;
 use pbf_wire::{
-    Fault, Field, JudgeMessage, Kind, Message, Payload, lesser, low_i32, low_i64, low_u32,
+    Fault, Field, JudgeMessage, Kind, Message, Payload, last_number, last_value_left, lesser,
+    low_i32, low_i64, low_u32,
 };
 
 /// How the fields of an Info are stored. They have the numbers of those of a DenseInfo.
@@ -25,40 +28,6 @@ pub(crate) const INFO_KINDS: [(u64, Kind); 6] = [
     (USER_SID, Kind::Number),
     (VISIBLE, Kind::Number),
 ];
-
-/// The numbers of an Info as they are stored, each the last of its field, with the place of that field.
-#[derive(Clone, Copy, Default)]
-struct InfoNumbers {
-    version: Option<(u64, u64)>,
-    timestamp: Option<(u64, u64)>,
-    changeset: Option<(u64, u64)>,
-    uid: Option<(u64, u64)>,
-    user: Option<(u64, u64)>,
-    visible: Option<(u64, u64)>,
-}
-
-/// The numbers of an Info, in one pass over its fields.
-#[inline(always)]
-fn info_numbers(message: Message<'_>) -> InfoNumbers
-    ensures { AreNumbers result (found_in message.entry) }
-{
-    let mut numbers = InfoNumbers::default();
-    for field in message.found() {
-        let last = value_in(field);
-        if last.is_some() {
-            match field.number {
-                VERSION => numbers.version = last,
-                TIMESTAMP => numbers.timestamp = last,
-                CHANGESET => numbers.changeset = last,
-                UID => numbers.uid = last,
-                USER_SID => numbers.user = last,
-                VISIBLE => numbers.visible = last,
-                _ => {}
-            }
-        }
-    }
-    numbers
-}
 
 /// The values of an Info whose user is named in a table of `limit` texts.
 #[derive(Clone, Copy)]
@@ -72,34 +41,36 @@ impl JudgeMessage for InfoRanges {
     #[inline(always)]
     #[tactic(auto, using(crate::proofs::Parts::lesser_parts))]
     fn judge_message(&self, message: Message<'_>, _place: u64) -> Option<Fault> {
-        let numbers = info_numbers(message);
-        let times = lesser(judge_wide(numbers.timestamp), judge_wide(numbers.changeset));
-        let signed = lesser(times, judge_uid(numbers.uid));
-        lesser(signed, judge_user(numbers.user, self.limit))
+        let last = |number| last_value_left(message.fields(), number);
+        let times = lesser(judge_wide(last(TIMESTAMP)), judge_wide(last(CHANGESET)));
+        let signed = lesser(times, judge_uid(last(UID)));
+        lesser(signed, judge_user(last(USER_SID), self.limit))
     }
 }
 
-/// The numbers of the Info that a field holds, and none if it is absent.
-fn numbers_in(info: Option<Field<'_>>) -> InfoNumbers
-    ensures { AreNumbers result (fields_of (option_map occurrence info.entry)) }
+/// The Info that a field holds, and one without fields if it is absent.
+#[tactic(auto, unfolding(crate::proofs::Parts::items_past))]
+fn info_or_none(info: Option<Field<'_>>) -> Message<'_>
+    ensures { found_in result ≡ fields_of (option_map occurrence info.entry) }
 {
-    match info {
-        Some(
-            Field {
-                payload: Payload::Bytes(bytes, at),
-                ..
-            },
-        ) => info_numbers(Message { bytes, at }),
-        _ => InfoNumbers::default(),
-    }
+    let Some(
+        Field {
+            payload: Payload::Bytes(bytes, at),
+            ..
+        },
+    ) = info
+    else {
+        return Message { bytes: &[], at: 0 };
+    };
+    Message { bytes, at }
 }
 
-/// The text that a number names, of which the low 32 bits count; empty if the table has none.
-fn named<'a>(last: Option<(u64, u64)>, table: &'a Table<'a>) -> Option<&'a [u8]>
+/// The text of the user, of whose number the low 32 bits count; empty if the table has none.
+fn user_in<'a>(info: Message<'_>, table: &'a Table<'a>) -> Option<&'a [u8]>
     ensures { option_map (λ text. text.now) result
-        ≡ option_map (named table.now) (option_map (λ p. p.1) last) }
+        ≡ option_map (named table.now) (last_number USER_SID (found_in info.entry)) }
 {
-    let (_, number) = last?;
+    let number = last_number(info, USER_SID)?;
     Some(table.text(low_u32(number) as usize))
 }
 
@@ -107,13 +78,13 @@ fn named<'a>(last: Option<(u64, u64)>, table: &'a Table<'a>) -> Option<&'a [u8]>
 pub(crate) fn meta_in<'a>(info: Option<Field<'a>>, table: &'a Table<'a>) -> MetaRef<'a>
     ensures { meta_of result ≡ info_in table.now (fields_of (option_map occurrence info.entry)) }
 {
-    let numbers = numbers_in(info);
+    let info = info_or_none(info);
     MetaRef {
-        version: numbers.version.map(|(_, number)| low_i32(number)),
-        timestamp: numbers.timestamp.map(|(_, number)| low_i64(number)),
-        changeset: numbers.changeset.map(|(_, number)| low_i64(number)),
-        uid: numbers.uid.map(|(_, number)| low_i32(number)),
-        user: named(numbers.user, table),
-        visible: numbers.visible.map(|(_, number)| number != 0),
+        version: last_number(info, VERSION).map(|number| low_i32(number)),
+        timestamp: last_number(info, TIMESTAMP).map(|number| low_i64(number)),
+        changeset: last_number(info, CHANGESET).map(|number| low_i64(number)),
+        uid: last_number(info, UID).map(|number| low_i32(number)),
+        user: user_in(info, table),
+        visible: last_number(info, VISIBLE).map(|number| number != 0),
     }
 }

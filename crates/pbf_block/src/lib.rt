@@ -6,7 +6,6 @@ mod block_write;
 mod counts;
 mod entities;
 mod entity;
-mod entity_fields;
 mod entity_out;
 mod entity_write;
 mod group;

@@ -6,12 +6,11 @@ ghost use Rattle.pbf_wire.specs.Least.{least};
 ghost use Rattle.osm_entity.specs.Views.{node_of};
 ghost use Rattle.pbf_block.specs.Node.{node_structure, node_values, node_in};
 
-use crate::entity::{ID, INFO, KEYS, NO_FIELD, VALS, entity_counts, entity_values};
-use crate::entity_fields::{entity_fields, last_signed};
-use crate::ranges::{judge_signed, last_value};
+use crate::entity::{self, ID, INFO, KEYS, VALS, entity_meta, last_signed, tags_in};
+use crate::ranges::judge_signed;
 use osm_entity::{NodeRef, Scale};
 use pbf_strings::Table;
-use pbf_wire::{Fault, Kind, Message, judge_missing, lesser};
+use pbf_wire::{Fault, Kind, Message, judge_missing, last_value_left, lesser};
 
 // The fields of a Node beside those that all entities have.
 pub(crate) const NODE_LAT: u64 = 8;
@@ -34,8 +33,7 @@ pub(crate) const NODE_KINDS: [(u64, Kind); 6] = [
 pub(crate) fn judge_structure(message: Message<'_>, place: u64) -> Option<Fault>
     ensures { result ≡ least (node_structure place message.entry.at message.entry.bytes.now) }
 {
-    let (counts, ..) = entity_counts::<NODE_LAT, NODE_LON, NO_FIELD>(message);
-    let alike = counts.judge(message, place);
+    let alike = entity::judge_structure(message, place);
     let lat = lesser(alike, judge_missing(message, place, NODE_LAT));
     lesser(lat, judge_missing(message, place, NODE_LON))
 }
@@ -46,24 +44,24 @@ pub(crate) fn judge_structure(message: Message<'_>, place: u64) -> Option<Fault>
 pub(crate) fn judge_values(message: Message<'_>, limit: u64) -> Option<Fault>
     ensures { result ≡ least (node_values limit 0 message.entry.at message.entry.bytes.now) }
 {
-    let (values, lat, lon, _) = entity_values::<NODE_LAT, NODE_LON, NO_FIELD>(message, limit);
-    let alike = lesser(judge_signed(values.id), values.judge());
-    let lat = lesser(alike, judge_signed(last_value(lat, NODE_LAT)));
-    lesser(lat, judge_signed(last_value(lon, NODE_LON)))
+    let id = judge_signed(last_value_left(message.fields(), ID));
+    let alike = lesser(id, entity::judge_values(message, limit));
+    let lat = judge_signed(last_value_left(message.fields(), NODE_LAT));
+    let lon = judge_signed(last_value_left(message.fields(), NODE_LON));
+    lesser(lesser(alike, lat), lon)
 }
 
-/// The node of a message. Reads the message's fields once and does not allocate.
+/// The node of a message. It does not allocate.
 #[tactic(auto, unfolding(crate::specs::Node::node_in))]
 pub(crate) fn node_in<'a>(message: Message<'a>, table: &'a Table<'a>, scale: Scale) -> NodeRef<'a>
     ensures { node_of result ≡ node_in table.now scale (found_in message.entry) }
 {
-    let (fields, lat, lon, _) = entity_fields::<NODE_LAT, NODE_LON, NO_FIELD>(message);
     NodeRef::new(
-        fields.signed_id(),
-        last_signed(lat, NODE_LAT),
-        last_signed(lon, NODE_LON),
-        fields.meta(table),
-        fields.tags(table),
+        last_signed(message, ID),
+        last_signed(message, NODE_LAT),
+        last_signed(message, NODE_LON),
+        entity_meta(message, table),
+        tags_in(message, table),
         scale,
     )
 }

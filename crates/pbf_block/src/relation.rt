@@ -1,20 +1,21 @@
 //! A Relation: its fields, its rules phase by phase, and how it is read. Its rule of wire form is [`RELATION_KINDS`].
 
-ghost use Rattle.std.specs.Prelude.{◌≡◌, List};
+ghost use Rattle.std.specs.Prelude.{◌≡◌};
 ghost use Rattle.pbf_wire.specs.Faults.{found_in};
 ghost use Rattle.pbf_wire.specs.Least.{least};
-ghost use Rattle.pbf_wire.specs.Occurrence.{Occurrence};
 ghost use Rattle.osm_entity.specs.Views.{relation_of};
-ghost use Rattle.pbf_block.specs.Entity.{AreOwnCounts};
 ghost use Rattle.pbf_block.specs.PrimitiveBlock.{streaming};
 ghost use Rattle.pbf_block.specs.Relation.{are_members, relation_structure, relation_values, relation_in};
 
-use crate::entity::{ID, INFO, KEYS, VALS, entity_counts, entity_values};
-use crate::entity_fields::{column, entity_fields, values};
-use crate::ranges::{judge_sums, judge_wide};
+use crate::entity::{self, ID, INFO, KEYS, VALS, entity_meta, last_wide, tags_in, values};
+use crate::ranges::judge_wide;
 use osm_entity::{ColumnMembers, Members, RelationRef, Scale};
+use pbf_dense::dense_info::judge_stored_sums;
 use pbf_strings::Table;
-use pbf_wire::{Fault, Kind, Message, Reason, fault_where, judge_low_numbers, lesser};
+use pbf_wire::{
+    Fault, Kind, Message, Reason, column_count, fault_where, judge_low_numbers, last_value_left,
+    lesser,
+};
 
 // The fields of a Relation beside those that all entities have: the columns of its members.
 pub(crate) const ROLES_SID: u64 = 8;
@@ -35,11 +36,11 @@ pub(crate) const RELATION_KINDS: [(u64, Kind); 7] = [
 ];
 
 /// Whether the columns of a relation's members are of one count.
-fn are_members(roles: usize, ids: usize, kinds: usize) -> bool
-    ensures { (os : List Occurrence)
-        → AreOwnCounts (ROLES_SID, MEMIDS, TYPES) (roles, ids, kinds) os → result ≡ are_members os }
+fn are_members(message: Message<'_>) -> bool
+    ensures { result ≡ are_members (found_in message.entry) }
 {
-    roles == ids && kinds == ids
+    let ids = column_count(message, MEMIDS);
+    column_count(message, ROLES_SID) == ids && column_count(message, TYPES) == ids
 }
 
 /// The least fault of structure: what all entities have, and the columns of members.
@@ -48,12 +49,9 @@ fn are_members(roles: usize, ids: usize, kinds: usize) -> bool
 pub(crate) fn judge_structure(message: Message<'_>, place: u64) -> Option<Fault>
     ensures { result ≡ least (relation_structure place message.entry.at message.entry.bytes.now) }
 {
-    let (counts, roles, ids, kinds) = entity_counts::<ROLES_SID, MEMIDS, TYPES>(message);
-    let members = are_members(roles, ids, kinds);
-    lesser(
-        counts.judge(message, place),
-        fault_where(!members, place, Reason::MemberColumns),
-    )
+    let alike = entity::judge_structure(message, place);
+    let are_alike = are_members(message);
+    lesser(alike, fault_where(!are_alike, place, Reason::MemberColumns))
 }
 
 /// The least fault of values, if the table has `limit` texts.
@@ -62,16 +60,16 @@ pub(crate) fn judge_structure(message: Message<'_>, place: u64) -> Option<Fault>
 pub(crate) fn judge_values(message: Message<'_>, limit: u64) -> Option<Fault>
     ensures { result ≡ least (relation_values limit 0 message.entry.at message.entry.bytes.now) }
 {
-    let (values, _, ids, _) = entity_values::<ROLES_SID, MEMIDS, TYPES>(message, limit);
-    let alike = lesser(judge_wide(values.id), values.judge());
+    let id = judge_wide(last_value_left(message.fields(), ID));
+    let alike = lesser(id, entity::judge_values(message, limit));
     let texts = judge_low_numbers(message, ROLES_SID, limit, Reason::StringIndex);
     let roles = lesser(alike, texts);
-    let ids = lesser(roles, judge_sums(ids, MEMIDS));
+    let ids = lesser(roles, judge_stored_sums(message, MEMIDS));
     let kinds = judge_low_numbers(message, TYPES, 3, Reason::MemberKind);
     lesser(ids, kinds)
 }
 
-/// The relation of a message. Reads the message's fields once and does not allocate.
+/// The relation of a message. It does not allocate.
 #[tactic(auto, unfolding(crate::specs::Relation::relation_in))]
 pub(crate) fn relation_in<'a>(
     message: Message<'a>,
@@ -80,17 +78,16 @@ pub(crate) fn relation_in<'a>(
 ) -> RelationRef<'a>
     ensures { relation_of result ≡ relation_in streaming table.now scale (found_in message.entry) }
 {
-    let (fields, roles, ids, kinds) = entity_fields::<ROLES_SID, MEMIDS, TYPES>(message);
     let members = ColumnMembers::new(
-        column(kinds, TYPES),
-        values(ids, MEMIDS),
-        column(roles, ROLES_SID),
+        message.column(TYPES),
+        values(message, MEMIDS),
+        message.column(ROLES_SID),
         table,
     );
     RelationRef::new(
-        fields.wide_id(),
-        fields.meta(table),
-        fields.tags(table),
+        last_wide(message, ID),
+        entity_meta(message, table),
+        tags_in(message, table),
         Members::Columns(members),
         scale,
     )

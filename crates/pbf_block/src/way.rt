@@ -1,7 +1,7 @@
 //! A Way: its fields, its rules phase by phase, and how it is read. Its rule of wire form is [`WAY_KINDS`].
 
 ghost use Rattle.std.specs.Prelude.{◌≡◌, IfSome, IsTrue};
-ghost use Rattle.pbf_wire.specs.Faults.{column_count, found_in, nested_faults};
+ghost use Rattle.pbf_wire.specs.Faults.{found_in, nested_faults};
 ghost use Rattle.pbf_block.specs.declared.info.TheConstants.{INFO_KINDS};
 ghost use Rattle.pbf_block.specs.declared.entity.TheConstants.{INFO};
 ghost use Rattle.pbf_block.specs.declared.way.TheConstants.{WAY_KINDS};
@@ -13,15 +13,16 @@ ghost use Rattle.pbf_block.specs.Runs.{way_from};
 ghost use Rattle.pbf_block.specs.Clean.{IsCleanWay};
 ghost use Rattle.pbf_block.specs.Way.{are_located, way_structure, way_values, way_in};
 
-use crate::entity::{ID, INFO, KEYS, NO_FIELD, VALS, entity_counts, entity_values};
-use crate::entity_fields::{entity_fields, last_wide, values};
+use crate::entity::{self, ID, INFO, KEYS, VALS, entity_meta, last_wide, tags_in, values};
 use crate::info::INFO_KINDS;
 use crate::plain::{self, plain_way};
-use crate::ranges::{judge_sums, judge_wide};
+use crate::ranges::judge_wide;
 use osm_entity::{Locations, OwnedLocations, Refs, Scale, SummedLocations, WayRef};
+use pbf_dense::dense_info::judge_stored_sums;
 use pbf_strings::Table;
 use pbf_wire::{
-    Fault, Kind, Message, Reason, column_count, fault_where, judge_nested, lesser, low_i64,
+    Fault, Kind, Message, Reason, column_count, fault_where, judge_nested, last_value_left, lesser,
+    low_i64,
 };
 
 // The fields of a Way beside those that all entities have: its refs, and their locations.
@@ -43,11 +44,11 @@ pub(crate) const WAY_KINDS: [(u64, Kind); 7] = [
 ];
 
 /// Whether a way has no locations, or as many as refs: these are counted only if there are locations.
-fn are_located(message: Message<'_>, lats: usize, lons: usize) -> bool
-    requires lats { lats ≡ column_count WAY_LAT (found_in message) }
-    requires lons { lons ≡ column_count WAY_LON (found_in message) }
+fn are_located(message: Message<'_>) -> bool
     ensures { result ≡ are_located (found_in message.entry) }
 {
+    let lats = column_count(message, WAY_LAT);
+    let lons = column_count(message, WAY_LON);
     lats == lons && (lats == 0 || lats == column_count(message, REFS))
 }
 
@@ -65,11 +66,11 @@ pub(crate) fn judge_wire(message: Message<'_>) -> Option<Fault>
 pub(crate) fn judge_structure(message: Message<'_>, place: u64) -> Option<Fault>
     ensures { result ≡ least (way_structure place message.entry.at message.entry.bytes.now) }
 {
-    let (counts, lats, lons, _) = entity_counts::<WAY_LAT, WAY_LON, NO_FIELD>(message);
-    let located = are_located(message, lats, lons);
+    let alike = entity::judge_structure(message, place);
+    let is_located = are_located(message);
     lesser(
-        counts.judge(message, place),
-        fault_where(!located, place, Reason::LocationColumns),
+        alike,
+        fault_where(!is_located, place, Reason::LocationColumns),
     )
 }
 
@@ -79,11 +80,11 @@ pub(crate) fn judge_structure(message: Message<'_>, place: u64) -> Option<Fault>
 pub(crate) fn judge_values(message: Message<'_>, limit: u64) -> Option<Fault>
     ensures { result ≡ least (way_values limit 0 message.entry.at message.entry.bytes.now) }
 {
-    let (values, refs, lats, lons) = entity_values::<REFS, WAY_LAT, WAY_LON>(message, limit);
-    let alike = lesser(judge_wide(values.id), values.judge());
-    let refs = lesser(alike, judge_sums(refs, REFS));
-    let lats = lesser(refs, judge_sums(lats, WAY_LAT));
-    lesser(lats, judge_sums(lons, WAY_LON))
+    let id = judge_wide(last_value_left(message.fields(), ID));
+    let alike = lesser(id, entity::judge_values(message, limit));
+    let refs = lesser(alike, judge_stored_sums(message, REFS));
+    let lats = lesser(refs, judge_stored_sums(message, WAY_LAT));
+    lesser(lats, judge_stored_sums(message, WAY_LON))
 }
 
 /// Whether no phase before the weights finds a fault, if the table has `limit` texts. Most ways are plain, and read once.
@@ -99,18 +100,17 @@ pub(crate) fn is_clean(message: Message<'_>, place: u64, limit: u64) -> bool
     judge_values(message, limit).is_none()
 }
 
-/// The way of a message. Reads the message's fields once and does not allocate.
+/// The way of a message. It does not allocate.
 #[tactic(auto, unfolding(crate::specs::Way::way_in))]
 pub(crate) fn way_in<'a>(message: Message<'a>, table: &'a Table<'a>, scale: Scale) -> WayRef<'a>
     ensures { way_of result ≡ way_in streaming table.now scale (found_in message.entry) }
 {
-    let (fields, refs, lats, lons) = entity_fields::<REFS, WAY_LAT, WAY_LON>(message);
-    let locations = SummedLocations::new(values(lats, WAY_LAT), values(lons, WAY_LON));
+    let locations = SummedLocations::new(values(message, WAY_LAT), values(message, WAY_LON));
     WayRef::new(
-        fields.wide_id(),
-        fields.meta(table),
-        fields.tags(table),
-        Refs::Summed(values(refs, REFS)),
+        last_wide(message, ID),
+        entity_meta(message, table),
+        tags_in(message, table),
+        Refs::Summed(values(message, REFS)),
         Locations::Summed(locations),
         scale,
     )
@@ -133,7 +133,7 @@ impl<'a> UnmadeWay<'a> {
     {
         match plain_way(self.message.bytes) {
             Some(way) => way.refs(),
-            None => Refs::Summed(values(self.message.fields(), REFS)),
+            None => Refs::Summed(values(self.message, REFS)),
         }
     }
 
@@ -147,8 +147,8 @@ impl<'a> UnmadeWay<'a> {
         match plain_way(self.message.bytes) {
             Some(way) => (low_i64(way.id), way.refs()),
             None => {
-                let fields = self.message.fields();
-                (last_wide(fields, ID), Refs::Summed(values(fields, REFS)))
+                let refs = Refs::Summed(values(self.message, REFS));
+                (last_wide(self.message, ID), refs)
             }
         }
     }

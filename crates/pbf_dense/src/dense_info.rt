@@ -68,7 +68,7 @@ impl JudgeMessage for InfoStructure {
 // Its values.
 
 /// The first value of a column of differences that is out of range.
-pub(crate) fn judge_range(message: Message<'_>, number: u64) -> Option<Fault>
+pub fn judge_stored_sums(message: Message<'_>, number: u64) -> Option<Fault>
     ensures { result ≡ least (range_faults number (found_in message.entry)) }
 {
     judge_sums(message, number, STORED_LIMIT.unsigned_abs(), false)
@@ -86,8 +86,8 @@ impl JudgeMessage for InfoValues {
 
     #[tactic(auto, using(crate::proofs::Parts::lesser_parts))]
     fn judge_message(&self, info: Message<'_>, _place: u64) -> Option<Fault> {
-        let timestamps = judge_range(info, TIMESTAMP);
-        let changesets = judge_range(info, CHANGESET);
+        let timestamps = judge_stored_sums(info, TIMESTAMP);
+        let changesets = judge_stored_sums(info, CHANGESET);
         let uids = judge_sums(info, UID, UID_LIMIT.unsigned_abs(), true);
         let users = judge_index_sums(info, USER_SID, self.limit);
         lesser(timestamps, lesser(changesets, lesser(uids, users)))

@@ -13,7 +13,7 @@ ghost use Rattle.pbf_dense.specs.Judged.{coordinate_counts, are_runs, are_tags, 
 ghost use Rattle.pbf_wire.specs.declared.limits.TheConstants.{SUM_LIMIT};
 
 use crate::dense::Dense;
-use crate::dense_info::{DENSEINFO_KINDS, InfoStructure, InfoValues, judge_range};
+use crate::dense_info::{DENSEINFO_KINDS, InfoStructure, InfoValues, judge_stored_sums};
 use crate::entries::{next_number, next_placed};
 use osm_entity::{HIGHEST_WEIGHT, NodeRef, Scale};
 use pbf_strings::Table;
@@ -149,9 +149,9 @@ impl Dense<'_> {
         ensures { (place : ℕ) → result
             ≡ least (dense_values limit place message.entry.at message.entry.bytes.now) }
     {
-        let ids = judge_range(message, ID);
-        let lats = judge_range(message, LAT);
-        let lons = judge_range(message, LON);
+        let ids = judge_stored_sums(message, ID);
+        let lats = judge_stored_sums(message, LAT);
+        let lons = judge_stored_sums(message, LON);
         let texts = judge_texts(message, limit);
         let infos = judge_fields(message, &InField(DENSEINFO, InfoValues { limit }));
         lesser(ids, lesser(lats, lesser(lons, lesser(texts, infos))))

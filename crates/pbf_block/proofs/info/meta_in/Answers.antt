@@ -16,6 +16,6 @@ returns c =
     let timestamp : c.map-2.result ≡ option_map low_i64 (last_number TIMESTAMP os) = search rules in
     let changeset : c.map-3.result ≡ option_map low_i64 (last_number CHANGESET os) = search rules in
     let uid : c.map-4.result ≡ option_map low_i32 (last_number UID os) = search rules in
-    let user : option_map (λ text. text.now) c.named.result ≡ option_map (named c.args.table.now) (last_number USER_SID os) = search rules in
+    let user : option_map (λ text. text.now) c.user_in.result ≡ option_map (named c.args.table.now) (last_number USER_SID os) = search rules in
     let visible : c.map-5.result ≡ option_map (λ n. not (n == 0)) (last_number VISIBLE os) = search rules in
     λ i. record { version = version i; timestamp = timestamp i; changeset = changeset i; uid = uid i; user = user i; visible = visible i }

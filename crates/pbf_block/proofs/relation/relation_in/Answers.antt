@@ -1,5 +1,4 @@
-use Rattle.std.proofs.Common.{◌≡◌, ℕ, ℤ, List, SFits, w64, to_z-of_z, rules, ◌∙◌}
-use Rattle.pbf_wire.specs.Faults.{found_in}
+use Rattle.std.proofs.Common.{◌≡◌, ℕ, ℤ, List, SFits, w64, to_z-of_z, rules, map, ap, ◌∙◌}
 use Rattle.osm_entity.specs.declared.scale.Scale.{Scale}
 use Rattle.osm_entity.specs.Entity.{TagSpec, MetaSpec, MemberSpec, RelationSpec}
 use Rattle.osm_entity.specs.Sources.{column_members}
@@ -18,10 +17,7 @@ same_relation scale table id i meta m tags t kinds k roles r ids d members same_
 pub returns : goal.returns
 unfolding relation_in
 returns c =
-    let os = found_in c.args.message in
-    let alike = c.entity_fields.ensures.alike in
-    let own = c.entity_fields.ensures.own in
-    let fits : SFits w64 c.wide_id.result = search rules in
+    let fits : SFits w64 c.last_wide.result = search rules in
     c.new.ensures
-    ∙ same_relation c.args.scale _ _ _ _ _ _ _ _ _ _ _ _ _ _ (to_z-of_z fits ∙ c.wide_id.ensures os alike) (c.meta.ensures os alike) (c.tags.ensures os alike)
-    (c.column.ensures os own.third) (c.values.ensures os own.second) (c.column-2.ensures os own.first) c.new-members.ensures
+    ∙ same_relation c.args.scale _ _ _ _ _ _ _ _ _ _ _ _ _ _ (to_z-of_z fits ∙ c.last_wide.ensures) c.entity_meta.ensures c.tags_in.ensures
+    (ap (map (λ p. p.0)) c.column.ensures.left) c.values.ensures (ap (map (λ p. p.0)) c.column-2.ensures.left) c.new-members.ensures
