@@ -2,19 +2,17 @@
 
 ghost use Rattle.std.specs.Prelude.{◌≡◌, ◌+◌, ◌*◌, ◌≤◌, ◌<◌, [], None, Some, Err, IfOk, IsTrue, OnOk, length};
 ghost use Rattle.std.specs.List.{AllByRecursion, filter};
-ghost use Rattle.std.specs.Option.{option_or, option_map};
+ghost use Rattle.std.specs.Option.{option_or};
 ghost use Rattle.pbf_wire.specs.declared.fault.Fault.{Fault};
 ghost use Rattle.pbf_wire.specs.declared.fault.ReadFault.TheVariants.{Refused};
 ghost use Rattle.pbf_wire.specs.Faults.{fields_in, found_in};
 ghost use Rattle.pbf_wire.specs.Least.{least};
-ghost use Rattle.pbf_wire.specs.Reading.{occurrence_text};
 ghost use Rattle.osm_entity.specs.Ranges.{EntityFits};
 ghost use Rattle.pbf_block.specs.PrimitiveBlock.{wire_faults, structure_faults, value_faults, payload_weights, block_fault, entities};
 ghost use Rattle.pbf_block.specs.Clean.{IsCleanBlock};
 ghost use Rattle.pbf_block.specs.Kinds.{is_among};
 ghost use Rattle.pbf_block.specs.Numbers.{counts_of};
 ghost use Rattle.pbf_block.specs.Runs.{entities_left, joined_runs, runs_left};
-ghost use Rattle.pbf_wire.specs.Fields.{occurrence};
 ghost use Rattle.pbf_block.specs.Scale.{scale_of, stored_texts};
 ghost use Rattle.pbf_strings.specs.declared.table.TheConstants.{MOST_TEXTS};
 ghost use Rattle.pbf_wire.specs.declared.limits.TheConstants.{OFFSET_LIMIT, RAW_LIMIT, SUM_LIMIT};
@@ -30,7 +28,7 @@ use crate::scale::scale_in;
 use crate::unjudged::UnjudgedBlock;
 use osm_entity::Scale;
 use pbf_strings::{MOST_TEXTS, Table, text_count};
-use pbf_wire::{Fault, Field, Message, ReadFault, last_field};
+use pbf_wire::{Fault, Message, ReadFault, last_field, occurrence_text};
 use std::alloc::{AllocError, Global};
 use std::marker::Model;
 
@@ -40,7 +38,7 @@ fn is_clean(payload: Message<'_>) -> bool
     ensures { IsTrue result → IsCleanBlock (length (stored_texts (found_in payload.entry)))
         payload.entry.at payload.entry.bytes.now }
 {
-    let texts = text_count(bytes_in(last_field(payload, STRINGTABLE)));
+    let texts = text_count(occurrence_text(last_field(payload, STRINGTABLE)));
     texts <= MOST_TEXTS && primitive_block::is_clean(payload, texts as u64)
 }
 
@@ -62,23 +60,13 @@ fn early_fault(payload: Message<'_>, clean: bool) -> Option<Fault>
     judge_structure(payload)
 }
 
-/// The bytes of a field; none if the field is absent.
-pub(crate) fn bytes_in(field: Option<Field<'_>>) -> &[u8]
-    ensures { result.now ≡ occurrence_text (option_map occurrence field.entry) }
-{
-    match field {
-        Some(field) => field.payload.bytes(),
-        None => &[],
-    }
-}
-
 /// The texts of a payload that has no fault of structure: its table is judged already.
 fn read_table<'a>(alloc: Global, payload: Message<'a>) -> Result<Table<'a>, AllocError>
     requires short { length payload.bytes.now < RAW_LIMIT }
     requires structure { structure_faults payload.at payload.bytes.now ≡ [] }
     ensures { IfOk result (λ table. table ≡ stored_texts (found_in payload.entry)) }
 {
-    Table::open(alloc, bytes_in(last_field(payload, STRINGTABLE)))
+    Table::open(alloc, occurrence_text(last_field(payload, STRINGTABLE)))
 }
 
 /// The least fault of values. A payload that is known to be clean has none, and isn't read.

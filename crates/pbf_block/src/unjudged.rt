@@ -12,7 +12,6 @@ ghost use Rattle.pbf_block.specs.Scale.{scale_of, stored_texts};
 ghost use Rattle.pbf_strings.specs.declared.table.TheConstants.{MOST_TEXTS};
 ghost use Rattle.pbf_wire.specs.declared.limits.TheConstants.{OFFSET_LIMIT, RAW_LIMIT};
 
-use crate::block::bytes_in;
 use crate::counts::{Counts, count_entities};
 use crate::kinds::Kinds;
 use crate::primitive_block::STRINGTABLE;
@@ -20,7 +19,7 @@ use crate::runs::Runs;
 use crate::scale::scale_in;
 use osm_entity::Scale;
 use pbf_strings::Table;
-use pbf_wire::{Message, last_field};
+use pbf_wire::{Message, last_field, occurrence_text};
 use std::alloc::{AllocError, Global};
 
 /// A PrimitiveBlock that is opened and not judged, for a pass over bytes that another pass has judged. It borrows the payload, and
@@ -74,7 +73,7 @@ impl<'a> UnjudgedBlock<'a> {
         ensures faulty { result ≡ Ok None → block_fault at payload.now ≡ None → ⊥ }
     {
         let message = Message { bytes: payload, at };
-        let texts = bytes_in(last_field(message, STRINGTABLE));
+        let texts = occurrence_text(last_field(message, STRINGTABLE));
         if Table::judge_count(texts, at).is_err() {
             return Ok(None);
         }

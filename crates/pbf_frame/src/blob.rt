@@ -11,10 +11,9 @@ ghost use Rattle.pbf_wire.specs.Reading.{occurrence_text, last_of};
 ghost use Rattle.pbf_frame.specs.Blob.{compression_of, compressed, raw_faults, blob_fault, raw_payload_of, raw_at};
 ghost use Rattle.pbf_wire.specs.declared.limits.TheConstants.{OFFSET_LIMIT, RAW_LIMIT};
 
-use crate::header::occurrence_text;
 use pbf_wire::{
     Fault, Field, Kind, Message, Payload, RAW_LIMIT, Reason, fault_where, judge_wire, last_field,
-    lesser,
+    lesser, occurrence_text,
 };
 
 // The fields of a Blob.

@@ -7,7 +7,7 @@ ghost use Rattle.pbf_wire.specs.Faults.{fault_where, found_in};
 ghost use Rattle.pbf_wire.specs.Fields.{occurrence};
 ghost use Rattle.pbf_wire.specs.Least.{least};
 ghost use Rattle.pbf_wire.specs.Payload.{content};
-ghost use Rattle.pbf_wire.specs.Reading.{occurrence_text, last_of};
+ghost use Rattle.pbf_wire.specs.Reading.{last_of};
 ghost use Rattle.pbf_frame.specs.Header.{int32_held, size_within, size_of, kind_named, size_faults, header_faults};
 ghost use Rattle.pbf_frame.specs.Steps.{head_of};
 ghost use Rattle.pbf_wire.specs.declared.limits.TheConstants.{OFFSET_LIMIT};
@@ -15,7 +15,7 @@ ghost use Rattle.pbf_wire.specs.declared.limits.TheConstants.{OFFSET_LIMIT};
 use crate::frame::FrameKind;
 use pbf_wire::{
     Fault, Field, Kind, Message, Payload, Reason, fault_where, judge_wire, last_field, lesser,
-    low_i32,
+    low_i32, occurrence_text,
 };
 
 // The fields of a BlobHeader.
@@ -44,16 +44,6 @@ pub struct Head {
     pub kind: FrameKind,
     /// `datasize`: the length of the blob.
     pub size: u32,
-}
-
-/// The text of a field, and no bytes if it is absent.
-pub(crate) fn occurrence_text(field: Option<Field<'_>>) -> &[u8]
-    ensures { result.now ≡ occurrence_text (option_map occurrence field.entry) }
-{
-    match field {
-        Some(field) => field.payload.bytes(),
-        None => &[],
-    }
 }
 
 /// The size that `datasize` names, if a blob may have it.

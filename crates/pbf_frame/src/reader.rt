@@ -9,9 +9,9 @@ use crate::blob::payload_in;
 use crate::device::Feed;
 use crate::frame::{Frame, FrameKind};
 use crate::frame_parts::{BufferedFrame, FrameStart, read_frame};
-use crate::header::{TYPE, occurrence_text};
+use crate::header::TYPE;
 use crate::stop::Stop;
-use pbf_wire::{Message, last_field};
+use pbf_wire::{Message, last_field, occurrence_text};
 use std::alloc::Global;
 
 /// The most bytes that a reader holds: a BlobHeader and a Blob, each of the greatest length.

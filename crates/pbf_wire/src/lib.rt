@@ -45,7 +45,7 @@ pub use kind::Kind;
 pub use least::{comes_before, lesser};
 pub use limits::{OFFSET_LIMIT, RAW_LIMIT, STORED_LIMIT, SUM_LIMIT};
 pub use message::Message;
-pub use reading::{last_field, last_number, last_value_left};
+pub use reading::{last_field, last_number, last_value_left, occurrence_text};
 pub use short::is_short;
 pub use signed::{low_i32, low_i64, low_sint32, low_u32, sign_extended, unzigzag, zigzag};
 pub use span::{EMPTY_SPAN, Span};

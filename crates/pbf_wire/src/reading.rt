@@ -6,7 +6,7 @@ ghost use Rattle.pbf_wire.specs.Occurrence.{found};
 ghost use Rattle.pbf_wire.specs.Cursors.{fields_left};
 ghost use Rattle.pbf_wire.specs.Faults.{found_in};
 ghost use Rattle.pbf_wire.specs.Fields.{occurrence};
-ghost use Rattle.pbf_wire.specs.Reading.{last_of, last_value, last_number};
+ghost use Rattle.pbf_wire.specs.Reading.{last_of, last_value, last_number, occurrence_text};
 
 use crate::field::{Field, Payload};
 use crate::fields::Fields;
@@ -24,6 +24,16 @@ pub fn last_field(message: Message<'_>, number: u64) -> Option<Field<'_>>
         }
     }
     last
+}
+
+/// The text of a field, and no bytes if it is absent.
+pub fn occurrence_text(field: Option<Field<'_>>) -> &[u8]
+    ensures { result.now ≡ occurrence_text (option_map occurrence field.entry) }
+{
+    match field {
+        Some(field) => field.payload.bytes(),
+        None => &[],
+    }
 }
 
 /// The place of the last occurrence of a field that holds a number, and the number, among the fields that are still to come. The
