@@ -106,7 +106,9 @@ fn ids_in<'a, A: Area>(area: &A, dense: &Dense<'a>) -> Option<Within<'a>>
     Some(Within { area, ids })
 }
 
-/// Takes the nodes of a dense message. In a box those outside change nothing, so that of most only the longitude is read.
+/// Takes the nodes of a dense message. In a box those outside change nothing, so that of most only the longitude is read. It is a call,
+/// so that its room is cleared only here, and not for each way.
+#[inline(never)]
 fn take_places<A: Area, P: NodeTaker>(
     taking: &mut InArea<A, P>,
     dense: &Dense<'_>,
