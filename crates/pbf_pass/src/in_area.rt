@@ -106,9 +106,7 @@ fn ids_in<'a, A: Area>(area: &A, dense: &Dense<'a>) -> Option<Within<'a>>
     Some(Within { area, ids })
 }
 
-/// Takes the nodes of a dense message. In a box those outside change nothing, so that of most only the longitude is read. It is a call,
-/// so that its room is cleared only here, and not for each way.
-#[inline(never)]
+/// Takes the nodes of a dense message. In a box those outside change nothing, so that of most only the longitude is read.
 fn take_places<A: Area, P: NodeTaker>(
     taking: &mut InArea<A, P>,
     dense: &Dense<'_>,
