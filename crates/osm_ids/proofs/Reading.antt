@@ -1,32 +1,43 @@
 -- How far one page has been read.
-use Rattle.std.proofs.Common.{◌≡◌, ℕ, ◌+◌, ◌-◌, ◌^◌, ◌%◌, ◌<◌, ◌≤◌, inl, inr, List, [], ◌∷◌, ◌++◌, append_assoc, length, take, drop, set, Result, Ok, ℤ, pos, negsuc, ◌+ℤ◌, refl, sym, ap, subst, ◌∙◌, arith, FitsSigned, w64, to_z, of_z, length-append}
+use Rattle.std.proofs.Common.{◌≡◌, ℕ, zero, suc, ◌+◌, ◌-◌, ◌^◌, ◌%◌, ◌<◌, ◌≤◌, inl, inr, List, [], ◌∷◌, ◌++◌, append_assoc, length, take, set, get_or, ℤ, pos, negsuc, ◌+ℤ◌, refl, sym, ap, subst, ◌∙◌, arith, FitsSigned, w64, to_z, of_z, length-append}
 use Rattle.std.proofs.lemmas.Int.{ints, to_z_pos, to_z-of_z}
 use Rattle.std.proofs.lemmas.Bool.{cases_lt}
-use Rattle.std.proofs.lemmas.List.{append-nil, drop-drop, length-drop, length-take-le, take_more_set}
-use Rattle.std.proofs.Math.Seq.{drop-append_seam}
-use Rattle.pbf_wire.specs.declared.fault.Reason.{Reason}
-use Rattle.pbf_wire.specs.Varint.{shortest, varint_at, moved_by}
-use Rattle.osm_ids.specs.Pages.{gap, last_of, Rises, AllFit, IsSpelled}
-use Rattle.osm_ids.proofs.Gaps.{spelled_after, gap_up, gap-lt, shortest_some, read_at}
+use Rattle.std.proofs.lemmas.List.{append-nil, length-take-le, take_more_set}
+use Rattle.pbf_wire.specs.Packed.{numbers_of}
+use Rattle.osm_ids.specs.declared.page.PageIds.{PageIds}
+use Rattle.osm_ids.specs.Pages.{AllFit, IsSpelled, last_of, raised}
+use Rattle.osm_ids.specs.Windows.{held, last_held}
+use Rattle.osm_ids.proofs.Gaps.{read_spelled}
 
--- of a page's ids so many are in place, up to `last`, and the bytes from `at` on spell the others
-pub record Reads (first : ℤ) (others : List ℤ) (bytes : List ℕ) (ids : List ℤ) (last : ℤ) (count at : ℕ) : Type 0 where
-  pub rest : List ℤ
-  pub all : first ∷ others ≡ take count ids ++ rest
-  pub left : drop at bytes ≡ spelled_after last rest
-  pub rises : Rises last rest
-  pub fits : AllFit (last ∷ rest)
-  pub ends : last_of first others ≡ last_of last rest
+-- ---- lists
 
-pub reads_start : (first : ℤ) (others : List ℤ) (bytes : List ℕ) (ids : List ℤ) → IsSpelled first others bytes → take 1 ids ≡ first ∷ [] → Reads first others bytes ids first 1 0
-reads_start first others bytes ids s e = record { rest = others; all = ap (λ l. l ++ others) (sym e); left = s.spelled; rises = s.rises; fits = s.fits; ends = refl }
+last_of-append : (d : ℤ) (xs ys : List ℤ) → last_of d (xs ++ ys) ≡ last_of (last_of d xs) ys
+last_of-append d [] ys = refl
+last_of-append d (x ∷ xs) ys = last_of-append x xs ys
 
-pub pair_parts : (a b c d : ℕ) → ◌≡◌ {A = Result (ℕ × ℕ) Reason} (Ok (a, b)) (Ok (c, d)) → (a ≡ c) × (b ≡ d)
-pair_parts a b c d e =
-    let same : ◌≡◌ {A = ℕ × ℕ} (a, b) (c, d) = cc in
-    (ap (λ (p : ℕ × ℕ). p.0) same, ap (λ (p : ℕ × ℕ). p.1) same)
+last_by : (d : ℤ) (ids : List ℤ) (n : ℕ) → n < length ids → last_of d (take (suc n) ids) ≡ get_or ids n (pos 0)
+last_by d [] n lt = absurd (omega arith)
+last_by d (x ∷ ids) zero lt = refl
+last_by d (x ∷ ids) (suc n) lt = last_by x ids n (omega arith)
 
--- a sum that fits isn't wrapped
+-- the last of the first ids, by its place
+pub last_at : (ids : List ℤ) (n : ℕ) → 0 < n → n ≤ length ids → last_of (pos 0) (take n ids) ≡ get_or ids (n - 1) (pos 0)
+last_at ids n some le =
+    let same : n ≡ suc (n - 1) = omega (arith, some) in
+    ap (λ k. last_of (pos 0) (take k ids)) same ∙ last_by (pos 0) ids (n - 1) (omega (arith, some, le))
+
+raised-append : (low : ℤ) (ns more : List ℕ) → raised low (ns ++ more) ≡ raised low ns ++ raised (last_of low (raised low ns)) more
+raised-append low [] more = refl
+raised-append low (n ∷ ns) more = ap (λ (l : List ℤ). (low +ℤ pos n) ∷ l) (raised-append (low +ℤ pos n) ns more)
+
+fit_parts : (xs ys : List ℤ) → AllFit (xs ++ ys) → AllFit xs × AllFit ys
+fit_parts [] ys h = (tt, h)
+fit_parts (x ∷ xs) ys h =
+    let parts = fit_parts xs ys h.1 in
+    ((h.0, parts.0), parts.1)
+
+-- ---- a sum that fits isn't wrapped
+
 wrapped : (last : ℤ) (d : ℕ) → FitsSigned w64 last → FitsSigned w64 (last +ℤ pos d) → to_z w64 ((of_z w64 last + d) % 2 ^ 64) ≡ last +ℤ pos d
 wrapped (pos n) d f g = to_z_pos w64 _ (omega (arith, g.sfits)) ∙ ap pos (omega (arith, g.sfits))
 wrapped (negsuc n) d f g =
@@ -45,65 +56,88 @@ wrapped_sum last d r f is g =
     let same = is ∙ wrapped last d f g in
     ap (λ z. to_z w64 (of_z w64 z)) same ∙ to_z-of_z w64 (last +ℤ pos d) g
 
--- what the next number is
-pub record Next (bytes : List ℕ) (last : ℤ) (at : ℕ) (rest : List ℤ) : Type 0 where
-  pub id : ℤ
-  pub more : List ℤ
-  pub is : rest ≡ id ∷ more
-  pub read : moved_by at (varint_at (drop at bytes)) ≡ Ok (gap last id, at + length (shortest (gap last id)))
+-- ---- ids that are added one by one
 
-next_of : (bytes : List ℕ) (last : ℤ) (at : ℕ) (rest : List ℤ) → drop at bytes ≡ spelled_after last rest → Rises last rest → AllFit (last ∷ rest) → at < length bytes → Next bytes last at rest
-next_of bytes last at [] left rises fits lt = absurd (omega (arith, ap length left, length-drop at bytes))
-next_of bytes last at (id ∷ more) left rises fits lt = record { id = id; more = more; is = refl; read = read_at bytes at (gap last id) (spelled_after id more) (gap-lt last id fits.0 fits.1.0 rises.0) left }
+-- of the ids that are so far above `low`, these have still to come after those in place
+pub record Adds (low : ℤ) (gaps : List ℕ) (before : List ℤ) (ids : List ℤ) (count : ℕ) (last : ℤ) (left : List ℕ) : Type 0 where
+  pub last_is : last ≡ last_of (pos 0) (take count ids)
+  pub fits : AllFit (raised low gaps) → AllFit (raised last left)
+  pub all : AllFit (raised low gaps) → take count ids ++ raised last left ≡ before ++ raised low gaps
 
-pub next : (first : ℤ) (others : List ℤ) (bytes : List ℕ) (ids : List ℤ) (last : ℤ) (count at : ℕ) (r : Reads first others bytes ids last count at) → at < length bytes → Next bytes last at r.rest
-next first others bytes ids last count at r lt = next_of bytes last at r.rest r.left r.rises r.fits lt
+pub adds_start : (ids : List ℤ) (count : ℕ) (last : ℤ) (gaps : List ℕ) → last ≡ last_of (pos 0) (take count ids) → Adds (last_of (pos 0) (take count ids)) gaps (take count ids) ids count last gaps
+adds_start ids count last gaps e = record {
+  last_is = e;
+  fits = λ f. subst (λ z. AllFit (raised z gaps)) (sym e) f;
+  all = λ f. ap (λ z. take count ids ++ raised z gaps) e;
+}
 
-turn_of : (first : ℤ) (others : List ℤ) (bytes : List ℕ) (ids : List ℤ) (last : ℤ) (count at : ℕ) (id : ℤ) (more : List ℤ) → count < length ids → first ∷ others ≡ take count ids ++ id ∷ more → drop at bytes ≡ spelled_after last (id ∷ more) → Rises last (id ∷ more) → AllFit (last ∷ id ∷ more) → last_of first others ≡ last_of last (id ∷ more) → Reads first others bytes (set ids count id) id (count + 1) (at + length (shortest (gap last id)))
-turn_of first others bytes ids last count at id more lt all left rises fits ends =
-    let size = length (shortest (gap last id)) in
+-- one more is in place
+pub adds_turn : (low : ℤ) (gaps : List ℕ) (before ids : List ℤ) (count : ℕ) (last sum : ℤ) (g : ℕ) (left : List ℕ) → Adds low gaps before ids count last (g ∷ left) → count < length ids → (FitsSigned w64 (last +ℤ pos g) → sum ≡ last +ℤ pos g) → Adds low gaps before (set ids count sum) (count + 1) sum left
+adds_turn low gaps before ids count last sum g left a room is =
+    let more : take (count + 1) (set ids count sum) ≡ take count ids ++ sum ∷ [] = take_more_set ids count sum room in
     record {
-      rest = more;
-      all = all ∙ sym (append_assoc (take count ids) (id ∷ []) more) ∙ ap (λ l. l ++ more) (sym (take_more_set ids count id lt));
-      left = sym (drop-drop size at bytes) ∙ ap (drop size) left ∙ drop-append_seam (shortest (gap last id)) (spelled_after id more);
-      rises = rises.1;
-      fits = fits.1;
-      ends = ends;
+      last_is = sym (ap (last_of (pos 0)) more ∙ last_of-append (pos 0) (take count ids) (sum ∷ []));
+      fits = λ f. subst (λ z. AllFit (raised z left)) (sym (is (a.fits f).0)) (a.fits f).1;
+      all = λ f.
+          ap (λ (l : List ℤ). l ++ raised sum left) more
+          ∙ append_assoc (take count ids) (sum ∷ []) (raised sum left)
+          ∙ ap (λ z. take count ids ++ z ∷ raised z left) (is (a.fits f).0)
+          ∙ a.all f;
     }
 
--- one turn more, as the code makes it
-pub reads_turn : (first : ℤ) (others : List ℤ) (bytes : List ℕ) (ids : List ℤ) (last : ℤ) (count at d to : ℕ) (sum : ℤ) → Reads first others bytes ids last count at → at < length bytes → count < length ids → ◌≡◌ {A = Result (ℕ × ℕ) Reason} (Ok (d, to)) (moved_by at (varint_at (drop at bytes))) → ((FitsSigned w64 (last +ℤ pos d)) → sum ≡ last +ℤ pos d) → Reads first others bytes (set ids count sum) sum (count + 1) to
-reads_turn first others bytes ids last count at d to sum r lt room read is =
-    let n = next first others bytes ids last count at r lt in
-    let same = pair_parts d to (gap last n.id) (at + length (shortest (gap last n.id))) (read ∙ n.read) in
-    let rises : Rises last (n.id ∷ n.more) = subst (Rises last) n.is r.rises in
-    let fits : AllFit (last ∷ n.id ∷ n.more) = subst (λ l. AllFit (last ∷ l)) n.is r.fits in
-    let up : last +ℤ pos d ≡ n.id = ap (λ k. last +ℤ pos k) same.0 ∙ gap_up last n.id rises.0 in
-    let there : sum ≡ n.id = is (subst (λ z. FitsSigned w64 z) (sym up) fits.1.0) ∙ up in
-    subst (λ z. Reads first others bytes (set ids count z) z (count + 1) to) (sym there)
-    (subst (λ k. Reads first others bytes (set ids count n.id) n.id (count + 1) k) (sym same.1)
-    (turn_of first others bytes ids last count at n.id n.more room (r.all ∙ ap (λ l. take count ids ++ l) n.is) (r.left ∙ ap (spelled_after last) n.is) rises fits (r.ends ∙ ap (last_of last) n.is)))
+-- ---- a page that is read
+
+-- these numbers are the gaps of the ids that are still to be read
+pub record Reads (first : ℤ) (others : List ℤ) (page : PageIds) (numbers : List ℕ) : Type 0 where
+  pub fits : AllFit (raised (last_held page) numbers)
+  pub all : first ∷ others ≡ held page ++ raised (last_held page) numbers
+
+pub reads_start : (first : ℤ) (others : List ℤ) (bytes : List ℕ) (page : PageIds) → IsSpelled first others bytes → held page ≡ first ∷ [] → Reads first others page (numbers_of bytes)
+reads_start first others bytes page s e =
+    let is : raised first (numbers_of bytes) ≡ others = ap (λ (b : List ℕ). raised first (numbers_of b)) s.spelled ∙ read_spelled first others s.fits.0 s.fits.1 s.rises in
+    let low : last_held page ≡ first = ap (last_of (pos 0)) e in
+    let same : raised (last_held page) (numbers_of bytes) ≡ others = ap (λ z. raised z (numbers_of bytes)) low ∙ is in
+    record {
+      fits = subst AllFit (sym same) s.fits.1;
+      all = sym (ap (λ (l : List ℤ). l ++ raised (last_held page) (numbers_of bytes)) e ∙ ap (λ (l : List ℤ). first ∷ l) same);
+    }
+
+-- the first of them are read
+pub reads_more : (first : ℤ) (others : List ℤ) (page next : PageIds) (ns more : List ℕ) → Reads first others page (ns ++ more) → (AllFit (raised (last_held page) ns) → held next ≡ held page ++ raised (last_held page) ns) → Reads first others next more
+reads_more first others page next ns more r is =
+    let low = last_held page in
+    let parts = raised-append low ns more in
+    let fits = fit_parts (raised low ns) _ (subst AllFit parts r.fits) in
+    let e = is fits.0 in
+    let last : last_held next ≡ last_of low (raised low ns) = ap (last_of (pos 0)) e ∙ last_of-append (pos 0) (held page) (raised low ns) in
+    record {
+      fits = subst (λ z. AllFit (raised z more)) (sym last) fits.1;
+      all = r.all
+          ∙ ap (λ (l : List ℤ). held page ++ l) parts
+          ∙ sym (append_assoc (held page) (raised low ns) (raised (last_of low (raised low ns)) more))
+          ∙ ap (λ (l : List ℤ). l ++ raised (last_of low (raised low ns)) more) (sym e)
+          ∙ ap (λ z. held next ++ raised z more) (sym last);
+    }
+
+-- one more is read
+pub reads_next : (first : ℤ) (others : List ℤ) (page next : PageIds) (low sum : ℤ) (n : ℕ) (more : List ℕ) → Reads first others page (n ∷ more) → 0 < page.count → page.count < length page.ids → low ≡ get_or page.ids (page.count - 1) (pos 0) → (FitsSigned w64 (low +ℤ pos n) → sum ≡ low +ℤ pos n) → held next ≡ take (page.count + 1) (set page.ids page.count sum) → Reads first others next more
+reads_next first others page next low sum n more r some room low_is is e =
+    let last : last_held page ≡ low = last_at page.ids page.count some (omega (arith, room)) ∙ sym low_is in
+    reads_more first others page next (n ∷ []) more r
+    (λ f.
+    let same : sum ≡ last_held page +ℤ pos n = is (subst (λ z. FitsSigned w64 (z +ℤ pos n)) last f.0) ∙ ap (λ z. z +ℤ pos n) (sym last) in
+    e ∙ take_more_set page.ids page.count sum room ∙ ap (λ z. held page ++ z ∷ []) same)
 
 -- all are read
-none_left : (bytes : List ℕ) (last : ℤ) (at : ℕ) (rest : List ℤ) → drop at bytes ≡ spelled_after last rest → Rises last rest → AllFit (last ∷ rest) → length bytes ≤ at → rest ≡ []
-none_left bytes last at [] left rises fits le = refl
-none_left bytes last at (id ∷ more) left rises fits le =
-    let some = shortest_some (gap last id) (gap-lt last id fits.0 fits.1.0 rises.0) in
-    absurd (omega (arith, ap length left, length-drop at bytes, some, length-append (shortest (gap last id)) (spelled_after id more)))
-
 nil_of : (l : List ℤ) → length l ≤ 0 → l ≡ []
 nil_of [] le = refl
 nil_of (x ∷ l) le = absurd (omega arith)
 
-pub reads_end : (first : ℤ) (others : List ℤ) (bytes : List ℕ) (ids : List ℤ) (last : ℤ) (count at : ℕ) → IsSpelled first others bytes → (r : Reads first others bytes ids last count at) → count ≤ length ids → (at < length bytes → 128 ≤ count) → r.rest ≡ []
-reads_end first others bytes ids last count at s r le done =
-    elim (cases_lt at (length bytes)) [
-      | inl more ↦ nil_of r.rest (omega (arith, done more, ap length r.all, length-append (take count ids) r.rest, length-take-le count ids le, s.few))
-      | inr end ↦ none_left bytes last at r.rest r.left r.rises r.fits end
-    ]
+pub reads_none : (first : ℤ) (others : List ℤ) (page : PageIds) (numbers : List ℕ) → Reads first others page numbers → numbers ≡ [] → held page ≡ first ∷ others
+reads_none first others page numbers r none = sym (r.all ∙ ap (λ (ns : List ℕ). held page ++ raised (last_held page) ns) none ∙ append-nil (held page))
 
-pub reads_all : (first : ℤ) (others : List ℤ) (bytes : List ℕ) (ids : List ℤ) (last : ℤ) (count at : ℕ) → (r : Reads first others bytes ids last count at) → r.rest ≡ [] → take count ids ≡ first ∷ others
-reads_all first others bytes ids last count at r none = sym (append-nil (take count ids)) ∙ ap (λ l. take count ids ++ l) (sym none) ∙ sym r.all
-
-pub reads_last : (first : ℤ) (others : List ℤ) (bytes : List ℕ) (ids : List ℤ) (last : ℤ) (count at : ℕ) → (r : Reads first others bytes ids last count at) → r.rest ≡ [] → last_of first others ≡ last
-reads_last first others bytes ids last count at r none = r.ends ∙ ap (last_of last) none
+pub reads_full : (first : ℤ) (others : List ℤ) (page : PageIds) (numbers : List ℕ) → Reads first others page numbers → length others ≤ 127 → 128 ≤ page.count → page.count ≤ length page.ids → held page ≡ first ∷ others
+reads_full first others page numbers r few full le =
+    let left = raised (last_held page) numbers in
+    let none : left ≡ [] = nil_of left (omega (arith, few, full, ap length r.all, length-append (held page) left, length-take-le page.count page.ids le)) in
+    sym (r.all ∙ ap (λ (l : List ℤ). held page ++ l) none ∙ append-nil (held page))

@@ -1,5 +1,5 @@
 -- Rising ids by their places, and the ids between them.
-use Rattle.std.proofs.Common.{◌≡◌, ℕ, zero, suc, ◌-◌, ◌<◌, ◌≤◌, true, false, List, [], ◌∷◌, length, get_or, ℤ, pos, ◌+ℤ◌, ◌-ℤ◌, nat_abs, ◌<ℤ◌, ◌≤ℤ◌, int_lt, inl, inr, refl, sym, ap, subst, ◌∙◌, arith}
+use Rattle.std.proofs.Common.{◌≡◌, ℕ, zero, suc, ◌-◌, ◌<◌, ◌≤◌, true, false, List, [], ◌∷◌, length, get_or, ℤ, pos, ◌+ℤ◌, ◌<ℤ◌, ◌≤ℤ◌, int_lt, inl, inr, refl, sym, ap, subst, ◌∙◌, arith}
 use Rattle.std.specs.FinSet as set
 use Rattle.std.specs.List.{list_any}
 use Rattle.std.specs.List.Sorted.{IsPartitionedBy, IsPartitionPoint}
@@ -87,13 +87,6 @@ all_between (y ∷ ids) zero (suc j) x d h le lt near low high =
       ]
     ]
 
--- two runs that meet are one
-pub run_joined : (ids : List ℤ) (from at to : ℕ) (d : ℤ) → IsRising ids → from ≤ at → at ≤ to → to < length ids → nat_abs (get_or ids at d -ℤ get_or ids from d) ≡ at - from → nat_abs (get_or ids to d -ℤ get_or ids at d) ≡ to - at → get_or ids to d ≤ℤ (get_or ids from d +ℤ pos (to - from))
-run_joined ids from at to d h low high lt before after =
-    let a = at_most ids from at d h low (omega arith) in
-    let b = at_most ids at to d h high lt in
-    omega (arith, ints, a, b, before, after, low, high)
-
 -- ---- a page
 
 first_is : (page : PageIds) → 0 < page.count → get_or (held page) 0 (pos 0) ≡ first_held page
@@ -125,9 +118,10 @@ gap_known ids page at below k some begun le last next x low high =
     omega (arith, ints, behind, same, e, high))
 
 -- and those of a run
-pub run_known : (ids : Ids) (page : PageIds) (from at to : ℕ) → IsKept ids page → from ≤ at → at ≤ to → to < length (held page) → IsRun (held page) from at → IsRun (held page) at to → (x : ℤ) → get_or (held page) from (pos 0) ≤ℤ x → x ≤ℤ get_or (held page) to (pos 0) → set.contains ids x ≡ true
-run_known ids page from at to k low high lt before after x above below =
-    k.inside x (all_between (held page) from to x (pos 0) k.rising (omega (arith, low, high)) lt (run_joined (held page) from at to (pos 0) k.rising low high lt before after) above below)
+pub run_known : (ids : Ids) (page : PageIds) (at to : ℕ) → IsKept ids page → at ≤ to → to < length (held page) → IsRun (held page) at to → (x : ℤ) → get_or (held page) at (pos 0) ≤ℤ x → x ≤ℤ get_or (held page) to (pos 0) → set.contains ids x ≡ true
+run_known ids page at to k high lt run x above below =
+    let up = at_most (held page) at to (pos 0) k.rising high lt in
+    k.inside x (all_between (held page) at to x (pos 0) k.rising high lt (omega (arith, ints, up, run, high)) above below)
 
 -- the place of an id that is not below the first
 pub record Placed (ids : List ℤ) (id : ℤ) (at : ℕ) : Type 0 where

@@ -1,8 +1,8 @@
 -- Pages that are read one after the other.
-use Rattle.std.proofs.Common.{◌≡◌, ℕ, zero, suc, ◌+◌, ◌*◌, ◌<◌, ◌≤◌, List, [], ◌∷◌, ◌++◌, length, take, drop, get_or, ℤ, pos, refl, sym, ap, ◌∙◌, arith, take-append-drop}
+use Rattle.std.proofs.Common.{◌≡◌, ℕ, ◌+◌, ◌*◌, ◌<◌, ◌≤◌, List, [], ◌∷◌, ◌++◌, length, take, drop, get_or, ℤ, pos, sym, ap, ◌∙◌, arith, take-append-drop}
 use Rattle.std.specs.Int.{div_ceil}
 use Rattle.std.specs.FinSet as set
-use Rattle.std.proofs.lemmas.List.{drop-drop, drop_all, length-take, length-drop, get_or-take}
+use Rattle.std.proofs.lemmas.List.{drop-drop, drop_all, drop_more, length-take, length-drop, get_or-take}
 use Rattle.osm_ids.specs.declared.page.PageIds.{PageIds}
 use Rattle.osm_ids.specs.Pages.{rising}
 use Rattle.osm_ids.specs.Windows.{held}
@@ -32,14 +32,7 @@ next_page ids page next at n le e =
 pub some_next : (ids : Ids) (next : PageIds) (n : ℕ) → n < div_ceil (set.len ids) 128 → held next ≡ take 128 (drop (128 * n) (rising ids)) → 0 < length (held next)
 some_next ids next n lt e = omega (arith, lt, len_is ids, ap length e, length-take 128 (drop (128 * n) (rising ids)), length-drop (128 * n) (rising ids))
 
-drop_first : (l : List ℤ) (n : ℕ) (d : ℤ) → n < length l → drop n l ≡ get_or l n d ∷ drop (n + 1) l
-drop_first [] n d lt = absurd (omega arith)
-drop_first (x ∷ l) zero d lt = refl
-drop_first (x ∷ l) (suc n) d lt =
-    let same : suc (n + 1) ≡ suc n + 1 = omega arith in
-    drop_first l n d (omega arith) ∙ ap (λ k. get_or l n d ∷ drop k (x ∷ l)) same
-
 pub step : (page : PageIds) (at : ℕ) (back : List ℤ) → at < length (held page) → drop at (held page) ++ back ≡ get_or page.ids at (pos 0) ∷ (drop (at + 1) (held page) ++ back)
 step page at back lt =
     let within : at < page.count = omega (arith, lt, length-take page.count page.ids) in
-    ap (λ (l : List ℤ). l ++ back) (drop_first (held page) at (pos 0) lt ∙ ap (λ z. z ∷ drop (at + 1) (held page)) (get_or-take page.count page.ids at (pos 0) within))
+    ap (λ (l : List ℤ). l ++ back) (drop_more (held page) at (pos 0) lt ∙ ap (λ z. z ∷ drop (at + 1) (held page)) (get_or-take page.count page.ids at (pos 0) within))

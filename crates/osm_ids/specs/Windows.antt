@@ -9,7 +9,7 @@ use Rattle.osm_ids.specs.declared.page.Known.{Known}
 use Rattle.osm_ids.specs.declared.page.PageIds.{PageIds}
 use Rattle.osm_ids.specs.declared.window.Window.{Window}
 use Rattle.osm_ids.specs.Order.{IsReached}
-use Rattle.osm_ids.specs.Pages.{IsRising}
+use Rattle.osm_ids.specs.Pages.{IsRising, last_of}
 
 -- ---- a span of ids
 
@@ -38,6 +38,10 @@ held page = take page.count page.ids
 
 abbrev pub first_held : PageIds → ℤ
 first_held page = get_or page.ids 0 (pos 0)
+
+-- the last of them
+abbrev pub last_held : PageIds → ℤ
+last_held page = last_of (pos 0) (held page)
 
 -- these are ids of the set, and it has no others from the first of them up to `below`, to which it reaches
 pub record IsKept (ids : set.FinSet int_cmp) (page : PageIds) : Type 0 where

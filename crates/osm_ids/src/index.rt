@@ -6,7 +6,7 @@ ghost use Rattle.osm_ids.specs.Pages.{Page, IsSealed};
 ghost use Rattle.osm_ids.specs.Index.{IsPassedAt, IsBegunAt, BegunIn, BeginFrom, HoldsBefore, IsRead, set_in};
 ghost use Rattle.osm_ids.specs.Windows.{IsKnown, Tells};
 
-use crate::page::{Known, PageIds, read_page, told};
+use crate::page::{Known, PageIds, told};
 
 /// How many ids a page has, all but the last.
 pub(crate) const PAGE: u64 = 128;
@@ -69,15 +69,14 @@ pub(crate) fn known_whole(index: &[PageStart], begun: usize) -> Option<Known>
 }
 
 /// Reads the page before a place of the index.
-pub(crate) fn read_before(index: &[PageStart], bytes: &[u8], begun: usize) -> PageIds
+pub(crate) fn read_before(index: &[PageStart], bytes: &[u8], begun: usize, page: &mut PageIds)
     requires { BegunIn index.now bytes.now begun }
-    ensures { IsRead index.now bytes.now begun result }
+    ensures { IsRead index.now bytes.now begun page.new }
 {
-    let mut page = read_page(index[begun - 1].first, page_before(index, bytes, begun));
+    page.read(index[begun - 1].first, page_before(index, bytes, begun));
     if begun < index.len() {
         page.below = index[begun].first;
     }
-    page
 }
 
 /// The bytes of the page before a place of the index.

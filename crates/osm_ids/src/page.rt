@@ -1,14 +1,14 @@
 //! The ids of one page, as numbers.
 
-ghost use Rattle.std.specs.Prelude.{◌≡◌, ◌<◌, ◌≤◌, ◌<ℤ◌, ◌≤ℤ◌, int_lt, length, List, [], ◌∷◌, ℤ, IsTrue};
+ghost use Rattle.std.specs.Prelude.{◌≡◌, ◌+◌, ◌<◌, ◌≤◌, ◌++◌, ◌<ℤ◌, ◌≤ℤ◌, int_lt, length, List, [], ◌∷◌, ℤ, IsTrue};
 ghost use Rattle.std.specs.List.{list_any};
 ghost use Rattle.std.specs.Ordering.{int_eq, int_cmp};
 ghost use Rattle.std.specs.FinSet as set;
-ghost use Rattle.osm_ids.specs.Pages.{IsSpelled, last_of};
-ghost use Rattle.osm_ids.specs.Windows.{IsBegun, IsKept, IsKnown, IsNext, IsRun, Tells, held, first_held};
+ghost use Rattle.osm_ids.specs.Pages.{AllFit, IsSpelled, last_of, raised};
+ghost use Rattle.osm_ids.specs.Windows.{IsBegun, IsKept, IsKnown, IsNext, IsRun, Tells, held, first_held, last_held};
 
 use crate::pages::SealedIds;
-use pbf_wire::{Span, get_varint};
+use pbf_wire::{Column, Span};
 
 /// What is known of the ids of a span: the set has all of them, or none.
 #[derive(Clone, Copy)]
@@ -59,6 +59,7 @@ impl PageIds {
     }
 
     /// Whether a set has the id, and ids round it of which the same holds. If these ids aren't near, the page that it is in is read.
+    #[inline(always)]
     pub(crate) fn find(&mut self, ids: &SealedIds, id: i64) -> Known
         requires { IsKept ids.now self.old }
         ensures kept { IsKept ids.now self.new }
@@ -72,7 +73,51 @@ impl PageIds {
         self.round(id)
     }
 
-    /// Whether an id that isn't below the first is one of these, and ids round it of which the same holds.
+    /// Reads a page with that first id whose bytes these are. No other page follows, as long as none is named.
+    #[inline(never)]
+    pub(crate) fn read(&mut self, first: i64, bytes: &[u8])
+        ensures count { (0 < self.new.count) × (self.new.count ≤ 128) }
+        ensures ids { (others : List ℤ) → IsSpelled first others bytes.now
+            → held self.new ≡ first ∷ others }
+        ensures below { (others : List ℤ) → IsSpelled first others bytes.now
+            → IsNext (last_of first others) self.new.below }
+    {
+        let mut gaps = Column::packed(bytes);
+        self.ids[0] = first;
+        self.count = 1;
+        self.rise(gaps.pass_singles(127));
+        'ids: while self.count < 128 {
+            let Some(gap) = gaps.next() else {
+                break 'ids;
+            };
+            // A page's ids fit, so this wraps in no page.
+            self.ids[self.count] = self.ids[self.count - 1].wrapping_add_unsigned(gap);
+            self.count += 1;
+            self.rise(gaps.pass_singles(128 - self.count));
+        }
+        self.below = after(self.ids[self.count - 1]);
+    }
+
+    /// Adds ids that are so far above one another.
+    #[inline(always)]
+    fn rise(&mut self, gaps: &[u8])
+        requires some { 0 < self.old.count }
+        requires within { self.old.count + length gaps.now ≤ 128 }
+        ensures count { self.new.count ≡ self.old.count + length gaps.now }
+        ensures ids { AllFit (raised (last_held self.old) gaps.now)
+            → held self.new ≡ held self.old ++ raised (last_held self.old) gaps.now }
+    {
+        let mut last = self.ids[self.count - 1];
+        let mut count = self.count;
+        for gap in gaps.iter() {
+            last = last.wrapping_add_unsigned(u64::from(*gap));
+            self.ids[count] = last;
+            count += 1;
+        }
+        self.count = count;
+    }
+
+    /// Whether an id that isn't below the first is one of these, and ids from it on, or round it, of which the same holds.
     fn round(&self, id: i64) -> Known
         requires { IsBegun self.now id }
         ensures there { result.there ≡ list_any (int_eq id) (held self.now) }
@@ -86,9 +131,8 @@ impl PageIds {
         if ids[at] != id {
             return told(false, ids[at - 1], ids[at]);
         }
-        let from = run_before(ids, at);
         let to = run_after(ids, at);
-        told(true, before(ids[from]), after(ids[to]))
+        told(true, before(ids[at]), after(ids[to]))
     }
 }
 
@@ -121,19 +165,6 @@ fn after(number: i64) -> i64
     }
 }
 
-/// The place of the first of the ids that rise by one up to a place.
-fn run_before(ids: &[i64], at: usize) -> usize
-    requires { at < length ids.now }
-    ensures low { result ≤ at }
-    ensures run { IsRun ids.now result at }
-{
-    let mut from = at;
-    'down: while 0 < from && ids[at].abs_diff(ids[from - 1]) == (at - from) as u64 + 1 {
-        from -= 1;
-    }
-    from
-}
-
 /// The place of the last of the ids that rise by one from a place on.
 fn run_after(ids: &[i64], at: usize) -> usize
     requires { at < length ids.now }
@@ -141,38 +172,13 @@ fn run_after(ids: &[i64], at: usize) -> usize
     ensures run { IsRun ids.now at result }
 {
     let mut to = at;
-    'up: while to + 1 < ids.len() && ids[to + 1].abs_diff(ids[at]) == (to - at) as u64 + 1 {
-        to += 1;
+    let mut step = 8;
+    'up: while step > 0 {
+        if step < ids.len() - to && ids[to + step].abs_diff(ids[at]) == (to - at + step) as u64 {
+            to += step;
+        } else {
+            step /= 8;
+        }
     }
     to
-}
-
-/// Reads a page with that first id whose bytes these are. No other page follows, as long as none is named.
-pub(crate) fn read_page(first: i64, bytes: &[u8]) -> PageIds
-    ensures count { (0 < result.count) × (result.count ≤ 128) }
-    ensures ids { (others : List ℤ) → IsSpelled first others bytes.now
-        → held result ≡ first ∷ others }
-    ensures below { (others : List ℤ) → IsSpelled first others bytes.now
-        → IsNext (last_of first others) result.below }
-{
-    let mut ids = [0; 128];
-    ids[0] = first;
-    let mut last = first;
-    let mut count = 1;
-    let mut at = 0;
-    'ids: while at < bytes.len() && count < 128 {
-        let Ok((gap, next)) = get_varint(bytes, at) else {
-            break 'ids;
-        };
-        // A page's ids fit, so this wraps in no page.
-        last = last.wrapping_add_unsigned(gap);
-        ids[count] = last;
-        count += 1;
-        at = next;
-    }
-    PageIds {
-        ids,
-        count,
-        below: after(last),
-    }
 }

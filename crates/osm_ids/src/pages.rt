@@ -115,6 +115,7 @@ impl SealedIds {
     }
 
     /// What the index says of an id and those round it. If it says nothing, the page that the id is in is read.
+    #[inline(never)]
     pub(crate) fn look(&self, id: i64, page: &mut PageIds) -> Option<Known>
         ensures some { IfSome result (λ known. Tells self.now id known × (page.new ≡ page.old)) }
         ensures none { IfNone result (IsPageOf self.now id page.new) }
@@ -129,16 +130,16 @@ impl SealedIds {
         if let Some(known) = known_whole(&self.index, begun) {
             return Some(known);
         }
-        *page = read_before(&self.index, &self.bytes, begun);
+        read_before(&self.index, &self.bytes, begun, page);
         None
     }
 
-    /// The ids of a page.
-    pub(crate) fn read(&self, page: usize) -> PageIds
+    /// Reads the ids of a page.
+    pub(crate) fn read(&self, page: usize, ids: &mut PageIds)
         requires { page < div_ceil (set.len self.now) 128 }
-        ensures ids { held result ≡ take 128 (drop (128 * page) (rising self.now)) }
-        ensures within { result.count ≤ 128 }
+        ensures ids { held ids.new ≡ take 128 (drop (128 * page) (rising self.now)) }
+        ensures within { ids.new.count ≤ 128 }
     {
-        read_before(&self.index, &self.bytes, page + 1)
+        read_before(&self.index, &self.bytes, page + 1, ids);
     }
 }

@@ -52,7 +52,7 @@ impl<'a> Walk<'a> {
             if self.page as u64 >= self.ids.pages() {
                 return None;
             }
-            self.here = self.ids.read(self.page);
+            self.ids.read(self.page, &mut self.here);
             self.at = 0;
             self.page += 1;
         }

@@ -7,7 +7,7 @@ ghost use Rattle.osm_entity.specs.Views.{entity_of};
 ghost use Rattle.osm_ways.specs.Seen.{seen_refs, seen_way};
 ghost use Rattle.pbf_block.specs.Kinds.{is_among};
 ghost use Rattle.pbf_block.specs.PrimitiveBlock.{entities};
-ghost use Rattle.pbf_block.specs.Runs.{entity_from, way_from, joined_runs, run_entities, runs_left};
+ghost use Rattle.pbf_block.specs.Runs.{entity_from, joined_runs, nodes_from, run_entities, runs_left, way_from};
 ghost use Rattle.pbf_dense.specs.Cursors.{dense_left};
 ghost use Rattle.pbf_wire.specs.declared.fault.Fault.{Fault};
 ghost use Rattle.pbf_wire.specs.declared.fault.ReadFault.TheVariants.{Refused};
@@ -23,7 +23,7 @@ use crate::receipt::{Halt, Passes};
 use crate::visit::{FileRead, Visit, pass_over, step};
 use osm_entity::EntityRef;
 use osm_ways::{NodePhase, RelationPhase, SeenWay, WayPhase};
-use pbf_block::{Block, Counts, Kinds, Run, Runs, UnmadeEntity, UnmadeWay};
+use pbf_block::{Block, Counts, Kinds, Run, Runs, UnmadeDense, UnmadeEntity, UnmadeWay};
 use pbf_dense::Dense;
 use pbf_frame::{Feed, Frame, FrameKind, FrameReader, Stop};
 use pbf_header::Header;
@@ -155,6 +155,15 @@ fn gather_one<G: Gather>(unmade: &UnmadeEntity<'_>, gathering: &mut G) -> Result
     gathering.gather(&unmade.make())
 }
 
+/// Gathers the nodes of a dense message. It is a call, like [`gather_one`].
+#[inline(never)]
+fn gather_nodes<G: Gather>(unmade: &UnmadeDense<'_>, gathering: &mut G) -> Result<(), AllocError>
+    ensures { OnOk result
+        (gathering.new ≡ fold G.gathered gathering.old (map node (nodes_from unmade.now))) }
+{
+    gathering.gather_dense(&unmade.nodes())
+}
+
 /// Gathers the entities of a run.
 #[inline(always)]
 fn gather_run<G: Gather>(run: &Run<'_>, gathering: &mut G) -> Result<(), AllocError>
@@ -164,7 +173,7 @@ fn gather_run<G: Gather>(run: &Run<'_>, gathering: &mut G) -> Result<(), AllocEr
         Run::Nothing => Ok(()),
         Run::One(unmade) => gather_one(unmade, gathering),
         Run::Way(way) => gathering.gather_way(way),
-        Run::Dense(dense) => gathering.gather_dense(&dense.nodes()),
+        Run::Dense(dense) => gather_nodes(dense, gathering),
     }
 }
 

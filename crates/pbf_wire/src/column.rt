@@ -324,7 +324,7 @@ impl<'a> Column<'a> {
     /// Skips the next numbers, at most so many, as long as each takes one byte of the packed occurrence that was begun, and returns those
     /// bytes, which are the numbers. The place is left as it is.
     #[inline(always)]
-    pub(crate) fn pass_singles(&mut self, most: usize) -> &'a [u8]
+    pub fn pass_singles(&mut self, most: usize) -> &'a [u8]
         ensures few { length result.now ≤ most }
         ensures single { AllByRecursion (λ b. b < 128) result.now }
         ensures passed { numbers_left self.old ≡ result.now ++ numbers_left self.new }

@@ -1,4 +1,4 @@
-use Rattle.std.proofs.Common.{◌≤◌, ◌<◌, ◌-◌, length}
+use Rattle.std.proofs.Common.{◌≤◌, ◌<◌, ◌+◌, ◌-◌, length}
 use Rattle.osm_ids.specs.Windows.{IsRun}
 use Rattle.osm_ids.proofs.page.run_after.Given as goal
 
@@ -6,8 +6,9 @@ abbrev pub invariant-up : goal.invariant-up
 invariant-up l = record {
   low : l.at ≤ l.to;
   high : l.to < length l.ids;
+  step : l.step ≤ 8;
   run : IsRun l.ids l.at l.to;
 }
 
 abbrev pub decreases-up : goal.decreases-up
-decreases-up l = length l.ids - l.to
+decreases-up l = (length l.ids - l.to) + l.step

@@ -81,11 +81,11 @@ returns-then-ids-at-clause-known c = λ ids kept x above below.
 pub returns-clause-known : goal.returns-clause-known
 returns-clause-known c = λ ids kept x above below.
     let page = c.args.self.now in
-    let from = c.run_before-from.result in
+    let at = c.partition_point-at.result in
     let to = c.run_after-to.result in
     let low_fits : SFits w64 c.before-2.result = search rules in
     let high_fits : SFits w64 c.after.result = search rules in
-    let first_fits : SFits w64 (get_or (held page) from (pos 0)) = search rules in
+    let first_fits : SFits w64 (get_or (held page) at (pos 0)) = search rules in
     let last_fits : SFits w64 (get_or (held page) to (pos 0)) = search rules in
     let e = c.told-2.ensures in
     let low = subst (λ z. z <ℤ x) (ap (λ (k : Known). k.span.above) e ∙ to_z-of_z w64 c.before-2.result low_fits) above in
@@ -93,5 +93,5 @@ returns-clause-known c = λ ids kept x above below.
     let begins = subst (λ z. z ≤ℤ x) (to_z-of_z w64 _ first_fits) (c.before-2.ensures x low) in
     let next = subst (λ z. IsNext z c.after.result) (to_z-of_z w64 _ last_fits) c.after.ensures in
     let up = next.high in
-    run_known ids page from c.partition_point-at.result to kept c.run_before-from.ensures.low c.run_after-to.ensures.high.0 c.run_after-to.ensures.high.1 c.run_before-from.ensures.run c.run_after-to.ensures.run x begins (omega (arith, ints, up, high))
+    run_known ids page at to kept c.run_after-to.ensures.high.0 c.run_after-to.ensures.high.1 c.run_after-to.ensures.run x begins (omega (arith, ints, up, high))
     ∙ sym (ap (λ (k : Known). k.there) e)

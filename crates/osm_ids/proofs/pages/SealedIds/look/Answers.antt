@@ -87,7 +87,7 @@ returns-clause-none c =
     let id = c.args.id in
     let sealed = c.self.invariant.1 in
     let begun = c.begun_by-begun.result in
-    let page = c.read_before.result in
+    let page = c.read_before.new.page in
     let point : IsPassedAt c.self.inside.index.items id begun = passed c.self.inside.index.items _ bytes _ id _ _ sealed (to_z-of_z w64 id c.ranges.id) c.deref.ensures.value c.begun_by-begun.ensures.point in
     subst (λ (s : Ids). IsPageOf s id page) c.self.view_is
     (subst (λ (b : List ℕ). IsPageOf (set_in c.self.inside.index.items b) id page) c.deref-4.ensures.value

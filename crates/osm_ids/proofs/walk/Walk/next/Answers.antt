@@ -21,11 +21,11 @@ ready c =
       | then-self+else-self-pages w ↦
           let ids = c.self.inside.ids.now in
           let n = c.self.inside.page in
-          let page = w.read-self-inside.ensures.ids in
+          let page = w.read.ensures.ids in
           subst (IsReady c.args.self.now) (sym w.self-inside-is) (record {
-            same = sym c.self.view_is ∙ next_page ids c.self.inside.here w.read-self-inside.result c.self.inside.at n (omega (arith, w.if-self.true)) page;
-            more = some_next ids w.read-self-inside.result n (omega (arith, w.pages.ensures, w.if-self-pages.false)) page;
-            few = w.read-self-inside.ensures.within;
+            same = sym c.self.view_is ∙ next_page ids c.self.inside.here w.read.new.ids c.self.inside.at n (omega (arith, w.if-self.true)) page;
+            more = some_next ids w.read.new.ids n (omega (arith, w.pages.ensures, w.if-self-pages.false)) page;
+            few = w.read.ensures.within;
           })
       | else-self w ↦
           let here = c.self.inside.here in
