@@ -233,7 +233,8 @@ fn of_write(rt: &HostRuntime, asked: Asked<'_>, failed: FailedWrite) -> Option<S
 /// What the text of a polygon should be.
 fn of_polygon_fault(fault: &PolyFault) -> &'static str {
     match fault.reason {
-        PolyReason::Json => "the file begins with {, and is no JSON: 'python3 -m json.tool FILE' says where",
+        PolyReason::Json =>
+            "the file begins with {, and is no JSON: 'python3 -m json.tool FILE' says where",
         _ => match fault.place {
             PolyPlace::Line(_, _) => {
                 "a .poly file has a name; for each ring a name, lines of longitude and latitude, and END; and END"
