@@ -341,12 +341,26 @@ def ring(edges: int, inner: float) -> bytes:
     return ("ring\n1\n" + "".join(lines) + "END\nEND\n").encode()
 
 
+def as_geojson(text: bytes) -> bytes:
+    """The ring of a .poly file as GeoJSON."""
+    places = [line.split() for line in text.decode().splitlines()[2:-2]]
+    return b'{"type": "Polygon", "coordinates": [[%s]]}' % ", ".join(f"[{lon}, {lat}]" for lon, lat in places + places[:1]).encode()
+
+
+def nested(depth: int) -> bytes:
+    """GeoJSON with members beside the ring that nest as deep as is read, one after another."""
+    beside = ", ".join(["[" * 126 + "]" * 126] * depth)
+    return b'{"properties": [%s], %s' % (beside.encode(), as_geojson(ring(100, 0.4499))[1:])
+
+
 # by the size: the nodes, and the ring. An edge of a coast crosses few latitudes, and each edge of a star nearly all; so a star takes as long as
 # its edges and the nodes, multiplied
 POLYGONS = {
     "coast of more edges": (lambda size: scattered(10_000), lambda size: ring(8_000 * size, 0.4499)),
     "coast with more nodes": (lambda size: scattered(40_000 * size), lambda size: ring(10_000, 0.4499)),
     "star of more edges": (lambda size: scattered(10_000), lambda size: ring(200 * size, 0.01)),
+    "geojson of more edges": (lambda size: scattered(10_000), lambda size: as_geojson(ring(8_000 * size, 0.4499))),
+    "geojson of more lists": (lambda size: scattered(10_000), lambda size: nested(400 * size)),
     "star with more nodes": (lambda size: scattered(10_000 * size), lambda size: ring(200, 0.01)),
 }
 # an edge of a ring may cost as much as hashing so many bytes, and each node that a star is asked for so many for each of its edges
@@ -357,7 +371,7 @@ def polygon_files(shape: str, size: int) -> dict:
     make_nodes, make_ring = POLYGONS[shape]
     text = make_ring(size)
     raw = raw_file(make_nodes(size))
-    edges = text.count(b"\n")
+    edges = text.count(b"[" if text.startswith(b"{") else b"\n")
     asked = len(raw) // 8 * edges * ASKED if shape.startswith("star") else 0
     return {"pbfcut": (raw, edges * EDGE + asked), "ring": (text, 0)}
 

@@ -28,6 +28,9 @@ ALL = "nodes 272 ways 64 relations 13\n"
 ENDS = [signal.SIGTERM, signal.SIGINT, signal.SIGHUP, signal.SIGQUIT]
 SECONDS = 120
 # A ring round the same places as the box of CUT, in the form in which such files are published.
+# the same ring as GeoJSON, as osmium takes it, and alone
+FEATURE = '{"type": "Feature", "properties": {}, "geometry": %s}'
+RING_JSON = '{"type": "Polygon", "coordinates": [[[9.997, 49.999], [10.003, 49.999], [1.0003e1, 50.003], [9.997, 50.003], [9.997, 49.999]]]}'
 RING = "town\n1\n   9.997E+00   4.9999E+01\n   10.003   49.999\n   10.003   50.003\n   9.997   50.003\n   9.997   49.999\nEND\nEND\n"
 # Other programs, and how each prints what it reads.
 READERS = {"osmium": ["cat", "--no-progress", "-f", "opl", "FILE"], "ogrinfo": ["-ro", "-al", "FILE"],
@@ -63,6 +66,8 @@ class Bench:
         self.write("raw", self.raw)
         self.write("in", packed_sample)
         self.write("ring.poly", RING.encode())
+        self.write("ring.geojson", RING_JSON.encode())
+        self.write("feature.geojson", (FEATURE % RING_JSON).encode())
         self.start_files = set(os.listdir(folder))
         # what OUT has to be
         self.cut = self.made(["--raw", "in", "out"], CUT)
@@ -165,7 +170,8 @@ def options(bench: Bench):
     """OUT as an option, in place of a file, and on standard output; the names that the options have elsewhere."""
     box = CUT[1].split("=")[1]
     for words in [["-b", box, "in", "-o", "out"], ["-b", box, "-oout", "in"], [f"--bbox={box}", "--output=out", "in"],
-                  ["-o", "out", "-b", box, "--", "in"], ["-p", "ring.poly", "in", "out"], ["--polygon=ring.poly", "in", "-o", "out"]]:
+                  ["-o", "out", "-b", box, "--", "in"], ["-p", "ring.poly", "in", "out"], ["--polygon=ring.poly", "in", "-o", "out"],
+                  ["-p", "ring.geojson", "in", "out"], ["-p", "feature.geojson", "in", "out"]]:
         expect(f"{words}", bench.cut, bench.made(["--raw", *words], ["extract"]))
     for words, said in [(["in"], "  <OUT>\n"), (["in", "out", "-o", "other"], "'--output <OUT>' cannot be used with '[OUT]'"),
                         (["in", "-o"], "a value is required"), (["in", "-o", "a", "-o", "b"], "cannot be used multiple times")]:
@@ -174,8 +180,10 @@ def options(bench: Bench):
     bench.case([*CUT, "-p", "ring.poly", "in", "out"], status=2, said="cannot be used with '--polygon <FILE>'")
     bench.case(["extract", "-p", "absent", "in", "out"], status=3, said="pbfcutz: cannot open\n")
     bench.case(["extract", "-p", "in", "in", "out"], status=3, said="pbfcutz: cannot open\n")
-    for text, fault in [("", "line 1: 1 Ended"), ("a\n1\nx\n", "line 3: 2 Number"), ("a\n1\n200 0\n", "line 3: 3 Range"),
-                        ("a\n1\n0 0\n1 1\nEND\nEND\n", "line 5: 4 Short"), ("a\nEND\n", "line 3: 5 Empty"), (RING + "b\n", "line 10: 6 Rest")]:
+    for text, fault in [("", "line 1, column 1: 1 Ended"), ("a\n1\nx\n", "line 3, column 1: 2 Number"), ("a\n1\n 0  200\n", "line 3, column 5: 3 Range"),
+                        ("a\n1\n0 0\n1 1\n  END\nEND\n", "line 5, column 3: 4 Short"), ("a\nEND\n", "line 3, column 1: 5 Empty"),
+                        (RING + "b\n", "line 10, column 1: 6 Rest"), (RING_JSON + "}", "7 Json"), (FEATURE % "null", "8 Shape"),
+                        (RING_JSON.replace("50.003]", "90.1]", 1), "ring 1, position 3: 3 Range"), (RING_JSON.replace("9.997", "9.9", 1), "ring 1, position 5: 9 Open")]:
         bench.write("bad.poly", text.encode())
         bench.case(["extract", "-p", "bad.poly", "in", "out"], status=2, said=f"pbfcutz: polygon: {fault}\n")
     os.unlink(bench.path("bad.poly"))

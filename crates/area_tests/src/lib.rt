@@ -2,6 +2,8 @@
 #![tactic(auto)]
 
 #[cfg(test)]
+mod geojson;
+#[cfg(test)]
 mod poly_file;
 #[cfg(test)]
 mod polygon;

@@ -1,6 +1,6 @@
 //! What no clause says: by example what texts of .poly files mean, and each fault.
 
-use osm_polygon::{Place, PolyError, PolyFault, PolyReason, read_poly};
+use osm_polygon::{Place, PolyError, PolyFault, PolyPlace, PolyReason, read_rings};
 use std::alloc::Global;
 use std::test::Fail;
 
@@ -36,7 +36,7 @@ fn is_at(place: Place, lat: i64, lon: i64) -> bool {
 
 /// Whether the text has one ring, and this is that of `PLAIN`, or the same beyond the equator and the prime meridian.
 fn is_plain(alloc: Global, text: &str, is_minus: bool) -> bool {
-    let Ok(rings) = read_poly(alloc, text) else {
+    let Ok(rings) = read_rings(alloc, text) else {
         return false;
     };
     let [ring] = rings.as_slice() else {
@@ -64,9 +64,26 @@ fn one_ring_in_many_spellings(rt: HostRuntime) {
     assert!(rt; is_plain(rt.alloc(), MINUS, true));
 }
 
+/// Numbers that end far beyond the ninth decimal place.
+#[test]
+fn small_numbers(rt: HostRuntime) {
+    let text = "x\n1\n 9e-13 0.00000000012345678901234567890123\n -999e-11 99.9E-10\n 9.55000000000000000000000000001 5e-99\nEND\nEND\n";
+    let rings = read_rings(rt.alloc(), text).ok();
+    let places = rings.as_ref().and_then(|rings| rings.first());
+    assert!(rt; match places {
+        Some(ring) => match ring.places.as_slice() {
+            [first, second, third] => {
+                is_at(*first, 0, 0) && is_at(*second, 9, -9) && is_at(*third, 0, 9_550_000_000)
+            }
+            _ => false,
+        },
+        None => false,
+    });
+}
+
 /// How many rings and places the text has.
 fn size_of(alloc: Global, text: &str) -> Option<(usize, usize)> {
-    let rings = read_poly(alloc, text).ok()?;
+    let rings = read_rings(alloc, text).ok()?;
     let mut places = 0usize;
     for ring in &rings {
         places = places.saturating_add(ring.places.len());
@@ -81,59 +98,127 @@ fn two_rings_and_their_places(rt: HostRuntime) {
 }
 
 /// Whether the text has this fault.
-fn has_fault(alloc: Global, text: &str, line: usize, reason: PolyReason) -> bool {
-    match read_poly(alloc, text) {
-        Err(PolyError::Refused(fault)) => fault == PolyFault { line, reason },
+fn has_fault(alloc: Global, text: &str, place: PolyPlace, reason: PolyReason) -> bool {
+    match read_rings(alloc, text) {
+        Err(PolyError::Refused(fault)) => fault == PolyFault { place, reason },
         _ => false,
     }
 }
 
 #[test]
 fn each_fault(rt: HostRuntime) {
-    for (text, line, reason) in [
-        ("", 1, PolyReason::Ended),
-        ("x", 1, PolyReason::Ended),
-        ("x\n", 2, PolyReason::Ended),
-        ("x\n1\n0 0\n1 0\n1 1", 5, PolyReason::Ended),
-        ("x\n1\n0 0\n1 0\n1 1\nEND\n", 7, PolyReason::Ended),
-        ("x\n1\n0 0\n1 foo\n1 1\nEND\nEND\n", 4, PolyReason::Number),
-        ("x\n1\n0 0\n1\n1 1\nEND\nEND\n", 4, PolyReason::Number),
-        ("x\n1\n0 0\n\n1 0\n1 1\nEND\nEND\n", 4, PolyReason::Number),
-        ("x\n1\n0 0\n1 0 0\n1 1\nEND\nEND\n", 4, PolyReason::Number),
-        ("x\n1\n0 0\n1 0\n1 1\nend\nEND\n", 6, PolyReason::Number),
-        ("x\n1\n0 0\n1. 0\n1 1\nEND\nEND\n", 4, PolyReason::Number),
-        ("x\n1\n0 0\n.1 0\n1 1\nEND\nEND\n", 4, PolyReason::Number),
-        ("x\n1\n0 0\n0001 0\n1 1\nEND\nEND\n", 4, PolyReason::Number),
-        ("x\n1\n0 0\n1E3 0\n1 1\nEND\nEND\n", 4, PolyReason::Number),
-        ("x\n1\n0 0\n1E-10 0\n1 1\nEND\nEND\n", 4, PolyReason::Number),
-        ("x\n1\n0 0\n+-1 0\n1 1\nEND\nEND\n", 4, PolyReason::Number),
+    for (text, line, column, reason) in [
+        ("", 1, 1, PolyReason::Ended),
+        ("x", 1, 1, PolyReason::Ended),
+        ("x\n", 2, 1, PolyReason::Ended),
+        ("x\n1\n0 0\n1 0\n1 1", 5, 1, PolyReason::Ended),
+        ("x\n1\n0 0\n1 0\n1 1\nEND\n", 7, 1, PolyReason::Ended),
         (
-            "x\n1\n0 0\n1.0000000000000000001 0\n1 1\nEND\nEND\n",
+            "x\n1\n0 0\n1 foo\n1 1\nEND\nEND\n",
             4,
+            3,
+            PolyReason::Number,
+        ),
+        ("x\n1\n0 0\n1\n1 1\nEND\nEND\n", 4, 1, PolyReason::Number),
+        (
+            "x\n1\n0 0\n\n1 0\n1 1\nEND\nEND\n",
+            4,
+            1,
+            PolyReason::Number,
+        ),
+        (
+            "x\n1\n0 0\n1 0 0\n1 1\nEND\nEND\n",
+            4,
+            3,
+            PolyReason::Number,
+        ),
+        ("x\n1\n0 0\n1 0\n1 1\nend\nEND\n", 6, 1, PolyReason::Number),
+        ("x\n1\n0 0\n1. 0\n1 1\nEND\nEND\n", 4, 1, PolyReason::Number),
+        ("x\n1\n0 0\n.1 0\n1 1\nEND\nEND\n", 4, 1, PolyReason::Number),
+        (
+            "x\n1\n0 0\n0001 0\n1 1\nEND\nEND\n",
+            4,
+            1,
+            PolyReason::Number,
+        ),
+        (
+            "x\n1\n0 0\n1E3 0\n1 1\nEND\nEND\n",
+            4,
+            1,
+            PolyReason::Number,
+        ),
+        (
+            "x\n1\n0 0\n1E-100 0\n1 1\nEND\nEND\n",
+            4,
+            1,
+            PolyReason::Number,
+        ),
+        (
+            "x\n1\n0 0\n+-1 0\n1 1\nEND\nEND\n",
+            4,
+            1,
+            PolyReason::Number,
+        ),
+        (
+            "x\n1\n0 0\n1.0000000000000000000x 0\n1 1\nEND\nEND\n",
+            4,
+            1,
             PolyReason::Number,
         ),
         (
             "x\n1\n0 0\n1 90.000000001\n1 1\nEND\nEND\n",
             4,
+            3,
             PolyReason::Range,
         ),
         (
             "x\n1\n0 0\n-180.000000001 0\n1 1\nEND\nEND\n",
             4,
+            1,
             PolyReason::Range,
         ),
-        ("x\n1\n0 0\n1 0\nEND\nEND\n", 5, PolyReason::Short),
-        ("x\n1\nEND\nEND\n", 3, PolyReason::Short),
-        ("x\nEND\n", 3, PolyReason::Empty),
-        ("x\nEND", 2, PolyReason::Empty),
+        ("x\n1\n0 0\n1 0\nEND\nEND\n", 5, 1, PolyReason::Short),
+        ("x\n1\nEND\nEND\n", 3, 1, PolyReason::Short),
+        ("x\nEND\n", 3, 1, PolyReason::Empty),
+        ("x\nEND", 2, 1, PolyReason::Empty),
         (
             "x\n1\n0 0\n1 0\n1 1\nEND\nEND\n\nmore\n",
             9,
+            1,
             PolyReason::Rest,
         ),
-        ("x\nEND\nmore\n", 3, PolyReason::Rest),
+        ("x\nEND\nmore\n", 3, 1, PolyReason::Rest),
+        ("x\nEND\n\n \t more\n", 4, 4, PolyReason::Rest),
+        (
+            "x\n1\n 0 0\n 1\t 0x\n1 1\nEND\nEND\n",
+            4,
+            5,
+            PolyReason::Number,
+        ),
+        (
+            "x\n1\n 0 0\n \t 1x   0x\n1 1\nEND\nEND\n",
+            4,
+            4,
+            PolyReason::Number,
+        ),
+        (
+            "x\n1\n 0 0\n  181 91\n1 1\nEND\nEND\n",
+            4,
+            3,
+            PolyReason::Range,
+        ),
+        (
+            "x\n1\n 0 0\n  180     91  \r\n1 1\nEND\nEND\n",
+            4,
+            11,
+            PolyReason::Range,
+        ),
+        ("x\n1\n 0 0\n  END\nEND\n", 4, 3, PolyReason::Short),
     ] {
-        assert!(rt; has_fault(rt.alloc(), text, line, reason), "at {text}");
+        assert!(rt;
+            has_fault(rt.alloc(), text, PolyPlace::Line(line, column), reason),
+            "at {text}"
+        );
     }
 }
 
@@ -153,6 +238,9 @@ fn faults_by_their_names(rt: HostRuntime) -> Result<(), Fail> {
         (PolyReason::Short, "Short"),
         (PolyReason::Empty, "Empty"),
         (PolyReason::Rest, "Rest"),
+        (PolyReason::Json, "Json"),
+        (PolyReason::Shape, "Shape"),
+        (PolyReason::Open, "Open"),
     ] {
         let text = reason.to_string(rt.alloc())?;
         assert_eq!(rt; text.as_str(), name);

@@ -4,7 +4,7 @@
 
 use osm_area::Area;
 use osm_box::BoundingBox;
-use osm_polygon::{Polygon, Ring, read_poly};
+use osm_polygon::{Polygon, Ring, read_rings};
 use std::alloc::{AllocError, Global};
 use std::test::Fail;
 
@@ -39,7 +39,7 @@ const EARTH: &str = "x\n1\n-180 -90\n180 -90\n180 90\n-180 90\nEND\nEND\n";
 
 /// The polygon of a text, if it has one.
 fn polygon_of(alloc: Global, text: &str) -> Option<Polygon> {
-    let rings = read_poly(alloc, text).ok()?;
+    let rings = read_rings(alloc, text).ok()?;
     Polygon::new(alloc, &rings).ok()
 }
 

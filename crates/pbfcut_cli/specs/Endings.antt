@@ -17,6 +17,8 @@ use Rattle.pbfcut_cli.specs.declared.programs.Program.{Program}
 use Rattle.pbfcut_cli.specs.declared.programs.Program.TheVariants as program
 use Rattle.osm_polygon.specs.declared.fault.PolyError.{PolyError}
 use Rattle.osm_polygon.specs.declared.fault.PolyError.TheVariants as error
+use Rattle.osm_polygon.specs.declared.fault.PolyPlace.{PolyPlace}
+use Rattle.osm_polygon.specs.declared.fault.PolyPlace.TheVariants.{Line, Ring, Text}
 use Rattle.osm_polygon.specs.declared.fault.PolyReason.{PolyReason}
 use Rattle.osm_polygon.specs.declared.fault.PolyReason.TheVariants as poly
 use Rattle.pbfcut_cli.specs.declared.words.ChoiceFault.{ChoiceFault}
@@ -129,9 +131,23 @@ poly_reason_text poly.Range = codes "3 Range"
 poly_reason_text poly.Short = codes "4 Short"
 poly_reason_text poly.Empty = codes "5 Empty"
 poly_reason_text poly.Rest = codes "6 Rest"
+poly_reason_text poly.Json = codes "7 Json"
+poly_reason_text poly.Shape = codes "8 Shape"
+poly_reason_text poly.Open = codes "9 Open"
 
-abbrev pub polygon_text : (program : List ℕ) → (line : ℕ) → (reason : List ℕ) → List ℕ
-polygon_text program line reason = program ++ codes ": polygon: line " ++ decimal line ++ codes ": " ++ reason ++ codes "\n"
+abbrev pub line_text : (line column : ℕ) → List ℕ
+line_text line column = codes "line " ++ decimal line ++ codes ", column " ++ decimal column ++ codes ": "
+
+abbrev pub ring_text : (ring position : ℕ) → List ℕ
+ring_text ring position = codes "ring " ++ decimal ring ++ codes ", position " ++ decimal position ++ codes ": "
+
+abbrev pub poly_place_text : PolyPlace → List ℕ
+poly_place_text (Line line column) = line_text line column
+poly_place_text (Ring ring position) = ring_text ring position
+poly_place_text Text = codes ""
+
+abbrev pub polygon_text : (program place reason : List ℕ) → List ℕ
+polygon_text program place reason = program ++ codes ": polygon: " ++ place ++ reason ++ codes "\n"
 
 -- what `clap` would say of a word that isn't UTF-8
 abbrev pub not_text : (program : List ℕ) → List ℕ
@@ -143,7 +159,7 @@ message_of program (ending.Words text) = string_bytes text
 message_of program ending.NotText = not_text program
 message_of program (ending.Box f) = program ++ codes ": box: " ++ box_fault_name f ++ codes "\n"
 message_of program (ending.Choice f) = choice_text program f
-message_of program (ending.Polygon f) = polygon_text program f.line (poly_reason_text f.reason)
+message_of program (ending.Polygon f) = polygon_text program (poly_place_text f.place) (poly_reason_text f.reason)
 message_of program ending.CannotOpen = program ++ codes ": cannot open\n"
 message_of program ending.IsPipe = program ++ codes ": IN must be a file, not a pipe\n"
 message_of program ending.OutExists = program ++ codes ": OUT exists\n"

@@ -1,10 +1,10 @@
 //! What is said of arguments that are missing or too many, and of the file of a polygon.
 
 ghost use Rattle.std.specs.Prelude.{◌≡◌, ◌++◌, IfOk, codes, string_bytes};
-ghost use Rattle.pbfcut_cli.specs.Endings.{choice_error, choice_text, choice_usage, poly_reason_text, polygon_text};
+ghost use Rattle.pbfcut_cli.specs.Endings.{choice_error, choice_text, choice_usage, line_text, poly_place_text, poly_reason_text, polygon_text, ring_text};
 
 use crate::words::ChoiceFault;
-use osm_polygon::{PolyFault, PolyReason};
+use osm_polygon::{PolyFault, PolyPlace, PolyReason};
 use std::alloc::{AllocError, Global};
 
 /// What is wrong, as `clap` says it of arguments that need or exclude each other.
@@ -68,30 +68,59 @@ fn poly_reason(reason: PolyReason) -> &'static str
         PolyReason::Short => "4 Short",
         PolyReason::Empty => "5 Empty",
         PolyReason::Rest => "6 Rest",
+        PolyReason::Json => "7 Json",
+        PolyReason::Shape => "8 Shape",
+        PolyReason::Open => "9 Open",
     }
 }
 
-/// The line of a fault that has this number and name.
+/// The words for a byte of a line, both counted from 1.
+fn line_words(alloc: Global, line: usize, column: usize) -> Result<String, AllocError>
+    ensures { IfOk result (λ text. string_bytes text ≡ line_text line column) }
+{
+    format!(in alloc; "line {line}, column {column}: ")
+}
+
+/// The words for a position of a ring, both counted from 1.
+fn ring_words(alloc: Global, ring: usize, position: usize) -> Result<String, AllocError>
+    ensures { IfOk result (λ text. string_bytes text ≡ ring_text ring position) }
+{
+    format!(in alloc; "ring {ring}, position {position}: ")
+}
+
+/// The words for the place of a fault; none for the text as a whole.
+fn place_words(alloc: Global, place: PolyPlace) -> Result<String, AllocError>
+    ensures { IfOk result (λ text. string_bytes text ≡ poly_place_text place) }
+{
+    match place {
+        PolyPlace::Line(line, column) => line_words(alloc, line, column),
+        PolyPlace::Ring(ring, position) => ring_words(alloc, ring, position),
+        PolyPlace::Text => Ok(String::new(alloc)),
+    }
+}
+
+/// The line of a fault in this place for this reason.
 fn polygon_line(
     alloc: Global,
     program: &str,
-    line: usize,
+    place: &str,
     reason: &str,
 ) -> Result<String, AllocError>
     ensures { IfOk result (λ text. string_bytes text
-        ≡ polygon_text program.now line reason.now) }
+        ≡ polygon_text program.now place.now reason.now) }
 {
-    format!(in alloc; "{program}: polygon: line {line}: {reason}\n")
+    format!(in alloc; "{program}: polygon: {place}{reason}\n")
 }
 
-/// All that is said of the file of a polygon, as `pbfcut: polygon: line 7: 2 Number`.
+/// All that is said of the file of a polygon, as `pbfcut: polygon: line 7, column 4: 2 Number`.
 pub(crate) fn polygon_message(
     alloc: Global,
     program: &str,
     fault: PolyFault,
 ) -> Result<String, AllocError>
     ensures { IfOk result (λ text. string_bytes text
-        ≡ polygon_text program.now fault.line (poly_reason_text fault.reason)) }
+        ≡ polygon_text program.now (poly_place_text fault.place) (poly_reason_text fault.reason)) }
 {
-    polygon_line(alloc, program, fault.line, poly_reason(fault.reason))
+    let place = place_words(alloc, fault.place)?;
+    polygon_line(alloc, program, place.as_str(), poly_reason(fault.reason))
 }

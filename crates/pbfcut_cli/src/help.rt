@@ -79,7 +79,7 @@ macro_rules! after_extract {
             to 180, and the latitudes of its south and north edge from -90 to 90. A number\n\
             has up to nine digits after the point. West may not be greater than east: a box\n\
             may not cross the antimeridian. A polygon is a .poly file, as published with\n\
-            extracts, and is cut out in the same way.\n\
+            extracts, or a GeoJSON file, and is cut out in the same way.\n\
             \n\
             OUT contains, in the order of IN and with all fields:\n  \
               - the nodes in the box and on its edges\n  \
@@ -214,7 +214,7 @@ pub(crate) const RAW: &str = "Write raw blobs: OUT is not compressed";
 
 pub(crate) const BOX: &str = "Edges of the box, in degrees; also --bbox";
 
-pub(crate) const POLYGON: &str = "Cut out the polygon of a .poly file";
+pub(crate) const POLYGON: &str = "Cut out the polygon of a .poly or GeoJSON file";
 
 pub(crate) const ANY_OUTPUT: &str = "The file to write, or - for standard output";
 

@@ -37,7 +37,7 @@ use std::alloc::{AllocError, Global};
 pub enum Region<'a> {
     /// This box.
     Box(BoundingBox),
-    /// The polygon of the `.poly` file at this path.
+    /// The polygon of the `.poly` or GeoJSON file at this path.
     Polygon(&'a str),
 }
 

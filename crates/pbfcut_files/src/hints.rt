@@ -3,6 +3,7 @@
 
 use crate::failure::{FailedWrite, Target};
 use crate::formats::of_start;
+use osm_polygon::{PolyFault, PolyPlace, PolyReason};
 use pbf_frame::Stop;
 use pbf_unpack::{InflateFault, Place, UnpackReason};
 use pbf_wire::Reason;
@@ -229,6 +230,22 @@ fn of_write(rt: &HostRuntime, asked: Asked<'_>, failed: FailedWrite) -> Option<S
     }
 }
 
+/// What the text of a polygon should be.
+fn of_polygon_fault(fault: &PolyFault) -> &'static str {
+    match fault.reason {
+        PolyReason::Json =>
+            "the file begins with {, and is no JSON: 'python3 -m json.tool FILE' says where",
+        _ => match fault.place {
+            PolyPlace::Line(_, _) => {
+                "a .poly file has a name; for each ring a name, lines of longitude and latitude, and END; and END"
+            }
+            _ => {
+                "GeoJSON has a Polygon or MultiPolygon, alone, in a GeometryCollection, or as geometry of features; its rings end as they begin"
+            }
+        },
+    }
+}
+
 /// What to do next after a run that ended so; the last write that failed, if one did.
 fn hint(
     rt: &HostRuntime,
@@ -238,10 +255,7 @@ fn hint(
 ) -> Option<String> {
     match ending {
         Ending::Words(_) | Ending::NotText | Ending::Box(_) | Ending::Choice(_) => None,
-        Ending::Polygon(_) => text(
-            rt,
-            "a .poly file has a name; for each ring a name, lines of longitude and latitude, and END; and END",
-        ),
+        Ending::Polygon(fault) => text(rt, of_polygon_fault(fault)),
         Ending::CannotOpen => of_files(rt, asked),
         Ending::IsPipe => text(
             rt,

@@ -1,7 +1,7 @@
 -- Why a command fails, by what happened.
 use Rattle.std.specs.Prelude.{◌≡◌, ◌⊎◌, ℕ, ◌+◌, ◌<◌, List, [], ◌∷◌, ◌++◌, length, true, false, Option, Err}
 use Rattle.osm_polygon.specs.declared.fault.PolyFault.{PolyFault}
-use Rattle.osm_polygon.specs.PolyFile.{rings_of_text}
+use Rattle.osm_polygon.specs.Texts.{rings_of_text}
 use Rattle.pbf_wire.specs.declared.fault.Fault.{Fault}
 use Rattle.pbf_frame.specs.Devices.{IsAtEnd}
 use Rattle.pbf_frame.specs.Verdict.{Verdict}

@@ -6,7 +6,7 @@ use Rattle.std.specs.String.{string_bytes}
 use Rattle.clap.specs.Words.{Text, subcommand_of, takes}
 use Rattle.osm_area.specs.Area.{AreaSpec, box_area}
 use Rattle.osm_polygon.specs.Polygon.{Point, polygon_area}
-use Rattle.osm_polygon.specs.PolyFile.{rings_of_text}
+use Rattle.osm_polygon.specs.Texts.{rings_of_text}
 use Rattle.osm_polygon.specs.Rings.{polygon_of}
 use Rattle.osm_text.specs.Digests.{digest_line, hex_byte}
 use Rattle.sha2.specs.Sha256.{sha256}

@@ -2,7 +2,7 @@
 
 ghost use Rattle.std.specs.Prelude.{◌≡◌, ◌∷◌, ℕ, [], List, length, map, IfOk, IfErr, IfSome, Ok, true};
 ghost use Rattle.osm_polygon.specs.Polygon.{Point};
-ghost use Rattle.osm_polygon.specs.PolyFile.{rings_of_text};
+ghost use Rattle.osm_polygon.specs.Texts.{rings_of_text};
 ghost use Rattle.osm_polygon.specs.Rings.{polygon_of};
 ghost use Rattle.pbf_pass.specs.Stops.{WriteFailed};
 ghost use Rattle.pbfcut_program.specs.Devices.{AreFresh, CloseAll, Takes, WorksBy};
@@ -16,7 +16,7 @@ use crate::engine::{Engine, Halted, Report, convert, copy, extract, extract_pare
 use crate::host::{Host, TextFault};
 use crate::opening::{FourPasses, Input, ThreePasses, TwoPasses, open_four, open_three, open_two};
 use osm_box::BoundingBox;
-use osm_polygon::{Polygon, read_poly};
+use osm_polygon::{Polygon, read_rings};
 use pbf_frame::{Drain, Feed, Stop};
 use pbfcut_cli::{Ending, Region};
 use std::alloc::Global;
@@ -29,7 +29,7 @@ pub(crate) enum Cut {
     Polygon(Polygon),
 }
 
-/// The polygon of a `.poly` file.
+/// The polygon of a file: GeoJSON or a `.poly` file.
 fn read_polygon<H: Host>(alloc: Global, host: &mut H, path: &str) -> Result<Polygon, Ending>
     ensures ok { IfOk result (λ polygon. (text : List ℕ) × (rings : List (List Point))
         × (H.log host.new ≡ then_all (H.log host.old) (text_read path.now text ∷ []))
@@ -42,7 +42,7 @@ fn read_polygon<H: Host>(alloc: Global, host: &mut H, path: &str) -> Result<Poly
         Err(TextFault::Memory) => return Err(Ending::Stopped(Stop::Memory)),
         Err(TextFault::Failed) => return Err(Ending::CannotOpen),
     };
-    let rings = read_poly(alloc, text.as_str())?;
+    let rings = read_rings(alloc, text.as_str())?;
     match Polygon::new(alloc, rings.as_slice()) {
         Ok(polygon) => Ok(polygon),
         Err(_) => Err(Ending::Stopped(Stop::Memory)),

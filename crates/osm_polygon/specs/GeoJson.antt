@@ -1,0 +1,151 @@
+-- GeoJSON (RFC 7946): polygons alone, in a collection of geometries, or in features.
+use Rattle.std.specs.Prelude.{ℕ, ◌+◌, ◌-◌, ℤ, pos, Bool, false, ◌&&◌, List, [], ◌∷◌, ◌++◌, length, codes, nat_lt, if◌then◌else◌}
+use Rattle.std.specs.Prelude.{Option, Some, None, option_and_then, Result, Ok, Err}
+use Rattle.std.specs.List.{slice_get}
+use Rattle.std.specs.Ordering.{int_eq}
+use Rattle.std.specs.Str.{bytes_eq}
+use Rattle.json.specs.Json.{Json, Items, no_items, item}
+use Rattle.json.specs.Find.{get, at, as_array, as_number, as_str}
+use Rattle.osm_polygon.specs.declared.fault.PolyFault.{PolyFault}
+use Rattle.osm_polygon.specs.declared.fault.PolyPlace.TheVariants as where_
+use Rattle.osm_polygon.specs.declared.fault.PolyReason.{PolyReason}
+use Rattle.osm_polygon.specs.declared.fault.PolyReason.TheVariants as reason
+use Rattle.osm_polygon.specs.declared.geojson.Kind.{Kind}
+use Rattle.osm_polygon.specs.declared.geojson.Kind.TheVariants as kind
+use Rattle.osm_polygon.specs.Coordinates.{coordinate, place_at}
+use Rattle.osm_polygon.specs.Number.{nanodegrees_of}
+use Rattle.osm_polygon.specs.PolyFile.{RingsOrFault}
+use Rattle.osm_polygon.specs.Polygon.{Point}
+
+-- ---- in order, up to the first fault
+
+abbrev pub OrFault : Type 0 → Type 0
+OrFault A = Result A PolyFault
+
+abbrev pub and_then : {A B : Type 0} → OrFault A → (A → OrFault B) → OrFault B
+and_then (Ok x) next = next x
+and_then (Err fault) next = Err fault
+
+abbrev pub each_item : {A : Type 0} → (A → Json → OrFault A) → A → Items → OrFault A
+each_item step done no_items = Ok done
+each_item step done (item value more) = and_then (step done value) (λ d. each_item step d more)
+
+-- what is there, or the fault that the text isn't GeoJSON of polygons
+abbrev pub or_shape : {A : Type 0} → Option A → OrFault A
+or_shape None = Err (record { place = where_.Text; reason = reason.Shape })
+or_shape (Some x) = Ok x
+
+abbrev pub items_in : Json → OrFault Items
+items_in value = or_shape (as_array value)
+
+abbrev pub member : List ℕ → Json → OrFault Json
+member name value = or_shape (get name value)
+
+-- the rings so far, with those of each item
+abbrev pub each : (List (List Point) → Json → RingsOrFault) → List (List Point) → Json → RingsOrFault
+each step rings value = and_then (items_in value) (each_item step rings)
+
+-- ---- a ring
+
+abbrev pub number_at : ℕ → Json → Option ℤ
+number_at index value =
+    option_and_then nanodegrees_of (option_and_then as_number (at index value))
+
+-- a position begins with its longitude and its latitude
+abbrev pub position : Json → Result Point PolyReason
+position value = place_at (coordinate (pos 180000000000) (number_at 0 value))
+    (coordinate (pos 90000000000) (number_at 1 value))
+
+-- the ring of this number, counted from 1, with a place more
+abbrev pub with_place : (ring : ℕ) → List Point → Result Point PolyReason → OrFault (List Point)
+with_place ring places (Ok place) = Ok (places ++ place ∷ [])
+with_place ring places (Err r) = Err (record { place = where_.Ring ring (length places + 1); reason = r })
+
+abbrev pub with_position : (ring : ℕ) → List Point → Json → OrFault (List Point)
+with_position ring places value = with_place ring places (position value)
+
+abbrev pub is_same : Point → Point → Bool
+is_same p q = int_eq p.lat q.lat && int_eq p.lon q.lon
+
+abbrev pub is_same_by : Option Point → Option Point → Bool
+is_same_by (Some p) (Some q) = is_same p q
+is_same_by _ _ = false
+
+-- the last place is the first one again
+abbrev pub is_closed : List Point → Bool
+is_closed places = is_same_by (slice_get places 0) (slice_get places (length places - 1))
+
+abbrev pub if_closed : (ring : ℕ) → List Point → OrFault (List Point)
+if_closed ring places =
+    if nat_lt (length places) 4
+    then Err (record { place = where_.Ring ring (length places); reason = reason.Short })
+    else if is_closed places then Ok places
+    else Err (record { place = where_.Ring ring (length places); reason = reason.Open })
+
+abbrev pub ring_places : (ring : ℕ) → Items → OrFault (List Point)
+ring_places ring items = and_then (each_item (with_position ring) [] items) (if_closed ring)
+
+abbrev pub with_ring : List (List Point) → Json → RingsOrFault
+with_ring rings value =
+    and_then (items_in value) (λ items.
+    and_then (ring_places (length rings + 1) items) (λ places. Ok (rings ++ places ∷ [])))
+
+-- ---- what has rings
+
+abbrev pub kind_named : List ℕ → Kind
+kind_named name =
+    if bytes_eq name (codes "Polygon") then kind.Polygon
+    else if bytes_eq name (codes "MultiPolygon") then kind.MultiPolygon
+    else if bytes_eq name (codes "GeometryCollection") then kind.GeometryCollection
+    else if bytes_eq name (codes "Feature") then kind.Feature
+    else if bytes_eq name (codes "FeatureCollection") then kind.FeatureCollection
+    else kind.Other
+
+abbrev pub kind_by : Option (List ℕ) → Kind
+kind_by None = kind.Other
+kind_by (Some name) = kind_named name
+
+abbrev pub kind_of : Json → Kind
+kind_of value = kind_by (option_and_then as_str (get (codes "type") value))
+
+-- the rings so far, with those of one thing more
+abbrev pub shape_by : Kind → List (List Point) → Json → RingsOrFault
+shape_by kind.Polygon rings value = and_then (member (codes "coordinates") value) (each with_ring rings)
+shape_by kind.MultiPolygon rings value =
+    and_then (member (codes "coordinates") value) (each (each with_ring) rings)
+shape_by _ rings value = or_shape None
+
+abbrev pub with_shape : List (List Point) → Json → RingsOrFault
+with_shape rings value = shape_by (kind_of value) rings value
+
+abbrev pub geometry_by : Kind → List (List Point) → Json → RingsOrFault
+geometry_by kind.GeometryCollection rings value =
+    and_then (member (codes "geometries") value) (each with_shape rings)
+geometry_by _ rings value = with_shape rings value
+
+abbrev pub with_geometry : List (List Point) → Json → RingsOrFault
+with_geometry rings value = geometry_by (kind_of value) rings value
+
+abbrev pub feature_by : Kind → List (List Point) → Json → RingsOrFault
+feature_by kind.Feature rings value = and_then (member (codes "geometry") value) (with_geometry rings)
+feature_by _ rings value = or_shape None
+
+abbrev pub with_feature : List (List Point) → Json → RingsOrFault
+with_feature rings value = feature_by (kind_of value) rings value
+
+abbrev pub document_by : Kind → Json → RingsOrFault
+document_by kind.FeatureCollection value =
+    and_then (member (codes "features") value) (each with_feature [])
+document_by kind.Feature value = with_feature [] value
+document_by _ value = with_geometry [] value
+
+-- ---- a text
+
+abbrev pub if_some : List (List Point) → RingsOrFault
+if_some [] = Err (record { place = where_.Text; reason = reason.Empty })
+if_some (ring ∷ rings) = Ok (ring ∷ rings)
+
+-- the rings of the JSON that a text is, or its first fault
+abbrev pub geojson_rings : Option Json → RingsOrFault
+geojson_rings None = Err (record { place = where_.Text; reason = reason.Json })
+geojson_rings (Some value) = and_then (document_by (kind_of value) value) if_some

@@ -1,0 +1,308 @@
+//! The polygons of GeoJSON. All of their rings count alike.
+
+ghost use Rattle.std.specs.Prelude.{◌≡◌, map};
+ghost use Rattle.std.specs.Result.{result_map_both};
+ghost use Rattle.json.specs.Json.{document};
+ghost use Rattle.json.specs.Value.{items_view, value_view};
+ghost use Rattle.osm_polygon.specs.Edges.{point_of};
+ghost use Rattle.osm_polygon.specs.GeoJson.{each, geojson_rings, if_closed, if_some, is_closed, is_same, items_in};
+ghost use Rattle.osm_polygon.specs.GeoJson.{kind_named, kind_of, member, number_at, position, ring_places};
+ghost use Rattle.osm_polygon.specs.GeoJson.{document_by, feature_by, geometry_by, shape_by};
+ghost use Rattle.osm_polygon.specs.GeoJson.{with_feature, with_geometry, with_position, with_ring, with_shape};
+ghost use Rattle.osm_polygon.specs.Readings.{ReadsText};
+ghost use Rattle.osm_polygon.specs.RingPlaces.{places_of};
+
+use crate::fault::{PolyError, PolyPlace, PolyReason, refused};
+use crate::number::nanodegrees;
+use crate::place::{MOST_LAT, MOST_LON, Place, coordinate};
+use crate::ring::Ring;
+use json::{Error, Scratch, Value};
+use std::alloc::Global;
+
+/// What an object of GeoJSON is.
+#[derive(Clone, Copy, Debug, PartialEq, Eq)]
+enum Kind {
+    Polygon,
+    MultiPolygon,
+    GeometryCollection,
+    Feature,
+    FeatureCollection,
+    Other,
+}
+
+/// The kind with this name.
+fn kind_named(name: &str) -> Kind
+    ensures { result ≡ kind_named name.now }
+{
+    if name == "Polygon" {
+        return Kind::Polygon;
+    }
+    if name == "MultiPolygon" {
+        return Kind::MultiPolygon;
+    }
+    if name == "GeometryCollection" {
+        return Kind::GeometryCollection;
+    }
+    if name == "Feature" {
+        return Kind::Feature;
+    }
+    if name == "FeatureCollection" {
+        return Kind::FeatureCollection;
+    }
+    Kind::Other
+}
+
+/// The kind that its member `type` names.
+fn kind_of(value: &Value<'_>) -> Kind
+    ensures { result ≡ kind_of (value_view value.now) }
+{
+    let Some(name) = value.get("type") else {
+        return Kind::Other;
+    };
+    match name.as_str() {
+        Some(name) => kind_named(name),
+        None => Kind::Other,
+    }
+}
+
+/// The items of an array.
+fn items_in<'v, 'a>(value: &'v Value<'a>) -> Result<&'v Vec<Value<'a>>, PolyError>
+    ensures { ReadsText (items_in (value_view value.now))
+        (result_map_both (λ items. items_view items.now.items) (λ e. e) result) }
+{
+    match value {
+        Value::Array(items) => Ok(items),
+        _ => Err(refused(PolyPlace::Text, PolyReason::Shape)),
+    }
+}
+
+/// The member of this name.
+fn member<'v, 'a>(name: &str, value: &'v Value<'a>) -> Result<&'v Value<'a>, PolyError>
+    ensures { ReadsText (member name.now (value_view value.now))
+        (result_map_both (λ v. value_view v.now) (λ e. e) result) }
+{
+    match value.get(name) {
+        Some(value) => Ok(value),
+        None => Err(refused(PolyPlace::Text, PolyReason::Shape)),
+    }
+}
+
+/// The nanodegrees of the number at this index of an array.
+fn number_at(index: usize, value: &Value<'_>) -> Option<i128>
+    ensures { result ≡ number_at index (value_view value.now) }
+{
+    nanodegrees(value.at(index)?.as_number()?)
+}
+
+/// The place of a position.
+fn position(value: &Value<'_>) -> Result<Place, PolyReason>
+    ensures { result_map_both point_of (λ e. e) result ≡ position (value_view value.now) }
+{
+    let lon = coordinate(MOST_LON, number_at(0, value))?;
+    let lat = coordinate(MOST_LAT, number_at(1, value))?;
+    Ok(Place { lat, lon })
+}
+
+/// Whether two places are the same.
+fn is_same(first: &Place, last: &Place) -> bool
+    ensures { result ≡ is_same (point_of first.now) (point_of last.now) }
+{
+    first.lat == last.lat && first.lon == last.lon
+}
+
+/// Whether the last place is the first one again.
+fn is_closed(places: &[Place]) -> bool
+    ensures { result ≡ is_closed (map point_of places.now) }
+{
+    let (Some(first), Some(last)) = (places.first(), places.last()) else {
+        return false;
+    };
+    is_same(first, last)
+}
+
+/// The places of the ring of this number, if it is whole.
+fn if_closed(ring: usize, places: Vec<Place>) -> Result<Vec<Place>, PolyError>
+    ensures { ReadsText (if_closed ring (map point_of places.items))
+        (result_map_both (λ places. map point_of places.items) (λ e. e) result) }
+{
+    let place = PolyPlace::Ring(ring, places.len());
+    if places.len() < 4 {
+        return Err(refused(place, PolyReason::Short));
+    }
+    if !is_closed(places.as_slice()) {
+        return Err(refused(place, PolyReason::Open));
+    }
+    Ok(places)
+}
+
+/// The places so far of the ring of this number, and that of a position.
+fn with_position(
+    ring: usize,
+    mut places: Vec<Place>,
+    value: &Value<'_>,
+) -> Result<Vec<Place>, PolyError>
+    ensures { ReadsText (with_position ring (map point_of places.items) (value_view value.now))
+        (result_map_both (λ places. map point_of places.items) (λ e. e) result) }
+{
+    match position(value) {
+        Ok(place) => {
+            places.push(place)?;
+            Ok(places)
+        }
+        Err(reason) => Err(refused(PolyPlace::Ring(ring, places.len() + 1), reason)),
+    }
+}
+
+/// The places of the ring of this number, which has these positions.
+fn ring_places(alloc: Global, ring: usize, items: &Vec<Value<'_>>) -> Result<Vec<Place>, PolyError>
+    ensures { ReadsText (ring_places ring (items_view items.now.items))
+        (result_map_both (λ places. map point_of places.items) (λ e. e) result) }
+{
+    let mut places = Vec::new(alloc);
+    for item in items {
+        places = with_position(ring, places, item)?;
+    }
+    if_closed(ring, places)
+}
+
+/// The rings, and this one.
+fn with_ring(alloc: Global, mut rings: Vec<Ring>, value: &Value<'_>) -> Result<Vec<Ring>, PolyError>
+    ensures { ReadsText (with_ring (map places_of rings.items) (value_view value.now))
+        (result_map_both (λ rings. map places_of rings.items) (λ e. e) result) }
+{
+    let items = items_in(value)?;
+    let places = ring_places(alloc, rings.len() + 1, items)?;
+    rings.push(Ring { places })?;
+    Ok(rings)
+}
+
+/// The rings, and those of a polygon, of which these are the coordinates.
+fn with_rings(
+    alloc: Global,
+    mut rings: Vec<Ring>,
+    value: &Value<'_>,
+) -> Result<Vec<Ring>, PolyError>
+    ensures { ReadsText (each with_ring (map places_of rings.items) (value_view value.now))
+        (result_map_both (λ rings. map places_of rings.items) (λ e. e) result) }
+{
+    for item in items_in(value)? {
+        rings = with_ring(alloc, rings, item)?;
+    }
+    Ok(rings)
+}
+
+/// The rings, and those of polygons, of which these are the coordinates.
+fn with_polygons(
+    alloc: Global,
+    mut rings: Vec<Ring>,
+    value: &Value<'_>,
+) -> Result<Vec<Ring>, PolyError>
+    ensures { ReadsText (each (each with_ring) (map places_of rings.items) (value_view value.now))
+        (result_map_both (λ rings. map places_of rings.items) (λ e. e) result) }
+{
+    for item in items_in(value)? {
+        rings = with_rings(alloc, rings, item)?;
+    }
+    Ok(rings)
+}
+
+/// The rings, and those of a geometry that is no collection.
+fn with_shape(alloc: Global, rings: Vec<Ring>, value: &Value<'_>) -> Result<Vec<Ring>, PolyError>
+    ensures { ReadsText (with_shape (map places_of rings.items) (value_view value.now))
+        (result_map_both (λ rings. map places_of rings.items) (λ e. e) result) }
+{
+    match kind_of(value) {
+        Kind::Polygon => with_rings(alloc, rings, member("coordinates", value)?),
+        Kind::MultiPolygon => with_polygons(alloc, rings, member("coordinates", value)?),
+        _ => Err(refused(PolyPlace::Text, PolyReason::Shape)),
+    }
+}
+
+/// The rings, and those of geometries that are no collections.
+fn with_shapes(
+    alloc: Global,
+    mut rings: Vec<Ring>,
+    value: &Value<'_>,
+) -> Result<Vec<Ring>, PolyError>
+    ensures { ReadsText (each with_shape (map places_of rings.items) (value_view value.now))
+        (result_map_both (λ rings. map places_of rings.items) (λ e. e) result) }
+{
+    for item in items_in(value)? {
+        rings = with_shape(alloc, rings, item)?;
+    }
+    Ok(rings)
+}
+
+/// The rings, and those of a geometry.
+fn with_geometry(alloc: Global, rings: Vec<Ring>, value: &Value<'_>) -> Result<Vec<Ring>, PolyError>
+    ensures { ReadsText (with_geometry (map places_of rings.items) (value_view value.now))
+        (result_map_both (λ rings. map places_of rings.items) (λ e. e) result) }
+{
+    match kind_of(value) {
+        Kind::GeometryCollection => with_shapes(alloc, rings, member("geometries", value)?),
+        _ => with_shape(alloc, rings, value),
+    }
+}
+
+/// The rings, and those of a feature.
+fn with_feature(alloc: Global, rings: Vec<Ring>, value: &Value<'_>) -> Result<Vec<Ring>, PolyError>
+    ensures { ReadsText (with_feature (map places_of rings.items) (value_view value.now))
+        (result_map_both (λ rings. map places_of rings.items) (λ e. e) result) }
+{
+    match kind_of(value) {
+        Kind::Feature => with_geometry(alloc, rings, member("geometry", value)?),
+        _ => Err(refused(PolyPlace::Text, PolyReason::Shape)),
+    }
+}
+
+/// The rings, and those of features.
+fn with_features(
+    alloc: Global,
+    mut rings: Vec<Ring>,
+    value: &Value<'_>,
+) -> Result<Vec<Ring>, PolyError>
+    ensures { ReadsText (each with_feature (map places_of rings.items) (value_view value.now))
+        (result_map_both (λ rings. map places_of rings.items) (λ e. e) result) }
+{
+    for item in items_in(value)? {
+        rings = with_feature(alloc, rings, item)?;
+    }
+    Ok(rings)
+}
+
+/// The rings of all that the text has.
+fn rings_in(alloc: Global, value: &Value<'_>) -> Result<Vec<Ring>, PolyError>
+    ensures { ReadsText (document_by (kind_of (value_view value.now)) (value_view value.now))
+        (result_map_both (λ rings. map places_of rings.items) (λ e. e) result) }
+{
+    let rings = Vec::new(alloc);
+    match kind_of(value) {
+        Kind::FeatureCollection => with_features(alloc, rings, member("features", value)?),
+        Kind::Feature => with_feature(alloc, rings, value),
+        _ => with_geometry(alloc, rings, value),
+    }
+}
+
+/// The rings, if there is one.
+fn if_some(rings: Vec<Ring>) -> Result<Vec<Ring>, PolyError>
+    ensures { ReadsText (if_some (map places_of rings.items))
+        (result_map_both (λ rings. map places_of rings.items) (λ e. e) result) }
+{
+    if rings.is_empty() {
+        return Err(refused(PolyPlace::Text, PolyReason::Empty));
+    }
+    Ok(rings)
+}
+
+/// The rings of a text of GeoJSON.
+pub(crate) fn read_geojson(alloc: Global, text: &str) -> Result<Vec<Ring>, PolyError>
+    ensures { ReadsText (geojson_rings (document text.now))
+        (result_map_both (λ rings. map places_of rings.items) (λ e. e) result) }
+{
+    let mut scratch = Scratch::new(alloc);
+    match Value::parse(alloc, text, &mut scratch) {
+        Ok(value) => if_some(rings_in(alloc, &value)?),
+        Err(Error::OutOfMemory) => Err(PolyError::Memory),
+        Err(_) => Err(refused(PolyPlace::Text, PolyReason::Json)),
+    }
+}
