@@ -10,11 +10,8 @@ use Rattle.std.proofs.lemmas.List.Folds.{list_any-append}
 use Rattle.std.proofs.lemmas.List.Sums.{sum_by-cons}
 use Rattle.osm_ids.specs.declared.links.Link.{Link}
 use Rattle.osm_ids.specs.Links.{link_cmp, Has, IsClosed, IsLeast, is_link_among, is_of, is_in, missing_parents, IsAdded}
-use Rattle.osm_ids.proofs.Sets.{Ids, ids_of, contains-ids_of}
+use Rattle.osm_ids.proofs.Sets.{Ids, ids_of, contains-ids_of, insert_has}
 use Rattle.osm_ids.proofs.LinkOrder.{found_is, all_kept}
-
-insert_has : (s : Ids) (p x : ℤ) → set.contains s x ≡ true → set.contains (set.insert s p) x ≡ true
-insert_has s p x h = set.contains-insert int_cmp_total s p x ∙ or_right (int_eq x p) (set.contains s x) h
 
 insert_new : (s : Ids) (p : ℤ) → set.contains (set.insert s p) p ≡ true
 insert_new s p = set.contains-insert int_cmp_total s p p ∙ or_left (int_eq p p) (set.contains s p) ((Decides-int_eq p p).1 refl)

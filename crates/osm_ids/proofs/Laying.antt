@@ -1,5 +1,5 @@
 -- One more id, above all others, after them.
-use Rattle.std.proofs.Common.{◌≡◌, ℕ, suc, ◌+◌, ◌-◌, ◌%◌, ◌<◌, ◌≤◌, List, [], ◌∷◌, ◌++◌, length, ℤ, ◌<ℤ◌, ◌≤ℤ◌, refl, sym, ap, subst, ◌∙◌, arith, length-append, FitsSigned, w64, false}
+use Rattle.std.proofs.Common.{◌≡◌, ℕ, suc, ◌+◌, ◌-◌, ◌%◌, ◌<◌, ◌≤◌, List, [], ◌∷◌, ◌++◌, length, ℤ, ◌<ℤ◌, refl, sym, ap, subst, ◌∙◌, arith, length-append, FitsSigned, w64, false}
 use Rattle.std.specs.Cmp.{int_cmp_total}
 use Rattle.std.specs.FinSet as set
 use Rattle.std.proofs.lemmas.Bool.{false_from_ne_true}
@@ -10,7 +10,7 @@ use Rattle.pbf_wire.specs.Varint.{shortest}
 use Rattle.osm_ids.specs.Pages.{gap, Page, page_ids, page_bytes, last_of, ids_of_pages, bytes_of_pages, starts_from, HasFullPages, Rises, IsRising, AllFit, ids_in, IsSealed}
 use Rattle.osm_ids.specs.Index.{set_in}
 use Rattle.osm_ids.specs.Order.{IsAbove, IsGreatest}
-use Rattle.osm_ids.proofs.Sets.{Ids, ids_of, contains-ids_of}
+use Rattle.osm_ids.proofs.Sets.{Ids, ids_of, contains-ids_of, between}
 use Rattle.osm_ids.proofs.Rising.{rises_front, rises_skip, rising_tail, all_last, last_among}
 use Rattle.osm_ids.proofs.Gaps.{spelled_after, gap-lt, shortest_some}
 use Rattle.osm_ids.proofs.Laid.{IsOpen, lone, with_id, starts-push, bytes-push, ids-push, open-push, starts-with_id, bytes-with_id, ids-with_id, open-with_id, filled_from_open, fits_front, fits_back, ids_in_sealed}
@@ -21,9 +21,6 @@ use Rattle.osm_ids.proofs.Laid.{IsOpen, lone, with_id, starts-push, bytes-push, 
 abbrev pub EndsWith : List ℤ → ℤ → Type 0
 EndsWith [] last = Unit {0}
 EndsWith (id ∷ ids) last = last_of id ids ≡ last
-
-between : (a b : ℤ) → a ≤ℤ b → b ≤ℤ a → a ≡ b
-between a b h k = omega (arith, ints)
 
 pub ends_with : (ids : List ℤ) (last : ℤ) → IsRising ids → IsGreatest (ids_of ids) last → EndsWith ids last
 ends_with [] last h g = tt

@@ -5,7 +5,7 @@ use Rattle.std.specs.Ordering.{int_eq, int_cmp}
 use Rattle.std.specs.Cmp.{int_cmp_total}
 use Rattle.std.specs.BTreeSet.{insert_key}
 use Rattle.std.specs.FinSet as set
-use Rattle.std.proofs.lemmas.Bool.{false_from_ne_true, or_right}
+use Rattle.std.proofs.lemmas.Bool.{false_from_ne_true, or_from, or_right}
 use Rattle.std.proofs.lemmas.Bool.Decides.{Decides-int_eq}
 use Rattle.std.proofs.lemmas.Int.{ints}
 use Rattle.osm_ids.specs.Order.{IsAbove, IsGreatest, IsReached, AreLate}
@@ -50,9 +50,6 @@ greatest_reaches ids last id g some low =
 above_apart : (ids : Ids) (id : ℤ) → IsAbove ids id → set.contains ids id ≡ false
 above_apart ids id up = false_from_ne_true (set.contains ids id) (λ e. let below = up id e in omega (arith, ints))
 
-or_false : (a b : Bool) → a ≡ false → b ≡ false → (a || b) ≡ false
-or_false a b e f = rw e f
-
 -- an id below the greatest is not above all
 late_below : (ids : Ids) (late : List ℤ) (id x : ℤ) → AreLate ids late → IsAbove ids id → list_any (int_eq x) late ≡ true → x <ℤ id
 late_below ids late id x l up e = let reached = (l x e).1 in let below = up reached.0 reached.1 in let low = reached.2 in omega (arith, ints)
@@ -61,7 +58,7 @@ pub late_lay : (ids : Ids) (late : List ℤ) (id : ℤ) → AreLate ids late →
 late_lay ids late id l up x e =
     let below = late_below ids late id x l up e in
     let reached = (l x e).1 in (
-      set.contains-insert int_cmp_total ids id x ∙ or_false (int_eq x id) (set.contains ids x) (other x id (λ same. omega (arith, ints))) (l x e).0,
+      set.contains-insert int_cmp_total ids id x ∙ or_from (int_eq x id) (set.contains ids x) (other x id (λ same. omega (arith, ints))) (l x e).0,
       (reached.0, set.contains-insert int_cmp_total ids id reached.0 ∙ or_right (int_eq reached.0 id) (set.contains ids reached.0) reached.1, reached.2),
     )
 
@@ -83,7 +80,7 @@ contains-with_late ids late x = set.contains-union int_cmp_total ids (ids_of lat
 pub new_above : (ids : Ids) (late : List ℤ) (id : ℤ) → AreLate ids late → IsAbove ids id → set.contains (with_late ids late) id ≡ false
 new_above ids late id l up =
     contains-with_late ids late id
-    ∙ or_false (set.contains ids id) (list_any (int_eq id) late) (above_apart ids id up) (false_from_ne_true (list_any (int_eq id) late) (λ e. let below = late_below ids late id id l up e in omega (arith, ints)))
+    ∙ or_from (set.contains ids id) (list_any (int_eq id) late) (above_apart ids id up) (false_from_ne_true (list_any (int_eq id) late) (λ e. let below = late_below ids late id id l up e in omega (arith, ints)))
 
 pub same_ids : (s t : Ids) → ((x : ℤ) → set.contains s x ≡ set.contains t x) → s ≡ t
 same_ids s t = set.same_set int_cmp_total set.int_cmp-IsAntisymmetric s t

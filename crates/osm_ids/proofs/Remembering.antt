@@ -4,17 +4,13 @@ use Rattle.std.specs.List.{list_any}
 use Rattle.std.specs.Ordering.{int_eq}
 use Rattle.std.specs.Cmp.{int_cmp_total}
 use Rattle.std.specs.FinSet as set
-use Rattle.std.proofs.lemmas.Bool.{or_right}
 use Rattle.std.proofs.lemmas.Int.{ints}
 use Rattle.osm_ids.specs.declared.page.PageIds.{PageIds}
 use Rattle.osm_ids.specs.Order.{IsAbove, IsReached, AreLate}
 use Rattle.osm_ids.specs.Windows.{IsKept}
-use Rattle.osm_ids.proofs.Sets.{Ids}
+use Rattle.osm_ids.proofs.Sets.{Ids, insert_has}
 use Rattle.osm_ids.proofs.Rising.{other}
 use Rattle.osm_ids.proofs.OrderLemmas.{with_late, contains-with_late, known_laid}
-
-inserted : (ids : Ids) (id x : ℤ) → set.contains ids x ≡ true → set.contains (set.insert ids id) x ≡ true
-inserted ids id x e = set.contains-insert int_cmp_total ids id x ∙ or_right (int_eq x id) (set.contains ids x) e
 
 -- a greater id leaves true what a page says
 pub kept_insert : (ids : Ids) (id : ℤ) (page : PageIds) → IsAbove ids id → IsKept ids page → IsKept (set.insert ids id) page
@@ -24,13 +20,13 @@ kept_insert ids id page up k =
       within = k.within;
       some = k.some;
       top = k.top;
-      inside = λ x e. inserted ids id x (k.inside x e);
+      inside = λ x e. insert_has ids id x (k.inside x e);
       answer = λ x low below.
           let reached = k.reached x low below in
           let high = up reached.0 reached.1 in
           let most = reached.2 in
           set.contains-insert int_cmp_total ids id x ∙ ap (λ b. b || set.contains ids x) (other x id (λ same. omega (arith, ints, high, most, same))) ∙ k.answer x low below;
-      reached = λ x low below. let reached = k.reached x low below in (reached.0, inserted ids id reached.0 reached.1, reached.2);
+      reached = λ x low below. let reached = k.reached x low below in (reached.0, insert_has ids id reached.0 reached.1, reached.2);
     }
 
 -- an id that one of a growing set reaches is reached in its pages

@@ -10,11 +10,8 @@ use Rattle.std.proofs.lemmas.Int.{ints}
 use Rattle.osm_ids.specs.declared.page.PageIds.{PageIds}
 use Rattle.osm_ids.specs.Pages.{Rises, IsRising}
 use Rattle.osm_ids.specs.Windows.{IsKept, IsBegun, IsRun, held, first_held}
-use Rattle.osm_ids.proofs.Sets.{Ids}
+use Rattle.osm_ids.proofs.Sets.{Ids, between}
 use Rattle.osm_ids.proofs.Rising.{other_above, other_below, none_above, rising_tail, cases_order, first_among}
-
-between : (a b : ℤ) → a ≤ℤ b → b ≤ℤ a → a ≡ b
-between a b h k = omega (arith, ints)
 
 pub lt_true : (a b : ℤ) → int_lt a b ≡ true → a <ℤ b
 lt_true a b e = grind (arith, ints)

@@ -2,7 +2,7 @@
 use Rattle.std.proofs.Common.{◌≡◌, ℕ, zero, suc, ◌+◌, ◌<◌, ◌≤◌, List, [], ◌∷◌, ◌++◌, Bool, true, false, ◌&&◌, leb, length, take, drop, refl, sym, ap, ◌∙◌, subst, arith, append_assoc, append-nil, length-append, inl, inr, true≢false}
 use Rattle.std.specs.Prelude.{nat_le, if◌then◌else◌}
 use Rattle.std.specs.List.{sum_by, list_all, flat_map}
-use Rattle.std.proofs.lemmas.Bool.{cases_eq, leb-true, le-leb}
+use Rattle.std.proofs.lemmas.Bool.{and_parts, cases_eq, leb-true, le-leb}
 use Rattle.std.proofs.Math.Bool.{and-true}
 use Rattle.std.proofs.lemmas.List.{take_at, drop_at, take_all, drop_all, length-drop, take-append-drop, take-take, length_push}
 use Rattle.std.proofs.lemmas.List.Sums.{sum_by-append, sum_by_push, sum_by-cons}
@@ -12,10 +12,6 @@ use Rattle.pbf_block.specs.WrittenBlock.{are_alike, all_alike, is_block}
 use Rattle.osm_pack.specs.Cuts.{extra, cuts_at_most, cuts, block_frame, written_entities, then_pending, then_written, at_end}
 use Rattle.osm_entity.specs.declared.weight.TheConstants.{HIGHEST_WEIGHT}
 use Rattle.pbf_block.specs.declared.block_write.TheConstants.{MOST_ENTITIES}
-
-pub both : (a b : Bool) → (a && b) ≡ true → (a ≡ true) × (b ≡ true)
-both true b h = (refl, h)
-both false b h = absurd (true≢false (sym h))
 
 and_assoc : (a b c : Bool) → ((a && b) && c) ≡ (a && (b && c))
 and_assoc true b c = refl
@@ -33,8 +29,8 @@ pub record Keeps (e : EntitySpec) (es : List EntitySpec) : Type 0 where
 pub kept_parts : (e : EntitySpec) (es : List EntitySpec) → is_block (e ∷ es) ≡ true → Keeps e es
 unfolding is_block
 kept_parts e es h =
-    let all = both (list_all (λ f. are_alike e f) es) (nat_le (length (e ∷ es)) MOST_ENTITIES && nat_le (sum_by entity_weight (e ∷ es)) HIGHEST_WEIGHT) h in
-    let sums = both (nat_le (length (e ∷ es)) MOST_ENTITIES) (nat_le (sum_by entity_weight (e ∷ es)) HIGHEST_WEIGHT) all.1 in
+    let all = and_parts (list_all (λ f. are_alike e f) es) (nat_le (length (e ∷ es)) MOST_ENTITIES && nat_le (sum_by entity_weight (e ∷ es)) HIGHEST_WEIGHT) h in
+    let sums = and_parts (nat_le (length (e ∷ es)) MOST_ENTITIES) (nat_le (sum_by entity_weight (e ∷ es)) HIGHEST_WEIGHT) all.1 in
     record {
       kinds = all.0;
       count = omega (arith, leb-true (length (e ∷ es)) MOST_ENTITIES sums.0);
@@ -53,7 +49,7 @@ pub kept_left : (e : EntitySpec) (xs ys : List EntitySpec) → is_block (e ∷ (
 kept_left e xs ys h =
     let k = kept_parts e (xs ++ ys) h in
     kept_from e xs (record {
-      kinds = (both _ _ (sym (all_append (λ f. are_alike e f) xs ys) ∙ k.kinds)).0;
+      kinds = (and_parts _ _ (sym (all_append (λ f. are_alike e f) xs ys) ∙ k.kinds)).0;
       count = omega (arith, k.count, length-append xs ys);
       weight = omega (arith, k.weight, sum_by-append entity_weight xs ys);
     })
@@ -149,8 +145,8 @@ joins (e ∷ es) f h = joins_more e es f h
 pub kept_bounds : (es : List EntitySpec) → is_block es ≡ true → (length es ≤ MOST_ENTITIES) × (sum_by entity_weight es ≤ HIGHEST_WEIGHT)
 unfolding is_block
 kept_bounds es h =
-    let all = both (all_alike es) (nat_le (length es) MOST_ENTITIES && nat_le (sum_by entity_weight es) HIGHEST_WEIGHT) h in
-    let sums = both (nat_le (length es) MOST_ENTITIES) (nat_le (sum_by entity_weight es) HIGHEST_WEIGHT) all.1 in
+    let all = and_parts (all_alike es) (nat_le (length es) MOST_ENTITIES && nat_le (sum_by entity_weight es) HIGHEST_WEIGHT) h in
+    let sums = and_parts (nat_le (length es) MOST_ENTITIES) (nat_le (sum_by entity_weight es) HIGHEST_WEIGHT) all.1 in
     (leb-true (length es) MOST_ENTITIES sums.0, leb-true (sum_by entity_weight es) HIGHEST_WEIGHT sums.1)
 
 pub kept_none : is_block [] ≡ true

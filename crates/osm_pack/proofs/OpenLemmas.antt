@@ -3,6 +3,7 @@ use Rattle.std.proofs.Common.{◌≡◌, ◌⊎◌, inl, inr, ℕ, ◌+◌, ◌*
 use Rattle.std.specs.Prelude.{unwrap_or, nat_le, min, ◌-◌, if◌then◌else◌}
 use Rattle.osm_entity.specs.declared.scale.Scale.{Scale}
 use Rattle.std.specs.List.{sum_by, flat_map, list_all}
+use Rattle.std.proofs.lemmas.Bool.{and_parts}
 use Rattle.std.proofs.lemmas.List.{length_push, map_push}
 use Rattle.std.proofs.lemmas.List.Sums.{sum_by_push, sum_by-cons}
 use Rattle.std.proofs.Math.Bool.{and-true}
@@ -29,7 +30,7 @@ use Rattle.osm_pack.specs.declared.open_block.Joining.{Joining}
 use Rattle.osm_pack.specs.declared.open_block.TheConstants.{MOST_HELD}
 use Rattle.osm_pack.specs.Likenesses.{likeness_of, same_likeness, is_like}
 use Rattle.osm_pack.specs.Open.{likeness_among, Holds, IsOpen, IsJoining, Encodes, Counts, IsClosing, block_held}
-use Rattle.osm_pack.proofs.CutLemmas.{like_first, joins, both, kept_parts, kept_bounds, kept_none, kept_one}
+use Rattle.osm_pack.proofs.CutLemmas.{like_first, joins, kept_parts, kept_bounds, kept_none, kept_one}
 use Rattle.osm_entity.specs.declared.weight.TheConstants.{HIGHEST_WEIGHT}
 use Rattle.pbf_block.specs.declared.block_write.TheConstants.{MOST_ENTITIES}
 
@@ -138,21 +139,21 @@ relations_relation (relation q ∷ es) r = ap (λ rs. q ∷ rs) (relations_relat
 
 like_node : (n : NodeSpec) (es : List EntitySpec) → list_all (are_alike (node n)) es ≡ true → (ways_among es ≡ []) × (relations_among es ≡ [])
 like_node n [] h = (refl, refl)
-like_node n (node m ∷ es) h = like_node n es (both (are_alike (node n) (node m)) (list_all (are_alike (node n)) es) h).1
+like_node n (node m ∷ es) h = like_node n es (and_parts (are_alike (node n) (node m)) (list_all (are_alike (node n)) es) h).1
 like_node n (way v ∷ es) h = absurd (true≢false (sym h))
 like_node n (relation r ∷ es) h = absurd (true≢false (sym h))
 
 like_way : (w : WaySpec) (es : List EntitySpec) → list_all (are_alike (way w)) es ≡ true → (nodes_among es ≡ []) × (relations_among es ≡ [])
 like_way w [] h = (refl, refl)
 like_way w (node m ∷ es) h = absurd (true≢false (sym h))
-like_way w (way v ∷ es) h = like_way w es (both (are_alike (way w) (way v)) (list_all (are_alike (way w)) es) h).1
+like_way w (way v ∷ es) h = like_way w es (and_parts (are_alike (way w) (way v)) (list_all (are_alike (way w)) es) h).1
 like_way w (relation r ∷ es) h = absurd (true≢false (sym h))
 
 like_relation : (r : RelationSpec) (es : List EntitySpec) → list_all (are_alike (relation r)) es ≡ true → nodes_among es ≡ []
 like_relation r [] h = refl
 like_relation r (node m ∷ es) h = absurd (true≢false (sym h))
 like_relation r (way v ∷ es) h = absurd (true≢false (sym h))
-like_relation r (relation q ∷ es) h = like_relation r es (both (are_alike (relation r) (relation q)) (list_all (are_alike (relation r)) es) h).1
+like_relation r (relation q ∷ es) h = like_relation r es (and_parts (are_alike (relation r) (relation q)) (list_all (are_alike (relation r)) es) h).1
 
 -- a block has only nodes, or none
 pub nodes_or_others : (es : List EntitySpec) → is_block es ≡ true → (nodes_among es ≡ []) ⊎ ((ways_among es ≡ []) × (relations_among es ≡ []))
@@ -162,7 +163,7 @@ nodes_or_others (way w ∷ es) h = inl (like_way w es (kept_parts (way w) es h).
 nodes_or_others (relation r ∷ es) h = inl (like_relation r es (kept_parts (relation r) es h).kinds)
 
 like_joins : (es : List EntitySpec) (f : EntitySpec) → is_block es ≡ true → is_block (es ++ f ∷ []) ≡ true → like_first es f ≡ true
-like_joins es f h k = (both (like_first es f) _ (joins es f h ∙ k)).0
+like_joins es f h k = (and_parts (like_first es f) _ (joins es f h ∙ k)).0
 
 -- a way joins no relations
 pub before_way : (es : List EntitySpec) (w : WaySpec) → is_block es ≡ true → is_block (es ++ way w ∷ []) ≡ true → relations_among es ≡ []

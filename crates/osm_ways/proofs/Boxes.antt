@@ -1,14 +1,13 @@
 -- What the selection sees by an area is within what it sees by a larger one, as of boxes.
 use Rattle.std.proofs.Common.{◌≡◌, ℤ, ◌≤ℤ◌, true, refl, arith, rules}
 use Rattle.std.proofs.lemmas.Int.{ints}
-use Rattle.std.proofs.lemmas.Bool.{and_parts}
+use Rattle.std.proofs.lemmas.Bool.{and_from, and_parts}
 use Rattle.osm_area.specs.Area.{AreaSpec, IsAreaWithin, box_area}
 use Rattle.osm_box.specs.declared.bounding_box.BoundingBox.{BoundingBox}
 use Rattle.osm_box.specs.BoundingBox.{is_between, is_inside, is_box_within}
 use Rattle.osm_entity.specs.Entity.{node_at, way_through, relation_among, decoded}
 use Rattle.osm_ways.specs.Selection.{IsWithin}
 use Rattle.osm_ways.specs.Seen.{seen_decoded, seen_entity}
-use Rattle.osm_ways.proofs.Within.{and_true}
 
 ends : (low high n : ℤ) → is_between low high n ≡ true → (low ≤ℤ n) × (n ≤ℤ high)
 ends low high n h = (search rules, search rules)
@@ -28,7 +27,7 @@ inside_wider small large h lat lon e =
     let low = and_parts (is_between large.bottom large.top small.bottom) (is_between large.left large.right small.left) corners.0 in
     let high = and_parts (is_between large.bottom large.top small.top) (is_between large.left large.right small.right) corners.1 in
     let place = and_parts (is_between small.bottom small.top lat) (is_between small.left small.right lon) e in
-    and_true _ _ (between_wider small.bottom small.top large.bottom large.top lat low.0 high.0 place.0) (between_wider small.left small.right large.left large.right lon low.1 high.1 place.1)
+    and_from _ _ (between_wider small.bottom small.top large.bottom large.top lat low.0 high.0 place.0) (between_wider small.left small.right large.left large.right lon low.1 high.1 place.1)
 
 pub seen_decoded-within : (small large : AreaSpec) → IsAreaWithin small large → IsWithin (seen_decoded small) (seen_decoded large)
 seen_decoded-within small large h (node_at id lat lon meta tags) = (refl, h lat lon)

@@ -1,6 +1,6 @@
 -- What the phases' fields show: of the nodes that are kept, those of the box and the other refs apart.
 use Rattle.std.proofs.Common.{if◌then◌else◌, ◌≡◌, ℕ, zero, suc, ℤ, Bool, true, false, ◌||◌, List, [], ◌∷◌, map, drop, take, refl, sym, ap, ◌∙◌}
-use Rattle.std.specs.List.{fold, list_any}
+use Rattle.std.specs.List.{list_any}
 use Rattle.std.specs.Ordering.{int_eq, int_cmp}
 use Rattle.std.specs.Cmp.{int_cmp_total}
 use Rattle.std.specs.FinSet as set
@@ -8,13 +8,10 @@ use Rattle.pbf_wire.specs.declared.span.Span.{Span}
 use Rattle.pbf_wire.specs.Spans.{AreAlike}
 use Rattle.osm_ids.specs.Windows.{Lacks}
 use Rattle.osm_ids.proofs.Closing.{insert_same}
+use Rattle.osm_ids.proofs.Rising.{or_none}
 use Rattle.osm_ids.proofs.Sets.{or_swap}
 use Rattle.osm_ways.specs.Phases.{Ids, sets_of, start_ways, sets_with_way, refs_if}
 use Rattle.osm_ways.specs.Selection.{is_kept_way}
-
-or_none : (b : Bool) → (b || false) ≡ b
-or_none true = refl
-or_none false = refl
 
 union-empty : (s : Ids) → set.union s set.empty ≡ s
 union-empty s =

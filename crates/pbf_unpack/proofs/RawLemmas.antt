@@ -4,13 +4,13 @@ use Rattle.std.specs.Prelude.{is_none, is_ok}
 use Rattle.std.proofs.lemmas.Bool.Decides.{nat_tests}
 use Rattle.std.proofs.lemmas.List.{append-nil, take_at, drop_at}
 use Rattle.pbf_wire.specs.declared.fault.Fault.{Fault}
-use Rattle.pbf_wire.specs.declared.fault.Reason.{Reason}
 use Rattle.pbf_wire.specs.declared.fault.Reason.TheVariants.{SecondHeader, FileLong}
 use Rattle.pbf_wire.specs.Faults.{fault_where}
 use Rattle.pbf_wire.specs.Least.{least}
 use Rattle.pbf_wire.specs.Occurrence.{Occurrence, items, found}
 use Rattle.pbf_wire.specs.Reading.{last_of}
 use Rattle.pbf_wire.specs.Wire.{wire}
+use Rattle.pbf_wire.proofs.SoundLemmas.{not_wrong}
 use Rattle.pbf_frame.specs.declared.blob.TheConstants.{RAW, RAW_SIZE, ZLIB_DATA, LZMA_DATA, BZIP2_DATA, LZ4_DATA, ZSTD_DATA, BLOB_KINDS}
 use Rattle.pbf_frame.specs.declared.frame.FrameKind.{FrameKind}
 use Rattle.pbf_frame.specs.declared.frame.FrameKind.TheVariants as kind
@@ -62,10 +62,6 @@ last_nil : (xs ys : List Fault) → xs ++ ys ≡ [] → ys ≡ []
 last_nil [] ys e = e
 last_nil (x ∷ xs) ys e = (let bad : ⊥ = cc in absurd bad)
 
-where_false : (b : Bool) (place : ℕ) (reason : Reason) → fault_where b place reason ≡ [] → b ≡ false
-where_false false place reason e = refl
-where_false true place reason e = (let bad : ⊥ = cc in absurd bad)
-
 module _ (had : Bool) (place : ℕ) (f : FrameSpec) (is : IsFrame had place f) where
   parts : FrameParts had place (frame_bytes f ++ []) f []
   parts = next_parts had place (frame_bytes f ++ []) f [] (frame_is_next had place f [] is)
@@ -79,7 +75,7 @@ module _ (had : Bool) (place : ℕ) (f : FrameSpec) (is : IsFrame had place f) w
   ends : frame_end f ≤ 2 ^ 62
   ends =
       let none = least_none (order_faults (Some FILE_LIMIT) had place (frame_kind f) (frame_end f)) is.ordered in
-      let far = where_false (nat_lt (2 ^ 62) (frame_end f)) place FileLong (last_nil (fault_where (had && is_header (frame_kind f)) place SecondHeader ++ _) _ none) in
+      let far = not_wrong (nat_lt (2 ^ 62) (frame_end f)) place FileLong (last_nil (fault_where (had && is_header (frame_kind f)) place SecondHeader ++ _) _ none) in
       grind (arith, nat_tests, far)
 
   whole : is_whole f ≡ true

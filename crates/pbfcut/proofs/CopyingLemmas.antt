@@ -19,7 +19,7 @@ use Rattle.pbf_frame.specs.Verdict.{Verdict, joined_frames, judged}
 use Rattle.pbf_frame.proofs.BlobLemmas.{least_none}
 use Rattle.pbf_frame.proofs.Longest.{longest_front}
 use Rattle.pbf_frame.proofs.Parting.{next_none}
-use Rattle.pbf_pass.specs.Judged.{judged_file, sound_front}
+use Rattle.pbf_pass.specs.Judged.{judged_file}
 use Rattle.pbf_pass.specs.Unjudged.{IsFaulty}
 use Rattle.pbf_pass.proofs.SoundLemmas.{ends_well}
 use Rattle.pbfcut.specs.declared.repeat.LaterPass.{LaterPass}

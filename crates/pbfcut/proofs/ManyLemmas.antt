@@ -7,6 +7,7 @@ use Rattle.std.proofs.lemmas.List.{drop-drop, length-drop}
 use Rattle.std.proofs.lemmas.List.Sums.{sum_by-cons, sum_by-append}
 use Rattle.pbf_wire.specs.declared.span.Span.{Span}
 use Rattle.pbf_wire.specs.Spans.{is_in, AreAlike}
+use Rattle.pbf_wire.proofs.MessageLemmas.{all_append}
 use Rattle.osm_entity.specs.declared.member.MemberKind.TheVariants as kind
 use Rattle.osm_entity.specs.declared.scale.Scale.{Scale}
 use Rattle.osm_entity.specs.Scale.{ScaleFits}
@@ -147,10 +148,6 @@ each_picked_id p zero ns every = tt
 each_picked_id p (suc k) [] every = tt
 each_picked_id p (suc k) (n ∷ ns) every = (every n.id, each_picked_id p k ns every)
 
-all_joined : {X : Type 0} (P : X → Type 0) (xs ys : List X) → AllByRecursion P xs → AllByRecursion P ys → AllByRecursion P (xs ++ ys)
-all_joined P [] ys h k = k
-all_joined P (x ∷ xs) ys h k = (h.0, all_joined P xs ys h.1 k)
-
 -- one more is picked, if its id is
 abbrev pub ArePicked : Picker → List NodeSpec → Type 0
 ArePicked p ns = AllByRecursion (λ (n : NodeSpec). picks_id p n.id ≡ true) ns
@@ -181,7 +178,7 @@ picked_inside p (x ∷ xs) (id ∷ ids) (suc m) span all begin inside =
 pub picked_span : (p : Picker) (k m : ℕ) (ids : List ℤ) (ns : List NodeSpec) (span : Span) → AllInside p span → AreAlike span true (take m ids) → BeginWithIds ids (drop k ns) → ArePicked p (take k ns) → ArePicked p (take (k + m) ns) × BeginWithIds (drop m ids) (drop (k + m) ns)
 picked_span p k m ids ns span all inside begin picked =
     let others = picked_inside p (drop k ns) ids m span all begin inside in (
-      subst (λ (l : List NodeSpec). ArePicked p l) (sym (take-add k m ns)) (all_joined _ (take k ns) (take m (drop k ns)) picked others.0),
+      subst (λ (l : List NodeSpec). ArePicked p l) (sym (take-add k m ns)) (all_append _ (take k ns) (take m (drop k ns)) picked others.0),
       subst (λ (l : List NodeSpec). BeginWithIds (drop m ids) l) (drop-drop m k ns) others.1,
     )
 
@@ -217,7 +214,7 @@ module _ {D S H : Type 0} (d : drain.Ghosts D) where
       let written : written_after [] done ≡ written_after [] (done ++ map node ns) =
       sym (written_more [] done (map node ns) ∙ (ap (λ (bs : List ℕ). written_after [] done ++ bs) (written_joined (pending_after [] done) (map node ns) waits.block) ∙ append-nil (written_after [] done))) in
       record {
-        fits = all_joined EntityFits done (map node ns) h.fits (light_each done ns numbers scaled (omega (arith, light, weight)));
+        fits = all_append EntityFits done (map node ns) h.fits (light_each done ns numbers scaled (omega (arith, light, weight)));
         added = added_same d start new.drain (written_after [] done) (written_after [] (done ++ map node ns)) written (added_as d start start old.drain new.drain (written_after [] done) refl (sym kept) h.added);
         pending = subst (λ es. Pending new es) (sym (pending_more [] done (map node ns) ∙ pending_joined (pending_after [] done) (map node ns) waits.block)) waits;
       }

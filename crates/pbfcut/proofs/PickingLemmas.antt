@@ -3,6 +3,7 @@ use Rattle.std.proofs.Common.{◌≡◌, ℕ, ◌≤◌, List, [], ◌∷◌, �
 use Rattle.std.proofs.lemmas.List.Elements.{filter-append}
 use Rattle.std.specs.List.{AllByRecursion, filter}
 use Rattle.pbf_wire.specs.declared.fault.Fault.{Fault}
+use Rattle.pbf_wire.proofs.PackedLemmas.{all_push}
 use Rattle.osm_entity.specs.Entity.{EntitySpec}
 use Rattle.osm_entity.specs.Ranges.{EntityFits}
 use Rattle.pbf_header.specs.Header.{HeaderSpec}
@@ -30,10 +31,6 @@ use Rattle.pbf_block.specs.PrimitiveBlock.{entities}
 use Rattle.pbf_block.proofs.KindLemmas.{filter_every}
 use Rattle.pbfcut.specs.Pick.{Pick, HasPacked, BeginsAll, Begins, StopsPacking, StopsAmong}
 use Rattle.pbf_pass.specs.Stops.{Caused, Only, unchanged, WriteFailed}
-
-all_push : {A : Type 0} (P : A → Type 0) (xs : List A) (x : A) → AllByRecursion P xs → P x → AllByRecursion P (xs ++ x ∷ [])
-all_push P [] x h p = (p, tt)
-all_push P (y ∷ xs) x h p = (h.0, all_push P xs x h.1 p)
 
 -- what is picked of the frames
 pub picked_one : (pick : Pick) (fs : List FrameSpec) (f : FrameSpec) → filter pick (stored_entities (fs ++ f ∷ [])) ≡ filter pick (stored_entities fs) ++ filter pick (frame_entities f)

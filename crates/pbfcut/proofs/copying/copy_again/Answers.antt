@@ -1,13 +1,11 @@
-use Rattle.std.proofs.Common.{zero, suc, [], ℕ, List, Bool, true, rules, refl, subst, ◌∙◌}
+use Rattle.std.proofs.Common.{zero, suc, [], Bool, rules, refl, subst, ◌∙◌}
 use Rattle.std.proofs.lemmas.Result.{IfErr-weaker, on_ok_weaker}
 use Rattle.pbf_frame.specs.Devices.{IsAtEnd}
 use Rattle.pbf_frame.specs.Transfers.{Supplied}
 use Rattle.pbf_pass.specs.Hashing.{IsDigestOf, digest_if}
-use Rattle.pbf_pass.specs.Given.{GaveFile, Took}
 use Rattle.pbf_pass.specs.Stops.{WriteFailed}
 use Rattle.pbf_pass.proofs.GivenLemmas.{digest_if_hashed, same_below, supplied_as}
 use Rattle.pbfcut.specs.Copying.{IsAllOrLong}
-use Rattle.pbfcut.specs.Repeat.{StopsLater, digest_of}
 use Rattle.pbfcut.proofs.ChangedLemmas.{digest_as_change}
 use Rattle.pbfcut.proofs.CopyingLemmas.{first_as, too_long}
 use Rattle.pbfcut.proofs.copying.copy_again.Goals as goal

@@ -1,4 +1,4 @@
-use Rattle.std.proofs.Common.{[], ◌++◌, ◌∙◌, ap, sym, refl, arith, length-append, Option, List, ℕ, take, length}
+use Rattle.std.proofs.Common.{[], ◌++◌, ◌∙◌, ap, sym, refl, arith, length-append, Option, List, ℕ, take}
 use Rattle.std.proofs.lemmas.List.{length-take-le}
 use Rattle.pbf_frame.specs.Devices.{append}
 use Rattle.pbf_frame.proofs.KnownBytes.{append_append, append_none, prepend_more, prepend_none}

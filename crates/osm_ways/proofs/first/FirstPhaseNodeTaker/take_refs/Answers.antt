@@ -1,4 +1,4 @@
-use Rattle.std.proofs.Common.{◌≡◌, true, false, ◌&&◌, refl, sym, ap, subst, ◌∙◌, rules}
+use Rattle.std.proofs.Common.{◌≡◌, true, ◌&&◌, sym, ap, subst, ◌∙◌, rules}
 use Rattle.osm_ids.specs.Windows.{IsOf}
 use Rattle.osm_ways.specs.declared.first.FirstPhase.TheInside.{Inside}
 use Rattle.osm_ways.proofs.first.FirstPhaseNodeTaker.take_refs.Goals as goal
