@@ -46,6 +46,7 @@ module _ {F : Type 0} (f : feed.Ghosts F) {old new : F} {digest raw_digest : Opt
     digest_is = given.digest_is;
     raw_digest_is = given.raw_digest_is;
     told = given.told;
+    end = given.end;
     logged = given.logged;
     holding = step (unpacked given.packed) given.holding;
   }
