@@ -1,10 +1,12 @@
 -- What a call of the engine came to, as the program reports it.
-use Rattle.std.specs.Prelude.{◌≡◌, ℕ, false, Bool, true, None, Result, Ok, Err}
+use Rattle.std.specs.Prelude.{◌≡◌, ℕ, false, Bool, true, Some, None, Result, Ok, Err}
 use Rattle.pbf_frame.specs.declared.device.Feed as feed
 use Rattle.pbf_frame.specs.declared.device.Drain as drain
 use Rattle.pbf_frame.specs.declared.stop.Stop.TheVariants as stop
 use Rattle.pbf_frame.specs.Verdict.{judged_known}
 use Rattle.pbf_pass.specs.Stops.{Caused, FaultOf, ReadFailed, WriteFailed, unchanged}
+use Rattle.pbf_published.specs.declared.input.PublishedHalt.{PublishedHalt}
+use Rattle.pbf_published.specs.declared.input.PublishedInput.{PublishedInput}
 use Rattle.pbfcut.specs.Listing.{Lists}
 use Rattle.pbfcut_cli.specs.declared.endings.Ending.{Ending}
 use Rattle.pbfcut_cli.specs.declared.programs.Program.{Program}
@@ -26,6 +28,11 @@ abbrev pub EndsPacked : Ending → Type 0
 EndsPacked (ending.Stopped s) = Unit {0}
 EndsPacked (ending.RefusedPacked refusal) = Unit {0}
 EndsPacked _ = ⊥
+
+abbrev pub ReportsPublished : Result PublishedInput PublishedHalt → Result Report Halted → Type 0
+ReportsPublished (Ok receipt) (Ok report) = (report.counts ≡ receipt.counts) × (report.input ≡ receipt.input) × (report.raw ≡ Some receipt.raw)
+ReportsPublished (Err halt) (Err halted) = EndsPacked halted.ending
+ReportsPublished _ _ = ⊥
 
 -- the stop of a listing has its cause
 abbrev pub EndsListing : {F D : Type 0} → feed.Ghosts F → drain.Ghosts D → (old now : F) → (before after : D) → Ending → Type 0

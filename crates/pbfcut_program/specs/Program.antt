@@ -1,5 +1,5 @@
 -- What a run of the program is: its words, what happened, and its exit status. To be read from the end upwards.
-use Rattle.std.specs.Prelude.{◌≡◌, ◌⊎◌, ℕ, ◌+◌, List, [], ◌∷◌, ◌++◌, length, map, Bool, true, false, ◌||◌, ◌&&◌, ◌==◌, if◌then◌else◌, Option, Some, None, Ok, codes, decimal}
+use Rattle.std.specs.Prelude.{◌≡◌, ◌⊎◌, ℕ, ◌+◌, List, [], ◌∷◌, ◌++◌, length, map, Bool, true, false, ◌||◌, ◌&&◌, ◌==◌, not, if◌then◌else◌, Option, Some, None, Ok, codes, decimal}
 use Rattle.std.specs.List.{flat_map}
 use Rattle.std.specs.Str.{bytes_eq}
 use Rattle.std.specs.String.{string_bytes}
@@ -34,9 +34,9 @@ use Rattle.pbfcut_cli.specs.declared.words.Region.{Region}
 use Rattle.pbfcut_cli.specs.declared.words.Region.TheVariants as region
 use Rattle.pbfcut_program.specs.declared.host.Screen.{Screen}
 use Rattle.pbfcut_program.specs.declared.host.Screen.TheVariants.{Output, Error}
-use Rattle.pbfcut_program.specs.Devices.{IsAsked}
 use Rattle.pbfcut_program.specs.Events.{Event, text_read, looked, opened, seeded, created, screened, read, wrote, printed, told, advised, Reading, Writing}
 use Rattle.pbfcut_program.specs.Fails.{Fails, Has, IsRefused}
+use Rattle.pbfcut_program.specs.Manner.{Manner, manner, to_raw}
 use Rattle.pbfcut_program.specs.Readings.{IsWork}
 use Rattle.pbfcut_program.specs.Tasks.{Task, checking, showing, converting, copying, extracting, extracting_parents, passes_of}
 
@@ -67,11 +67,6 @@ abbrev pub digest_if_asked : Bool → (written : List ℕ) → Option (List ℕ)
 digest_if_asked true written = Some (sha256 written)
 digest_if_asked false written = None
 
--- of pbfcut it is that digest; of pbfcutz it is only said whether there is one
-abbrev pub IsHashed : Program → Bool → (written : List ℕ) → Option (List ℕ) → Type 0
-IsHashed Pbfcut digests written known = known ≡ digest_if_asked digests written
-IsHashed Pbfcutz digests written known = IsAsked digests known
-
 abbrev pub prints : Screen → List (List ℕ) → List Event
 prints screen lines = map (λ line. printed screen line true) lines
 
@@ -82,23 +77,18 @@ abbrev pub openings : (input : List ℕ) → ℕ → List (Option (List ℕ)) �
 openings input pass [] = []
 openings input pass (has ∷ more) = opened input pass has ∷ openings input (pass + 1) more
 
--- the passes of pbfcut do what the task means; of pbfcutz nothing is said yet
-abbrev pub IsWorkOf : Program → (hashes : Bool) → Task → List Reading → (written : List ℕ) → Counts → (digest : List ℕ) → (raw : Option (List ℕ)) → Type 0
-IsWorkOf Pbfcut hashes task readings written counts digest raw = IsWork hashes task readings written counts digest × (raw ≡ None)
-IsWorkOf Pbfcutz hashes task readings written counts digest raw = Unit {0}
-
--- `check`: one pass was made, and the counts were printed; with `--digests` also the digest
-pub record Checks (program : Program) (digests : Bool) (input : List ℕ) (events : List Event) : Type 0 where
+-- `check`: one pass was made, and the counts were printed; with `--digests` also the digests
+pub record Checks (m : Manner) (input : List ℕ) (events : List Event) : Type 0 where
   pub has : Option (List ℕ)
   pub first : Reading
   pub counts : Counts
   pub digest : List ℕ
   pub raw : Option (List ℕ)
-  pub happened : events ≡ opened input 1 has ∷ read first ∷ prints Output (counts_text counts ∷ check_lines digests digest raw input)
-  pub work : IsWorkOf program digests checking (first ∷ []) [] counts digest raw
+  pub happened : events ≡ opened input 1 has ∷ read first ∷ prints Output (counts_text counts ∷ check_lines m.digests digest raw input)
+  pub work : IsWork m checking (first ∷ []) [] counts digest raw
 
 -- `show`: two passes were made, and all of the text went to standard output
-pub record Shows (program : Program) (dates : Bool) (input : List ℕ) (events : List Event) : Type 0 where
+pub record Shows (m : Manner) (dates : Bool) (input : List ℕ) (events : List Event) : Type 0 where
   pub has : List (Option (List ℕ))
   pub rs : List Reading
   pub out : Writing
@@ -108,7 +98,7 @@ pub record Shows (program : Program) (dates : Bool) (input : List ℕ) (events :
   pub happened : events ≡ openings input 1 has ++ screened true ∷ map read rs ++ wrote out ∷ []
   pub passes : length has ≡ 2
   pub whole : out.out ≡ true
-  pub work : IsWorkOf program true (showing dates) rs out.bytes counts digest raw
+  pub work : IsWork (to_raw m) (showing dates) rs out.bytes counts digest raw
 
 -- what went out are the lines of the frames of what IN has, as far as the host reports it
 abbrev pub IsListing : Program → Option (List ℕ) → List ℕ → Type 0
@@ -149,24 +139,24 @@ is_empty counts = counts.nodes == 0 && (counts.ways == 0 && counts.relations == 
 
 -- a command that writes: OUT was not there, IN was opened for each pass, OUT was made, all that it took went out, and then these counts were
 -- printed, with `--digests` also the digests
-pub record WritesCounts (program : Program) (digests : Bool) (task : Task) (files : Files) (counts : Counts) (events : List Event) : Type 0 where
+pub record WritesCounts (m : Manner) (task : Task) (files : Files) (counts : Counts) (events : List Event) : Type 0 where
   pub has : List (Option (List ℕ))
   pub rs : List Reading
   pub out : Writing
   pub digest : List ℕ
   pub raw : Option (List ℕ)
   pub known : Option (List ℕ)
-  pub happened : events ≡ looks (is_screen program files.output.now) files.output.now ++ openings files.input.now 1 has
-      ++ seeded true ∷ makes (is_screen program files.output.now) files.output.now ∷ map read rs
-      ++ wrote out ∷ prints (screen_of (is_screen program files.output.now))
+  pub happened : events ≡ looks (is_screen m.program files.output.now) files.output.now ++ openings files.input.now 1 has
+      ++ seeded true ∷ makes (is_screen m.program files.output.now) files.output.now ∷ map read rs
+      ++ wrote out ∷ prints (screen_of (is_screen m.program files.output.now))
       (counts_text counts ∷ done_lines known digest raw files.input.now files.output.now)
   pub passes : length has ≡ passes_of task
   pub whole : out.out ≡ true
-  pub hashed : IsHashed program digests out.bytes known
-  pub work : IsWorkOf program true task rs out.bytes counts digest raw
+  pub hashed : known ≡ digest_if_asked m.digests out.bytes
+  pub work : IsWork m task rs out.bytes counts digest raw
 
-abbrev pub Writes : Program → Task → Files → List Event → Type 0
-Writes program task files events = (counts : Counts) × WritesCounts program files.digests task files counts events
+abbrev pub Writes : Manner → Task → Files → List Event → Type 0
+Writes m task files events = (counts : Counts) × WritesCounts m task files counts events
 
 -- what is cut out: a box, or the polygon of a text that was read
 abbrev pub MeansArea : Region → List Event → AreaSpec → Type 0
@@ -182,14 +172,14 @@ extract_task false area = extracting area
 abbrev pub advice : Counts → List Event
 advice counts = if is_empty counts then advised ∷ [] else []
 
-pub record Extracts (program : Program) (digests : Bool) (cut : Region) (parents : Bool) (files : Files) (events : List Event) : Type 0 where
+pub record Extracts (m : Manner) (cut : Region) (parents : Bool) (files : Files) (events : List Event) : Type 0 where
   pub area : AreaSpec
   pub before : List Event
   pub after : List Event
   pub counts : Counts
   pub happened : events ≡ before ++ after ++ advice counts
   pub means : MeansArea cut before area
-  pub writes : WritesCounts program digests (extract_task parents area) files counts after
+  pub writes : WritesCounts m (extract_task parents area) files counts after
 
 -- the digests of what a command reads are printed
 abbrev pub digests_of : Command → Bool
@@ -200,17 +190,27 @@ digests_of (Unpack files) = files.digests
 digests_of (Extract region parents files) = files.digests
 digests_of _ = false
 
+-- OUT gets zlib blobs, if it is pbfcutz that writes it
+abbrev pub packs_of : Command → Bool
+packs_of (Convert files) = not files.raw
+packs_of (Pack files) = true
+packs_of (Extract region parents files) = not files.raw
+packs_of _ = false
+
+abbrev pub manner_in : Program → Command → Manner
+manner_in program command = manner program (packs_of command) (digests_of command)
+
 -- `info` reads as pbfcutz does
-abbrev pub Does : Program → Command → List Event → Type 0
-Does program (Help text) events = events ≡ printed Output (string_bytes text) true ∷ []
-Does program (Blobs input) events = Lists program input.now events
-Does program (Info input) events = Lists Pbfcutz input.now events
-Does program (Show input dates progress) events = Shows program dates input.now events
-Does program (Check input progress digests) events = Checks program digests input.now events
-Does program (Convert files) events = Writes program converting files events
-Does program (Pack files) events = Writes program copying files events
-Does program (Unpack files) events = Writes program copying files events
-Does program (Extract region parents files) events = Extracts program files.digests region parents files events
+abbrev pub Does : Manner → Command → List Event → Type 0
+Does m (Help text) events = events ≡ printed Output (string_bytes text) true ∷ []
+Does m (Blobs input) events = Lists m.program input.now events
+Does m (Info input) events = Lists Pbfcutz input.now events
+Does m (Show input dates progress) events = Shows m dates input.now events
+Does m (Check input progress digests) events = Checks m input.now events
+Does m (Convert files) events = Writes m converting files events
+Does m (Pack files) events = Writes m copying files events
+Does m (Unpack files) events = Writes m copying files events
+Does m (Extract region parents files) events = Extracts m region parents files events
 
 -- ---- why a command fails
 
@@ -249,7 +249,7 @@ IsMeant program words command = IsHelp command ⊎ IsRead (subcommand_of (progra
 
 -- it did its work
 abbrev pub IsDone : Program → List Text → List Event → Type 0
-IsDone program words events = (command : Command) × IsMeant program words command × Does program command events
+IsDone program words events = (command : Command) × IsMeant program words command × Does (manner_in program command) command events
 
 -- it failed: for wrong words nothing had happened
 abbrev pub IsWhy : Program → List Text → Ending → List Event → Type 0

@@ -6,8 +6,10 @@ ghost use Rattle.pbfcut_cli.specs.declared.programs.Program.TheVariants as progr
 ghost use Rattle.pbfcut_program.specs.Devices.{Finishes};
 ghost use Rattle.pbfcut_program.specs.Events.{Event, Reading, opened, read, then_all};
 ghost use Rattle.pbfcut_program.specs.Fails.{Fails, IsRefused};
+ghost use Rattle.pbfcut_program.specs.Manner.{manner_of};
 ghost use Rattle.pbfcut_program.specs.Outcomes.{EndsAs};
-ghost use Rattle.pbfcut_program.specs.Program.{Checks, IsWorkOf, Lists, Shows, refused_listing};
+ghost use Rattle.pbfcut_program.specs.Program.{Checks, Lists, Shows, refused_listing};
+ghost use Rattle.pbfcut_program.specs.Readings.{IsWork};
 ghost use Rattle.pbfcut_program.specs.Tasks.{checking};
 
 use crate::engine::{Engine, Halted, Report, check, list_blobs, show, show_header};
@@ -27,7 +29,7 @@ fn read_once<H: Host>(
 ) -> Result<Report, Ending>
     ensures ok { IfOk result (λ report. (has : Option (List ℕ)) × (first : Reading)
         × (H.log host.new ≡ then_all (H.log host.old) (opened path.now 1 has ∷ read first ∷ []))
-        × IsWorkOf engine.program engine.digests checking (first ∷ []) [] report.counts
+        × IsWork (manner_of engine) checking (first ∷ []) [] report.counts
         report.input report.raw) }
     ensures err { IfErr result (λ how. (events : List Event)
         × (H.log host.new ≡ then_all (H.log host.old) events)
@@ -56,7 +58,7 @@ pub(crate) fn run_check<H: Host>(
 ) -> Result<(), Ending>
     ensures ok { OnOk result ((events : List Event)
         × (H.log host.new ≡ then_all (H.log host.old) events)
-        × Checks engine.program engine.digests path.now events) }
+        × Checks (manner_of engine) path.now events) }
     ensures err { IfErr result (λ how. (events : List Event)
         × (H.log host.new ≡ then_all (H.log host.old) events)
         × Fails engine.program (IsRefused judged_file) how events) }
@@ -94,7 +96,7 @@ pub(crate) fn run_show<H: Host>(
 ) -> Result<(), Ending>
     ensures ok { OnOk result ((events : List Event)
         × (H.log host.new ≡ then_all (H.log host.old) events)
-        × Shows engine.program dates input.now.path.now events) }
+        × Shows (manner_of engine) dates input.now.path.now events) }
     ensures err { IfErr result (λ how. (events : List Event)
         × (H.log host.new ≡ then_all (H.log host.old) events)
         × Fails engine.program (IsRefused judged_file) how events) }

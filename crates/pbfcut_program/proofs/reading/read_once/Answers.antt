@@ -2,6 +2,7 @@ use Rattle.std.proofs.Common.{[], ◌∷◌, ◌≡◌, List, refl}
 use Rattle.pbf_pass.specs.Judged.{judged_file}
 use Rattle.pbfcut_program.specs.Events.{Event, opened, read}
 use Rattle.pbfcut_program.specs.Fails.{IsRefused}
+use Rattle.pbfcut_program.specs.Manner.{manner_of}
 use Rattle.pbfcut_program.specs.Tasks.{checking}
 use Rattle.pbfcut_program.proofs.Closing.{ends_with_none, work_fails, work_read_once}
 use Rattle.pbfcut_program.proofs.FailLemmas.{fails_after, refused_keeps, told_fails}
@@ -13,8 +14,8 @@ returns-in-Err-clause-err g c =
     let log = g.H.Host.log in
     let one = c.in_ok-pass.pass in
     let now = c.check-outcome.new.pass in
-    let fail = work_fails c.args.engine.program g.H.In.Feed c.args.engine.digests checking (λ took. took ≡ []) ⊥ (log c.open_pass.new.host) (log c.close.new.self) (log c.close.new.self)
-    (one ∷ []) (now ∷ []) c.in-Err.halted (ends_with_none (log c.close.new.self) (λ took. took ≡ [])) (c.in_ok-pass.ensures.fresh, tt) (log c.close.new.self, (c.close.ensures.some, c.close.ensures.logged), refl) c.in-Err.ensures in
+    let fail = work_fails c.args.engine.program c.args.engine.packs c.args.engine.digests g.H.In.Feed checking (λ took. took ≡ []) ⊥ (log c.open_pass.new.host) (log c.close.new.self) (log c.close.new.self)
+    (one ∷ []) (now ∷ []) c.in-Err.halted (ends_with_none (log c.close.new.self) (λ took. took ≡ [])) (c.in_ok-pass.ensures.fresh, tt) (log c.close.new.self, (c.close.ensures.some, c.close.ensures.logged), refl) (c.in-Err.ensures (c.in_ok-pass.ensures.fresh, tt)) in
     let begun : List Event = opened c.args.path.now 1 (g.H.In.Feed.remaining one) ∷ [] in
     told_fails c.args.engine.program judged_file c.in-Err.halted.ending c.tell_refusal.result (log c.args.host.now) (log c.close.new.self) (log c.tell_refusal.new.host) (_)
     (and_then (log c.args.host.now) (log c.open_pass.new.host) (log c.close.new.self) begun fail.0 c.in_ok-pass.ensures.opened fail.1)
@@ -24,5 +25,5 @@ pub returns-in-Ok-clause-ok : goal.returns-in-Ok-clause-ok
 returns-in-Ok-clause-ok g c =
     let log = g.H.Host.log in
     let one = c.in_ok-pass.pass in
-    let done = work_read_once c.args.engine.program g.H.In.Feed c.args.engine.digests checking ⊥ (log c.open_pass.new.host) (log c.close.new.self) one c.check-outcome.new.pass c.in-Ok.report c.in_ok-pass.ensures.fresh (c.close.ensures.some, c.close.ensures.logged) c.in-Ok.ensures in
+    let done = work_read_once g.H.In.Feed (manner_of c.args.engine) checking ⊥ (log c.open_pass.new.host) (log c.close.new.self) one c.check-outcome.new.pass c.in-Ok.report c.in_ok-pass.ensures.fresh (c.close.ensures.some, c.close.ensures.logged) (c.in-Ok.ensures (c.in_ok-pass.ensures.fresh, tt)) in
     (g.H.In.Feed.remaining one, done.0, and_then (log c.args.host.now) _ _ (opened c.args.path.now 1 (g.H.In.Feed.remaining one) ∷ []) (read done.0 ∷ []) c.in_ok-pass.ensures.opened done.1, done.2)

@@ -4,6 +4,7 @@ use Rattle.pbf_pass.specs.HeaderLimit.{judged_writable}
 use Rattle.pbfcut_program.specs.Fails.{Fails, IsRefused}
 use Rattle.pbfcut_program.specs.Jobs.{area_of}
 use Rattle.pbfcut_program.specs.Program.{WritesCounts, advice}
+use Rattle.pbfcut_program.specs.Manner.{manner_of}
 use Rattle.pbfcut_program.specs.Tasks.{judge_of}
 use Rattle.pbfcut_program.proofs.Beginning.{judge_extract, quiet_region}
 use Rattle.pbfcut_program.proofs.FailLemmas.{fails_after, opening_fails, refused_keeps}
@@ -35,7 +36,7 @@ returns-clause-ok g c =
     let w = c.in_ok-counts.ensures.ok in
     let counts = c.in_ok-counts.counts in
     let area = area_of c.in_ok-cut.cut in
-    let writes = subst (λ t. WritesCounts c.args.engine.program c.args.engine.digests t c.args.files.now counts w.0) c.plan_extract.ensures w.2 in
+    let writes = subst (λ t. WritesCounts (manner_of c.args.engine) t c.args.files.now counts w.0) c.plan_extract.ensures w.2 in
     let both = and_then log _ _ d.0 w.0 d.1 w.1 in
     let all = and_then log _ _ (d.0 ++ w.0) (advice counts) both c.advise_empty.ensures in
     (d.0 ++ w.0 ++ advice counts, all, record { area = area; before = d.0; after = w.0; counts = counts; happened = refl; means = d.2; writes = writes })

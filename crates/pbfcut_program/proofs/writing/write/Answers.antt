@@ -4,7 +4,9 @@ use Rattle.pbfcut_program.specs.declared.host.Screen.{Screen}
 use Rattle.pbfcut_program.specs.Events.{Event, read, seeded, wrote, then_all}
 use Rattle.pbfcut_program.specs.Fails.{Fails, IsRefused}
 use Rattle.pbfcut_program.specs.Jobs.{feeds_of, plan_of}
-use Rattle.pbfcut_program.specs.Program.{IsWorkOf, counts_text, done_lines, is_screen, looks, makes, openings, prints, screen_of}
+use Rattle.pbfcut_program.specs.Program.{counts_text, done_lines, is_screen, looks, makes, openings, prints, screen_of}
+use Rattle.pbfcut_program.specs.Manner.{manner_of}
+use Rattle.pbfcut_program.specs.Readings.{IsWork}
 use Rattle.pbfcut_program.specs.Tasks.{judge_of}
 use Rattle.pbfcut_program.proofs.Beginning.{all_events, begun, length_has, quiet_begun}
 use Rattle.pbfcut_program.proofs.FailLemmas.{fails_after, opening_fails, print_fails, refused_keeps}
@@ -72,6 +74,6 @@ returns-clause-ok g c =
         passes = length_has g.H.In.Feed.remaining (feeds_of c.in_ok-ready.ready.job) ∙ c.in_ok-ready.ensures.planned.1;
         whole = d.3;
         hashed = d.4;
-        work = subst (λ t. IsWorkOf c.args.engine.program true t d.0 d.1.bytes r.report.counts r.report.input r.report.raw) c.in_ok-ready.ensures.planned.0 d.5;
+        work = subst (λ t. IsWork (manner_of c.args.engine) t d.0 d.1.bytes r.report.counts r.report.input r.report.raw) c.in_ok-ready.ensures.planned.0 d.5;
       },
     )
