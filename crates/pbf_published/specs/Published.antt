@@ -1,22 +1,16 @@
 -- What a call over published files was given: packed bytes, and the raw files that they mean.
 use Rattle.std.specs.Prelude.{◌≡◌, ◌⊎◌, ℕ, zero, suc, ◌+◌, ◌*◌, List, [], ◌∷◌, Bool, true, false, Option, Some, None, Result, Ok, Err, IfSome}
 use Rattle.std.specs.Option.{option_map}
-use Rattle.sha2.specs.declared.Sha256.{Sha256}
-use Rattle.sha2.specs.Sha256.{sha256}
 use Rattle.pbf_frame.specs.declared.device.Feed as feed
 use Rattle.pbf_frame.specs.declared.stop.Stop.{Stop}
 use Rattle.pbf_frame.specs.declared.stop.Stop.TheVariants.{Refused, Read, Write, Memory, Changed}
 use Rattle.pbf_frame.specs.Devices.{IsAtEnd, prepend}
-use Rattle.pbf_pass.specs.declared.hashed.PassFeed.{PassFeed}
 use Rattle.pbf_pass.specs.Hashing.{IsDigestOf, digest_if}
 use Rattle.pbf_pass.specs.declared.receipt.Halt.{Halt}
 use Rattle.pbf_pass.specs.declared.receipt.InputReceipt.{InputReceipt}
 use Rattle.pbf_pass.specs.Refused.{stop_of}
-use Rattle.pbf_unpack.specs.declared.feed.UnpackedFeed.{UnpackedFeed}
-use Rattle.pbf_unpack.specs.Reports.{has_all}
 use Rattle.pbf_unpack.specs.Unpacked.{unpacked}
 use Rattle.pbfcut.specs.Calls.{ChangedIn}
-use Rattle.pbf_published.specs.declared.traced.TracedFeed.{TracedFeed}
 use Rattle.pbf_published.specs.declared.input.PublishedHalt.{PublishedHalt}
 
 -- ---- what was given

@@ -3,6 +3,8 @@ use Rattle.std.proofs.Common.{◌≡◌, inl, inr, ℕ, List, [], ◌∷◌, Boo
 use Rattle.pbf_frame.specs.declared.device.Feed as feed
 use Rattle.pbf_frame.specs.declared.device.Drain as drain
 use Rattle.pbf_frame.specs.declared.stop.Stop.TheVariants as stop
+use Rattle.pbf_frame.specs.Verdict.{judged_known}
+use Rattle.pbf_published.specs.Showing.{ShowsHeader}
 use Rattle.pbf_wire.specs.declared.fault.Fault.{Fault}
 use Rattle.pbfcut_cli.specs.declared.endings.Ending.{Ending}
 use Rattle.pbfcut_cli.specs.declared.endings.Ending.TheVariants as ending
@@ -13,7 +15,8 @@ use Rattle.pbfcut_program.specs.Devices.{Closes, Finishes, IsFresh, IsFreshOut}
 use Rattle.pbfcut_program.specs.Events.{Event, Reading, Writing, opened, screened, read, wrote, then_all}
 use Rattle.pbfcut_program.specs.Fails.{Fails}
 use Rattle.pbfcut_program.specs.Outcomes.{EndsListing, EndsPacked, ListsBy}
-use Rattle.pbfcut_program.specs.Program.{IsListing, refused_listing}
+use Rattle.pbfcut_program.specs.Manner.{meant_known, packed_file}
+use Rattle.pbfcut_program.specs.Program.{IsHeaderText, IsListing, refused_listing}
 use Rattle.pbfcut_program.proofs.Closing.{has_failed, packed_fails, reading}
 use Rattle.pbfcut_program.proofs.FailLemmas.{write_stops}
 use Rattle.pbfcut_program.proofs.Logging.{and_then}
@@ -28,15 +31,22 @@ module _ {F D : Type 0} (f : feed.Ghosts F) (d : drain.Ghosts D) (now : F) (out 
 
   pub list_done : (program : Program) (old : F) (before : D) (outcome : Result ℕ Halted) → IsFreshOut d before → ListsBy program f d old now before out outcome
       → OnOk outcome ((r : Reading) × (w : Writing) × (n ≡ then_all l (read r ∷ wrote w ∷ [])) × (w.out ≡ went) × IsListing program (f.remaining old) w.bytes)
-  list_done Pbfcut old before (Ok count) fresh lists =
+  list_done program old before (Ok count) fresh lists =
       let end = fin.1 _ (lists.added.logged 0 [] fresh.0) in
       (reading f now c.0.0, record { bytes = _; failures = d.failures out; out = went }, and_then l m n (read (reading f now c.0.0) ∷ []) (wrote (record { bytes = _; failures = d.failures out; out = went }) ∷ []) c.0.1 end, refl, (lists.frames, lists.says, refl))
-  list_done Pbfcutz old before (Ok count) fresh lists = (reading f now c.0.0, lost, some_listing, refl, tt)
   list_done program old before (Err halted) fresh lists = tt
 
-  pub any_done : {T : Type 0} (has : Option (List ℕ)) (outcome : Result T Halted) → OnOk outcome ((r : Reading) × (w : Writing) × (n ≡ then_all l (read r ∷ wrote w ∷ [])) × (w.out ≡ went) × IsListing Pbfcutz has w.bytes)
-  any_done has (Ok t) = (reading f now c.0.0, lost, some_listing, refl, tt)
-  any_done has (Err halted) = tt
+  pub header_done : {T : Type 0} (has : Option (List ℕ)) (before : D) (outcome : Result T Halted) → IsFreshOut d before → OnOk outcome (ShowsHeader d before out (judged_known false 0 (meant_known packed_file has)))
+      → OnOk outcome ((r : Reading) × (w : Writing) × (n ≡ then_all l (read r ∷ wrote w ∷ [])) × (w.out ≡ went) × IsHeaderText has w.bytes)
+  header_done has before (Ok t) fresh shows =
+      let end = fin.1 _ (shows.added.logged 0 [] fresh.0) in (
+        reading f now c.0.0,
+        record { bytes = _; failures = d.failures out; out = went },
+        and_then l m n (read (reading f now c.0.0) ∷ []) (wrote (record { bytes = _; failures = d.failures out; out = went }) ∷ []) c.0.1 end,
+        refl,
+        (shows.frame, shows.rest, shows.is_packed, shows.begins, refl),
+      )
+  header_done has before (Err halted) fresh shows = tt
 
   -- with what came before
   abbrev all : (input : List ℕ) → Option (List ℕ) → List Event

@@ -1,5 +1,6 @@
 -- How a program does a command, and what the bytes of IN and of OUT mean by that.
 use Rattle.std.specs.Prelude.{◌≡◌, ℕ, List, Bool, true, false, Option, Some, None}
+use Rattle.std.specs.Option.{option_map}
 use Rattle.pbf_pass.specs.Hashing.{IsDigestOf, digest_if}
 use Rattle.pbf_unpack.specs.Unpacked.{unpacked}
 use Rattle.pbfcut_cli.specs.declared.programs.Program.{Program}
@@ -15,6 +16,11 @@ pub data Form : Type 0 where
 abbrev pub meant : Form → List ℕ → List ℕ
 meant raw_file bytes = bytes
 meant packed_file bytes = unpacked bytes
+
+-- the same of what a device reports
+abbrev pub meant_known : Form → Option (List ℕ) → Option (List ℕ)
+meant_known raw_file known = known
+meant_known packed_file known = option_map unpacked known
 
 -- the program; whether digests are printed; and whether OUT gets zlib blobs if it is pbfcutz that writes it
 pub record Manner : Type 0 where

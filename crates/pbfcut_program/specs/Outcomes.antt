@@ -17,6 +17,7 @@ use Rattle.pbf_pass.specs.Refused.{stop_of}
 use Rattle.pbfcut_cli.specs.declared.endings.Ending.TheVariants as ending
 use Rattle.pbfcut_program.specs.declared.engine.Report.{Report}
 use Rattle.pbfcut_program.specs.declared.engine.Halted.{Halted}
+use Rattle.pbfcut_program.specs.Manner.{input_form, meant_known}
 
 abbrev pub ReportsRaw : Result InputReceipt Halt → Result Report Halted → Type 0
 ReportsRaw (Ok receipt) (Ok report) = (report.counts ≡ receipt.counts) × (report.input ≡ receipt.input) × (report.raw ≡ None)
@@ -39,12 +40,15 @@ abbrev pub EndsListing : {F D : Type 0} → feed.Ghosts F → drain.Ghosts D →
 EndsListing f d old now before after (ending.Stopped s) = Caused (FaultOf (judged_known false 0 (f.remaining old))) (ReadFailed f old now) (WriteFailed d before after) unchanged s
 EndsListing f d old now before after _ = ⊥
 
--- a listing of pbfcut has the lines of all frames; of pbfcutz only how it ends is said
+-- the same by a program: of pbfcutz only that it ends so
+abbrev pub EndsListingBy : {F D : Type 0} → Program → feed.Ghosts F → drain.Ghosts D → (old now : F) → (before after : D) → Ending → Type 0
+EndsListingBy Pbfcut f d old now before after how = EndsListing f d old now before after how
+EndsListingBy Pbfcutz f d old now before after how = EndsPacked how
+
+-- a listing has the lines of all frames of the raw file that the bytes mean
 abbrev pub ListsBy : {F D : Type 0} → Program → feed.Ghosts F → drain.Ghosts D → (old now : F) → (before after : D) → Result ℕ Halted → Type 0
-ListsBy Pbfcut f d old now before after (Ok count) = Lists d before after (judged_known false 0 (f.remaining old)) count
-ListsBy Pbfcut f d old now before after (Err halted) = EndsListing f d old now before after halted.ending
-ListsBy Pbfcutz f d old now before after (Ok count) = Unit {0}
-ListsBy Pbfcutz f d old now before after (Err halted) = EndsPacked halted.ending
+ListsBy program f d old now before after (Ok count) = Lists d before after (judged_known false 0 (meant_known (input_form program) (f.remaining old))) count
+ListsBy program f d old now before after (Err halted) = EndsListingBy program f d old now before after halted.ending
 
 -- a text was written, and the rest of it went out or not: then it is that which failed
 abbrev pub EndsAs : {A B : Type 0} → (went : Bool) → Result A Halted → Result B Ending → Type 0

@@ -1,10 +1,12 @@
 //! The calls of both programs: those of pbfcut over raw files, and those of pbfcutz over published ones.
 
-ghost use Rattle.std.specs.Prelude.{◌≡◌, ℕ, [], ◌∷◌, List, IfSome, IfErr, false, true};
+ghost use Rattle.std.specs.Prelude.{◌≡◌, ℕ, [], ◌∷◌, List, IfSome, IfErr, OnOk, false, true};
+ghost use Rattle.pbf_frame.specs.Verdict.{judged_known};
+ghost use Rattle.pbf_published.specs.Showing.{ShowsHeader};
 ghost use Rattle.pbfcut_cli.specs.declared.endings.Ending.TheVariants as ending;
 ghost use Rattle.pbfcut_cli.specs.declared.programs.Program.TheVariants.{Pbfcutz};
 ghost use Rattle.pbfcut_program.specs.Devices.{AreFresh, Works, WorksOn};
-ghost use Rattle.pbfcut_program.specs.Manner.{manner_of, output_form, raw_file, to_raw};
+ghost use Rattle.pbfcut_program.specs.Manner.{manner_of, meant_known, output_form, packed_file, raw_file, to_raw};
 ghost use Rattle.pbfcut_program.specs.Outcomes.{EndsPacked, ListsBy, ReportsPublished, ReportsRaw};
 ghost use Rattle.pbfcut_program.specs.Tasks.{checking, showing, converting, copying, extracting, extracting_parents};
 
@@ -349,7 +351,9 @@ pub(crate) fn show_header<F: Feed, D: Drain>(
     pass: &mut F,
     drain: &mut D,
 ) -> Result<(), Halted>
-    ensures { IfErr result (λ halted. EndsPacked halted.ending) }
+    ensures shown { OnOk result (ShowsHeader D.Drain drain.old drain.new
+        (judged_known false 0 (meant_known packed_file (F.remaining pass.old)))) }
+    ensures ends { IfErr result (λ halted. EndsPacked halted.ending) }
 {
     match pbf_published::show_header(engine.alloc, pass, drain) {
         Ok(()) => Ok(()),

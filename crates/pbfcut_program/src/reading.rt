@@ -8,7 +8,7 @@ ghost use Rattle.pbfcut_program.specs.Events.{Event, Reading, opened, read, then
 ghost use Rattle.pbfcut_program.specs.Fails.{Fails, IsRefused};
 ghost use Rattle.pbfcut_program.specs.Manner.{manner_of};
 ghost use Rattle.pbfcut_program.specs.Outcomes.{EndsAs};
-ghost use Rattle.pbfcut_program.specs.Program.{Checks, Lists, Shows, refused_listing};
+ghost use Rattle.pbfcut_program.specs.Program.{Checks, IsHeaderText, IsListing, Lists, Shows, refused_listing};
 ghost use Rattle.pbfcut_program.specs.Readings.{IsWork};
 ghost use Rattle.pbfcut_program.specs.Tasks.{checking};
 
@@ -116,7 +116,7 @@ pub(crate) fn run_blobs<H: Host>(
 ) -> Result<(), Ending>
     ensures ok { OnOk result ((events : List Event)
         × (H.log host.new ≡ then_all (H.log host.old) events)
-        × Lists engine.program input.now.path.now events) }
+        × Lists (IsListing engine.program) input.now.path.now events) }
     ensures err { IfErr result (λ how. (events : List Event)
         × (H.log host.new ≡ then_all (H.log host.old) events)
         × Fails engine.program refused_listing how events) }
@@ -136,7 +136,7 @@ pub(crate) fn run_info<H: Host>(
 ) -> Result<(), Ending>
     ensures ok { OnOk result ((events : List Event)
         × (H.log host.new ≡ then_all (H.log host.old) events)
-        × Lists program.Pbfcutz input.now.path.now events) }
+        × Lists IsHeaderText input.now.path.now events) }
     ensures err { IfErr result (λ how. (events : List Event)
         × (H.log host.new ≡ then_all (H.log host.old) events)
         × Fails program.Pbfcutz (λ _ _. Unit {0}) how events) }
