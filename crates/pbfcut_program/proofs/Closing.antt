@@ -16,8 +16,8 @@ use Rattle.pbfcut_program.specs.declared.engine.Report.{Report}
 use Rattle.pbfcut_program.specs.declared.engine.Halted.{Halted}
 use Rattle.pbfcut_program.specs.Devices.{AnyFailed, AreFresh, CloseAll, Closes, EndsFor, Finishes, GiveAll, GiveLater, GivesOrNot, GivesOtherAt, IsAsked, IsFresh, StopsFor, TakenBy, Works}
 use Rattle.pbfcut_program.specs.Events.{Event, Reading, Writing, read, wrote, then_all, then_one}
-use Rattle.pbfcut_program.specs.Fails.{Each, Fails, FailsFor, FailsToFinish, FailsToRead, FailsToWrite, Has, IsRefused, TookNothing, readings}
-use Rattle.pbfcut_program.specs.Outcomes.{EndsPacked}
+use Rattle.pbfcut_program.specs.Fails.{Each, Fails, FailsFor, FailsToFinish, FailsToRead, FailsToWrite, FirstFault, Has, IsRefused, IsRefusedOf, TookNothing, readings}
+use Rattle.pbfcut_program.specs.Outcomes.{RefusesAs}
 use Rattle.pbfcut_program.specs.Manner.{AreDigests, Manner, manner, of_input, of_output}
 use Rattle.pbfcut_program.specs.Program.{digest_if_asked}
 use Rattle.pbfcut_program.specs.Readings.{IsOther, IsWholeOrSpared, IsWork, ReadAll, ReadLater}
@@ -240,26 +240,30 @@ module _ {F : Type 0} (f : feed.Ghosts F) (judge : Option (List ℕ) → Option 
   end_fails (ending.Choice b) olds news fresh c e = absurd e
   end_fails (ending.RefusedPacked r) olds news fresh c e = absurd e
 
-pub packed_fails : (refused : Fault → List Event → Type 0) (how : Ending) (events : List Event) → EndsPacked how → Fails Pbfcutz refused how events
-packed_fails refused (ending.Stopped s) events e = tt
-packed_fails refused (ending.RefusedPacked r) events e = tt
-packed_fails refused ending.CannotOpen events e = absurd e
-packed_fails refused ending.IsPipe events e = absurd e
-packed_fails refused ending.OutExists events e = absurd e
-packed_fails refused (ending.Polygon x) events e = absurd e
-packed_fails refused (ending.Words t) events e = absurd e
-packed_fails refused ending.NotText events e = absurd e
-packed_fails refused (ending.Box b) events e = absurd e
-packed_fails refused (ending.Choice b) events e = absurd e
+pub packed_fails : (refused : Fault → Type 0) (by : Fault → List Event → Type 0) (how : Ending) (events : List Event) → ((e : Fault) → refused e → by e events) → RefusesAs refused how → Fails Pbfcutz by how events
+packed_fails refused by (ending.Stopped (stop.Refused e)) events step f = step e f
+packed_fails refused by (ending.Stopped stop.Read) events step f = tt
+packed_fails refused by (ending.Stopped stop.Write) events step f = tt
+packed_fails refused by (ending.Stopped stop.Memory) events step f = tt
+packed_fails refused by (ending.Stopped (stop.Changed p)) events step f = tt
+packed_fails refused by (ending.RefusedPacked r) events step f = (f.0, f.1, step f.0 f.2)
+packed_fails refused by ending.CannotOpen events step f = absurd f
+packed_fails refused by ending.IsPipe events step f = absurd f
+packed_fails refused by ending.OutExists events step f = absurd f
+packed_fails refused by (ending.Polygon x) events step f = absurd f
+packed_fails refused by (ending.Words t) events step f = absurd f
+packed_fails refused by ending.NotText events step f = absurd f
+packed_fails refused by (ending.Box b) events step f = absurd f
+packed_fails refused by (ending.Choice b) events step f = absurd f
 
 -- a call stopped, and all devices were returned
 pub work_fails : (program : Program) (packs digests : Bool) {F : Type 0} (f : feed.Ghosts F) (task : Task) (took : List ℕ → Type 0) (failed : Type 0) (l m n : Option (List Event)) (olds news : List F) (halted : Halted)
     → Ends took failed m n → AreFresh f olds → CloseAll f news l m → Works (manner program packs digests) f task olds news took failed (Err halted)
-    → (events : List Event) × (n ≡ then_all l events) × Fails program (IsRefused (judge_of task)) halted.ending events
+    → (events : List Event) × (n ≡ then_all l events) × Fails program (IsRefusedOf program (judge_of task) (map f.remaining olds)) halted.ending events
 work_fails Pbfcut packs digests f task took failed l m n olds news halted tail fresh c works = end_fails f (judge_of task) took failed l m n tail halted.ending olds news fresh c works
 work_fails Pbfcutz packs digests f task took failed l m n olds news halted tail fresh c works =
     let some = some_events f (judge_of task) took failed l m n tail news c in
-    (some.0, some.1, packed_fails (IsRefused (judge_of task)) halted.ending some.0 works)
+    (some.0, some.1, packed_fails (λ e. FirstFault (judge_of task) e (map f.remaining olds)) (IsRefusedOf Pbfcutz (judge_of task) (map f.remaining olds)) halted.ending some.0 (λ e r. r) works)
 
 -- ---- what it does
 
@@ -323,7 +327,7 @@ if_done f d out went by task took failed l m n olds news (Err halted) fresh c fi
 
 pub if_fails : (program : Program) (packs digests : Bool) {F : Type 0} (f : feed.Ghosts F) (task : Task) (took : List ℕ → Type 0) (failed : Type 0) (l m n : Option (List Event)) (olds news : List F) (outcome : Result Report Halted)
     → Ends took failed m n → AreFresh f olds → CloseAll f news l m → Works (manner program packs digests) f task olds news took failed outcome
-    → IfErr outcome (λ halted. (events : List Event) × (n ≡ then_all l events) × Fails program (IsRefused (judge_of task)) halted.ending events)
+    → IfErr outcome (λ halted. (events : List Event) × (n ≡ then_all l events) × Fails program (IsRefusedOf program (judge_of task) (map f.remaining olds)) halted.ending events)
 if_fails program packs digests f task took failed l m n olds news (Ok report) tail fresh c works = tt
 if_fails program packs digests f task took failed l m n olds news (Err halted) tail fresh c works = work_fails program packs digests f task took failed l m n olds news halted tail fresh c works
 

@@ -4,6 +4,7 @@ use Rattle.pbf_frame.specs.declared.device.Feed as feed
 use Rattle.pbf_frame.specs.declared.device.Drain as drain
 use Rattle.pbf_frame.specs.declared.stop.Stop.TheVariants as stop
 use Rattle.pbf_frame.specs.Verdict.{judged_known}
+use Rattle.pbf_pass.specs.Stops.{FaultOf}
 use Rattle.pbf_published.specs.Showing.{ShowsHeader}
 use Rattle.pbf_wire.specs.declared.fault.Fault.{Fault}
 use Rattle.pbfcut_cli.specs.declared.endings.Ending.{Ending}
@@ -19,6 +20,7 @@ use Rattle.pbfcut_program.specs.Manner.{meant_known, packed_file}
 use Rattle.pbfcut_program.specs.Program.{IsHeaderText, IsListing, refused_listing}
 use Rattle.pbfcut_program.proofs.Closing.{has_failed, packed_fails, reading}
 use Rattle.pbfcut_program.proofs.FailLemmas.{write_stops}
+use Rattle.pbfcut_program.proofs.PublishedCalls.{published_ends}
 use Rattle.pbfcut_program.proofs.Logging.{and_then}
 
 module _ {F D : Type 0} (f : feed.Ghosts F) (d : drain.Ghosts D) (now : F) (out : D) (went : Bool) (l m n : Option (List Event)) (c : Closes f now l m) (fin : Finishes d out went m n) where
@@ -59,7 +61,7 @@ module _ {F D : Type 0} (f : feed.Ghosts F) (d : drain.Ghosts D) (now : F) (out 
       → (events : List Event) × (n ≡ then_all k events) × Fails program refused (ending.Stopped stop.Write) events
   listing_lost program refused k input has e gone = (all input has, all_listing k input has e, write_stops program refused (all input has) (inr (inr (inr (inl (inr gone))))))
 
-  raw_fails : (old : F) (before : D) (how : Ending) (input : List ℕ) → IsFresh f old → IsFreshOut d before → EndsListing f d old now before out how → Fails Pbfcut refused_listing how (all input (f.remaining old))
+  raw_fails : (old : F) (before : D) (how : Ending) (input : List ℕ) → IsFresh f old → IsFreshOut d before → EndsListing f d old now before out how → Fails Pbfcut (refused_listing Pbfcut) how (all input (f.remaining old))
   raw_fails old before (ending.Stopped (stop.Refused e)) input fresh start ends = inl ends
   raw_fails old before (ending.Stopped stop.Read) input fresh start ends = inr (inr (inl (has_failed _ _ fresh.1 ends)))
   raw_fails old before (ending.Stopped stop.Write) input fresh start ends = inr (inr (inr (inl (inl (has_failed _ _ start.2 ends)))))
@@ -76,12 +78,12 @@ module _ {F D : Type 0} (f : feed.Ghosts F) (d : drain.Ghosts D) (now : F) (out 
   raw_fails old before (ending.RefusedPacked r) input fresh start ends = absurd ends
 
   pub list_fails : (program : Program) (old : F) (before : D) (outcome : Result ℕ Halted) (k : Option (List Event)) (input : List ℕ) → IsFresh f old → IsFreshOut d before → l ≡ then_all k (opened input 1 (f.remaining old) ∷ screened true ∷ []) → ListsBy program f d old now before out outcome
-      → IfErr outcome (λ halted. (events : List Event) × (n ≡ then_all k events) × Fails program refused_listing halted.ending events)
+      → IfErr outcome (λ halted. (events : List Event) × (n ≡ then_all k events) × Fails program (refused_listing program) halted.ending events)
   list_fails Pbfcut old before (Err halted) k input fresh start e lists = (all input (f.remaining old), all_listing k input (f.remaining old) e, raw_fails old before halted.ending input fresh start lists)
-  list_fails Pbfcutz old before (Err halted) k input fresh start e lists = (all input (f.remaining old), all_listing k input (f.remaining old) e, packed_fails refused_listing halted.ending (all input (f.remaining old)) lists)
+  list_fails Pbfcutz old before (Err halted) k input fresh start e lists = (all input (f.remaining old), all_listing k input (f.remaining old) e, packed_fails (FaultOf (judged_known false 0 (meant_known packed_file (f.remaining old)))) (refused_listing Pbfcutz) halted.ending (all input (f.remaining old)) (λ e r. inl r) lists)
   list_fails program old before (Ok count) k input fresh start e lists = tt
 
-  pub any_fails : {T : Type 0} (refused : Fault → List Event → Type 0) (outcome : Result T Halted) (k : Option (List Event)) (input : List ℕ) (has : Option (List ℕ)) → l ≡ then_all k (opened input 1 has ∷ screened true ∷ []) → IfErr outcome (λ halted. EndsPacked halted.ending)
-      → IfErr outcome (λ halted. (events : List Event) × (n ≡ then_all k events) × Fails Pbfcutz refused halted.ending events)
-  any_fails refused (Err halted) k input has e ends = (all input has, all_listing k input has e, packed_fails refused halted.ending (all input has) ends)
-  any_fails refused (Ok t) k input has e ends = tt
+  pub any_fails : {T : Type 0} (outcome : Result T Halted) (k : Option (List Event)) (input : List ℕ) (has : Option (List ℕ)) → l ≡ then_all k (opened input 1 has ∷ screened true ∷ []) → IfErr outcome (λ halted. EndsPacked halted.ending)
+      → IfErr outcome (λ halted. (events : List Event) × (n ≡ then_all k events) × Fails Pbfcutz (λ _ _. Unit {0}) halted.ending events)
+  any_fails (Err halted) k input has e ends = (all input has, all_listing k input has e, packed_fails (λ _. Unit {0}) (λ _ _. Unit {0}) halted.ending (all input has) (λ e r. tt) (published_ends (λ _. Unit {0}) ends.0 halted.ending (λ e is. tt) ends.1))
+  any_fails (Ok t) k input has e ends = tt

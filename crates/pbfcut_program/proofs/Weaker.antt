@@ -15,8 +15,9 @@ use Rattle.pbfcut_cli.specs.declared.programs.Program.TheVariants.{Pbfcut, Pbfcu
 use Rattle.pbfcut_program.specs.declared.engine.Report.{Report}
 use Rattle.pbfcut_program.specs.declared.engine.Halted.{Halted}
 use Rattle.pbfcut_program.specs.Devices.{Change, EndsFor, FinishesPacked, StopsFor, Works}
+use Rattle.pbfcut_program.specs.Fails.{FirstFault}
 use Rattle.pbfcut_program.specs.Manner.{manner, meant, of_input, output_form, raw_file}
-use Rattle.pbfcut_program.specs.Outcomes.{EndsPacked}
+use Rattle.pbfcut_program.specs.Outcomes.{RefusesAs}
 use Rattle.pbfcut_program.specs.Tasks.{Holds, Task, judge_of}
 
 module _ {F : Type 0} (f : feed.Ghosts F) (judge : Option (List ℕ) → Option Verdict) (nothing failed none risen : Type 0) (n : nothing → none) (r : failed → risen) where
@@ -82,9 +83,12 @@ works_packed true digests f {d = d} mid new log task olds news failed risen (Ok 
       took_them = p.has_them;
       holds = subst (λ w. Holds task (map (of_input (manner Pbfcutz true digests)) works.files) report.counts w) (sym means) works.holds;
     }
-works_packed true digests f mid new log task olds news failed risen (Ok report) (Err halted) is fin works = fin
+works_packed true digests f mid new log task olds news failed risen (Ok report) (Err halted) is fin works = lost fin where
+  lost : ((halted.ending ≡ ending.Stopped stop.Write) ⊎ (halted.ending ≡ ending.Stopped stop.Memory)) → RefusesAs (λ e. FirstFault (judge_of task) e (map f.remaining olds)) halted.ending
+  lost (inl e) = subst (RefusesAs (λ x. FirstFault (judge_of task) x (map f.remaining olds))) (sym e) tt
+  lost (inr e) = subst (RefusesAs (λ x. FirstFault (judge_of task) x (map f.remaining olds))) (sym e) tt
 works_packed true digests f mid new log task olds news failed risen (Err halted) (Err same) is fin works = ends_same fin.1 where
-  ends_same : ((same.ending ≡ halted.ending) ⊎ (same.ending ≡ ending.Stopped stop.Memory)) → EndsPacked same.ending
-  ends_same (inl e) = subst EndsPacked (sym e) works
-  ends_same (inr e) = subst EndsPacked (sym e) tt
+  ends_same : ((same.ending ≡ halted.ending) ⊎ (same.ending ≡ ending.Stopped stop.Memory)) → RefusesAs (λ e. FirstFault (judge_of task) e (map f.remaining olds)) same.ending
+  ends_same (inl e) = subst (RefusesAs (λ x. FirstFault (judge_of task) x (map f.remaining olds))) (sym e) works
+  ends_same (inr e) = subst (RefusesAs (λ x. FirstFault (judge_of task) x (map f.remaining olds))) (sym e) tt
 works_packed true digests f mid new log task olds news failed risen (Err halted) (Ok report) is fin works = absurd fin

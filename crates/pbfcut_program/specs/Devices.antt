@@ -18,8 +18,9 @@ use Rattle.pbfcut_cli.specs.declared.programs.Program.TheVariants.{Pbfcut, Pbfcu
 use Rattle.pbfcut_program.specs.declared.engine.Report.{Report}
 use Rattle.pbfcut_program.specs.declared.engine.Halted.{Halted}
 use Rattle.pbfcut_program.specs.Events.{Event, read, wrote, then_one}
+use Rattle.pbfcut_program.specs.Fails.{FirstFault}
 use Rattle.pbfcut_program.specs.Manner.{AreDigests, Manner, of_input, of_output}
-use Rattle.pbfcut_program.specs.Outcomes.{EndsPacked}
+use Rattle.pbfcut_program.specs.Outcomes.{RefusesAs}
 use Rattle.pbfcut_program.specs.Readings.{IsFaulty, IsOther}
 use Rattle.pbfcut_program.specs.Tasks.{Task, Holds, hashes_in, judge_of, spares}
 
@@ -126,10 +127,10 @@ abbrev pub EndsFor : {F : Type 0} → feed.Ghosts F → (Option (List ℕ) → O
 EndsFor f judge olds news nothing failed (ending.Stopped s) = StopsFor f judge olds news nothing failed s
 EndsFor f judge olds news nothing failed _ = ⊥
 
--- the same by a program: of pbfcutz only that it ends so
+-- the same by a program: of pbfcutz only that it ends so, and of a refusal that the fault is that of what its first feed has
 abbrev pub EndsBy : Program → {F : Type 0} → feed.Ghosts F → (Option (List ℕ) → Option Verdict) → (olds news : List F) → (nothing failed : Type 0) → Ending → Type 0
 EndsBy Pbfcut f judge olds news nothing failed how = EndsFor f judge olds news nothing failed how
-EndsBy Pbfcutz f judge olds news nothing failed how = EndsPacked how
+EndsBy Pbfcutz f judge olds news nothing failed how = RefusesAs (λ fault. FirstFault judge fault (map f.remaining olds)) how
 
 -- ---- a call of the engine
 
@@ -160,7 +161,7 @@ HasLinked d below (suc log) bytes = d.has_taken below log bytes
 -- what a call came to, and what that comes to once its drain, which packs, is finished
 abbrev pub FinishesPacked : {D : Type 0} {d : drain.Ghosts D} → (old new : PackedDrain D d) → (returned result : Result Report Halted) → Type 0
 FinishesPacked old new (Ok report) (Ok same) = (same ≡ report) × GaveAll old new
-FinishesPacked old new (Ok report) (Err halted) = EndsPacked halted.ending
+FinishesPacked old new (Ok report) (Err halted) = (halted.ending ≡ ending.Stopped stop.Write) ⊎ (halted.ending ≡ ending.Stopped stop.Memory)
 FinishesPacked old new (Err halted) (Err same) = (new ≡ old) × ((same.ending ≡ halted.ending) ⊎ (same.ending ≡ ending.Stopped stop.Memory))
 FinishesPacked old new (Err halted) (Ok report) = ⊥
 

@@ -2,6 +2,8 @@
 use Rattle.std.specs.Prelude.{◌≡◌, ℕ, false, Bool, true, Some, None, Result, Ok, Err}
 use Rattle.pbf_frame.specs.declared.device.Feed as feed
 use Rattle.pbf_frame.specs.declared.device.Drain as drain
+use Rattle.pbf_wire.specs.declared.fault.Fault.{Fault}
+use Rattle.pbf_frame.specs.declared.stop.Stop.{Stop}
 use Rattle.pbf_frame.specs.declared.stop.Stop.TheVariants as stop
 use Rattle.pbf_frame.specs.Verdict.{judged_known}
 use Rattle.pbf_pass.specs.Stops.{Caused, FaultOf, ReadFailed, WriteFailed, unchanged}
@@ -17,22 +19,35 @@ use Rattle.pbf_pass.specs.Refused.{stop_of}
 use Rattle.pbfcut_cli.specs.declared.endings.Ending.TheVariants as ending
 use Rattle.pbfcut_program.specs.declared.engine.Report.{Report}
 use Rattle.pbfcut_program.specs.declared.engine.Halted.{Halted}
-use Rattle.pbfcut_program.specs.Manner.{input_form, meant_known}
+use Rattle.pbfcut_program.specs.Manner.{input_form, meant_known, packed_file}
 
 abbrev pub ReportsRaw : Result InputReceipt Halt → Result Report Halted → Type 0
 ReportsRaw (Ok receipt) (Ok report) = (report.counts ≡ receipt.counts) × (report.input ≡ receipt.input) × (report.raw ≡ None)
 ReportsRaw (Err halt) (Err halted) = halted.ending ≡ ending.Stopped (stop_of halt)
 ReportsRaw _ _ = ⊥
 
--- a stop, or a refusal of a published file
+-- an ending is that of a stop: the stop, or the refusal of a published file for the reason of its fault
+abbrev pub EndsAsStop : Stop → Ending → Type 0
+EndsAsStop s (ending.Stopped t) = t ≡ s
+EndsAsStop s (ending.RefusedPacked refusal) = (fault : Fault) × (s ≡ stop.Refused fault) × (refusal.reason ≡ fault.reason)
+EndsAsStop s _ = ⊥
+
 abbrev pub EndsPacked : Ending → Type 0
-EndsPacked (ending.Stopped s) = Unit {0}
-EndsPacked (ending.RefusedPacked refusal) = Unit {0}
-EndsPacked _ = ⊥
+EndsPacked how = (s : Stop) × EndsAsStop s how
+
+-- a stop, or a refusal of a published file; and this is said of the fault that is refused
+abbrev pub RefusesAs : (refused : Fault → Type 0) → Ending → Type 0
+RefusesAs refused (ending.Stopped (stop.Refused fault)) = refused fault
+RefusesAs refused (ending.Stopped stop.Read) = Unit {0}
+RefusesAs refused (ending.Stopped stop.Write) = Unit {0}
+RefusesAs refused (ending.Stopped stop.Memory) = Unit {0}
+RefusesAs refused (ending.Stopped (stop.Changed pass)) = Unit {0}
+RefusesAs refused (ending.RefusedPacked refusal) = (fault : Fault) × (refusal.reason ≡ fault.reason) × refused fault
+RefusesAs refused _ = ⊥
 
 abbrev pub ReportsPublished : Result PublishedInput PublishedHalt → Result Report Halted → Type 0
 ReportsPublished (Ok receipt) (Ok report) = (report.counts ≡ receipt.counts) × (report.input ≡ receipt.input) × (report.raw ≡ Some receipt.raw)
-ReportsPublished (Err halt) (Err halted) = EndsPacked halted.ending
+ReportsPublished (Err halt) (Err halted) = EndsAsStop halt.stop halted.ending
 ReportsPublished _ _ = ⊥
 
 -- the stop of a listing has its cause
@@ -40,10 +55,10 @@ abbrev pub EndsListing : {F D : Type 0} → feed.Ghosts F → drain.Ghosts D →
 EndsListing f d old now before after (ending.Stopped s) = Caused (FaultOf (judged_known false 0 (f.remaining old))) (ReadFailed f old now) (WriteFailed d before after) unchanged s
 EndsListing f d old now before after _ = ⊥
 
--- the same by a program: of pbfcutz only that it ends so
+-- the same by a program: of pbfcutz that it is a stop, or the refusal of the raw file that the bytes mean
 abbrev pub EndsListingBy : {F D : Type 0} → Program → feed.Ghosts F → drain.Ghosts D → (old now : F) → (before after : D) → Ending → Type 0
 EndsListingBy Pbfcut f d old now before after how = EndsListing f d old now before after how
-EndsListingBy Pbfcutz f d old now before after how = EndsPacked how
+EndsListingBy Pbfcutz f d old now before after how = RefusesAs (FaultOf (judged_known false 0 (meant_known packed_file (f.remaining old)))) how
 
 -- a listing has the lines of all frames of the raw file that the bytes mean
 abbrev pub ListsBy : {F D : Type 0} → Program → feed.Ghosts F → drain.Ghosts D → (old now : F) → (before after : D) → Result ℕ Halted → Type 0

@@ -37,8 +37,8 @@ use Rattle.pbfcut_cli.specs.declared.words.Region.TheVariants as region
 use Rattle.pbfcut_program.specs.declared.host.Screen.{Screen}
 use Rattle.pbfcut_program.specs.declared.host.Screen.TheVariants.{Output, Error}
 use Rattle.pbfcut_program.specs.Events.{Event, text_read, looked, opened, seeded, created, screened, read, wrote, printed, told, advised, Reading, Writing}
-use Rattle.pbfcut_program.specs.Fails.{Fails, Has, IsRefused}
-use Rattle.pbfcut_program.specs.Manner.{Manner, input_form, manner, meant_known, packed_file, to_raw}
+use Rattle.pbfcut_program.specs.Fails.{Fails, Has, IsRefusedBy}
+use Rattle.pbfcut_program.specs.Manner.{Form, Manner, input_form, manner, meant_known, packed_file, to_raw}
 use Rattle.pbfcut_program.specs.Readings.{IsWork}
 use Rattle.pbfcut_program.specs.Tasks.{Task, checking, showing, converting, copying, extracting, extracting_parents, passes_of}
 
@@ -220,24 +220,24 @@ Does m (Extract region parents files) events = Extracts m region parents files e
 
 -- ---- why a command fails
 
--- the first frame fault of what IN has, as far as the host reports it
-abbrev pub HasFrameFault : Fault → Event → Type 0
-HasFrameFault fault (opened path pass has) = FaultOf (judged_known false 0 has) fault
-HasFrameFault fault _ = ⊥
+-- the first frame fault of the raw file that IN means, as far as the host reports what it has
+abbrev pub HasFrameFault : Form → Fault → Event → Type 0
+HasFrameFault form fault (opened path pass has) = FaultOf (judged_known false 0 (meant_known form has)) fault
+HasFrameFault form fault _ = ⊥
 
 -- how a listing is refused
-abbrev pub refused_listing : Fault → List Event → Type 0
-refused_listing fault events = Has (HasFrameFault fault) events
+abbrev pub refused_listing : Program → Fault → List Event → Type 0
+refused_listing program = λ fault events. Has (HasFrameFault (input_form program) fault) events
 
-abbrev pub refused_by : Command → Fault → List Event → Type 0
-refused_by (Blobs input) fault events = refused_listing fault events
-refused_by (Check input progress digests) fault events = IsRefused judged_file fault events
-refused_by (Show input dates progress) fault events = IsRefused judged_file fault events
-refused_by (Convert files) fault events = IsRefused judged_writable fault events
-refused_by (Pack files) fault events = IsRefused judged_file fault events
-refused_by (Unpack files) fault events = IsRefused judged_file fault events
-refused_by (Extract region parents files) fault events = IsRefused judged_writable fault events
-refused_by _ fault events = Unit {0}
+abbrev pub refused_by : Program → Command → Fault → List Event → Type 0
+refused_by program (Blobs input) = refused_listing program
+refused_by program (Check input progress digests) = IsRefusedBy program judged_file
+refused_by program (Show input dates progress) = IsRefusedBy program judged_file
+refused_by program (Convert files) = IsRefusedBy program judged_writable
+refused_by program (Pack files) = IsRefusedBy program judged_file
+refused_by program (Unpack files) = IsRefusedBy program judged_file
+refused_by program (Extract region parents files) = IsRefusedBy program judged_writable
+refused_by program _ = λ fault events. Unit {0}
 
 -- the program whose way of reading a command has
 abbrev pub reader_of : Program → Command → Program
@@ -245,7 +245,7 @@ reader_of program (Info input) = Pbfcutz
 reader_of program _ = program
 
 abbrev pub FailsIn : Program → Command → Ending → List Event → Type 0
-FailsIn program command how events = Fails (reader_of program command) (refused_by command) how events
+FailsIn program command how events = Fails (reader_of program command) (refused_by program command) how events
 
 -- ---- the whole run
 

@@ -5,7 +5,7 @@ ghost use Rattle.pbf_pass.specs.Judged.{judged_file};
 ghost use Rattle.pbfcut_cli.specs.declared.programs.Program.TheVariants as program;
 ghost use Rattle.pbfcut_program.specs.Devices.{Finishes};
 ghost use Rattle.pbfcut_program.specs.Events.{Event, Reading, opened, read, then_all};
-ghost use Rattle.pbfcut_program.specs.Fails.{Fails, IsRefused};
+ghost use Rattle.pbfcut_program.specs.Fails.{Fails, IsRefusedBy};
 ghost use Rattle.pbfcut_program.specs.Manner.{manner_of};
 ghost use Rattle.pbfcut_program.specs.Outcomes.{EndsAs};
 ghost use Rattle.pbfcut_program.specs.Program.{Checks, IsHeaderText, IsListing, Lists, Shows, refused_listing};
@@ -33,7 +33,7 @@ fn read_once<H: Host>(
         report.input report.raw) }
     ensures err { IfErr result (λ how. (events : List Event)
         × (H.log host.new ≡ then_all (H.log host.old) events)
-        × Fails engine.program (IsRefused judged_file) how events) }
+        × Fails engine.program (IsRefusedBy engine.program judged_file) how events) }
 {
     let input = Input {
         path,
@@ -61,7 +61,7 @@ pub(crate) fn run_check<H: Host>(
         × Checks (manner_of engine) path.now events) }
     ensures err { IfErr result (λ how. (events : List Event)
         × (H.log host.new ≡ then_all (H.log host.old) events)
-        × Fails engine.program (IsRefused judged_file) how events) }
+        × Fails engine.program (IsRefusedBy engine.program judged_file) how events) }
 {
     let report = read_once(engine, host, path, progress)?;
     print_checked(engine, host, &report, path)
@@ -99,7 +99,7 @@ pub(crate) fn run_show<H: Host>(
         × Shows (manner_of engine) dates input.now.path.now events) }
     ensures err { IfErr result (λ how. (events : List Event)
         × (H.log host.new ≡ then_all (H.log host.old) events)
-        × Fails engine.program (IsRefused judged_file) how events) }
+        × Fails engine.program (IsRefusedBy engine.program judged_file) how events) }
 {
     let mut passes = open_two(host, input)?;
     let mut out = open_screen(host)?;
@@ -119,7 +119,7 @@ pub(crate) fn run_blobs<H: Host>(
         × Lists (IsListing engine.program) input.now.path.now events) }
     ensures err { IfErr result (λ how. (events : List Event)
         × (H.log host.new ≡ then_all (H.log host.old) events)
-        × Fails engine.program refused_listing how events) }
+        × Fails engine.program (refused_listing engine.program) how events) }
 {
     let mut pass = open_pass(host, input, 1)?;
     let mut out = open_screen(host)?;

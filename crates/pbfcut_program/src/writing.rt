@@ -8,7 +8,7 @@ ghost use Rattle.pbf_pass.specs.HeaderLimit.{judged_writable};
 ghost use Rattle.pbfcut_cli.specs.declared.programs.Program.TheVariants.{Pbfcutz};
 ghost use Rattle.pbfcut_program.specs.Devices.{AreFresh, FinishesPacked, IsAsked, IsFreshOut, TakenBy, Works, WorksOn};
 ghost use Rattle.pbfcut_program.specs.Events.{Event, Reading, Writing, read, seeded, wrote, then_all, then_one};
-ghost use Rattle.pbfcut_program.specs.Fails.{Fails, FailsOpening, IsRefused};
+ghost use Rattle.pbfcut_program.specs.Fails.{Fails, FailsOpening, IsRefusedBy, IsRefusedOf};
 ghost use Rattle.pbfcut_program.specs.Jobs.{area_of, feeds_of, plan_of, task_of};
 ghost use Rattle.pbfcut_program.specs.Program.{Extracts, WritesCounts, advice, digest_if_asked, extract_task, is_empty, is_screen, looks, makes, openings, screen_of};
 ghost use Rattle.pbfcut_program.specs.Manner.{manner_of, to_raw};
@@ -165,6 +165,16 @@ fn named(halted: Halted, of_drain: Option<Stop>) -> Halted
     halted
 }
 
+/// How a call ends whose drain couldn't give OUT the rest.
+fn lost(of_drain: Option<Stop>) -> Halted
+    ensures { (result.ending ≡ ending.Stopped stop.Write) ⊎ (result.ending ≡ ending.Stopped stop.Memory) }
+{
+    match of_drain {
+        Some(Stop::Memory) => Halted::from(Stop::Memory),
+        _ => Halted::from(Stop::Write),
+    }
+}
+
 /// Gives OUT the rest of what a drain packs, once a call has ended.
 fn finish<D: Drain>(
     returned: Result<Report, Halted>,
@@ -177,7 +187,7 @@ fn finish<D: Drain>(
         Err(halted) => return Err(named(halted, drain.stop())),
     };
     if drain.finish().is_err() {
-        return Err(Halted::from(drain.stop().unwrap_or(Stop::Write)));
+        return Err(lost(drain.stop()));
     }
     Ok(report)
 }
@@ -303,7 +313,8 @@ fn run_job<H: Host>(
         done.report.input done.report.raw) }
     ensures err { IfErr result (λ how. (events : List Event)
         × (H.log host.new ≡ then_all (H.log host.old) events)
-        × Fails engine.program (IsRefused (judge_of (task_of ready.job))) how events) }
+        × Fails engine.program (IsRefusedOf engine.program (judge_of (task_of ready.job))
+        (map H.In.remaining (feeds_of ready.job))) how events) }
 {
     let Ready { job, out, hasher } = ready;
     let mut job = job;
@@ -333,7 +344,7 @@ pub(crate) fn write<H: Host>(
         × WritesCounts (manner_of engine) (plan_of plan) files.now counts events) }
     ensures err { IfErr result (λ how. (events : List Event)
         × (H.log host.new ≡ then_all (H.log host.old) events)
-        × Fails engine.program (IsRefused (judge_of (plan_of plan))) how events) }
+        × Fails engine.program (IsRefusedBy engine.program (judge_of (plan_of plan))) how events) }
 {
     let to_screen = is_screen(engine.program, files.output);
     let ready = prepare(host, to_screen, files, plan, progress)?;
@@ -385,7 +396,7 @@ pub(crate) fn run_extract<H: Host>(
         × Extracts (manner_of engine) region.now parents files.now events) }
     ensures err { IfErr result (λ how. (events : List Event)
         × (H.log host.new ≡ then_all (H.log host.old) events)
-        × Fails engine.program (IsRefused judged_writable) how events) }
+        × Fails engine.program (IsRefusedBy engine.program judged_writable) how events) }
 {
     let cut = read_region(engine.alloc, host, region)?;
     let counts = write(engine, host, files, plan_extract(cut, parents), progress)?;

@@ -44,4 +44,4 @@ returns-clause-err g c =
     let e = c.ended.ensures in
     text_err e.0 c.show_header-outcome.result c.ended.result (λ how. (events : List Event) × (log c.ended.new.host ≡ then_all (log c.args.host.now) events) × Fails Pbfcutz (λ _ _. Unit {0}) how events) e.2
     (λ gone. listing_lost g.H.In.Feed g.H.Out.Drain c.show_header-outcome.new.pass c.show_header-outcome.new.drain e.0 (log c.open_screen.new.host) (log c.close.new.self) (log c.ended.new.host) (c.close.ensures.some, c.close.ensures.logged) e.1 Pbfcutz (λ _ _. Unit {0}) (log c.args.host.now) input has begun gone)
-    (any_fails g.H.In.Feed g.H.Out.Drain c.show_header-outcome.new.pass c.show_header-outcome.new.drain e.0 (log c.open_screen.new.host) (log c.close.new.self) (log c.ended.new.host) (c.close.ensures.some, c.close.ensures.logged) e.1 (λ _ _. Unit {0}) c.show_header-outcome.result (log c.args.host.now) input has begun c.show_header-outcome.ensures.ends)
+    (any_fails g.H.In.Feed g.H.Out.Drain c.show_header-outcome.new.pass c.show_header-outcome.new.drain e.0 (log c.open_screen.new.host) (log c.close.new.self) (log c.ended.new.host) (c.close.ensures.some, c.close.ensures.logged) e.1 c.show_header-outcome.result (log c.args.host.now) input has begun c.show_header-outcome.ensures.ends)

@@ -1,13 +1,13 @@
-use Rattle.std.proofs.Common.{◌∙◌, ◌<◌, true}
+use Rattle.std.proofs.Common.{◌∙◌, ◌<◌, map, true}
 use Rattle.std.proofs.lemmas.Result.{IfErr-weaker, IfOk-weaker}
 use Rattle.std.specs.Result.{is_ok}
 use Rattle.pbfcut_program.specs.Devices.{TakenBy}
-use Rattle.pbfcut_program.specs.Fails.{IsRefused}
+use Rattle.pbfcut_program.specs.Fails.{IsRefusedOf}
 use Rattle.pbfcut_program.specs.Jobs.{feeds_of, task_of}
 use Rattle.pbfcut_program.specs.Manner.{manner_of}
 use Rattle.pbfcut_program.specs.Tasks.{judge_of}
 use Rattle.pbfcut_program.proofs.Closing.{ends_with_out, finish_fails, hashed_as, keep_fails, work_done, work_fails}
-use Rattle.pbfcut_program.proofs.FailLemmas.{told_fails}
+use Rattle.pbfcut_program.proofs.FailLemmas.{of_stays, told_fails}
 use Rattle.pbfcut_program.proofs.writing.run_job.Goals as goal
 
 pub returns-in-Ok-clause-ok : goal.returns-in-Ok-clause-ok
@@ -30,7 +30,7 @@ returns-in-Ok-clause-err g c =
     IfErr-weaker c.kept.result _ _ (λ how e.
     let f = finish_fails g.H.In.Feed g.H.Out.Drain ran.out (is_ok c.finish-finished.result) (log c.args.host.now) (log c.close_job.new.host) (log c.finish-finished.new.self) (feeds_of c.run_into-result.new.job) c.close_job.ensures
     (c.finish-finished.ensures.some, c.finish-finished.ensures.logged) e.0 in
-    (f.0, f.1, keep_fails c.args.engine.program (IsRefused (judge_of (task_of job))) how f.0 e.1 f.2 f.3)) c.kept.ensures.err
+    (f.0, f.1, keep_fails c.args.engine.program (IsRefusedOf c.args.engine.program (judge_of (task_of job)) (map g.H.In.Feed.remaining (feeds_of job))) how f.0 e.1 f.2 f.3)) c.kept.ensures.err
 
 pub returns-in-Err-clause-err : goal.returns-in-Err-clause-err
 returns-in-Err-clause-err g c =
@@ -43,4 +43,4 @@ returns-in-Err-clause-err g c =
     (λ w t. t.0) (λ risen. risen) (c.finish-finished.ensures.some, c.finish-finished.ensures.logged) in
     let fail = work_fails program c.args.engine.packs c.args.engine.digests g.H.In.Feed (task_of job) (TakenBy g.H.Out.Drain ran.out ran.output) (0 < g.H.Out.Drain.failures ran.out)
     (log c.args.host.now) (log c.close_job.new.host) (log c.finish-finished.new.self) (feeds_of job) (feeds_of c.run_into-result.new.job) c.in-Err.halted tail c.requires.fresh.0 c.close_job.ensures works in
-    told_fails program (judge_of (task_of job)) c.in-Err.halted.ending c.tell_refusal.result (log c.args.host.now) (log c.finish-finished.new.self) (log c.tell_refusal.new.host) fail.0 fail.1 fail.2 c.tell_refusal.ensures
+    told_fails program (IsRefusedOf program (judge_of (task_of job)) (map g.H.In.Feed.remaining (feeds_of job))) (of_stays program (judge_of (task_of job)) (map g.H.In.Feed.remaining (feeds_of job))) c.in-Err.halted.ending c.tell_refusal.result (log c.args.host.now) (log c.finish-finished.new.self) (log c.tell_refusal.new.host) fail.0 fail.1 fail.2 c.tell_refusal.ensures
