@@ -1,4 +1,4 @@
-use Rattle.std.proofs.Common.{◌≡◌, ◌∙◌, [], ◌<◌, true, ap, subst, sym}
+use Rattle.std.proofs.Common.{◌∙◌, ap}
 use Rattle.pbfcut_program.specs.Jobs.{feeds_of, task_of}
 use Rattle.pbfcut_program.proofs.Closing.{has_failed}
 use Rattle.pbfcut_program.proofs.Weaker.{works_weaker}

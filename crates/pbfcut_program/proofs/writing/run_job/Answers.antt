@@ -1,4 +1,4 @@
-use Rattle.std.proofs.Common.{◌∙◌, ◌<◌, map, true}
+use Rattle.std.proofs.Common.{◌∙◌, ◌<◌, map}
 use Rattle.std.proofs.lemmas.Result.{IfErr-weaker, IfOk-weaker}
 use Rattle.std.specs.Result.{is_ok}
 use Rattle.pbfcut_program.specs.Devices.{TakenBy}
