@@ -38,7 +38,7 @@ use Rattle.pbfcut_program.specs.Tasks.{Holds, Task, checking, hashes_in, showing
 abbrev Stopped : (X : Type 0) → Halt → Result X Halt
 Stopped X h = Err h
 
--- a digest of bytes is theirs, whether it is looked at or not
+-- a digest of bytes is theirs, whether they are hashed or not
 pub digest_or_not : (hashes : Bool) (digest bytes : List ℕ) → IsDigestOf (Some digest) bytes → IsDigestOf (digest_if hashes digest) bytes
 digest_or_not true digest bytes is = is
 digest_or_not false digest bytes is = tt

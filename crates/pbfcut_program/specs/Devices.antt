@@ -147,7 +147,7 @@ abbrev pub Works : {F : Type 0} → Manner → feed.Ghosts F → Task → (olds 
 Works m f task olds news took failed (Ok report) = Reports f m task olds news took report
 Works m f task olds news took failed (Err halted) = EndsBy m.program f (judge_of task) olds news (took []) failed halted.ending
 
--- if nothing was read of the feeds, whatever log is looked at by which the drain had taken nothing
+-- if nothing was read of the feeds: by each log by which the drain had taken nothing
 abbrev pub WorksOn : {F D : Type 0} → Manner → feed.Ghosts F → drain.Ghosts D → Task → (olds news : List F) → (old new : D) → Result Report Halted → Type 0
 WorksOn m f d task olds news old new result = AreFresh f olds → (log : ℕ) → d.has_taken old log [] → Works m f task olds news (d.has_taken new log) (WriteFailed d old new) result
 
