@@ -14,6 +14,8 @@ import sys
 TOP = os.path.dirname(os.path.dirname(os.path.abspath(__file__)))
 # Each public call, with the crate and the file that have it.
 CALLS = {
+    # the program itself
+    "pbfcut_program::run": ("pbfcut_program", "program"),
     "extract": ("pbfcut", "extracting"), "extract_with_receipt": ("pbfcut", "extracting"), "extract_parents": ("pbfcut", "extracting"),
     "extract_sorted": ("pbfcut", "sorted"), "extract_sorted_with_receipt": ("pbfcut", "sorted"),
     "convert": ("pbfcut", "converting"), "show": ("pbfcut", "showing"), "check": ("pbf_pass", "checking"), "list_blobs": ("pbfcut", "blobs"),
@@ -23,7 +25,7 @@ CALLS = {
 # The calls with a clause of this name, which says what the answer means, and what is refused.
 PROMISE = "promise"
 PROMISED = ("extract", "extract_parents", "convert")
-MODIFIERS = ("abbrev", "unfoldable", "pub", "record")
+MODIFIERS = ("abbrev", "unfoldable", "pub", "record", "data")
 # how long the equations of a definition without a comment may be to be shown
 MOST_SHOWN = 240
 
@@ -295,7 +297,8 @@ says in words what each clause says. `tests/statement.py --write` generates this
 writing. [The examples](../crates/pbf_examples/README.md) compare the definitions with files that are spelled out. Types of the code (structs
 and enums) are not listed, nor are `Feed` and `Drain` of [device](../crates/pbf_frame/src/device.rt), whose contracts say what a device is.
 
-Begin with [Theorem](../crates/pbfcut/specs/Theorem.antt). The clause `promise` of a call says what the answer means, and what is refused; the
+Begin with `IsRun`, the last definition of [Program](../crates/pbfcut_program/specs/Program.antt), which says what a run of the program is, and go upwards; then
+[Theorem](../crates/pbfcut/specs/Theorem.antt). The clause `promise` of a call says what the answer means, and what is refused; the
 definitions under one are printed in bold. The others say how the answer is written, why a call stops, and what went through devices that report
 nothing.
 """

@@ -1,4 +1,3 @@
 pub mod PublishedLemmas
 pub mod TracedLemmas
-pub mod PackingLemmas
 mod ShowingLemmas

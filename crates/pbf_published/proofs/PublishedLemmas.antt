@@ -1,7 +1,7 @@
 -- What a feed gave, unpacked, is the raw file that packed bytes mean.
-use Rattle.std.proofs.Common.{◌≡◌, ◌||◌, ◌⊎◌, inl, inr, ℕ, suc, Bool, true, false, List, [], Option, Some, None, Result, Ok, Err, IfOk, IfErr, IfSome, OnErr, refl, sym, ap, ◌∙◌, subst}
+use Rattle.std.specs.Option.{is_none, option_map}
+use Rattle.std.proofs.Common.{◌≡◌, ◌==◌, ◌&&◌, ◌||◌, ◌⊎◌, inl, inr, ℕ, suc, Bool, true, false, List, [], length, Option, Some, None, Result, Ok, Err, IfOk, IfErr, IfSome, OnErr, refl, sym, ap, ◌∙◌, subst}
 use Rattle.std.proofs.lemmas.Option.{same_Some}
-use Rattle.sha2.specs.declared.Sha256.{Sha256}
 use Rattle.sha2.specs.Sha256.{sha256}
 use Rattle.pbf_wire.specs.declared.fault.Fault.{Fault}
 use Rattle.pbf_frame.specs.declared.device.Feed as feed
@@ -15,13 +15,15 @@ use Rattle.pbf_pass.specs.declared.receipt.Halt.{Halt}
 use Rattle.pbf_pass.specs.declared.receipt.InputReceipt.{InputReceipt}
 use Rattle.pbf_pass.specs.Refused.{stop_of}
 use Rattle.pbf_pass.specs.Stops.{Caused, FaultOf, ReadFailed}
-use Rattle.pbf_pass.specs.declared.hashed.PassFeed.{PassFeed}
 use Rattle.pbf_unpack.specs.declared.feed.UnpackedFeed.{UnpackedFeed}
+use Rattle.pbf_unpack.specs.declared.feed.State.{State}
+use Rattle.pbf_unpack.specs.declared.feed.State.TheVariants.{Reading, PassingOn, Ended, Failed, Refused}
+use Rattle.pbf_unpack.specs.Reports.{has_all, stop_in}
+use Rattle.pbf_unpack.specs.Supplying.{left_in, unless_failed}
 use Rattle.pbf_unpack.specs.Unpacked.{unpacked}
 use Rattle.pbfcut.specs.Calls.{Differ, GaveOrNot, RefusedFirst}
 use Rattle.pbfcut.proofs.ConvertingLemmas.{nothing_out}
 use Rattle.pbf_published.specs.declared.input.PublishedHalt.{PublishedHalt}
-use Rattle.pbf_published.specs.declared.traced.TracedFeed.{TracedFeed}
 use Rattle.pbf_published.specs.Published.{Closed, GavePublished, GaveOrNone, Opened, ReportsOutcome, UnlessChanged, log_number, log_of, raw_of, told_by}
 
 -- a feed of a pass that was opened, in the log that says most
@@ -52,7 +54,7 @@ none_left_of_all old None file all told end is = (let bad : ⊥ = (let none = sy
 abbrev pub DigestIsOf : (known digest : Option (List ℕ)) → Type 0
 DigestIsOf known digest = (all : List ℕ) → known ≡ Some all → digest ≡ Some (sha256 all)
 
-module _ {F U : Type 0} (f : feed.Ghosts F) (first last : F) {u : feed.Ghosts U} {old new : U} {raw_digest : Option (List ℕ)} {holds : List ℕ → Type 0} (given : GaveFile u old new raw_digest holds) (hashes : Bool) (o : Option (List ℕ)) (remaining : u.remaining old ≡ raw_of (f.remaining first)) (opened : Opened (f.remaining first) (f.has_passed first) hashes (u.has_passed old)) (closed : Closed (f.has_passed last) (u.has_passed new) (u.remaining new) o) where
+module _ {F U : Type 0} (f : feed.Ghosts F) (first last : F) {u : feed.Ghosts U} {old new : U} {raw_digest : Option (List ℕ)} {holds : List ℕ → Type 0} (given : GaveFile u old new raw_digest holds) (hashes : Bool) (o : Option (List ℕ)) (remaining : u.remaining old ≡ raw_of (f.remaining first)) (opened : Opened (f.remaining first) (f.has_passed first) hashes (u.has_passed old)) (closed : Closed (f.has_passed last) (f.remaining last) (u.has_passed new) (u.remaining new) o) where
   ended : (all : List ℕ) → f.remaining first ≡ Some all → u.remaining new ≡ Some []
   ended all is = none_left_of_all (u.remaining old) (u.remaining new) given.file (unpacked all) given.supplied.gave.told given.supplied.end (remaining ∙ ap raw_of is)
 
@@ -61,15 +63,16 @@ module _ {F U : Type 0} (f : feed.Ghosts F) (first last : F) {u : feed.Ghosts U}
   published_of digest is keeps step =
       let file = given.file in
       let known = f.remaining first in
-      let m = if_digest o digest _ is (closed.means hashes known file (given.supplied.gave.logged (log_number (log_of hashes) known) [] opened.hashed)) in
+      let m = if_digest o digest _ is (closed.means hashes known file (given.supplied.gave.logged (log_number (log_of hashes) (log_of hashes) known) [] opened.hashed)) in
       record {
         packed = m.packed;
         digest_is = m.digest_is;
         raw_digest_is = subst (λ (l : List ℕ). IsDigestOf raw_digest l) (sym m.means) given.digest_is;
         told = λ all all_is. same_Some _ _ (sym all_is ∙ m.told (ended all all_is));
+        end = m.end given.supplied.end;
         logged = λ log start.
-            let p = if_digest o digest _ is (closed.logged log known file (given.supplied.gave.logged (log_number (suc (suc log)) known) [] (opened.logged log start))) in
-            record { packed = p.packed; passed = p.passed; means = p.means ∙ sym m.means };
+            let p = if_digest o digest _ is (closed.logged hashes log known file (given.supplied.gave.logged (log_number (log_of hashes) (suc (suc log)) known) [] (opened.logged log start))) in
+            record { packed = p.packed; passed = p.passed; digest_is = p.digest_is; means = p.means ∙ sym m.means };
         holding = subst keeps (sym m.means) (step file given.holding);
       }
 
@@ -85,14 +88,34 @@ module _ {F U : Type 0} (f : feed.Ghosts F) (first last : F) {u : feed.Ghosts U}
 
 -- the same of a feed that may have been spared
 pub published_or_none : {F U : Type 0} (f : feed.Ghosts F) (first last : F) (u : feed.Ghosts U) {old new : U} {raw_digest : Option (List ℕ)} (holds : List ℕ → Type 0) (file : List ℕ) (spared : Bool) → GaveOrNot u spared old new raw_digest file holds → (o : Option (List ℕ)) → u.remaining old ≡ raw_of (f.remaining first)
-    → Opened (f.remaining first) (f.has_passed first) true (u.has_passed old) → Closed (f.has_passed last) (u.has_passed new) (u.remaining new) o → (digest : List ℕ) → (spared ≡ false → o ≡ Some digest) → (new ≡ old → last ≡ first)
+    → Opened (f.remaining first) (f.has_passed first) true (u.has_passed old) → Closed (f.has_passed last) (f.remaining last) (u.has_passed new) (u.remaining new) o → (digest : List ℕ) → (spared ≡ false → o ≡ Some digest) → (new ≡ old → last ≡ first)
     → (keeps : List ℕ → Type 0) → ((file : List ℕ) → holds file → keeps file) → GaveOrNone f first last digest raw_digest file keeps
 published_or_none f first last u holds file false given o remaining opened closed digest is same keeps step = inl (published_of f first last given true o remaining opened closed digest (is refl) keeps step)
 published_or_none f first last u holds file true none o remaining opened closed digest is same keeps step = inr (same none.0, step file none.1)
 
 -- a feed that was closed is one that a reference goes to
-pub closed_below : {F : Type 0} (has_passed : F → ℕ → List ℕ → Type 0) (mid last : F) (supplied : ℕ → List ℕ → Type 0) (left o : Option (List ℕ)) → mid ≡ last → Closed (has_passed mid) supplied left o → Closed (has_passed last) supplied left o
-closed_below has_passed mid last supplied left o same closed = subst (λ (x : _). Closed (has_passed x) supplied left o) same closed
+pub closed_below : {F : Type 0} (f : feed.Ghosts F) (mid last : F) (supplied : ℕ → List ℕ → Type 0) (left o : Option (List ℕ)) → mid ≡ last → Closed (f.has_passed mid) (f.remaining mid) supplied left o → Closed (f.has_passed last) (f.remaining last) supplied left o
+closed_below f mid last supplied left o same closed = subst (λ (x : _). Closed (f.has_passed x) (f.remaining x) supplied left o) same closed
+
+pub not_both : (b : Bool) → b ≡ true → b ≡ false → ⊥
+not_both true is isnt = (let bad : ⊥ = cc in bad)
+not_both false is isnt = (let bad : ⊥ = cc in bad)
+
+-- if nothing is left of what a feed unpacks, nothing is left below, unless it failed
+pub end_below : (s : State) (meaning : List ℕ → List ℕ) (known : Option (List ℕ)) → stop_in s ≡ None → (unless_failed s (option_map meaning known) ≡ Some [] → known ≡ Some []) → IsAtEnd (unless_failed s (option_map meaning known)) → IsAtEnd known
+end_below s meaning None going ended end = tt
+end_below Reading meaning (Some rest) going ended end = same_Some _ _ (ended (ap (λ (l : List ℕ). Some l) end))
+end_below PassingOn meaning (Some rest) going ended end = same_Some _ _ (ended (ap (λ (l : List ℕ). Some l) end))
+end_below Ended meaning (Some rest) going ended end = same_Some _ _ (ended (ap (λ (l : List ℕ). Some l) end))
+end_below Failed meaning (Some rest) going ended end = (let bad : ⊥ = cc in absurd bad)
+end_below Refused meaning (Some rest) going ended end = (let bad : ⊥ = cc in absurd bad)
+
+-- a feed that has all that it unpacked has not failed
+pub all_going : {F : Type 0} (u : UnpackedFeed F) → has_all u ≡ true → stop_in u.state ≡ None
+all_going u all = of (stop_in u.state) refl where
+  of : (x : Option Stop) → stop_in u.state ≡ x → stop_in u.state ≡ None
+  of None is = is
+  of (Some s) is = (let bad : ⊥ = (let none : (is_none (stop_in u.state) && length (left_in u) == 0) ≡ false = rw is refl in not_both _ all none) in absurd bad)
 
 -- ---- why a call stops
 
@@ -160,10 +183,6 @@ pub none_lacks : (a b : Bool) → (a || b) ≡ false → (a ≡ false) × (b ≡
 none_lacks false false none = (refl, refl)
 none_lacks true b none = (let bad : ⊥ = cc in absurd bad)
 none_lacks false true none = (let bad : ⊥ = cc in absurd bad)
-
-pub not_both : (b : Bool) → b ≡ true → b ≡ false → ⊥
-not_both true is isnt = (let bad : ⊥ = cc in bad)
-not_both false is isnt = (let bad : ⊥ = cc in bad)
 
 -- ---- why a pass is reported as changed
 

@@ -1,5 +1,5 @@
 -- The lines of a header, and how it is stored.
-use Rattle.std.proofs.Common.{◌≡◌, ℕ, List, Bool, false, Option, subst, sym, ap, ◌∙◌}
+use Rattle.std.proofs.Common.{◌≡◌, ℕ, List, Bool, false, Option, sym, ap, ◌∙◌}
 use Rattle.pbf_frame.specs.declared.device.Drain as drain
 use Rattle.pbf_frame.specs.Devices.{append}
 use Rattle.pbf_frame.specs.Transfers.{Added}

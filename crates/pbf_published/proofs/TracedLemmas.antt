@@ -4,7 +4,7 @@ use Rattle.std.proofs.lemmas.List.{append-nil}
 use Rattle.pbf_frame.specs.declared.device.Feed as feed
 use Rattle.pbf_frame.specs.Devices.{prepend, Passes}
 use Rattle.pbf_frame.proofs.KnownBytes.{prepend_more, prepend_none}
-use Rattle.pbf_published.specs.Published.{HasTraced, list_number, log_number, pair_number}
+use Rattle.pbf_published.specs.Published.{HasTraced, list_number, log_number, pair_number, start_number}
 
 -- ---- no two pairs, lists or logs have one number
 
@@ -28,35 +28,45 @@ same_list (x ∷ xs) (y ∷ ys) is =
     let same = same_pair x (list_number xs) y (list_number ys) is in
     ap (λ (n : ℕ). n ∷ xs) same.0 ∙ ap (λ (l : List ℕ). y ∷ l) (same_list xs ys same.1)
 
-same_log : (a b : ℕ) (start other : Option (List ℕ)) → log_number a start ≡ log_number b other → (a ≡ b) × (start ≡ other)
-same_log a b None None is = ((same_pair a 0 b 0 is).0, refl)
-same_log a b None (Some ys) is = (let bad : ⊥ = (let same = same_pair a 0 b (suc (list_number ys)) is in omega (arith, same.1)) in absurd bad)
-same_log a b (Some xs) None is = (let bad : ⊥ = (let same = same_pair a (suc (list_number xs)) b 0 is in omega (arith, same.1)) in absurd bad)
-same_log a b (Some xs) (Some ys) is =
+same_start : (a b : ℕ) (start other : Option (List ℕ)) → start_number a start ≡ start_number b other → (a ≡ b) × (start ≡ other)
+same_start a b None None is = ((same_pair a 0 b 0 is).0, refl)
+same_start a b None (Some ys) is = (let bad : ⊥ = (let same = same_pair a 0 b (suc (list_number ys)) is in omega (arith, same.1)) in absurd bad)
+same_start a b (Some xs) None is = (let bad : ⊥ = (let same = same_pair a (suc (list_number xs)) b 0 is in omega (arith, same.1)) in absurd bad)
+same_start a b (Some xs) (Some ys) is =
     let same = same_pair a (suc (list_number xs)) b (suc (list_number ys)) is in
     (same.0, ap (λ (l : List ℕ). Some l) (same_list xs ys (omega (arith, same.1))))
 
+same_log : (a b c d : ℕ) (start other : Option (List ℕ)) → log_number a b start ≡ log_number c d other → ((a ≡ c) × (b ≡ d)) × (start ≡ other)
+same_log a b c d start other is =
+    let same = same_start (pair_number a b) (pair_number c d) start other is in
+    (same_pair a b c d same.0, same.1)
+
 -- ---- what the logs say
 
--- at its start a feed has a log for each one below
-pub traced_from : {F : Type 0} (f : feed.Ghosts F) (start : F) (below : ℕ) → f.has_passed start below [] → HasTraced f start (log_number below (f.remaining start)) []
-traced_from f start below passed = record { below = below; start = f.remaining start; number = refl; passed = passed; told = sym (prepend_none (f.remaining start)) }
+-- at its start a feed has a log for each two below
+pub traced_from : {F : Type 0} (f : feed.Ghosts F) (start : F) (one two : ℕ) → f.has_passed start one [] → f.has_passed start two [] → HasTraced f start (log_number one two (f.remaining start)) []
+traced_from f start one two passed also = record { one = one; two = two; start = f.remaining start; number = refl; passed = (passed, also); told = sym (prepend_none (f.remaining start)) }
 
 -- a read of the feed below goes on with it
 pub traced_more : {F : Type 0} (f : feed.Ghosts F) (old new : F) (read : List ℕ) → f.remaining old ≡ prepend read (f.remaining new) → Passes (f.has_passed old) read (f.has_passed new) → Passes (HasTraced f old) read (HasTraced f new)
 traced_more f old new read told passes log before has = record {
-  below = has.below;
+  one = has.one;
+  two = has.two;
   start = has.start;
   number = has.number;
-  passed = passes has.below before has.passed;
+  passed = (passes has.one before has.passed.0, passes has.two before has.passed.1);
   told = prepend_more has.start (f.remaining old) (f.remaining new) before read has.told told;
 }
 
 -- what passed below
-pub traced_below : {F : Type 0} (f : feed.Ghosts F) (now : F) (below : ℕ) (start : Option (List ℕ)) (bytes : List ℕ) → HasTraced f now (log_number below start) bytes → f.has_passed now below bytes
-traced_below f now below start bytes has = subst (λ (n : ℕ). f.has_passed now n bytes) (sym (same_log below has.below start has.start has.number).0) has.passed
+pub traced_below : {F : Type 0} (f : feed.Ghosts F) (now : F) (one two : ℕ) (start : Option (List ℕ)) (bytes : List ℕ) → HasTraced f now (log_number one two start) bytes → f.has_passed now one bytes × f.has_passed now two bytes
+traced_below f now one two start bytes has =
+    let same = same_log one two has.one has.two start has.start has.number in (
+      subst (λ (n : ℕ). f.has_passed now n bytes) (sym same.0.0) has.passed.0,
+      subst (λ (n : ℕ). f.has_passed now n bytes) (sym same.0.1) has.passed.1,
+    )
 
 -- and if nothing is left, that is all that there was
-pub traced_all : {F : Type 0} (f : feed.Ghosts F) (now : F) (below : ℕ) (start : Option (List ℕ)) (bytes : List ℕ) → f.remaining now ≡ Some [] → HasTraced f now (log_number below start) bytes → start ≡ Some bytes
-traced_all f now below start bytes ended has =
-    (same_log below has.below start has.start has.number).1 ∙ has.told ∙ ap (prepend bytes) ended ∙ ap (λ (l : List ℕ). Some l) (append-nil bytes)
+pub traced_all : {F : Type 0} (f : feed.Ghosts F) (now : F) (one two : ℕ) (start : Option (List ℕ)) (bytes : List ℕ) → f.remaining now ≡ Some [] → HasTraced f now (log_number one two start) bytes → start ≡ Some bytes
+traced_all f now one two start bytes ended has =
+    (same_log one two has.one has.two start has.start has.number).1 ∙ has.told ∙ ap (prepend bytes) ended ∙ ap (λ (l : List ℕ). Some l) (append-nil bytes)

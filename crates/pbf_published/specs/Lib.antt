@@ -1,3 +1,2 @@
 pub mod Published
-pub mod Packing
 pub mod Showing

@@ -1,41 +1,37 @@
 -- What a call over published files was given: packed bytes, and the raw files that they mean.
 use Rattle.std.specs.Prelude.{◌≡◌, ◌⊎◌, ℕ, zero, suc, ◌+◌, ◌*◌, List, [], ◌∷◌, Bool, true, false, Option, Some, None, Result, Ok, Err, IfSome}
 use Rattle.std.specs.Option.{option_map}
-use Rattle.sha2.specs.declared.Sha256.{Sha256}
-use Rattle.sha2.specs.Sha256.{sha256}
 use Rattle.pbf_frame.specs.declared.device.Feed as feed
 use Rattle.pbf_frame.specs.declared.stop.Stop.{Stop}
 use Rattle.pbf_frame.specs.declared.stop.Stop.TheVariants.{Refused, Read, Write, Memory, Changed}
-use Rattle.pbf_frame.specs.Devices.{prepend}
-use Rattle.pbf_pass.specs.declared.hashed.PassFeed.{PassFeed}
+use Rattle.pbf_frame.specs.Devices.{IsAtEnd, prepend}
 use Rattle.pbf_pass.specs.Hashing.{IsDigestOf, digest_if}
 use Rattle.pbf_pass.specs.declared.receipt.Halt.{Halt}
 use Rattle.pbf_pass.specs.declared.receipt.InputReceipt.{InputReceipt}
 use Rattle.pbf_pass.specs.Refused.{stop_of}
-use Rattle.pbf_unpack.specs.declared.feed.UnpackedFeed.{UnpackedFeed}
-use Rattle.pbf_unpack.specs.Reports.{has_all}
 use Rattle.pbf_unpack.specs.Unpacked.{unpacked}
 use Rattle.pbfcut.specs.Calls.{ChangedIn}
-use Rattle.pbf_published.specs.declared.traced.TracedFeed.{TracedFeed}
 use Rattle.pbf_published.specs.declared.input.PublishedHalt.{PublishedHalt}
 
 -- ---- what was given
 
--- by a log of a feed packed bytes passed that mean this raw file
-pub record PassedAs (has_passed : ℕ → List ℕ → Type 0) (log : ℕ) (raw : List ℕ) : Type 0 where
+-- by a log of a feed packed bytes passed, of this digest if there is one, that mean this raw file
+pub record PassedAs (has_passed : ℕ → List ℕ → Type 0) (log : ℕ) (digest : Option (List ℕ)) (raw : List ℕ) : Type 0 where
   pub packed : List ℕ
   pub passed : has_passed log packed
+  pub digest_is : IsDigestOf digest packed
   pub means : unpacked packed ≡ raw
 
--- a feed gave packed bytes of one digest, which mean a raw file, of another if there is one, and this holds of that file. They are what the feed had
--- to give, if it reports its bytes
+-- a feed gave packed bytes of one digest, to its end, which mean a raw file, of another if there is one, and this holds of that file. They are what
+-- the feed had to give, if it reports its bytes
 pub record GavePublished {F : Type 0} (f : feed.Ghosts F) (old new : F) (digest raw_digest : Option (List ℕ)) (holds : List ℕ → Type 0) : Type 0 where
   pub packed : List ℕ
   pub digest_is : IsDigestOf digest packed
   pub raw_digest_is : IsDigestOf raw_digest (unpacked packed)
   pub told : (all : List ℕ) → f.remaining old ≡ Some all → all ≡ packed
-  -- that file is also what those bytes mean that passed by each log of a feed that was at its start
-  pub logged : (log : ℕ) → f.has_passed old log [] → PassedAs (f.has_passed new) log (unpacked packed)
+  pub end : IsAtEnd (f.remaining new)
+  -- that file is also what those bytes mean that passed by each log of a feed that was at its start, and they have that digest
+  pub logged : (log : ℕ) → f.has_passed old log [] → PassedAs (f.has_passed new) log digest (unpacked packed)
   pub holding : holds (unpacked packed)
 
 -- a later feed did so; or nothing was read of it, and this holds of the file before
@@ -49,12 +45,14 @@ abbrev pub log_of : Bool → ℕ
 log_of true = zero
 log_of false = suc zero
 
--- packed bytes of this digest mean this raw file; and if nothing is left, they are what there was at the start, as far as that is known
-pub record Means (digest start left : Option (List ℕ)) (raw : List ℕ) : Type 0 where
+-- packed bytes of this digest mean this raw file; and if nothing is left, nothing is left of them, and they are what there was at the start, as far
+-- as that is known
+pub record Means (digest start left left_below : Option (List ℕ)) (raw : List ℕ) : Type 0 where
   pub packed : List ℕ
   pub digest_is : IsDigestOf digest packed
   pub means : unpacked packed ≡ raw
   pub told : left ≡ Some [] → start ≡ Some packed
+  pub end : IsAtEnd left → IsAtEnd left_below
 
 -- ---- logs that know what a feed had to give
 
@@ -68,31 +66,36 @@ abbrev pub list_number : List ℕ → ℕ
 list_number [] = 0
 list_number (x ∷ xs) = pair_number x (list_number xs)
 
--- a log for each log of the feed below and each list that it may have to give at its start, or none if it doesn't report that
-abbrev pub log_number : ℕ → Option (List ℕ) → ℕ
-log_number log None = pair_number log 0
-log_number log (Some start) = pair_number log (suc (list_number start))
+-- a number, and a list that may be there, as one
+abbrev pub start_number : ℕ → Option (List ℕ) → ℕ
+start_number n None = pair_number n 0
+start_number n (Some start) = pair_number n (suc (list_number start))
 
--- bytes passed by this log: by a log of the feed below, and they and what it has still to give are what it had to give at the start
+-- a log for each two logs of the feed below and each list that it may have to give at its start, or none if it doesn't report that
+abbrev pub log_number : (one two : ℕ) → Option (List ℕ) → ℕ
+log_number one two start = start_number (pair_number one two) start
+
+-- bytes passed by this log: by two logs of the feed below, and they and what it has still to give are what it had to give at the start
 pub record HasTraced {F : Type 0} (f : feed.Ghosts F) (feed : F) (log : ℕ) (bytes : List ℕ) : Type 0 where
-  pub below : ℕ
+  pub one : ℕ
+  pub two : ℕ
   pub start : Option (List ℕ)
-  pub number : log ≡ log_number below start
-  pub passed : f.has_passed feed below bytes
+  pub number : log ≡ log_number one two start
+  pub passed : f.has_passed feed one bytes × f.has_passed feed two bytes
   pub told : start ≡ prepend bytes (f.remaining feed)
 
 -- ---- feeds that are opened and closed
 
 -- an unpacking feed, by its logs, has supplied nothing of what the feed below reports and logs
 pub record Opened (known : Option (List ℕ)) (passed : ℕ → List ℕ → Type 0) (hashes : Bool) (supplied : ℕ → List ℕ → Type 0) : Type 0 where
-  pub hashed : supplied (log_number (log_of hashes) known) []
-  pub logged : (log : ℕ) → passed log [] → supplied (log_number (suc (suc log)) known) []
+  pub hashed : supplied (log_number (log_of hashes) (log_of hashes) known) []
+  pub logged : (log : ℕ) → passed log [] → supplied (log_number (log_of hashes) (suc (suc log)) known) []
 
 -- the packed bytes, of the digest if there is one, mean what was supplied, and passed by each log of the feed below; and there is a digest if nothing
 -- is reported to be left
-pub record Closed (passed supplied : ℕ → List ℕ → Type 0) (left digest : Option (List ℕ)) : Type 0 where
-  pub means : (hashes : Bool) (start : Option (List ℕ)) (raw : List ℕ) → supplied (log_number (log_of hashes) start) raw → IfSome digest (λ d. Means (digest_if hashes d) start left raw)
-  pub logged : (log : ℕ) (start : Option (List ℕ)) (raw : List ℕ) → supplied (log_number (suc (suc log)) start) raw → IfSome digest (λ d. PassedAs passed log raw)
+pub record Closed (passed : ℕ → List ℕ → Type 0) (left_below : Option (List ℕ)) (supplied : ℕ → List ℕ → Type 0) (left digest : Option (List ℕ)) : Type 0 where
+  pub means : (hashes : Bool) (start : Option (List ℕ)) (raw : List ℕ) → supplied (log_number (log_of hashes) (log_of hashes) start) raw → IfSome digest (λ d. Means (digest_if hashes d) start left left_below raw)
+  pub logged : (hashes : Bool) (log : ℕ) (start : Option (List ℕ)) (raw : List ℕ) → supplied (log_number (log_of hashes) (suc (suc log)) start) raw → IfSome digest (λ d. PassedAs passed log (digest_if hashes d) raw)
   pub there : left ≡ Some [] → digest ≡ None → ⊥
 
 -- ---- why a call stops

@@ -80,7 +80,7 @@ pub fn open<F: Feed>(alloc: Global, inflater: Inflater, feed: F, hashes: bool) -
 
 /// The digest of the packed bytes that were read, if all that they mean was supplied, and the feed below.
 pub fn close<F: Feed>(feed: PublishedFeed<F>) -> (Option<[u8; 32]>, F)
-    ensures closed { Closed (F.has_passed result.1)
+    ensures closed { Closed (F.has_passed result.1) (F.remaining result.1)
         (⟦<PublishedFeed<F> as Feed>⟧.has_passed feed)
         (⟦<PublishedFeed<F> as Feed>⟧.remaining feed) result.0 }
     ensures feed { result.1 ≡ feed.feed.feed.feed }

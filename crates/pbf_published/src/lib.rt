@@ -7,8 +7,6 @@ mod converting;
 mod copying;
 mod extracting;
 mod input;
-mod packed;
-mod packing;
 mod parents;
 mod showing;
 mod traced;
@@ -21,7 +19,6 @@ pub use input::{
     PublishedFeed, PublishedHalt, PublishedInput, close, compare, compare_unless_spared,
     first_digest, lacks_memory, open, published_outcome, stopped,
 };
-pub use packed::{convert_packed, copy_packed, extract_packed, extract_parents_packed};
 pub use parents::extract_parents_sorted_with_receipt;
 pub use showing::{list_blobs, show_header, show_with_receipt};
 pub use traced::TracedFeed;

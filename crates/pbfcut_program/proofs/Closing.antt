@@ -8,20 +8,20 @@ use Rattle.pbf_frame.specs.declared.stop.Stop.TheVariants as stop
 use Rattle.pbf_frame.specs.Devices.{HasRisen}
 use Rattle.pbf_frame.specs.Verdict.{Verdict}
 use Rattle.pbf_wire.specs.declared.fault.Fault.{Fault}
-use Rattle.pbf_pass.specs.Hashing.{digest_if}
 use Rattle.pbfcut_cli.specs.declared.endings.Ending.{Ending}
 use Rattle.pbfcut_cli.specs.declared.endings.Ending.TheVariants as ending
 use Rattle.pbfcut_cli.specs.declared.programs.Program.{Program}
 use Rattle.pbfcut_cli.specs.declared.programs.Program.TheVariants.{Pbfcut, Pbfcutz}
 use Rattle.pbfcut_program.specs.declared.engine.Report.{Report}
 use Rattle.pbfcut_program.specs.declared.engine.Halted.{Halted}
-use Rattle.pbfcut_program.specs.Devices.{AnyFailed, AreFresh, CloseAll, Closes, EndsFor, Finishes, GiveAll, GiveLater, GivesOrNot, GivesOtherAt, IsAsked, IsFresh, StopsFor, TakenBy, WorksBy}
+use Rattle.pbfcut_program.specs.Devices.{AnyFailed, AreFresh, CloseAll, Closes, EndsFor, Finishes, GiveAll, GiveLater, GivesOrNot, GivesOtherAt, IsAsked, IsFresh, StopsFor, TakenBy, Works}
 use Rattle.pbfcut_program.specs.Events.{Event, Reading, Writing, read, wrote, then_all, then_one}
-use Rattle.pbfcut_program.specs.Fails.{Each, Fails, FailsFor, FailsToFinish, FailsToRead, FailsToWrite, Has, IsRefused, TookNothing, readings}
-use Rattle.pbfcut_program.specs.Outcomes.{EndsPacked}
-use Rattle.pbfcut_program.specs.Program.{IsHashed, IsWorkOf}
-use Rattle.pbfcut_program.specs.Readings.{IsOther, IsWholeOrSpared, ReadAll, ReadLater}
-use Rattle.pbfcut_program.specs.Tasks.{Holds, Task, judge_of, spares}
+use Rattle.pbfcut_program.specs.Fails.{Each, Fails, FailsFor, FailsToFinish, FailsToRead, FailsToWrite, FirstFault, Has, IsRefused, IsRefusedOf, TookNothing, readings}
+use Rattle.pbfcut_program.specs.Outcomes.{RefusesAs}
+use Rattle.pbfcut_program.specs.Manner.{AreDigests, Manner, manner, of_input, of_output}
+use Rattle.pbfcut_program.specs.Program.{digest_if_asked}
+use Rattle.pbfcut_program.specs.Readings.{IsOther, IsWholeOrSpared, IsWork, ReadAll, ReadLater}
+use Rattle.pbfcut_program.specs.Tasks.{Holds, Task, hashes_in, judge_of, spares}
 use Rattle.pbfcut_program.proofs.EventLemmas.{each_both, has_after, has_before, nothing_read, readings_both, readings_of}
 use Rattle.pbfcut_program.proofs.FailLemmas.{write_stops}
 use Rattle.pbfcut_program.proofs.Logging.{and_then, then_none}
@@ -48,39 +48,39 @@ module _ {F : Type 0} (f : feed.Ghosts F) where
       let rest = close_rest news c.0 m c.2 in
       (reading f now c.1.0.0 ∷ rest.0, and_then l c.0 m (read (reading f now c.1.0.0) ∷ []) (reads rest.0) c.1.0.1 rest.1, ap (λ n. suc n) rest.2)
 
-  close_next : (digest : Option (List ℕ)) (may : Bool) (first : List ℕ) (old now : F) (file : List ℕ) (l m : Option (List Event)) → IsFresh f old → Closes f now l m → GivesOrNot f digest may first old now file
-      → (r : Reading) × (m ≡ then_one l (read r)) × IsWholeOrSpared digest may first r file
-  close_next digest may first old now file l m fresh c (inl g) = (reading f now file, c.1 file (g.passed fresh.0), inl (record { are = refl; end = g.end; digest_is = g.digest_is }))
-  close_next digest may first old now file l m fresh c (inr g) = (reading f now [], c.1 [] (subst (λ x. f.has_passed x 0 []) (sym g.1) fresh.0), inr (g.0, refl, g.2))
+  close_next : (known : List ℕ → Type 0) (may : Bool) (first : List ℕ) (old now : F) (file : List ℕ) (l m : Option (List Event)) → IsFresh f old → Closes f now l m → GivesOrNot f known may first old now file
+      → (r : Reading) × (m ≡ then_one l (read r)) × IsWholeOrSpared known may first r file
+  close_next known may first old now file l m fresh c (inl g) = (reading f now file, c.1 file g.passed, inl (record { are = refl; end = g.end; is_known = g.is_known }))
+  close_next known may first old now file l m fresh c (inr g) = (reading f now [], c.1 [] (subst (λ x. f.has_passed x 0 []) (sym g.1) fresh.0), inr (g.0, refl, g.2))
 
-  close_later : (digest : Option (List ℕ)) (may : Bool) (first : List ℕ) (olds news : List F) (files : List (List ℕ)) (l m : Option (List Event)) → AreFresh f olds → CloseAll f news l m → GiveLater f digest may first olds news files
-      → (rs : List Reading) × (m ≡ then_all l (reads rs)) × ReadLater digest may first rs files × (length rs ≡ length news)
-  close_later digest may first [] [] [] l m fresh c g = ([], c ∙ then_none l, tt, refl)
-  close_later digest may first (old ∷ olds) (now ∷ news) (b ∷ bs) l m fresh c g =
-      let one = close_next digest may first old now b l c.0 fresh.0 c.1 g.0 in
-      let rest = close_later digest false first olds news bs c.0 m fresh.1 c.2 g.1 in
+  close_later : (known : List ℕ → Type 0) (may : Bool) (first : List ℕ) (olds news : List F) (files : List (List ℕ)) (l m : Option (List Event)) → AreFresh f olds → CloseAll f news l m → GiveLater f known may first olds news files
+      → (rs : List Reading) × (m ≡ then_all l (reads rs)) × ReadLater known may first rs files × (length rs ≡ length news)
+  close_later known may first [] [] [] l m fresh c g = ([], c ∙ then_none l, tt, refl)
+  close_later known may first (old ∷ olds) (now ∷ news) (b ∷ bs) l m fresh c g =
+      let one = close_next known may first old now b l c.0 fresh.0 c.1 g.0 in
+      let rest = close_later known false first olds news bs c.0 m fresh.1 c.2 g.1 in
       (one.0 ∷ rest.0, and_then l c.0 m (read one.0 ∷ []) (reads rest.0) one.1 rest.1, (one.2, rest.2), ap (λ n. suc n) rest.3)
-  close_later digest may first [] [] (b ∷ bs) l m fresh c g = absurd g
-  close_later digest may first [] (now ∷ news) [] l m fresh c g = absurd g
-  close_later digest may first [] (now ∷ news) (b ∷ bs) l m fresh c g = absurd g
-  close_later digest may first (old ∷ olds) [] [] l m fresh c g = absurd g
-  close_later digest may first (old ∷ olds) [] (b ∷ bs) l m fresh c g = absurd g
-  close_later digest may first (old ∷ olds) (now ∷ news) [] l m fresh c g = absurd g
+  close_later known may first [] [] (b ∷ bs) l m fresh c g = absurd g
+  close_later known may first [] (now ∷ news) [] l m fresh c g = absurd g
+  close_later known may first [] (now ∷ news) (b ∷ bs) l m fresh c g = absurd g
+  close_later known may first (old ∷ olds) [] [] l m fresh c g = absurd g
+  close_later known may first (old ∷ olds) [] (b ∷ bs) l m fresh c g = absurd g
+  close_later known may first (old ∷ olds) (now ∷ news) [] l m fresh c g = absurd g
 
   -- each gave its file
-  pub close_given : (digest : Option (List ℕ)) (may : Bool) (olds news : List F) (files : List (List ℕ)) (l m : Option (List Event)) → AreFresh f olds → CloseAll f news l m → GiveAll f digest may olds news files
-      → (rs : List Reading) × (m ≡ then_all l (reads rs)) × ReadAll digest may rs files × (length rs ≡ length news)
-  close_given digest may (old ∷ olds) (now ∷ news) (b ∷ bs) l m fresh c g =
-      let one = c.1.1 b (g.0.passed fresh.0.0) in
-      let rest = close_later digest may b olds news bs c.0 m fresh.1 c.2 g.1 in
-      (reading f now b ∷ rest.0, and_then l c.0 m (read (reading f now b) ∷ []) (reads rest.0) one rest.1, (record { are = refl; end = g.0.end; digest_is = g.0.digest_is }, rest.2), ap (λ n. suc n) rest.3)
-  close_given digest may [] [] [] l m fresh c g = absurd g
-  close_given digest may [] [] (b ∷ bs) l m fresh c g = absurd g
-  close_given digest may [] (now ∷ news) [] l m fresh c g = absurd g
-  close_given digest may [] (now ∷ news) (b ∷ bs) l m fresh c g = absurd g
-  close_given digest may (old ∷ olds) [] [] l m fresh c g = absurd g
-  close_given digest may (old ∷ olds) [] (b ∷ bs) l m fresh c g = absurd g
-  close_given digest may (old ∷ olds) (now ∷ news) [] l m fresh c g = absurd g
+  pub close_given : (known : List ℕ → Type 0) (may : Bool) (olds news : List F) (files : List (List ℕ)) (l m : Option (List Event)) → AreFresh f olds → CloseAll f news l m → GiveAll f known may olds news files
+      → (rs : List Reading) × (m ≡ then_all l (reads rs)) × ReadAll known may rs files × (length rs ≡ length news)
+  close_given known may (old ∷ olds) (now ∷ news) (b ∷ bs) l m fresh c g =
+      let one = c.1.1 b g.0.passed in
+      let rest = close_later known may b olds news bs c.0 m fresh.1 c.2 g.1 in
+      (reading f now b ∷ rest.0, and_then l c.0 m (read (reading f now b) ∷ []) (reads rest.0) one rest.1, (record { are = refl; end = g.0.end; is_known = g.0.is_known }, rest.2), ap (λ n. suc n) rest.3)
+  close_given known may [] [] [] l m fresh c g = absurd g
+  close_given known may [] [] (b ∷ bs) l m fresh c g = absurd g
+  close_given known may [] (now ∷ news) [] l m fresh c g = absurd g
+  close_given known may [] (now ∷ news) (b ∷ bs) l m fresh c g = absurd g
+  close_given known may (old ∷ olds) [] [] l m fresh c g = absurd g
+  close_given known may (old ∷ olds) [] (b ∷ bs) l m fresh c g = absurd g
+  close_given known may (old ∷ olds) (now ∷ news) [] l m fresh c g = absurd g
 
   -- one of them failed
   close_failed : (olds news : List F) (l m : Option (List Event)) → AreFresh f olds → CloseAll f news l m → AnyFailed f olds news → (rs : List Reading) × (m ≡ then_all l (reads rs)) × Has FailsToRead (reads rs)
@@ -105,7 +105,7 @@ module _ {F : Type 0} (f : feed.Ghosts F) where
       → (rs : List Reading) × (m ≡ then_all l (reads rs)) × ReadOther file at (length news) rs
   close_other file zero (old ∷ olds) (now ∷ news) l m fresh c g =
       let rest = close_rest news c.0 m c.2 in
-      let one = c.1.1 g.bytes (g.passed fresh.0.0) in
+      let one = c.1.1 g.bytes g.passed in
       (reading f now g.bytes ∷ rest.0, and_then l c.0 m (read (reading f now g.bytes) ∷ []) (reads rest.0) one rest.1, ([], reading f now g.bytes, rest.0, refl, refl, g.other, count (length news) rest.0 rest.2)) where
         count : (n : ℕ) (rs : List Reading) → length rs ≡ n → suc n ≡ length rs + zero + 1
         count n rs e = omega (arith, e)
@@ -159,7 +159,7 @@ module _ {F : Type 0} (f : feed.Ghosts F) (judge : Option (List ℕ) → Option 
       let end = tail.1 stops.1 in
       let bytes = stops.0.bytes in
       let one = reading f now bytes in
-      let all = and_then l c.0 m (read one ∷ []) (reads rest.0) (c.1.1 bytes (stops.0.passed fresh.0.0)) rest.1 in (
+      let all = and_then l c.0 m (read one ∷ []) (reads rest.0) (c.1.1 bytes stops.0.passed) rest.1 in (
         reads (one ∷ rest.0) ++ end.0,
         and_then l m n (reads (one ∷ rest.0)) end.0 all end.1,
         record { first = one; later = rest.0; are = are_readings (one ∷ rest.0) end.0 end.2; faulty = stops.0.faulty; nothing = each_both _ (reads (one ∷ rest.0)) end.0 (nothing_read (one ∷ rest.0)) end.3 },
@@ -184,7 +184,7 @@ module _ {F : Type 0} (f : feed.Ghosts F) (judge : Option (List ℕ) → Option 
     rest = close_other f stops.file stops.at olds news c.0 m fresh.1 c.2 stops.other
 
     all : m ≡ then_all l (reads (one ∷ rest.0))
-    all = and_then l c.0 m (read one ∷ []) (reads rest.0) (c.1.1 stops.file (stops.first.passed fresh.0.0)) rest.1
+    all = and_then l c.0 m (read one ∷ []) (reads rest.0) (c.1.1 stops.file stops.first.passed) rest.1
 
     by_last : ((length news ≡ stops.at + 1) ⊎ took []) → StopFails (stop.Changed pass)
     by_last (inl last) = (
@@ -240,65 +240,53 @@ module _ {F : Type 0} (f : feed.Ghosts F) (judge : Option (List ℕ) → Option 
   end_fails (ending.Choice b) olds news fresh c e = absurd e
   end_fails (ending.RefusedPacked r) olds news fresh c e = absurd e
 
-pub packed_fails : (refused : Fault → List Event → Type 0) (how : Ending) (events : List Event) → EndsPacked how → Fails Pbfcutz refused how events
-packed_fails refused (ending.Stopped s) events e = tt
-packed_fails refused (ending.RefusedPacked r) events e = tt
-packed_fails refused ending.CannotOpen events e = absurd e
-packed_fails refused ending.IsPipe events e = absurd e
-packed_fails refused ending.OutExists events e = absurd e
-packed_fails refused (ending.Polygon x) events e = absurd e
-packed_fails refused (ending.Words t) events e = absurd e
-packed_fails refused ending.NotText events e = absurd e
-packed_fails refused (ending.Box b) events e = absurd e
-packed_fails refused (ending.Choice b) events e = absurd e
+pub packed_fails : (refused : Fault → Type 0) (by : Fault → List Event → Type 0) (how : Ending) (events : List Event) → ((e : Fault) → refused e → by e events) → RefusesAs refused how → Fails Pbfcutz by how events
+packed_fails refused by (ending.Stopped (stop.Refused e)) events step f = step e f
+packed_fails refused by (ending.Stopped stop.Read) events step f = tt
+packed_fails refused by (ending.Stopped stop.Write) events step f = tt
+packed_fails refused by (ending.Stopped stop.Memory) events step f = tt
+packed_fails refused by (ending.Stopped (stop.Changed p)) events step f = tt
+packed_fails refused by (ending.RefusedPacked r) events step f = (f.0, f.1, step f.0 f.2)
+packed_fails refused by ending.CannotOpen events step f = absurd f
+packed_fails refused by ending.IsPipe events step f = absurd f
+packed_fails refused by ending.OutExists events step f = absurd f
+packed_fails refused by (ending.Polygon x) events step f = absurd f
+packed_fails refused by (ending.Words t) events step f = absurd f
+packed_fails refused by ending.NotText events step f = absurd f
+packed_fails refused by (ending.Box b) events step f = absurd f
+packed_fails refused by (ending.Choice b) events step f = absurd f
 
 -- a call stopped, and all devices were returned
-pub work_fails : (program : Program) {F : Type 0} (f : feed.Ghosts F) (hashes : Bool) (task : Task) (took : List ℕ → Type 0) (failed : Type 0) (l m n : Option (List Event)) (olds news : List F) (halted : Halted)
-    → Ends took failed m n → AreFresh f olds → CloseAll f news l m → WorksBy program f hashes task olds news took failed (Err halted)
-    → (events : List Event) × (n ≡ then_all l events) × Fails program (IsRefused (judge_of task)) halted.ending events
-work_fails Pbfcut f hashes task took failed l m n olds news halted tail fresh c works = end_fails f (judge_of task) took failed l m n tail halted.ending olds news fresh c works
-work_fails Pbfcutz f hashes task took failed l m n olds news halted tail fresh c works =
+pub work_fails : (program : Program) (packs digests : Bool) {F : Type 0} (f : feed.Ghosts F) (task : Task) (took : List ℕ → Type 0) (failed : Type 0) (l m n : Option (List Event)) (olds news : List F) (halted : Halted)
+    → Ends took failed m n → AreFresh f olds → CloseAll f news l m → Works (manner program packs digests) f task olds news took failed (Err halted)
+    → (events : List Event) × (n ≡ then_all l events) × Fails program (IsRefusedOf program (judge_of task) (map f.remaining olds)) halted.ending events
+work_fails Pbfcut packs digests f task took failed l m n olds news halted tail fresh c works = end_fails f (judge_of task) took failed l m n tail halted.ending olds news fresh c works
+work_fails Pbfcutz packs digests f task took failed l m n olds news halted tail fresh c works =
     let some = some_events f (judge_of task) took failed l m n tail news c in
-    (some.0, some.1, packed_fails (IsRefused (judge_of task)) halted.ending some.0 works)
+    (some.0, some.1, packed_fails (λ e. FirstFault (judge_of task) e (map f.remaining olds)) (IsRefusedOf Pbfcutz (judge_of task) (map f.remaining olds)) halted.ending some.0 (λ e r. r) works)
 
 -- ---- what it does
 
 -- a call ended well, and its feeds were returned
-pub work_read : (program : Program) {F : Type 0} (f : feed.Ghosts F) (hashes : Bool) (task : Task) (failed : Type 0) (l m : Option (List Event)) (olds news : List F) (report : Report)
-    → AreFresh f olds → CloseAll f news l m → WorksBy program f hashes task olds news (λ took. took ≡ []) failed (Ok report)
-    → (rs : List Reading) × (m ≡ then_all l (reads rs)) × (length rs ≡ length news) × IsWorkOf program hashes task rs [] report.counts report.input report.raw
-work_read Pbfcut f hashes task failed l m olds news report fresh c works =
-    let given = close_given f (digest_if hashes report.input) (spares task) olds news works.files l m fresh c works.gave in
-    (given.0, given.1, given.3, (record { files = works.files; read = given.2; holds = subst (λ (w : List ℕ). Holds task works.files report.counts w) works.took_them works.holds }, works.raw))
-work_read Pbfcutz f hashes task failed l m olds news report fresh c works =
-    let rest = close_rest f news l m c in (rest.0, rest.1, rest.2, tt)
-
--- what pbfcut's drain took
-abbrev pub TookBy : Program → (List ℕ → Type 0) → List ℕ → Type 0
-TookBy Pbfcut took written = took written
-TookBy Pbfcutz took written = Unit {0}
+pub work_read : {F : Type 0} (f : feed.Ghosts F) (by : Manner) (task : Task) (failed : Type 0) (l m : Option (List Event)) (olds news : List F) (report : Report)
+    → AreFresh f olds → CloseAll f news l m → Works by f task olds news (λ took. took ≡ []) failed (Ok report)
+    → (rs : List Reading) × (m ≡ then_all l (reads rs)) × (length rs ≡ length news) × IsWork by task rs [] report.counts report.input report.raw
+work_read f by task failed l m olds news report fresh c works =
+    let given = close_given f (AreDigests by (hashes_in task by.digests) report.input report.raw) (spares task) olds news works.files l m fresh c works.gave in
+    (given.0, given.1, given.3, record { files = works.files; read = given.2; holds = subst (λ (w : List ℕ). Holds task (map (of_input by) works.files) report.counts (of_output by w)) works.took_them works.holds })
 
 -- the same, and its drain too
-pub work_done : (program : Program) {F D : Type 0} (f : feed.Ghosts F) (d : drain.Ghosts D) (out : D) (went : Bool) (hashes : Bool) (task : Task) (took : List ℕ → Type 0) (failed : Type 0) (l m n : Option (List Event)) (olds news : List F) (report : Report)
-    → AreFresh f olds → CloseAll f news l m → Finishes d out went m n → ((w : List ℕ) → took w → d.has_taken out 0 w) → WorksBy program f hashes task olds news took failed (Ok report)
-    → (rs : List Reading) × (w : Writing) × (n ≡ then_all l (reads rs ++ wrote w ∷ [])) × (w.out ≡ went) × TookBy program took w.bytes × IsWorkOf program hashes task rs w.bytes report.counts report.input report.raw
-work_done Pbfcut f d out went hashes task took failed l m n olds news report fresh c fin taken works =
-    let given = close_given f (digest_if hashes report.input) (spares task) olds news works.files l m fresh c works.gave in (
+pub work_done : {F D : Type 0} (f : feed.Ghosts F) (d : drain.Ghosts D) (out : D) (went : Bool) (by : Manner) (task : Task) (took : List ℕ → Type 0) (failed : Type 0) (l m n : Option (List Event)) (olds news : List F) (report : Report)
+    → AreFresh f olds → CloseAll f news l m → Finishes d out went m n → ((w : List ℕ) → took w → d.has_taken out 0 w) → Works by f task olds news took failed (Ok report)
+    → (rs : List Reading) × (w : Writing) × (n ≡ then_all l (reads rs ++ wrote w ∷ [])) × (w.out ≡ went) × took w.bytes × IsWork by task rs w.bytes report.counts report.input report.raw
+work_done f d out went by task took failed l m n olds news report fresh c fin taken works =
+    let given = close_given f (AreDigests by (hashes_in task by.digests) report.input report.raw) (spares task) olds news works.files l m fresh c works.gave in (
       given.0,
       record { bytes = works.written; failures = d.failures out; out = went },
       and_then l m n (reads given.0) (wrote (record { bytes = works.written; failures = d.failures out; out = went }) ∷ []) given.1 (fin.1 works.written (taken works.written works.took_them)),
       refl,
       works.took_them,
-      (record { files = works.files; read = given.2; holds = works.holds }, works.raw),
-    )
-work_done Pbfcutz f d out went hashes task took failed l m n olds news report fresh c fin taken works =
-    let rest = close_rest f news l m c in (
-      rest.0,
-      record { bytes = fin.0.0; failures = d.failures out; out = went },
-      and_then l m n (reads rest.0) (wrote (record { bytes = fin.0.0; failures = d.failures out; out = went }) ∷ []) rest.1 fin.0.1,
-      refl,
-      tt,
-      tt,
+      record { files = works.files; read = given.2; holds = works.holds },
     )
 
 -- a call ended well, but not all went out
@@ -313,14 +301,14 @@ finish_fails f d out went l m n news c fin e =
     )
 
 -- the same of one pass
-pub work_read_once : (program : Program) {F : Type 0} (f : feed.Ghosts F) (hashes : Bool) (task : Task) (failed : Type 0) (l m : Option (List Event)) (old now : F) (report : Report)
-    → IsFresh f old → Closes f now l m → WorksBy program f hashes task (old ∷ []) (now ∷ []) (λ took. took ≡ []) failed (Ok report)
-    → (first : Reading) × (m ≡ then_one l (read first)) × IsWorkOf program hashes task (first ∷ []) [] report.counts report.input report.raw
-work_read_once program f hashes task failed l m old now report fresh c works = only given.0 given.1 given.2 given.3 where
-  given : (rs : List Reading) × (m ≡ then_all l (reads rs)) × (length rs ≡ 1) × IsWorkOf program hashes task rs [] report.counts report.input report.raw
-  given = work_read program f hashes task failed l m (old ∷ []) (now ∷ []) report (fresh, tt) (m, c, refl) works
+pub work_read_once : {F : Type 0} (f : feed.Ghosts F) (by : Manner) (task : Task) (failed : Type 0) (l m : Option (List Event)) (old now : F) (report : Report)
+    → IsFresh f old → Closes f now l m → Works by f task (old ∷ []) (now ∷ []) (λ took. took ≡ []) failed (Ok report)
+    → (first : Reading) × (m ≡ then_one l (read first)) × IsWork by task (first ∷ []) [] report.counts report.input report.raw
+work_read_once f by task failed l m old now report fresh c works = only given.0 given.1 given.2 given.3 where
+  given : (rs : List Reading) × (m ≡ then_all l (reads rs)) × (length rs ≡ 1) × IsWork by task rs [] report.counts report.input report.raw
+  given = work_read f by task failed l m (old ∷ []) (now ∷ []) report (fresh, tt) (m, c, refl) works
 
-  only : (rs : List Reading) → m ≡ then_all l (reads rs) → length rs ≡ 1 → IsWorkOf program hashes task rs [] report.counts report.input report.raw → (first : Reading) × (m ≡ then_one l (read first)) × IsWorkOf program hashes task (first ∷ []) [] report.counts report.input report.raw
+  only : (rs : List Reading) → m ≡ then_all l (reads rs) → length rs ≡ 1 → IsWork by task rs [] report.counts report.input report.raw → (first : Reading) × (m ≡ then_one l (read first)) × IsWork by task (first ∷ []) [] report.counts report.input report.raw
   only [] e n w = absurd (none n) where
     none : ◌≡◌ {A = ℕ} 0 1 → ⊥
     none n = omega (arith, n)
@@ -330,26 +318,25 @@ work_read_once program f hashes task failed l m old now report fresh c works = o
     more k n = omega (arith, n)
 
 -- what a call did, however it ended
-pub if_done : (program : Program) {F D : Type 0} (f : feed.Ghosts F) (d : drain.Ghosts D) (out : D) (went : Bool) (hashes : Bool) (task : Task) (took : List ℕ → Type 0) (failed : Type 0) (l m n : Option (List Event)) (olds news : List F) (outcome : Result Report Halted)
-    → AreFresh f olds → CloseAll f news l m → Finishes d out went m n → ((w : List ℕ) → took w → d.has_taken out 0 w) → WorksBy program f hashes task olds news took failed outcome
-    → OnOk outcome ((report : Report) × (rs : List Reading) × (w : Writing) × (n ≡ then_all l (reads rs ++ wrote w ∷ [])) × (w.out ≡ went) × IsWorkOf program hashes task rs w.bytes report.counts report.input report.raw)
-if_done program f d out went hashes task took failed l m n olds news (Ok report) fresh c fin taken works =
-    let done = work_done program f d out went hashes task took failed l m n olds news report fresh c fin taken works in (report, done.0, done.1, done.2, done.3, done.5)
-if_done program f d out went hashes task took failed l m n olds news (Err halted) fresh c fin taken works = tt
+pub if_done : {F D : Type 0} (f : feed.Ghosts F) (d : drain.Ghosts D) (out : D) (went : Bool) (by : Manner) (task : Task) (took : List ℕ → Type 0) (failed : Type 0) (l m n : Option (List Event)) (olds news : List F) (outcome : Result Report Halted)
+    → AreFresh f olds → CloseAll f news l m → Finishes d out went m n → ((w : List ℕ) → took w → d.has_taken out 0 w) → Works by f task olds news took failed outcome
+    → OnOk outcome ((report : Report) × (rs : List Reading) × (w : Writing) × (n ≡ then_all l (reads rs ++ wrote w ∷ [])) × (w.out ≡ went) × IsWork by task rs w.bytes report.counts report.input report.raw)
+if_done f d out went by task took failed l m n olds news (Ok report) fresh c fin taken works =
+    let done = work_done f d out went by task took failed l m n olds news report fresh c fin taken works in (report, done.0, done.1, done.2, done.3, done.5)
+if_done f d out went by task took failed l m n olds news (Err halted) fresh c fin taken works = tt
 
-pub if_fails : (program : Program) {F : Type 0} (f : feed.Ghosts F) (hashes : Bool) (task : Task) (took : List ℕ → Type 0) (failed : Type 0) (l m n : Option (List Event)) (olds news : List F) (outcome : Result Report Halted)
-    → Ends took failed m n → AreFresh f olds → CloseAll f news l m → WorksBy program f hashes task olds news took failed outcome
-    → IfErr outcome (λ halted. (events : List Event) × (n ≡ then_all l events) × Fails program (IsRefused (judge_of task)) halted.ending events)
-if_fails program f hashes task took failed l m n olds news (Ok report) tail fresh c works = tt
-if_fails program f hashes task took failed l m n olds news (Err halted) tail fresh c works = work_fails program f hashes task took failed l m n olds news halted tail fresh c works
+pub if_fails : (program : Program) (packs digests : Bool) {F : Type 0} (f : feed.Ghosts F) (task : Task) (took : List ℕ → Type 0) (failed : Type 0) (l m n : Option (List Event)) (olds news : List F) (outcome : Result Report Halted)
+    → Ends took failed m n → AreFresh f olds → CloseAll f news l m → Works (manner program packs digests) f task olds news took failed outcome
+    → IfErr outcome (λ halted. (events : List Event) × (n ≡ then_all l events) × Fails program (IsRefusedOf program (judge_of task) (map f.remaining olds)) halted.ending events)
+if_fails program packs digests f task took failed l m n olds news (Ok report) tail fresh c works = tt
+if_fails program packs digests f task took failed l m n olds news (Err halted) tail fresh c works = work_fails program packs digests f task took failed l m n olds news halted tail fresh c works
 
 -- the digest that was wanted
-pub hashed_as : (program : Program) {D : Type 0} (d : drain.Ghosts D) (out : D) (digests : Bool) (known : Option (List ℕ)) (w : List ℕ) → TookBy program (TakenBy d out known) w → IsAsked digests known → IsHashed program digests w known
-hashed_as Pbfcut d out true (Some known) w took asked = ap (λ (x : List ℕ). Some x) took.1
-hashed_as Pbfcut d out true None w took asked = absurd asked
-hashed_as Pbfcut d out false (Some known) w took asked = absurd asked
-hashed_as Pbfcut d out false None w took asked = refl
-hashed_as Pbfcutz d out digests known w took asked = asked
+pub hashed_as : {D : Type 0} (d : drain.Ghosts D) (out : D) (digests : Bool) (known : Option (List ℕ)) (w : List ℕ) → TakenBy d out known w → IsAsked digests known → known ≡ digest_if_asked digests w
+hashed_as d out true (Some known) w took asked = ap (λ (x : List ℕ). Some x) took.1
+hashed_as d out true None w took asked = absurd asked
+hashed_as d out false (Some known) w took asked = absurd asked
+hashed_as d out false None w took asked = refl
 
 -- not all went out, or OUT didn't get its name
 pub keep_fails : (program : Program) (refused : Fault → List Event → Type 0) (how : Ending) (events : List Event) → ((how ≡ ending.Stopped stop.Write) ⊎ (how ≡ ending.OutExists)) → Has FailsToWrite events → Has FailsToFinish events → Fails program refused how events

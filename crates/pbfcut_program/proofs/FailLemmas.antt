@@ -1,15 +1,16 @@
 -- Why commands fail, put together.
-use Rattle.std.proofs.Common.{◌≡◌, ◌⊎◌, inl, inr, ℕ, List, ◌++◌, Bool, true, false, refl, IfErr, OnOk, Option, Result, Ok, Err, sym, subst, ◌∙◌}
+use Rattle.std.proofs.Common.{◌≡◌, ◌⊎◌, inl, inr, ℕ, List, ◌∷◌, ◌++◌, Bool, true, false, refl, IfErr, OnOk, Option, Result, Ok, Err, sym, subst, ◌∙◌}
 use Rattle.pbf_frame.specs.Verdict.{Verdict}
 use Rattle.pbf_frame.specs.declared.stop.Stop.{Stop}
 use Rattle.pbf_frame.specs.declared.stop.Stop.TheVariants as stop
 use Rattle.pbf_wire.specs.declared.fault.Fault.{Fault}
+use Rattle.pbfcut_cli.specs.declared.packed.PackedRefusal.{PackedRefusal}
 use Rattle.pbfcut_cli.specs.declared.endings.Ending.{Ending}
 use Rattle.pbfcut_cli.specs.declared.endings.Ending.TheVariants as ending
 use Rattle.pbfcut_cli.specs.declared.programs.Program.{Program}
 use Rattle.pbfcut_cli.specs.declared.programs.Program.TheVariants.{Pbfcut, Pbfcutz}
-use Rattle.pbfcut_program.specs.Events.{Event, then_all}
-use Rattle.pbfcut_program.specs.Fails.{CauseOfOpening, Each, Fails, FailsFor, FailsOpening, FailsPrinting, FailsToWrite, Has, IsRefused, Quiet, TookNothing}
+use Rattle.pbfcut_program.specs.Events.{Event, opened, then_all}
+use Rattle.pbfcut_program.specs.Fails.{CauseOfOpening, Each, Fails, FailsFor, FailsOpening, FailsPacked, FailsPrinting, FailsToWrite, Has, IsRefused, IsRefusedBy, IsRefusedOf, Quiet, TookNothing}
 use Rattle.pbfcut_program.specs.declared.engine.Halted.{Halted}
 use Rattle.pbfcut_program.specs.Outcomes.{EndsAs}
 use Rattle.pbfcut_program.specs.Telling.{Tells, TellsQuietly}
@@ -63,12 +64,8 @@ opening_fails program refused (ending.RefusedPacked r) events f = absurd f.1
 
 -- ---- after quiet events
 
--- a refusal that quiet events don't change
-abbrev pub Keeps : (Fault → List Event → Type 0) → Type 0
-Keeps refused = (e : Fault) (xs ys : List Event) → Each Quiet xs → refused e ys → refused e (xs ++ ys)
-
-pub refused_keeps : (judge : Option (List ℕ) → Option Verdict) → Keeps (IsRefused judge)
-refused_keeps judge e xs ys q r = record {
+pub refused_after : (judge : Option (List ℕ) → Option Verdict) (e : Fault) (xs ys : List Event) → Each Quiet xs → IsRefused judge e ys → IsRefused judge e (xs ++ ys)
+refused_after judge e xs ys q r = record {
   first = r.first;
   later = r.later;
   are = readings_after xs ys q ∙ r.are;
@@ -76,16 +73,30 @@ refused_keeps judge e xs ys q r = record {
   nothing = each_both _ xs ys (nothing_in xs q) r.nothing;
 }
 
+-- a refusal by a program, after more events
+pub by_after : (program : Program) (judge : Option (List ℕ) → Option Verdict) (e : Fault) (xs ys : List Event) → Each Quiet xs → IsRefusedBy program judge e ys → IsRefusedBy program judge e (xs ++ ys)
+by_after Pbfcut judge e xs ys q r = refused_after judge e xs ys q r
+by_after Pbfcutz judge e xs ys q r = has_after _ xs ys r
+
+-- after those in which IN was opened
+pub by_opened : (program : Program) (judge : Option (List ℕ) → Option Verdict) (input : List ℕ) (h : Option (List ℕ)) (hs : List (Option (List ℕ))) (e : Fault) (xs ys : List Event) → Each Quiet xs → IsRefusedOf program judge (h ∷ hs) e ys → IsRefusedBy program judge e ((opened input 1 h ∷ xs) ++ ys)
+by_opened Pbfcut judge input h hs e xs ys q r = refused_after judge e (opened input 1 h ∷ xs) ys (tt, q) r
+by_opened Pbfcutz judge input h hs e xs ys q r = inl (refl, r)
+
 last_after : (xs ys : List Event) (X : Type 0) → Each Quiet xs → (X ⊎ Each TookNothing ys) → (X ⊎ Each TookNothing (xs ++ ys))
 last_after xs ys X q (inl x) = inl x
 last_after xs ys X q (inr n) = inr (each_both _ xs ys (nothing_in xs q) n)
 
-stop_after : (program : Program) (refused : Fault → List Event → Type 0) (s : Stop) (xs ys : List Event) → Keeps refused → Each Quiet xs → FailsFor program refused s ys → FailsFor program refused s (xs ++ ys)
-stop_after Pbfcut refused (stop.Refused e) xs ys keeps q f = keeps e xs ys q f
-stop_after Pbfcut refused stop.Read xs ys keeps q f = has_after _ xs ys f
-stop_after Pbfcut refused stop.Write xs ys keeps q f = has_after _ xs ys f
-stop_after Pbfcut refused stop.Memory xs ys keeps q f = tt
-stop_after Pbfcut refused (stop.Changed p) xs ys keeps q f = record {
+-- a refusal of what happened later is one of all that happened
+abbrev pub Leads : (later refused : Fault → List Event → Type 0) → (xs ys : List Event) → Type 0
+Leads later refused xs ys = (e : Fault) → later e ys → refused e (xs ++ ys)
+
+stop_after : (program : Program) (later refused : Fault → List Event → Type 0) (s : Stop) (xs ys : List Event) → Leads later refused xs ys → Each Quiet xs → FailsFor program later s ys → FailsFor program refused s (xs ++ ys)
+stop_after Pbfcut later refused (stop.Refused e) xs ys keeps q f = keeps e f
+stop_after Pbfcut later refused stop.Read xs ys keeps q f = has_after _ xs ys f
+stop_after Pbfcut later refused stop.Write xs ys keeps q f = has_after _ xs ys f
+stop_after Pbfcut later refused stop.Memory xs ys keeps q f = tt
+stop_after Pbfcut later refused (stop.Changed p) xs ys keeps q f = record {
   first = f.first;
   between = f.between;
   other = f.other;
@@ -96,23 +107,31 @@ stop_after Pbfcut refused (stop.Changed p) xs ys keeps q f = record {
   differs = f.differs;
   last = last_after xs ys _ q f.last;
 }
-stop_after Pbfcutz refused s xs ys keeps q f = tt
+stop_after Pbfcutz later refused (stop.Refused e) xs ys keeps q f = keeps e f
+stop_after Pbfcutz later refused stop.Read xs ys keeps q f = tt
+stop_after Pbfcutz later refused stop.Write xs ys keeps q f = tt
+stop_after Pbfcutz later refused stop.Memory xs ys keeps q f = tt
+stop_after Pbfcutz later refused (stop.Changed p) xs ys keeps q f = tt
+
+packed_after : (program : Program) (later refused : Fault → List Event → Type 0) (r : PackedRefusal) (xs ys : List Event) → Leads later refused xs ys → FailsPacked program later r ys → FailsPacked program refused r (xs ++ ys)
+packed_after Pbfcut later refused r xs ys keeps f = absurd f
+packed_after Pbfcutz later refused r xs ys keeps f = (f.0, f.1, keeps f.0 f.2)
 
 exists_after : (xs ys : List Event) (p q : Event → Type 0) → Each Quiet xs → ((Has p ys × Each TookNothing ys) ⊎ Has q ys) → ((Has p (xs ++ ys) × Each TookNothing (xs ++ ys)) ⊎ Has q (xs ++ ys))
 exists_after xs ys p q quiet (inl f) = inl (has_after _ xs ys f.0, each_both _ xs ys (nothing_in xs quiet) f.1)
 exists_after xs ys p q quiet (inr f) = inr (has_after _ xs ys f)
 
-pub fails_after : (program : Program) (refused : Fault → List Event → Type 0) (how : Ending) (xs ys : List Event) → Keeps refused → Each Quiet xs → Fails program refused how ys → Fails program refused how (xs ++ ys)
-fails_after program refused (ending.Stopped s) xs ys keeps q f = stop_after program refused s xs ys keeps q f
-fails_after program refused (ending.RefusedPacked r) xs ys keeps q f = f
-fails_after program refused ending.CannotOpen xs ys keeps q f = (has_after _ xs ys f.0, each_both _ xs ys (nothing_in xs q) f.1)
-fails_after program refused ending.IsPipe xs ys keeps q f = (has_after _ xs ys f.0, each_both _ xs ys (nothing_in xs q) f.1)
-fails_after program refused ending.OutExists xs ys keeps q f = exists_after xs ys _ _ q f
-fails_after program refused (ending.Polygon e) xs ys keeps q f = (has_after _ xs ys f.0, each_both _ xs ys (nothing_in xs q) f.1)
-fails_after program refused (ending.Words t) xs ys keeps q f = absurd f
-fails_after program refused ending.NotText xs ys keeps q f = absurd f
-fails_after program refused (ending.Box b) xs ys keeps q f = absurd f
-fails_after program refused (ending.Choice b) xs ys keeps q f = absurd f
+pub fails_after : (program : Program) (later refused : Fault → List Event → Type 0) (how : Ending) (xs ys : List Event) → Leads later refused xs ys → Each Quiet xs → Fails program later how ys → Fails program refused how (xs ++ ys)
+fails_after program later refused (ending.Stopped s) xs ys keeps q f = stop_after program later refused s xs ys keeps q f
+fails_after program later refused (ending.RefusedPacked r) xs ys keeps q f = packed_after program later refused r xs ys keeps f
+fails_after program later refused ending.CannotOpen xs ys keeps q f = (has_after _ xs ys f.0, each_both _ xs ys (nothing_in xs q) f.1)
+fails_after program later refused ending.IsPipe xs ys keeps q f = (has_after _ xs ys f.0, each_both _ xs ys (nothing_in xs q) f.1)
+fails_after program later refused ending.OutExists xs ys keeps q f = exists_after xs ys _ _ q f
+fails_after program later refused (ending.Polygon e) xs ys keeps q f = (has_after _ xs ys f.0, each_both _ xs ys (nothing_in xs q) f.1)
+fails_after program later refused (ending.Words t) xs ys keeps q f = absurd f
+fails_after program later refused ending.NotText xs ys keeps q f = absurd f
+fails_after program later refused (ending.Box b) xs ys keeps q f = absurd f
+fails_after program later refused (ending.Choice b) xs ys keeps q f = absurd f
 
 -- ---- before quiet events
 
@@ -120,18 +139,33 @@ last_before : (xs ys : List Event) (X : Type 0) → Each Quiet ys → (X ⊎ Eac
 last_before xs ys X q (inl x) = inl x
 last_before xs ys X q (inr n) = inr (each_both _ xs ys n (nothing_in ys q))
 
-stop_before : (program : Program) (judge : Option (List ℕ) → Option Verdict) (s : Stop) (xs ys : List Event) → Each Quiet ys → FailsFor program (IsRefused judge) s xs → FailsFor program (IsRefused judge) s (xs ++ ys)
-stop_before Pbfcut judge (stop.Refused e) xs ys q f = record {
+pub refused_before : (judge : Option (List ℕ) → Option Verdict) (e : Fault) (xs ys : List Event) → Each Quiet ys → IsRefused judge e xs → IsRefused judge e (xs ++ ys)
+refused_before judge e xs ys q f = record {
   first = f.first;
   later = f.later;
   are = readings_before xs ys (readings_of_quiet ys q) ∙ f.are;
   faulty = f.faulty;
   nothing = each_both _ xs ys f.nothing (nothing_in ys q);
 }
-stop_before Pbfcut judge stop.Read xs ys q f = has_before _ xs ys f
-stop_before Pbfcut judge stop.Write xs ys q f = has_before _ xs ys f
-stop_before Pbfcut judge stop.Memory xs ys q f = tt
-stop_before Pbfcut judge (stop.Changed p) xs ys q f = record {
+
+-- a refusal that quiet events after it don't change
+abbrev pub Stays : (Fault → List Event → Type 0) → Type 0
+Stays refused = (e : Fault) (xs ys : List Event) → Each Quiet ys → refused e xs → refused e (xs ++ ys)
+
+pub by_stays : (program : Program) (judge : Option (List ℕ) → Option Verdict) → Stays (IsRefusedBy program judge)
+by_stays Pbfcut judge e xs ys q f = refused_before judge e xs ys q f
+by_stays Pbfcutz judge e xs ys q f = has_before _ xs ys f
+
+pub of_stays : (program : Program) (judge : Option (List ℕ) → Option Verdict) (has : List (Option (List ℕ))) → Stays (IsRefusedOf program judge has)
+of_stays Pbfcut judge has e xs ys q f = refused_before judge e xs ys q f
+of_stays Pbfcutz judge has e xs ys q f = f
+
+stop_before : (program : Program) (refused : Fault → List Event → Type 0) → Stays refused → (s : Stop) (xs ys : List Event) → Each Quiet ys → FailsFor program refused s xs → FailsFor program refused s (xs ++ ys)
+stop_before Pbfcut refused stays (stop.Refused e) xs ys q f = stays e xs ys q f
+stop_before Pbfcut refused stays stop.Read xs ys q f = has_before _ xs ys f
+stop_before Pbfcut refused stays stop.Write xs ys q f = has_before _ xs ys f
+stop_before Pbfcut refused stays stop.Memory xs ys q f = tt
+stop_before Pbfcut refused stays (stop.Changed p) xs ys q f = record {
   first = f.first;
   between = f.between;
   other = f.other;
@@ -142,33 +176,41 @@ stop_before Pbfcut judge (stop.Changed p) xs ys q f = record {
   differs = f.differs;
   last = last_before xs ys _ q f.last;
 }
-stop_before Pbfcutz judge s xs ys q f = tt
+stop_before Pbfcutz refused stays (stop.Refused e) xs ys q f = stays e xs ys q f
+stop_before Pbfcutz refused stays stop.Read xs ys q f = tt
+stop_before Pbfcutz refused stays stop.Write xs ys q f = tt
+stop_before Pbfcutz refused stays stop.Memory xs ys q f = tt
+stop_before Pbfcutz refused stays (stop.Changed p) xs ys q f = tt
+
+packed_before : (program : Program) (refused : Fault → List Event → Type 0) → Stays refused → (r : PackedRefusal) (xs ys : List Event) → Each Quiet ys → FailsPacked program refused r xs → FailsPacked program refused r (xs ++ ys)
+packed_before Pbfcut refused stays r xs ys q f = absurd f
+packed_before Pbfcutz refused stays r xs ys q f = (f.0, f.1, stays f.0 xs ys q f.2)
 
 exists_before : (xs ys : List Event) (p q : Event → Type 0) → Each Quiet ys → ((Has p xs × Each TookNothing xs) ⊎ Has q xs) → ((Has p (xs ++ ys) × Each TookNothing (xs ++ ys)) ⊎ Has q (xs ++ ys))
 exists_before xs ys p q quiet (inl f) = inl (has_before _ xs ys f.0, each_both _ xs ys f.1 (nothing_in ys quiet))
 exists_before xs ys p q quiet (inr f) = inr (has_before _ xs ys f)
 
-fails_before : (program : Program) (judge : Option (List ℕ) → Option Verdict) (how : Ending) (xs ys : List Event) → Each Quiet ys → Fails program (IsRefused judge) how xs → Fails program (IsRefused judge) how (xs ++ ys)
-fails_before program judge (ending.Stopped s) xs ys q f = stop_before program judge s xs ys q f
-fails_before program judge (ending.RefusedPacked r) xs ys q f = f
-fails_before program judge ending.CannotOpen xs ys q f = (has_before _ xs ys f.0, each_both _ xs ys f.1 (nothing_in ys q))
-fails_before program judge ending.IsPipe xs ys q f = (has_before _ xs ys f.0, each_both _ xs ys f.1 (nothing_in ys q))
-fails_before program judge ending.OutExists xs ys q f = exists_before xs ys _ _ q f
-fails_before program judge (ending.Polygon e) xs ys q f = (has_before _ xs ys f.0, each_both _ xs ys f.1 (nothing_in ys q))
-fails_before program judge (ending.Words t) xs ys q f = absurd f
-fails_before program judge ending.NotText xs ys q f = absurd f
-fails_before program judge (ending.Box b) xs ys q f = absurd f
-fails_before program judge (ending.Choice b) xs ys q f = absurd f
+fails_before : (program : Program) (refused : Fault → List Event → Type 0) → Stays refused → (how : Ending) (xs ys : List Event) → Each Quiet ys → Fails program refused how xs → Fails program refused how (xs ++ ys)
+fails_before program refused stays (ending.Stopped s) xs ys q f = stop_before program refused stays s xs ys q f
+fails_before program refused stays (ending.RefusedPacked r) xs ys q f = packed_before program refused stays r xs ys q f
+fails_before program refused stays ending.CannotOpen xs ys q f = (has_before _ xs ys f.0, each_both _ xs ys f.1 (nothing_in ys q))
+fails_before program refused stays ending.IsPipe xs ys q f = (has_before _ xs ys f.0, each_both _ xs ys f.1 (nothing_in ys q))
+fails_before program refused stays ending.OutExists xs ys q f = exists_before xs ys _ _ q f
+fails_before program refused stays (ending.Polygon e) xs ys q f = (has_before _ xs ys f.0, each_both _ xs ys f.1 (nothing_in ys q))
+fails_before program refused stays (ending.Words t) xs ys q f = absurd f
+fails_before program refused stays ending.NotText xs ys q f = absurd f
+fails_before program refused stays (ending.Box b) xs ys q f = absurd f
+fails_before program refused stays (ending.Choice b) xs ys q f = absurd f
 
-shown_fails : (program : Program) (judge : Option (List ℕ) → Option Verdict) (how shown : Ending) (events : List Event) → ((shown ≡ how) ⊎ (shown ≡ ending.Stopped stop.Memory)) → Fails program (IsRefused judge) how events → Fails program (IsRefused judge) shown events
-shown_fails program judge how shown events (inl e) f = subst (λ h. Fails program (IsRefused judge) h events) (sym e) f
-shown_fails program judge how shown events (inr e) f = subst (λ h. Fails program (IsRefused judge) h events) (sym e) (memory_fails program (IsRefused judge) events)
+shown_fails : (program : Program) (refused : Fault → List Event → Type 0) (how shown : Ending) (events : List Event) → ((shown ≡ how) ⊎ (shown ≡ ending.Stopped stop.Memory)) → Fails program refused how events → Fails program refused shown events
+shown_fails program refused how shown events (inl e) f = subst (λ h. Fails program refused h events) (sym e) f
+shown_fails program refused how shown events (inr e) f = subst (λ h. Fails program refused h events) (sym e) (memory_fails program refused events)
 
 -- how it ended is shown, after more was reported quietly
-pub told_fails : (program : Program) (judge : Option (List ℕ) → Option Verdict) (how shown : Ending) (l m n : Option (List Event)) (xs : List Event) → m ≡ then_all l xs → Fails program (IsRefused judge) how xs
-    → TellsQuietly m n how shown → (events : List Event) × (n ≡ then_all l events) × Fails program (IsRefused judge) shown events
-told_fails program judge how shown l m n xs e f t =
-    (xs ++ t.events, and_then l m n xs t.events e t.log, shown_fails program judge how shown (xs ++ t.events) t.shows (fails_before program judge how xs t.events t.quiet f))
+pub told_fails : (program : Program) (refused : Fault → List Event → Type 0) → Stays refused → (how shown : Ending) (l m n : Option (List Event)) (xs : List Event) → m ≡ then_all l xs → Fails program refused how xs
+    → TellsQuietly m n how shown → (events : List Event) × (n ≡ then_all l events) × Fails program refused shown events
+told_fails program refused stays how shown l m n xs e f t =
+    (xs ++ t.events, and_then l m n xs t.events e t.log, shown_fails program refused how shown (xs ++ t.events) t.shows (fails_before program refused stays how xs t.events t.quiet f))
 
 -- ---- lines
 

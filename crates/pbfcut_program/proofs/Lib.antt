@@ -6,5 +6,6 @@ pub mod Listings
 pub mod Logging
 pub mod Meaning
 pub mod Printed
+pub mod PublishedCalls
 pub mod RawCalls
 pub mod Weaker

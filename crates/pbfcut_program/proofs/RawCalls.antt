@@ -1,5 +1,5 @@
 -- What pbfcut's calls report of what went through their devices.
-use Rattle.std.proofs.Common.{◌≡◌, inl, inr, ℕ, List, [], ◌∷◌, Bool, true, false, Option, Some, Result, Ok, Err, IfOk, refl, sym, subst}
+use Rattle.std.proofs.Common.{◌≡◌, inl, inr, ℕ, List, [], ◌∷◌, Bool, true, false, Option, Some, None, Result, Ok, Err, IfOk, refl, sym, subst}
 use Rattle.osm_area.specs.Area.{AreaSpec}
 use Rattle.osm_ways.specs.Parents.{extract_with_parents}
 use Rattle.osm_ways.specs.Seen.{seen_decoded}
@@ -13,7 +13,7 @@ use Rattle.pbf_pass.specs.declared.receipt.Halt.{Halt}
 use Rattle.pbf_pass.specs.declared.receipt.Halt.TheVariants as halt
 use Rattle.pbf_pass.specs.declared.receipt.InputReceipt.{InputReceipt}
 use Rattle.pbf_pass.specs.Given.{GaveFile, Took}
-use Rattle.pbf_pass.specs.Hashing.{digest_if}
+use Rattle.pbf_pass.specs.Hashing.{IsDigestOf, digest_if}
 use Rattle.pbf_pass.specs.HeaderLimit.{judged_writable}
 use Rattle.pbf_pass.specs.Judged.{judged_file}
 use Rattle.pbf_pass.specs.Pass.{CountsFile}
@@ -26,25 +26,36 @@ use Rattle.pbfcut.specs.Kept.{IsWritable}
 use Rattle.pbfcut.specs.Showing.{Shown}
 use Rattle.pbfcut.specs.Theorem.{IsConverted, IsExtraction}
 use Rattle.pbfcut_cli.specs.declared.endings.Ending.TheVariants as ending
+use Rattle.pbfcut_cli.specs.declared.programs.Program.TheVariants.{Pbfcut}
 use Rattle.pbfcut_program.specs.declared.engine.Report.{Report}
 use Rattle.pbfcut_program.specs.declared.engine.Halted.{Halted}
-use Rattle.pbfcut_program.specs.Devices.{EndsFor, Gives, GivesFaulty, GivesOrNot, GivesOther, Takes, Works}
+use Rattle.pbfcut_program.specs.Devices.{AreFresh, EndsFor, Gives, GivesFaulty, GivesOrNot, GivesOther, Works}
+use Rattle.pbfcut_program.specs.Manner.{AreDigests, manner}
 use Rattle.pbfcut_program.specs.Outcomes.{ReportsRaw}
-use Rattle.pbfcut_program.specs.Tasks.{Holds, Task, checking, showing, converting, copying, extracting, extracting_parents, judge_of}
+use Rattle.pbfcut_program.specs.Tasks.{Holds, Task, checking, hashes_in, showing, converting, copying, extracting, extracting_parents, judge_of}
 
 -- a call that halted
 abbrev Stopped : (X : Type 0) → Halt → Result X Halt
 Stopped X h = Err h
 
+-- a digest of bytes is theirs, whether they are hashed or not
+pub digest_or_not : (hashes : Bool) (digest bytes : List ℕ) → IsDigestOf (Some digest) bytes → IsDigestOf (digest_if hashes digest) bytes
+digest_or_not true digest bytes is = is
+digest_or_not false digest bytes is = tt
+
 module _ {F : Type 0} (f : feed.Ghosts F) where
-  gives_file : {digest : Option (List ℕ)} {holds : List ℕ → Type 0} {old now : F} (g : GaveFile f old now digest holds) → Gives f digest old now g.file
-  gives_file g = record { passed = λ fresh. g.supplied.gave.logged 0 [] fresh; end = g.supplied.end; digest_is = g.digest_is }
+  gives_file : {digest : Option (List ℕ)} {holds : List ℕ → Type 0} {old now : F} (known : List ℕ → Type 0) → ((file : List ℕ) → IsDigestOf digest file → known file) → f.has_passed old 0 [] → (g : GaveFile f old now digest holds) → Gives f known now g.file
+  gives_file known is start g = record { passed = g.supplied.gave.logged 0 [] start; end = g.supplied.end; is_known = is g.file g.digest_is }
 
-  gives_faulty : {hashes : Bool} (judge : Option (List ℕ) → Option Verdict) {old now : F} (r : _) → RefusesFile f old now hashes (λ b. judge (Some b)) r → GivesFaulty f judge r.fault old now
-  gives_faulty judge r x = record { bytes = x.bytes.read; passed = λ fresh. x.bytes.logged 0 [] fresh; faulty = x.bytes.faulty }
+  -- of which nothing is known
+  gives_some : {holds : List ℕ → Type 0} {old now : F} → f.has_passed old 0 [] → (g : GaveFile f old now None holds) → Gives f (λ _. Unit {0}) now g.file
+  gives_some start g = gives_file (λ _. Unit {0}) (λ _ _. tt) start g
 
-  gives_other : (old now : F) (file : List ℕ) → GaveOther f old now file → GivesOther f file old now
-  gives_other old now file x = record { bytes = x.read; passed = λ fresh. x.logged 0 [] fresh; other = x.faulty }
+  gives_faulty : {hashes : Bool} (judge : Option (List ℕ) → Option Verdict) {old now : F} (r : _) → f.has_passed old 0 [] → RefusesFile f old now hashes (λ b. judge (Some b)) r → GivesFaulty f judge r.fault now
+  gives_faulty judge r start x = record { bytes = x.bytes.read; passed = x.bytes.logged 0 [] start; faulty = x.bytes.faulty }
+
+  gives_other : (old now : F) (file : List ℕ) → f.has_passed old 0 [] → GaveOther f old now file → GivesOther f file now
+  gives_other old now file start x = record { bytes = x.read; passed = x.logged 0 [] start; other = x.faulty }
 
 -- how a call ended is how its halt is reported
 reported_ends : {F : Type 0} (f : feed.Ghosts F) (judge : Option (List ℕ) → Option Verdict) (olds news : List F) (nothing failed : Type 0) (h : Halt) (halted : Halted) → halted.ending ≡ ending.Stopped (stop_of h) → EndsFor f judge olds news nothing failed (ending.Stopped (stop_of h)) → EndsFor f judge olds news nothing failed halted.ending
@@ -52,9 +63,9 @@ reported_ends f judge olds news nothing failed h halted e ends = subst (λ how. 
 
 -- ---- one pass
 
-module _ {F : Type 0} (f : feed.Ghosts F) (hashes : Bool) (one one_now : F) where
-  check_ends : (h : Halt) → EndsJudging f one one_now hashes (Stopped InputReceipt h) → EndsFor f judged_file (one ∷ []) (one_now ∷ []) (◌≡◌ {A = List ℕ} [] []) ⊥ (ending.Stopped (stop_of h))
-  check_ends (halt.Refused r) ends = (gives_faulty f judged_file r ends.refused, refl)
+module _ {F : Type 0} (f : feed.Ghosts F) (packs digests : Bool) (one one_now : F) (fresh : AreFresh f (one ∷ [])) where
+  check_ends : (h : Halt) → EndsJudging f one one_now digests (Stopped InputReceipt h) → EndsFor f judged_file (one ∷ []) (one_now ∷ []) (◌≡◌ {A = List ℕ} [] []) ⊥ (ending.Stopped (stop_of h))
+  check_ends (halt.Refused r) ends = (gives_faulty f judged_file r fresh.0.0 ends.refused, refl)
   check_ends (halt.Stopped (stop.Refused e)) ends = absurd (ends.refused e refl)
   check_ends (halt.Stopped stop.Read) ends = inl ends.stops
   check_ends (halt.Stopped stop.Write) ends = absurd ends.stops
@@ -62,138 +73,153 @@ module _ {F : Type 0} (f : feed.Ghosts F) (hashes : Bool) (one one_now : F) wher
   check_ends (halt.Stopped (stop.Changed p)) ends = absurd ends.stops
 
   pub check_works : (outcome : Result InputReceipt Halt) (result : Result Report Halted)
-      → IfOk outcome (λ receipt. GaveFile f one one_now (digest_if hashes receipt.input) (λ file. CountsFile (judged_file (Some file)) receipt.counts)) → EndsJudging f one one_now hashes outcome → ReportsRaw outcome result
-      → Works f hashes checking (one ∷ []) (one_now ∷ []) (λ took. took ≡ []) ⊥ result
-  check_works (Ok receipt) (Ok report) given ends r = rw (r.0, r.1) record { files = given.file ∷ []; written = []; gave = (gives_file f given, tt); took_them = refl; holds = given.holding; raw = r.2 }
+      → IfOk outcome (λ receipt. GaveFile f one one_now (digest_if digests receipt.input) (λ file. CountsFile (judged_file (Some file)) receipt.counts)) → EndsJudging f one one_now digests outcome → ReportsRaw outcome result
+      → Works (manner Pbfcut packs digests) f checking (one ∷ []) (one_now ∷ []) (λ took. took ≡ []) ⊥ result
+  check_works (Ok receipt) (Ok report) given ends r =
+      rw (r.0, r.1) record {
+        files = given.file ∷ [];
+        written = [];
+        gave = (gives_file f (AreDigests (manner Pbfcut packs digests) digests receipt.input report.raw) (λ file is. (is, r.2)) fresh.0.0 given, tt);
+        took_them = refl;
+        holds = given.holding;
+      }
   check_works (Err h) (Err halted) given ends r = reported_ends f judged_file (one ∷ []) (one_now ∷ []) (◌≡◌ {A = List ℕ} [] []) ⊥ h halted r (check_ends h ends)
   check_works (Ok receipt) (Err halted) given ends r = absurd r
   check_works (Err h) (Ok report) given ends r = absurd r
 
 -- ---- more passes
 
-module _ {F D : Type 0} (f : feed.Ghosts F) (d : drain.Ghosts D) (out out_now : D) where
+module _ {F D : Type 0} (f : feed.Ghosts F) (d : drain.Ghosts D) (out out_now : D) (digests : Bool) (log : ℕ) (start : d.has_taken out log []) where
+  -- what is known of a file that was read
+  abbrev Known : Task → List ℕ → Option (List ℕ) → List ℕ → Type 0
+  Known task input raw = AreDigests (manner Pbfcut false digests) (hashes_in task digests) input raw
+
+  known_of : (task : Task) (input : List ℕ) (raw : Option (List ℕ)) → raw ≡ None → (file : List ℕ) → IsDigestOf (Some input) file → Known task input raw file
+  known_of task input raw none file is = (digest_or_not (hashes_in task digests) input file is, none)
+
   -- two passes
-  two_ends : (judge : Option (List ℕ) → Option Verdict) (one one_now two two_now : F) (h : Halt) → EndsTwoPasses judge f one one_now f two two_now d out out_now true (Stopped InputReceipt h)
-      → EndsFor f judge (one ∷ two ∷ []) (one_now ∷ two_now ∷ []) (Takes d out out_now []) (WriteFailed d out out_now) (ending.Stopped (stop_of h))
-  two_ends judge one one_now two two_now (halt.Refused r) ends = (gives_faulty f judge r ends.refused.0, ends.refused.1.logged)
-  two_ends judge one one_now two two_now (halt.Stopped (stop.Refused e)) ends = absurd (ends.refused e refl)
-  two_ends judge one one_now two two_now (halt.Stopped stop.Read) ends = elim ends.stops [ inl a ↦ inl a | inr a ↦ inr (inl a) ]
-  two_ends judge one one_now two two_now (halt.Stopped stop.Write) ends = ends.stops
-  two_ends judge one one_now two two_now (halt.Stopped stop.Memory) ends = tt
-  two_ends judge one one_now two two_now (halt.Stopped (stop.Changed p)) ends =
+  two_ends : (judge : Option (List ℕ) → Option Verdict) (one one_now two two_now : F) (h : Halt) → AreFresh f (one ∷ two ∷ []) → EndsTwoPasses judge f one one_now f two two_now d out out_now true (Stopped InputReceipt h)
+      → EndsFor f judge (one ∷ two ∷ []) (one_now ∷ two_now ∷ []) (d.has_taken out_now log []) (WriteFailed d out out_now) (ending.Stopped (stop_of h))
+  two_ends judge one one_now two two_now (halt.Refused r) fresh ends = (gives_faulty f judge r fresh.0.0 ends.refused.0, ends.refused.1.logged log [] start)
+  two_ends judge one one_now two two_now (halt.Stopped (stop.Refused e)) fresh ends = absurd (ends.refused e refl)
+  two_ends judge one one_now two two_now (halt.Stopped stop.Read) fresh ends = elim ends.stops [ inl a ↦ inl a | inr a ↦ inr (inl a) ]
+  two_ends judge one one_now two two_now (halt.Stopped stop.Write) fresh ends = ends.stops
+  two_ends judge one one_now two two_now (halt.Stopped stop.Memory) fresh ends = tt
+  two_ends judge one one_now two two_now (halt.Stopped (stop.Changed p)) fresh ends =
       let g = ends.changed.1 in
-      record { file = g.file; first = gives_file f g; at = 0; pass_is = ends.changed.0; other = gives_other f two two_now g.file g.holding; last = inl refl }
+      record { file = g.file; first = gives_some f fresh.0.0 g; at = 0; pass_is = ends.changed.0; other = gives_other f two two_now g.file fresh.1.0.0 g.holding; last = inl refl }
 
   two_works : (task : Task) (P : InputReceipt → List ℕ → Type 0) (Q : InputReceipt → (b c w : List ℕ) → Type 0)
       → ((receipt : InputReceipt) (b c w : List ℕ) → P receipt b → Q receipt b c w → Holds task (b ∷ c ∷ []) receipt.counts w)
-      → (one one_now two two_now : F) (outcome : Result InputReceipt Halt) (result : Result Report Halted)
+      → (one one_now two two_now : F) (outcome : Result InputReceipt Halt) (result : Result Report Halted) → AreFresh f (one ∷ two ∷ [])
       → IfOk outcome (λ receipt. GaveFile f one one_now (Some receipt.input) (λ b. P receipt b × GaveFile f two two_now (Some receipt.input) (λ c. Took d out out_now (λ w. Q receipt b c w))))
       → EndsTwoPasses (judge_of task) f one one_now f two two_now d out out_now true outcome → ReportsRaw outcome result
-      → Works f true task (one ∷ two ∷ []) (one_now ∷ two_now ∷ []) (Takes d out out_now) (WriteFailed d out out_now) result
-  two_works task P Q meant one one_now two two_now (Ok receipt) (Ok report) given ends r =
+      → Works (manner Pbfcut false digests) f task (one ∷ two ∷ []) (one_now ∷ two_now ∷ []) (d.has_taken out_now log) (WriteFailed d out out_now) result
+  two_works task P Q meant one one_now two two_now (Ok receipt) (Ok report) fresh given ends r =
       let again = given.holding.1 in let took = again.holding in
+      let known = Known task receipt.input report.raw in let is = known_of task receipt.input report.raw r.2 in
       rw (r.0, r.1) record {
         files = given.file ∷ again.file ∷ [];
         written = took.written;
-        gave = (gives_file f given, (inl (gives_file f again), tt));
-        took_them = took.added.logged;
+        gave = (gives_file f known is fresh.0.0 given, (inl (gives_file f known is fresh.1.0.0 again), tt));
+        took_them = took.added.logged log [] start;
         holds = meant receipt given.file again.file took.written given.holding.0 took.holding;
-        raw = r.2;
       }
-  two_works task P Q meant one one_now two two_now (Err h) (Err halted) given ends r =
-      reported_ends f (judge_of task) (one ∷ two ∷ []) (one_now ∷ two_now ∷ []) (Takes d out out_now []) (WriteFailed d out out_now) h halted r (two_ends (judge_of task) one one_now two two_now h ends)
-  two_works task P Q meant one one_now two two_now (Ok receipt) (Err halted) given ends r = absurd r
-  two_works task P Q meant one one_now two two_now (Err h) (Ok report) given ends r = absurd r
+  two_works task P Q meant one one_now two two_now (Err h) (Err halted) fresh given ends r =
+      reported_ends f (judge_of task) (one ∷ two ∷ []) (one_now ∷ two_now ∷ []) (d.has_taken out_now log []) (WriteFailed d out out_now) h halted r (two_ends (judge_of task) one one_now two two_now h fresh ends)
+  two_works task P Q meant one one_now two two_now (Ok receipt) (Err halted) fresh given ends r = absurd r
+  two_works task P Q meant one one_now two two_now (Err h) (Ok report) fresh given ends r = absurd r
 
-  pub show_works : (dates : Bool) (one one_now two two_now : F) (outcome : Result InputReceipt Halt) (result : Result Report Halted)
+  pub show_works : (dates : Bool) (one one_now two two_now : F) (outcome : Result InputReceipt Halt) (result : Result Report Halted) → AreFresh f (one ∷ two ∷ [])
       → IfOk outcome (λ receipt. GaveFile f one one_now (Some receipt.input) (λ b. CountsFile (judged_file (Some b)) receipt.counts × GaveFile f two two_now (Some receipt.input) (λ c. Took d out out_now (Shown dates (judged_file (Some c))))))
       → EndsTwoPasses judged_file f one one_now f two two_now d out out_now true outcome → ReportsRaw outcome result
-      → Works f true (showing dates) (one ∷ two ∷ []) (one_now ∷ two_now ∷ []) (Takes d out out_now) (WriteFailed d out out_now) result
+      → Works (manner Pbfcut false digests) f (showing dates) (one ∷ two ∷ []) (one_now ∷ two_now ∷ []) (d.has_taken out_now log) (WriteFailed d out out_now) result
   show_works dates = two_works (showing dates) (λ receipt b. CountsFile (judged_file (Some b)) receipt.counts) (λ receipt b c w. Shown dates (judged_file (Some c)) w) (λ receipt b c w p q. (p, q))
 
-  pub convert_works : (one one_now two two_now : F) (outcome : Result InputReceipt Halt) (result : Result Report Halted)
+  pub convert_works : (one one_now two two_now : F) (outcome : Result InputReceipt Halt) (result : Result Report Halted) → AreFresh f (one ∷ two ∷ [])
       → IfOk outcome (λ receipt. GaveFile f one one_now (Some receipt.input) (λ b. IsWritable b × GaveFile f two two_now (Some receipt.input) (λ c. Took d out out_now (λ w. b ≡ c → IsConverted b receipt.counts w))))
       → EndsTwoPasses judged_writable f one one_now f two two_now d out out_now true outcome → ReportsRaw outcome result
-      → Works f true converting (one ∷ two ∷ []) (one_now ∷ two_now ∷ []) (Takes d out out_now) (WriteFailed d out out_now) result
+      → Works (manner Pbfcut false digests) f converting (one ∷ two ∷ []) (one_now ∷ two_now ∷ []) (d.has_taken out_now log) (WriteFailed d out out_now) result
   convert_works = two_works converting (λ receipt b. IsWritable b) (λ receipt b c w. b ≡ c → IsConverted b receipt.counts w) (λ receipt b c w p q. (p, q))
 
-  pub copy_works : (one one_now two two_now : F) (outcome : Result InputReceipt Halt) (result : Result Report Halted)
+  pub copy_works : (one one_now two two_now : F) (outcome : Result InputReceipt Halt) (result : Result Report Halted) → AreFresh f (one ∷ two ∷ [])
       → IfOk outcome (λ receipt. GaveFile f one one_now (Some receipt.input) (λ b. CountsFile (judged_file (Some b)) receipt.counts × GaveFile f two two_now (Some receipt.input) (λ c. Took d out out_now (λ w. w ≡ c))))
       → EndsTwoPasses judged_file f one one_now f two two_now d out out_now true outcome → ReportsRaw outcome result
-      → Works f true copying (one ∷ two ∷ []) (one_now ∷ two_now ∷ []) (Takes d out out_now) (WriteFailed d out out_now) result
+      → Works (manner Pbfcut false digests) f copying (one ∷ two ∷ []) (one_now ∷ two_now ∷ []) (d.has_taken out_now log) (WriteFailed d out out_now) result
   copy_works = two_works copying (λ receipt b. CountsFile (judged_file (Some b)) receipt.counts) (λ receipt b c w. w ≡ c) (λ receipt b c w p q. (p, q))
 
   -- the second pass, which may have been spared
-  later_of : {digest : Option (List ℕ)} {first : List ℕ} {holds : List ℕ → Type 0} (spared : Bool) (old now : F) → GaveOrNot f spared old now digest first holds → (file : List ℕ) × GivesOrNot f digest true first old now file × holds file
-  later_of true old now g = (_, inr (refl, g.0, refl), g.1)
-  later_of false old now g = (g.file, inl (gives_file f g), g.holding)
+  later_of : (digest : Option (List ℕ)) {first : List ℕ} {holds : List ℕ → Type 0} (known : List ℕ → Type 0) → ((file : List ℕ) → IsDigestOf digest file → known file) → (spared : Bool) (old now : F) → f.has_passed old 0 [] → GaveOrNot f spared old now digest first holds
+      → (file : List ℕ) × GivesOrNot f known true first old now file × holds file
+  later_of digest known is true old now begun g = (_, inr (refl, g.0, refl), g.1)
+  later_of digest known is false old now begun g = (g.file, inl (gives_file f known is begun g), g.holding)
 
   -- three passes
-  three_ends : (area : AreaSpec) (one one_now two two_now three three_now : F) (h : Halt) → EndsExtracting f one one_now f two two_now f three three_now d out out_now true area (Stopped InputReceipt h)
-      → EndsFor f judged_writable (one ∷ two ∷ three ∷ []) (one_now ∷ two_now ∷ three_now ∷ []) (Takes d out out_now []) (WriteFailed d out out_now) (ending.Stopped (stop_of h))
-  three_ends area one one_now two two_now three three_now (halt.Refused r) ends = (gives_faulty f judged_writable r ends.refused.0, ends.refused.1.logged)
-  three_ends area one one_now two two_now three three_now (halt.Stopped (stop.Refused e)) ends = absurd (ends.refused e refl)
-  three_ends area one one_now two two_now three three_now (halt.Stopped stop.Read) ends = elim ends.stops [ inl a ↦ inl a | inr b ↦ elim b [ inl a ↦ inr (inl a) | inr a ↦ inr (inr (inl a)) ] ]
-  three_ends area one one_now two two_now three three_now (halt.Stopped stop.Write) ends = ends.stops
-  three_ends area one one_now two two_now three three_now (halt.Stopped stop.Memory) ends = tt
-  three_ends area one one_now two two_now three three_now (halt.Stopped (stop.Changed p)) ends = elim ends.changed [
-    | inl c ↦ record { file = c.0.1.file; first = gives_file f c.0.1; at = 0; pass_is = c.0.0; other = gives_other f two two_now c.0.1.file c.0.1.holding; last = inr c.1.logged }
-    | inr c ↦ record { file = c.1.file; first = gives_file f c.1; at = 1; pass_is = c.0; other = gives_other f three three_now c.1.file c.1.holding; last = inl refl }
+  three_ends : (area : AreaSpec) (one one_now two two_now three three_now : F) (h : Halt) → AreFresh f (one ∷ two ∷ three ∷ []) → EndsExtracting f one one_now f two two_now f three three_now d out out_now true area (Stopped InputReceipt h)
+      → EndsFor f judged_writable (one ∷ two ∷ three ∷ []) (one_now ∷ two_now ∷ three_now ∷ []) (d.has_taken out_now log []) (WriteFailed d out out_now) (ending.Stopped (stop_of h))
+  three_ends area one one_now two two_now three three_now (halt.Refused r) fresh ends = (gives_faulty f judged_writable r fresh.0.0 ends.refused.0, ends.refused.1.logged log [] start)
+  three_ends area one one_now two two_now three three_now (halt.Stopped (stop.Refused e)) fresh ends = absurd (ends.refused e refl)
+  three_ends area one one_now two two_now three three_now (halt.Stopped stop.Read) fresh ends = elim ends.stops [ inl a ↦ inl a | inr b ↦ elim b [ inl a ↦ inr (inl a) | inr a ↦ inr (inr (inl a)) ] ]
+  three_ends area one one_now two two_now three three_now (halt.Stopped stop.Write) fresh ends = ends.stops
+  three_ends area one one_now two two_now three three_now (halt.Stopped stop.Memory) fresh ends = tt
+  three_ends area one one_now two two_now three three_now (halt.Stopped (stop.Changed p)) fresh ends = elim ends.changed [
+    | inl c ↦ record { file = c.0.1.file; first = gives_some f fresh.0.0 c.0.1; at = 0; pass_is = c.0.0; other = gives_other f two two_now c.0.1.file fresh.1.0.0 c.0.1.holding; last = inr (c.1.logged log [] start) }
+    | inr c ↦ record { file = c.1.file; first = gives_some f fresh.0.0 c.1; at = 1; pass_is = c.0; other = gives_other f three three_now c.1.file fresh.1.1.0.0 c.1.holding; last = inl refl }
   ]
 
-  pub extract_works : (area : AreaSpec) (one one_now two two_now three three_now : F) (outcome : Result InputReceipt Halt) (result : Result Report Halted)
+  pub extract_works : (area : AreaSpec) (one one_now two two_now three three_now : F) (outcome : Result InputReceipt Halt) (result : Result Report Halted) → AreFresh f (one ∷ two ∷ three ∷ [])
       → IfOk outcome (λ receipt. GaveFile f one one_now (Some receipt.input) (λ b. IsWritable b × GaveOrNot f receipt.spared two two_now (Some receipt.input) b (λ c. GaveFile f three three_now (Some receipt.input) (λ e. Took d out out_now (λ w. b ≡ c → b ≡ e → IsExtraction (complete_ways area) (select.extract (seen_decoded area)) area b receipt.counts w)))))
       → EndsExtracting f one one_now f two two_now f three three_now d out out_now true area outcome → ReportsRaw outcome result
-      → Works f true (extracting area) (one ∷ two ∷ three ∷ []) (one_now ∷ two_now ∷ three_now ∷ []) (Takes d out out_now) (WriteFailed d out out_now) result
-  extract_works area one one_now two two_now three three_now (Ok receipt) (Ok report) given ends r =
-      let again = later_of receipt.spared two two_now given.holding.1 in let last = again.2 in let took = last.holding in
+      → Works (manner Pbfcut false digests) f (extracting area) (one ∷ two ∷ three ∷ []) (one_now ∷ two_now ∷ three_now ∷ []) (d.has_taken out_now log) (WriteFailed d out out_now) result
+  extract_works area one one_now two two_now three three_now (Ok receipt) (Ok report) fresh given ends r =
+      let known = Known (extracting area) receipt.input report.raw in let is = known_of (extracting area) receipt.input report.raw r.2 in
+      let again = later_of (Some receipt.input) known is receipt.spared two two_now fresh.1.0.0 given.holding.1 in let last = again.2 in let took = last.holding in
       rw (r.0, r.1) record {
         files = given.file ∷ again.0 ∷ last.file ∷ [];
         written = took.written;
-        gave = (gives_file f given, (again.1, (inl (gives_file f last), tt)));
-        took_them = took.added.logged;
+        gave = (gives_file f known is fresh.0.0 given, (again.1, (inl (gives_file f known is fresh.1.1.0.0 last), tt)));
+        took_them = took.added.logged log [] start;
         holds = (given.holding.0, took.holding);
-        raw = r.2;
       }
-  extract_works area one one_now two two_now three three_now (Err h) (Err halted) given ends r =
-      reported_ends f judged_writable (one ∷ two ∷ three ∷ []) (one_now ∷ two_now ∷ three_now ∷ []) (Takes d out out_now []) (WriteFailed d out out_now) h halted r (three_ends area one one_now two two_now three three_now h ends)
-  extract_works area one one_now two two_now three three_now (Ok receipt) (Err halted) given ends r = absurd r
-  extract_works area one one_now two two_now three three_now (Err h) (Ok report) given ends r = absurd r
+  extract_works area one one_now two two_now three three_now (Err h) (Err halted) fresh given ends r =
+      reported_ends f judged_writable (one ∷ two ∷ three ∷ []) (one_now ∷ two_now ∷ three_now ∷ []) (d.has_taken out_now log []) (WriteFailed d out out_now) h halted r (three_ends area one one_now two two_now three three_now h fresh ends)
+  extract_works area one one_now two two_now three three_now (Ok receipt) (Err halted) fresh given ends r = absurd r
+  extract_works area one one_now two two_now three three_now (Err h) (Ok report) fresh given ends r = absurd r
 
   -- four passes
-  four_ends : (area : AreaSpec) (one one_now two two_now three three_now four four_now : F) (h : Halt) → EndsExtractingParents f one one_now f two two_now f three three_now f four four_now d out out_now true area (Stopped InputReceipt h)
-      → EndsFor f judged_writable (one ∷ two ∷ three ∷ four ∷ []) (one_now ∷ two_now ∷ three_now ∷ four_now ∷ []) (Takes d out out_now []) (WriteFailed d out out_now) (ending.Stopped (stop_of h))
-  four_ends area one one_now two two_now three three_now four four_now (halt.Refused r) ends = (gives_faulty f judged_writable r ends.refused.0, ends.refused.1.logged)
-  four_ends area one one_now two two_now three three_now four four_now (halt.Stopped (stop.Refused e)) ends = absurd (ends.refused e refl)
-  four_ends area one one_now two two_now three three_now four four_now (halt.Stopped stop.Read) ends = elim ends.stops [
+  four_ends : (area : AreaSpec) (one one_now two two_now three three_now four four_now : F) (h : Halt) → AreFresh f (one ∷ two ∷ three ∷ four ∷ []) → EndsExtractingParents f one one_now f two two_now f three three_now f four four_now d out out_now true area (Stopped InputReceipt h)
+      → EndsFor f judged_writable (one ∷ two ∷ three ∷ four ∷ []) (one_now ∷ two_now ∷ three_now ∷ four_now ∷ []) (d.has_taken out_now log []) (WriteFailed d out out_now) (ending.Stopped (stop_of h))
+  four_ends area one one_now two two_now three three_now four four_now (halt.Refused r) fresh ends = (gives_faulty f judged_writable r fresh.0.0 ends.refused.0, ends.refused.1.logged log [] start)
+  four_ends area one one_now two two_now three three_now four four_now (halt.Stopped (stop.Refused e)) fresh ends = absurd (ends.refused e refl)
+  four_ends area one one_now two two_now three three_now four four_now (halt.Stopped stop.Read) fresh ends = elim ends.stops [
     | inl x ↦ elim x [ inl a ↦ inl a | inr b ↦ elim b [ inl a ↦ inr (inl a) | inr a ↦ inr (inr (inl a)) ] ]
     | inr a ↦ inr (inr (inr (inl a)))
   ]
-  four_ends area one one_now two two_now three three_now four four_now (halt.Stopped stop.Write) ends = ends.stops
-  four_ends area one one_now two two_now three three_now four four_now (halt.Stopped stop.Memory) ends = tt
-  four_ends area one one_now two two_now three three_now four four_now (halt.Stopped (stop.Changed p)) ends = elim ends.changed [
+  four_ends area one one_now two two_now three three_now four four_now (halt.Stopped stop.Write) fresh ends = ends.stops
+  four_ends area one one_now two two_now three three_now four four_now (halt.Stopped stop.Memory) fresh ends = tt
+  four_ends area one one_now two two_now three three_now four four_now (halt.Stopped (stop.Changed p)) fresh ends = elim ends.changed [
     | inl x ↦ elim x.0 [
-      | inl c ↦ record { file = c.1.file; first = gives_file f c.1; at = 0; pass_is = c.0; other = gives_other f two two_now c.1.file c.1.holding; last = inr x.1.logged }
-      | inr c ↦ record { file = c.1.file; first = gives_file f c.1; at = 1; pass_is = c.0; other = gives_other f three three_now c.1.file c.1.holding; last = inr x.1.logged }
+      | inl c ↦ record { file = c.1.file; first = gives_some f fresh.0.0 c.1; at = 0; pass_is = c.0; other = gives_other f two two_now c.1.file fresh.1.0.0 c.1.holding; last = inr (x.1.logged log [] start) }
+      | inr c ↦ record { file = c.1.file; first = gives_some f fresh.0.0 c.1; at = 1; pass_is = c.0; other = gives_other f three three_now c.1.file fresh.1.1.0.0 c.1.holding; last = inr (x.1.logged log [] start) }
     ]
-    | inr c ↦ record { file = c.1.file; first = gives_file f c.1; at = 2; pass_is = c.0; other = gives_other f four four_now c.1.file c.1.holding; last = inl refl }
+    | inr c ↦ record { file = c.1.file; first = gives_some f fresh.0.0 c.1; at = 2; pass_is = c.0; other = gives_other f four four_now c.1.file fresh.1.1.1.0.0 c.1.holding; last = inl refl }
   ]
 
-  pub extract_parents_works : (area : AreaSpec) (one one_now two two_now three three_now four four_now : F) (outcome : Result InputReceipt Halt) (result : Result Report Halted)
+  pub extract_parents_works : (area : AreaSpec) (one one_now two two_now three three_now four four_now : F) (outcome : Result InputReceipt Halt) (result : Result Report Halted) → AreFresh f (one ∷ two ∷ three ∷ four ∷ [])
       → IfOk outcome (λ receipt. GaveFile f one one_now (Some receipt.input) (λ b. IsWritable b × GaveOrNot f receipt.spared two two_now (Some receipt.input) b (λ c. GaveFile f three three_now (Some receipt.input) (λ e. GaveFile f four four_now (Some receipt.input) (λ g. Took d out out_now (λ w. b ≡ c → b ≡ e → b ≡ g → IsExtraction (all_parents area) (extract_with_parents (seen_decoded area)) area b receipt.counts w))))))
       → EndsExtractingParents f one one_now f two two_now f three three_now f four four_now d out out_now true area outcome → ReportsRaw outcome result
-      → Works f true (extracting_parents area) (one ∷ two ∷ three ∷ four ∷ []) (one_now ∷ two_now ∷ three_now ∷ four_now ∷ []) (Takes d out out_now) (WriteFailed d out out_now) result
-  extract_parents_works area one one_now two two_now three three_now four four_now (Ok receipt) (Ok report) given ends r =
-      let again = later_of receipt.spared two two_now given.holding.1 in let third = again.2 in let last = third.holding in let took = last.holding in
+      → Works (manner Pbfcut false digests) f (extracting_parents area) (one ∷ two ∷ three ∷ four ∷ []) (one_now ∷ two_now ∷ three_now ∷ four_now ∷ []) (d.has_taken out_now log) (WriteFailed d out out_now) result
+  extract_parents_works area one one_now two two_now three three_now four four_now (Ok receipt) (Ok report) fresh given ends r =
+      let known = Known (extracting_parents area) receipt.input report.raw in let is = known_of (extracting_parents area) receipt.input report.raw r.2 in
+      let again = later_of (Some receipt.input) known is receipt.spared two two_now fresh.1.0.0 given.holding.1 in let third = again.2 in let last = third.holding in let took = last.holding in
       rw (r.0, r.1) record {
         files = given.file ∷ again.0 ∷ third.file ∷ last.file ∷ [];
         written = took.written;
-        gave = (gives_file f given, (again.1, (inl (gives_file f third), (inl (gives_file f last), tt))));
-        took_them = took.added.logged;
+        gave = (gives_file f known is fresh.0.0 given, (again.1, (inl (gives_file f known is fresh.1.1.0.0 third), (inl (gives_file f known is fresh.1.1.1.0.0 last), tt))));
+        took_them = took.added.logged log [] start;
         holds = (given.holding.0, took.holding);
-        raw = r.2;
       }
-  extract_parents_works area one one_now two two_now three three_now four four_now (Err h) (Err halted) given ends r =
-      reported_ends f judged_writable (one ∷ two ∷ three ∷ four ∷ []) (one_now ∷ two_now ∷ three_now ∷ four_now ∷ []) (Takes d out out_now []) (WriteFailed d out out_now) h halted r (four_ends area one one_now two two_now three three_now four four_now h ends)
-  extract_parents_works area one one_now two two_now three three_now four four_now (Ok receipt) (Err halted) given ends r = absurd r
-  extract_parents_works area one one_now two two_now three three_now four four_now (Err h) (Ok report) given ends r = absurd r
+  extract_parents_works area one one_now two two_now three three_now four four_now (Err h) (Err halted) fresh given ends r =
+      reported_ends f judged_writable (one ∷ two ∷ three ∷ four ∷ []) (one_now ∷ two_now ∷ three_now ∷ four_now ∷ []) (d.has_taken out_now log []) (WriteFailed d out out_now) h halted r (four_ends area one one_now two two_now three three_now four four_now h fresh ends)
+  extract_parents_works area one one_now two two_now three three_now four four_now (Ok receipt) (Err halted) fresh given ends r = absurd r
+  extract_parents_works area one one_now two two_now three three_now four four_now (Err h) (Ok report) fresh given ends r = absurd r

@@ -1,12 +1,14 @@
 -- What went through the devices of a command, before they are returned to the host.
-use Rattle.std.specs.Prelude.{◌≡◌, ◌⊎◌, ℕ, zero, suc, ◌+◌, List, [], ◌∷◌, length, Bool, true, false, Option, Some, None, Result, Ok, Err, IfErr, IfSome}
+use Rattle.std.specs.Prelude.{◌≡◌, ◌⊎◌, ℕ, zero, suc, ◌+◌, List, [], ◌∷◌, length, map, Bool, true, false, Option, Some, None, Result, Ok, Err, IfSome}
 use Rattle.pbf_frame.specs.declared.device.Feed as feed
 use Rattle.pbf_frame.specs.declared.device.Drain as drain
 use Rattle.pbf_frame.specs.declared.stop.Stop.{Stop}
 use Rattle.pbf_frame.specs.declared.stop.Stop.TheVariants as stop
-use Rattle.pbf_frame.specs.Devices.{HasRisen, IsAtEnd, Passes}
+use Rattle.pbf_frame.specs.Devices.{HasRisen, IsAtEnd}
 use Rattle.pbf_frame.specs.Verdict.{Verdict}
-use Rattle.pbf_pass.specs.Hashing.{IsDigestOf, digest_if}
+use Rattle.pbf_pass.specs.Stops.{WriteFailed}
+use Rattle.pbf_unpack.specs.declared.drain.PackedDrain.{PackedDrain}
+use Rattle.pbf_unpack.specs.Packing.{GaveAll}
 use Rattle.pbf_wire.specs.declared.fault.Fault.{Fault}
 use Rattle.sha2.specs.Sha256.{sha256}
 use Rattle.pbfcut_cli.specs.declared.endings.Ending.{Ending}
@@ -16,9 +18,11 @@ use Rattle.pbfcut_cli.specs.declared.programs.Program.TheVariants.{Pbfcut, Pbfcu
 use Rattle.pbfcut_program.specs.declared.engine.Report.{Report}
 use Rattle.pbfcut_program.specs.declared.engine.Halted.{Halted}
 use Rattle.pbfcut_program.specs.Events.{Event, read, wrote, then_one}
-use Rattle.pbfcut_program.specs.Outcomes.{EndsPacked}
+use Rattle.pbfcut_program.specs.Fails.{FirstFault}
+use Rattle.pbfcut_program.specs.Manner.{AreDigests, Manner, of_input, of_output}
+use Rattle.pbfcut_program.specs.Outcomes.{RefusesAs}
 use Rattle.pbfcut_program.specs.Readings.{IsFaulty, IsOther}
-use Rattle.pbfcut_program.specs.Tasks.{Task, Holds, judge_of, spares}
+use Rattle.pbfcut_program.specs.Tasks.{Task, Holds, hashes_in, judge_of, spares}
 
 -- ---- devices of which nothing was read, and that took nothing
 
@@ -52,24 +56,24 @@ CloseAll f (now ∷ more) before after = (between : Option (List Event)) × Clos
 
 -- ---- what feeds gave
 
--- a feed gave this file, to its end, which has this digest, if there is one
-pub record Gives {F : Type 0} (f : feed.Ghosts F) (digest : Option (List ℕ)) (old now : F) (file : List ℕ) : Type 0 where
-  pub passed : f.has_passed old 0 [] → f.has_passed now 0 file
+-- a feed gave this file, to its end, of which this is known
+pub record Gives {F : Type 0} (f : feed.Ghosts F) (known : List ℕ → Type 0) (now : F) (file : List ℕ) : Type 0 where
+  pub passed : f.has_passed now 0 file
   pub end : IsAtEnd (f.remaining now)
-  pub digest_is : IsDigestOf digest file
+  pub is_known : known file
 
 -- a later one did; or it was spared
-abbrev pub GivesOrNot : {F : Type 0} → feed.Ghosts F → Option (List ℕ) → Bool → (first : List ℕ) → (old now : F) → List ℕ → Type 0
-GivesOrNot f digest may first old now file = Gives f digest old now file ⊎ ((may ≡ true) × (now ≡ old) × (file ≡ first))
+abbrev pub GivesOrNot : {F : Type 0} → feed.Ghosts F → (List ℕ → Type 0) → Bool → (first : List ℕ) → (old now : F) → List ℕ → Type 0
+GivesOrNot f known may first old now file = Gives f known now file ⊎ ((may ≡ true) × (now ≡ old) × (file ≡ first))
 
-abbrev pub GiveLater : {F : Type 0} → feed.Ghosts F → Option (List ℕ) → Bool → (first : List ℕ) → (olds news : List F) → List (List ℕ) → Type 0
-GiveLater f digest may first [] [] [] = Unit {0}
-GiveLater f digest may first (old ∷ olds) (now ∷ news) (b ∷ bs) = GivesOrNot f digest may first old now b × GiveLater f digest false first olds news bs
-GiveLater f digest may first _ _ _ = ⊥
+abbrev pub GiveLater : {F : Type 0} → feed.Ghosts F → (List ℕ → Type 0) → Bool → (first : List ℕ) → (olds news : List F) → List (List ℕ) → Type 0
+GiveLater f known may first [] [] [] = Unit {0}
+GiveLater f known may first (old ∷ olds) (now ∷ news) (b ∷ bs) = GivesOrNot f known may first old now b × GiveLater f known false first olds news bs
+GiveLater f known may first _ _ _ = ⊥
 
-abbrev pub GiveAll : {F : Type 0} → feed.Ghosts F → Option (List ℕ) → Bool → (olds news : List F) → List (List ℕ) → Type 0
-GiveAll f digest may (old ∷ olds) (now ∷ news) (b ∷ bs) = Gives f digest old now b × GiveLater f digest may b olds news bs
-GiveAll f digest may _ _ _ = ⊥
+abbrev pub GiveAll : {F : Type 0} → feed.Ghosts F → (List ℕ → Type 0) → Bool → (olds news : List F) → List (List ℕ) → Type 0
+GiveAll f known may (old ∷ olds) (now ∷ news) (b ∷ bs) = Gives f known now b × GiveLater f known may b olds news bs
+GiveAll f known may _ _ _ = ⊥
 
 -- ---- why a call stops
 
@@ -78,38 +82,38 @@ AnyFailed f (old ∷ olds) (now ∷ news) = HasRisen (f.failures old) (f.failure
 AnyFailed f _ _ = ⊥
 
 -- a feed gave faulty bytes
-pub record GivesFaulty {F : Type 0} (f : feed.Ghosts F) (judge : Option (List ℕ) → Option Verdict) (fault : Fault) (old now : F) : Type 0 where
+pub record GivesFaulty {F : Type 0} (f : feed.Ghosts F) (judge : Option (List ℕ) → Option Verdict) (fault : Fault) (now : F) : Type 0 where
   pub bytes : List ℕ
-  pub passed : f.has_passed old 0 [] → f.has_passed now 0 bytes
+  pub passed : f.has_passed now 0 bytes
   pub faulty : IsFaulty judge fault bytes (f.remaining now)
 
 abbrev pub FirstGivesFaulty : {F : Type 0} → feed.Ghosts F → (Option (List ℕ) → Option Verdict) → Fault → (olds news : List F) → Type 0
-FirstGivesFaulty f judge fault (old ∷ olds) (now ∷ news) = GivesFaulty f judge fault old now
+FirstGivesFaulty f judge fault (old ∷ olds) (now ∷ news) = GivesFaulty f judge fault now
 FirstGivesFaulty f judge fault _ _ = ⊥
 
 -- a feed gave other bytes than this file
-pub record GivesOther {F : Type 0} (f : feed.Ghosts F) (file : List ℕ) (old now : F) : Type 0 where
+pub record GivesOther {F : Type 0} (f : feed.Ghosts F) (file : List ℕ) (now : F) : Type 0 where
   pub bytes : List ℕ
-  pub passed : f.has_passed old 0 [] → f.has_passed now 0 bytes
+  pub passed : f.has_passed now 0 bytes
   pub other : IsOther file bytes (f.remaining now)
 
 -- the feed at this place did
 abbrev pub GivesOtherAt : {F : Type 0} → feed.Ghosts F → (file : List ℕ) → ℕ → (olds news : List F) → Type 0
-GivesOtherAt f file zero (old ∷ olds) (now ∷ news) = GivesOther f file old now
+GivesOtherAt f file zero (old ∷ olds) (now ∷ news) = GivesOther f file now
 GivesOtherAt f file (suc at) (old ∷ olds) (now ∷ news) = GivesOtherAt f file at olds news
 GivesOtherAt f file _ _ _ = ⊥
 
 -- the first feed gave a file, and that of this pass another; unless it is the last pass, nothing went out
-pub record ChangeIn {F : Type 0} (f : feed.Ghosts F) (nothing : Type 0) (pass : ℕ) (old now : F) (olds news : List F) : Type 0 where
+pub record ChangeIn {F : Type 0} (f : feed.Ghosts F) (nothing : Type 0) (pass : ℕ) (now : F) (olds news : List F) : Type 0 where
   pub file : List ℕ
-  pub first : Gives f None old now file
+  pub first : Gives f (λ _. Unit {0}) now file
   pub at : ℕ
   pub pass_is : pass ≡ at + 2
   pub other : GivesOtherAt f file at olds news
   pub last : (length news ≡ at + 1) ⊎ nothing
 
 abbrev pub Change : {F : Type 0} → feed.Ghosts F → (nothing : Type 0) → ℕ → (olds news : List F) → Type 0
-Change f nothing pass (old ∷ olds) (now ∷ news) = ChangeIn f nothing pass old now olds news
+Change f nothing pass (old ∷ olds) (now ∷ news) = ChangeIn f nothing pass now olds news
 Change f nothing pass _ _ = ⊥
 
 abbrev pub StopsFor : {F : Type 0} → feed.Ghosts F → (Option (List ℕ) → Option Verdict) → (olds news : List F) → (nothing failed : Type 0) → Stop → Type 0
@@ -123,29 +127,45 @@ abbrev pub EndsFor : {F : Type 0} → feed.Ghosts F → (Option (List ℕ) → O
 EndsFor f judge olds news nothing failed (ending.Stopped s) = StopsFor f judge olds news nothing failed s
 EndsFor f judge olds news nothing failed _ = ⊥
 
+-- the same by a program: of pbfcutz only that it ends so, and of a refusal that the fault is that of what its first feed has
+abbrev pub EndsBy : Program → {F : Type 0} → feed.Ghosts F → (Option (List ℕ) → Option Verdict) → (olds news : List F) → (nothing failed : Type 0) → Ending → Type 0
+EndsBy Pbfcut f judge olds news nothing failed how = EndsFor f judge olds news nothing failed how
+EndsBy Pbfcutz f judge olds news nothing failed how = RefusesAs (λ fault. FirstFault judge fault (map f.remaining olds)) how
+
 -- ---- a call of the engine
 
--- a drain took these bytes
-abbrev pub Takes : {D : Type 0} → drain.Ghosts D → (old new : D) → List ℕ → Type 0
-Takes d old new bytes = Passes (d.has_taken old) bytes (d.has_taken new)
-
--- what it reports of what went through its devices: its feeds gave files, its drain took these bytes, and what the task means holds of them
-pub record Reports {F : Type 0} (f : feed.Ghosts F) (hashes : Bool) (task : Task) (olds news : List F) (took : List ℕ → Type 0) (report : Report) : Type 0 where
+-- what it reports of what went through its devices: its feeds gave files, its drain took these bytes, and what the task means holds of the raw files
+-- that they mean
+pub record Reports {F : Type 0} (f : feed.Ghosts F) (m : Manner) (task : Task) (olds news : List F) (took : List ℕ → Type 0) (report : Report) : Type 0 where
   pub files : List (List ℕ)
   pub written : List ℕ
-  pub gave : GiveAll f (digest_if hashes report.input) (spares task) olds news files
+  pub gave : GiveAll f (AreDigests m (hashes_in task m.digests) report.input report.raw) (spares task) olds news files
   pub took_them : took written
-  pub holds : Holds task files report.counts written
-  pub raw : report.raw ≡ None
+  pub holds : Holds task (map (of_input m) files) report.counts (of_output m written)
 
-abbrev pub Works : {F : Type 0} → feed.Ghosts F → (hashes : Bool) → Task → (olds news : List F) → (took : List ℕ → Type 0) → (failed : Type 0) → Result Report Halted → Type 0
-Works f hashes task olds news took failed (Ok report) = Reports f hashes task olds news took report
-Works f hashes task olds news took failed (Err halted) = EndsFor f (judge_of task) olds news (took []) failed halted.ending
+abbrev pub Works : {F : Type 0} → Manner → feed.Ghosts F → Task → (olds news : List F) → (took : List ℕ → Type 0) → (failed : Type 0) → Result Report Halted → Type 0
+Works m f task olds news took failed (Ok report) = Reports f m task olds news took report
+Works m f task olds news took failed (Err halted) = EndsBy m.program f (judge_of task) olds news (took []) failed halted.ending
 
--- the same of a program: of pbfcutz only how it ends
-abbrev pub WorksBy : Program → {F : Type 0} → feed.Ghosts F → (hashes : Bool) → Task → (olds news : List F) → (took : List ℕ → Type 0) → (failed : Type 0) → Result Report Halted → Type 0
-WorksBy Pbfcut f hashes task olds news took failed result = Works f hashes task olds news took failed result
-WorksBy Pbfcutz f hashes task olds news took failed result = IfErr result (λ halted. EndsPacked halted.ending)
+-- if nothing was read of the feeds: by each log by which the drain had taken nothing
+abbrev pub WorksOn : {F D : Type 0} → Manner → feed.Ghosts F → drain.Ghosts D → Task → (olds news : List F) → (old new : D) → Result Report Halted → Type 0
+WorksOn m f d task olds news old new result = AreFresh f olds → (log : ℕ) → d.has_taken old log [] → Works m f task olds news (d.has_taken new log) (WriteFailed d old new) result
+
+-- ---- drains between a call and OUT
+
+-- the logs of a drain that links the first two of the one below: by its first log both took the same bytes
+abbrev pub HasLinked : {D : Type 0} → drain.Ghosts D → D → ℕ → List ℕ → Type 0
+HasLinked d below zero bytes = d.has_taken below 0 bytes × d.has_taken below 1 bytes
+HasLinked d below (suc log) bytes = d.has_taken below log bytes
+
+-- what a call came to, and what that comes to once its drain, which packs, is finished
+abbrev pub FinishesPacked : {D : Type 0} {d : drain.Ghosts D} → (old new : PackedDrain D d) → (returned result : Result Report Halted) → Type 0
+FinishesPacked old new (Ok report) (Ok same) = (same ≡ report) × GaveAll old new
+FinishesPacked old new (Ok report) (Err halted) = (halted.ending ≡ ending.Stopped stop.Write) ⊎ (halted.ending ≡ ending.Stopped stop.Memory)
+FinishesPacked old new (Err halted) (Err same) = (new ≡ old) × ((same.ending ≡ halted.ending) ⊎ (same.ending ≡ ending.Stopped stop.Memory))
+FinishesPacked old new (Err halted) (Ok report) = ⊥
+
+-- ---- OUT
 
 -- OUT took these bytes, and this is their digest, if there is one
 abbrev pub TakenBy : {D : Type 0} → drain.Ghosts D → D → (digest : Option (List ℕ)) → List ℕ → Type 0

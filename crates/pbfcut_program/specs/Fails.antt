@@ -7,12 +7,15 @@ use Rattle.pbf_frame.specs.Devices.{IsAtEnd}
 use Rattle.pbf_frame.specs.Verdict.{Verdict}
 use Rattle.pbf_frame.specs.declared.stop.Stop.{Stop}
 use Rattle.pbf_frame.specs.declared.stop.Stop.TheVariants as stop
+use Rattle.pbf_pass.specs.Stops.{FaultOf}
+use Rattle.pbfcut_cli.specs.declared.packed.PackedRefusal.{PackedRefusal}
 use Rattle.pbfcut_cli.specs.declared.endings.Ending.{Ending}
 use Rattle.pbfcut_cli.specs.declared.endings.Ending.TheVariants as ending
 use Rattle.pbfcut_cli.specs.declared.programs.Program.{Program}
 use Rattle.pbfcut_cli.specs.declared.programs.Program.TheVariants.{Pbfcut, Pbfcutz}
 use Rattle.pbfcut_program.specs.declared.host.OpenFault.TheVariants.{Failed, Pipe}
-use Rattle.pbfcut_program.specs.Events.{Event, Reading, text_read, text_not_read, looked, not_opened, seeded, not_created, read, wrote, printed}
+use Rattle.pbfcut_program.specs.Events.{Event, Reading, text_read, text_not_read, looked, opened, not_opened, seeded, not_created, read, wrote, printed}
+use Rattle.pbfcut_program.specs.Manner.{meant_known, packed_file}
 use Rattle.pbfcut_program.specs.Readings.{IsFaulty, IsOther}
 
 -- ---- events
@@ -97,6 +100,26 @@ pub record IsChanged (pass : ℕ) (events : List Event) : Type 0 where
   pub differs : IsOther first.bytes other.bytes other.left
   pub last : (later ≡ []) ⊎ Each TookNothing events
 
+-- the raw file that IN means has this fault first, as far as the host reports what IN has when it is opened for the first pass
+abbrev pub HasFault : (Option (List ℕ) → Option Verdict) → Fault → Event → Type 0
+HasFault judge fault (opened path pass has) = (pass ≡ 1) × FaultOf (judge (meant_known packed_file has)) fault
+HasFault judge fault _ = ⊥
+
+-- the same by what it has for each pass
+abbrev pub FirstFault : (Option (List ℕ) → Option Verdict) → Fault → List (Option (List ℕ)) → Type 0
+FirstFault judge fault [] = ⊥
+FirstFault judge fault (has ∷ more) = FaultOf (judge (meant_known packed_file has)) fault
+
+-- what a refusal by a program says: of pbfcut what was read; of pbfcutz what IN has
+abbrev pub IsRefusedBy : Program → (Option (List ℕ) → Option Verdict) → Fault → List Event → Type 0
+IsRefusedBy Pbfcut judge = λ fault events. IsRefused judge fault events
+IsRefusedBy Pbfcutz judge = λ fault events. Has (HasFault judge fault) events
+
+-- the same of what happened after IN was opened, by what it has
+abbrev pub IsRefusedOf : Program → (Option (List ℕ) → Option Verdict) → List (Option (List ℕ)) → Fault → List Event → Type 0
+IsRefusedOf Pbfcut judge has = λ fault events. IsRefused judge fault events
+IsRefusedOf Pbfcutz judge has = λ fault events. FirstFault judge fault has
+
 -- ---- why
 
 -- before IN was read
@@ -115,22 +138,27 @@ FailsOpening how events = Each Quiet events × CauseOfOpening how events
 abbrev pub FailsPrinting : Ending → List Event → Type 0
 FailsPrinting how events = ((how ≡ ending.Stopped stop.Write) × Has FailsToWrite events) ⊎ (how ≡ ending.Stopped stop.Memory)
 
--- what is refused is said by `refused`; of pbfcutz only the events say why, and nothing is said yet
+-- what is refused is said by `refused`; of pbfcutz no other stop is said to have its cause
 abbrev pub FailsFor : Program → (refused : Fault → List Event → Type 0) → Stop → List Event → Type 0
 FailsFor Pbfcut refused (stop.Refused fault) events = refused fault events
 FailsFor Pbfcut refused stop.Read events = Has FailsToRead events
 FailsFor Pbfcut refused stop.Write events = Has FailsToWrite events
 FailsFor Pbfcut refused stop.Memory events = Unit {0}
 FailsFor Pbfcut refused (stop.Changed pass) events = IsChanged pass events
-FailsFor Pbfcutz refused s events = Unit {0}
+FailsFor Pbfcutz refused (stop.Refused fault) events = refused fault events
+FailsFor Pbfcutz refused stop.Read events = Unit {0}
+FailsFor Pbfcutz refused stop.Write events = Unit {0}
+FailsFor Pbfcutz refused stop.Memory events = Unit {0}
+FailsFor Pbfcutz refused (stop.Changed pass) events = Unit {0}
 
-abbrev pub FailsPacked : Program → Type 0
-FailsPacked Pbfcut = ⊥
-FailsPacked Pbfcutz = Unit {0}
+-- a refusal of pbfcutz has the reason of such a fault
+abbrev pub FailsPacked : Program → (refused : Fault → List Event → Type 0) → PackedRefusal → List Event → Type 0
+FailsPacked Pbfcut refused refusal events = ⊥
+FailsPacked Pbfcutz refused refusal events = (fault : Fault) × (refusal.reason ≡ fault.reason) × refused fault events
 
 abbrev pub Fails : Program → (refused : Fault → List Event → Type 0) → Ending → List Event → Type 0
 Fails program refused (ending.Stopped s) events = FailsFor program refused s events
-Fails program refused (ending.RefusedPacked refusal) events = FailsPacked program
+Fails program refused (ending.RefusedPacked refusal) events = FailsPacked program refused refusal events
 Fails program refused ending.CannotOpen events = Has FailsToOpen events × Each TookNothing events
 Fails program refused ending.IsPipe events = Has FailsAsPipe events × Each TookNothing events
 Fails program refused ending.OutExists events = (Has FailsAsThere events × Each TookNothing events) ⊎ Has FailsToFinish events

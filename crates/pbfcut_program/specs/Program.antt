@@ -1,5 +1,5 @@
 -- What a run of the program is: its words, what happened, and its exit status. To be read from the end upwards.
-use Rattle.std.specs.Prelude.{◌≡◌, ◌⊎◌, ℕ, ◌+◌, List, [], ◌∷◌, ◌++◌, length, map, Bool, true, false, ◌||◌, ◌&&◌, ◌==◌, if◌then◌else◌, Option, Some, None, Ok, codes, decimal}
+use Rattle.std.specs.Prelude.{◌≡◌, ◌⊎◌, ℕ, ◌+◌, List, [], ◌∷◌, ◌++◌, length, map, Bool, true, false, ◌||◌, ◌&&◌, ◌==◌, not, if◌then◌else◌, Option, Some, None, Ok, codes, decimal}
 use Rattle.std.specs.List.{flat_map}
 use Rattle.std.specs.Str.{bytes_eq}
 use Rattle.std.specs.String.{string_bytes}
@@ -13,12 +13,14 @@ use Rattle.sha2.specs.Sha256.{sha256}
 use Rattle.pbf_block.specs.declared.counts.Counts.{Counts}
 use Rattle.pbf_wire.specs.declared.fault.Fault.{Fault}
 use Rattle.pbf_frame.specs.Frames.{FrameSpec}
-use Rattle.pbf_frame.specs.Verdict.{Says, judged_known}
+use Rattle.pbf_frame.specs.Verdict.{Says, Verdict, judged_known, with_first_known}
 use Rattle.pbf_frame.specs.declared.stop.Stop.TheVariants as stop
 use Rattle.pbf_pass.specs.HeaderLimit.{judged_writable}
 use Rattle.pbf_pass.specs.Judged.{judged_file}
 use Rattle.pbf_pass.specs.Stops.{FaultOf}
+use Rattle.pbf_published.specs.Showing.{storage_line}
 use Rattle.pbfcut.specs.Blobs as blobs
+use Rattle.pbfcut.specs.Showing.{frame_text}
 use Rattle.pbfcut_cli.specs.Endings.{message_of, ending_status, program_name}
 use Rattle.pbfcut_cli.specs.Joined.{normalized}
 use Rattle.pbfcut_cli.specs.Words.{FitsFault, IsHelp, IsRead, program_app}
@@ -34,9 +36,9 @@ use Rattle.pbfcut_cli.specs.declared.words.Region.{Region}
 use Rattle.pbfcut_cli.specs.declared.words.Region.TheVariants as region
 use Rattle.pbfcut_program.specs.declared.host.Screen.{Screen}
 use Rattle.pbfcut_program.specs.declared.host.Screen.TheVariants.{Output, Error}
-use Rattle.pbfcut_program.specs.Devices.{IsAsked}
 use Rattle.pbfcut_program.specs.Events.{Event, text_read, looked, opened, seeded, created, screened, read, wrote, printed, told, advised, Reading, Writing}
-use Rattle.pbfcut_program.specs.Fails.{Fails, Has, IsRefused}
+use Rattle.pbfcut_program.specs.Fails.{Fails, Has, IsRefusedBy}
+use Rattle.pbfcut_program.specs.Manner.{Form, Manner, input_form, manner, meant_known, packed_file, to_raw}
 use Rattle.pbfcut_program.specs.Readings.{IsWork}
 use Rattle.pbfcut_program.specs.Tasks.{Task, checking, showing, converting, copying, extracting, extracting_parents, passes_of}
 
@@ -67,11 +69,6 @@ abbrev pub digest_if_asked : Bool → (written : List ℕ) → Option (List ℕ)
 digest_if_asked true written = Some (sha256 written)
 digest_if_asked false written = None
 
--- of pbfcut it is that digest; of pbfcutz it is only said whether there is one
-abbrev pub IsHashed : Program → Bool → (written : List ℕ) → Option (List ℕ) → Type 0
-IsHashed Pbfcut digests written known = known ≡ digest_if_asked digests written
-IsHashed Pbfcutz digests written known = IsAsked digests known
-
 abbrev pub prints : Screen → List (List ℕ) → List Event
 prints screen lines = map (λ line. printed screen line true) lines
 
@@ -82,23 +79,18 @@ abbrev pub openings : (input : List ℕ) → ℕ → List (Option (List ℕ)) �
 openings input pass [] = []
 openings input pass (has ∷ more) = opened input pass has ∷ openings input (pass + 1) more
 
--- the passes of pbfcut do what the task means; of pbfcutz nothing is said yet
-abbrev pub IsWorkOf : Program → (hashes : Bool) → Task → List Reading → (written : List ℕ) → Counts → (digest : List ℕ) → (raw : Option (List ℕ)) → Type 0
-IsWorkOf Pbfcut hashes task readings written counts digest raw = IsWork hashes task readings written counts digest × (raw ≡ None)
-IsWorkOf Pbfcutz hashes task readings written counts digest raw = Unit {0}
-
--- `check`: one pass was made, and the counts were printed; with `--digests` also the digest
-pub record Checks (program : Program) (digests : Bool) (input : List ℕ) (events : List Event) : Type 0 where
+-- `check`: one pass was made, and the counts were printed; with `--digests` also the digests
+pub record Checks (m : Manner) (input : List ℕ) (events : List Event) : Type 0 where
   pub has : Option (List ℕ)
   pub first : Reading
   pub counts : Counts
   pub digest : List ℕ
   pub raw : Option (List ℕ)
-  pub happened : events ≡ opened input 1 has ∷ read first ∷ prints Output (counts_text counts ∷ check_lines digests digest raw input)
-  pub work : IsWorkOf program digests checking (first ∷ []) [] counts digest raw
+  pub happened : events ≡ opened input 1 has ∷ read first ∷ prints Output (counts_text counts ∷ check_lines m.digests digest raw input)
+  pub work : IsWork m checking (first ∷ []) [] counts digest raw
 
 -- `show`: two passes were made, and all of the text went to standard output
-pub record Shows (program : Program) (dates : Bool) (input : List ℕ) (events : List Event) : Type 0 where
+pub record Shows (m : Manner) (dates : Bool) (input : List ℕ) (events : List Event) : Type 0 where
   pub has : List (Option (List ℕ))
   pub rs : List Reading
   pub out : Writing
@@ -108,21 +100,25 @@ pub record Shows (program : Program) (dates : Bool) (input : List ℕ) (events :
   pub happened : events ≡ openings input 1 has ++ screened true ∷ map read rs ++ wrote out ∷ []
   pub passes : length has ≡ 2
   pub whole : out.out ≡ true
-  pub work : IsWorkOf program true (showing dates) rs out.bytes counts digest raw
+  pub work : IsWork (to_raw m) (showing dates) rs out.bytes counts digest raw
 
--- what went out are the lines of the frames of what IN has, as far as the host reports it
+-- what went out are the lines of the frames of the raw file that IN means, as far as the host reports what it has
 abbrev pub IsListing : Program → Option (List ℕ) → List ℕ → Type 0
-IsListing Pbfcut has written = (frames : List FrameSpec) × Says (judged_known false 0 has) (frames, None) × (written ≡ blobs.lines frames)
-IsListing Pbfcutz has written = Unit {0}
+IsListing program has written = (frames : List FrameSpec) × Says (judged_known false 0 (meant_known (input_form program) has)) (frames, None) × (written ≡ blobs.lines frames)
 
--- `blobs`, and `info`: one pass was made, and all of the text went to standard output
-pub record Lists (program : Program) (input : List ℕ) (events : List Event) : Type 0 where
+-- what went out is the text of the first of these frames, and whether it is stored as zlib data
+abbrev pub IsHeaderText : Option (List ℕ) → List ℕ → Type 0
+IsHeaderText has written = (frame : FrameSpec) × (rest : Option Verdict) × (is_packed : Bool) × (judged_known false 0 (meant_known packed_file has) ≡ with_first_known frame rest)
+    × (written ≡ frame_text false frame ++ storage_line is_packed)
+
+-- `blobs`, and `info`: one pass was made, and all of the text went to standard output, which is the right one for what IN has
+pub record Lists (is_text : Option (List ℕ) → List ℕ → Type 0) (input : List ℕ) (events : List Event) : Type 0 where
   pub has : Option (List ℕ)
   pub first : Reading
   pub out : Writing
   pub happened : events ≡ opened input 1 has ∷ screened true ∷ read first ∷ wrote out ∷ []
   pub whole : out.out ≡ true
-  pub lines : IsListing program has out.bytes
+  pub lines : is_text has out.bytes
 
 -- OUT is standard output, of pbfcutz
 abbrev pub is_screen : Program → List ℕ → Bool
@@ -149,24 +145,24 @@ is_empty counts = counts.nodes == 0 && (counts.ways == 0 && counts.relations == 
 
 -- a command that writes: OUT was not there, IN was opened for each pass, OUT was made, all that it took went out, and then these counts were
 -- printed, with `--digests` also the digests
-pub record WritesCounts (program : Program) (digests : Bool) (task : Task) (files : Files) (counts : Counts) (events : List Event) : Type 0 where
+pub record WritesCounts (m : Manner) (task : Task) (files : Files) (counts : Counts) (events : List Event) : Type 0 where
   pub has : List (Option (List ℕ))
   pub rs : List Reading
   pub out : Writing
   pub digest : List ℕ
   pub raw : Option (List ℕ)
   pub known : Option (List ℕ)
-  pub happened : events ≡ looks (is_screen program files.output.now) files.output.now ++ openings files.input.now 1 has
-      ++ seeded true ∷ makes (is_screen program files.output.now) files.output.now ∷ map read rs
-      ++ wrote out ∷ prints (screen_of (is_screen program files.output.now))
+  pub happened : events ≡ looks (is_screen m.program files.output.now) files.output.now ++ openings files.input.now 1 has
+      ++ seeded true ∷ makes (is_screen m.program files.output.now) files.output.now ∷ map read rs
+      ++ wrote out ∷ prints (screen_of (is_screen m.program files.output.now))
       (counts_text counts ∷ done_lines known digest raw files.input.now files.output.now)
   pub passes : length has ≡ passes_of task
   pub whole : out.out ≡ true
-  pub hashed : IsHashed program digests out.bytes known
-  pub work : IsWorkOf program true task rs out.bytes counts digest raw
+  pub hashed : known ≡ digest_if_asked m.digests out.bytes
+  pub work : IsWork m task rs out.bytes counts digest raw
 
-abbrev pub Writes : Program → Task → Files → List Event → Type 0
-Writes program task files events = (counts : Counts) × WritesCounts program files.digests task files counts events
+abbrev pub Writes : Manner → Task → Files → List Event → Type 0
+Writes m task files events = (counts : Counts) × WritesCounts m task files counts events
 
 -- what is cut out: a box, or the polygon of a text that was read
 abbrev pub MeansArea : Region → List Event → AreaSpec → Type 0
@@ -182,14 +178,14 @@ extract_task false area = extracting area
 abbrev pub advice : Counts → List Event
 advice counts = if is_empty counts then advised ∷ [] else []
 
-pub record Extracts (program : Program) (digests : Bool) (cut : Region) (parents : Bool) (files : Files) (events : List Event) : Type 0 where
+pub record Extracts (m : Manner) (cut : Region) (parents : Bool) (files : Files) (events : List Event) : Type 0 where
   pub area : AreaSpec
   pub before : List Event
   pub after : List Event
   pub counts : Counts
   pub happened : events ≡ before ++ after ++ advice counts
   pub means : MeansArea cut before area
-  pub writes : WritesCounts program digests (extract_task parents area) files counts after
+  pub writes : WritesCounts m (extract_task parents area) files counts after
 
 -- the digests of what a command reads are printed
 abbrev pub digests_of : Command → Bool
@@ -200,38 +196,48 @@ digests_of (Unpack files) = files.digests
 digests_of (Extract region parents files) = files.digests
 digests_of _ = false
 
+-- OUT gets zlib blobs, if it is pbfcutz that writes it
+abbrev pub packs_of : Command → Bool
+packs_of (Convert files) = not files.raw
+packs_of (Pack files) = true
+packs_of (Extract region parents files) = not files.raw
+packs_of _ = false
+
+abbrev pub manner_in : Program → Command → Manner
+manner_in program command = manner program (packs_of command) (digests_of command)
+
 -- `info` reads as pbfcutz does
-abbrev pub Does : Program → Command → List Event → Type 0
-Does program (Help text) events = events ≡ printed Output (string_bytes text) true ∷ []
-Does program (Blobs input) events = Lists program input.now events
-Does program (Info input) events = Lists Pbfcutz input.now events
-Does program (Show input dates progress) events = Shows program dates input.now events
-Does program (Check input progress digests) events = Checks program digests input.now events
-Does program (Convert files) events = Writes program converting files events
-Does program (Pack files) events = Writes program copying files events
-Does program (Unpack files) events = Writes program copying files events
-Does program (Extract region parents files) events = Extracts program files.digests region parents files events
+abbrev pub Does : Manner → Command → List Event → Type 0
+Does m (Help text) events = events ≡ printed Output (string_bytes text) true ∷ []
+Does m (Blobs input) events = Lists (IsListing m.program) input.now events
+Does m (Info input) events = Lists IsHeaderText input.now events
+Does m (Show input dates progress) events = Shows m dates input.now events
+Does m (Check input progress digests) events = Checks m input.now events
+Does m (Convert files) events = Writes m converting files events
+Does m (Pack files) events = Writes m copying files events
+Does m (Unpack files) events = Writes m copying files events
+Does m (Extract region parents files) events = Extracts m region parents files events
 
 -- ---- why a command fails
 
--- the first frame fault of what IN has, as far as the host reports it
-abbrev pub HasFrameFault : Fault → Event → Type 0
-HasFrameFault fault (opened path pass has) = FaultOf (judged_known false 0 has) fault
-HasFrameFault fault _ = ⊥
+-- the first frame fault of the raw file that IN means, as far as the host reports what it has
+abbrev pub HasFrameFault : Form → Fault → Event → Type 0
+HasFrameFault form fault (opened path pass has) = FaultOf (judged_known false 0 (meant_known form has)) fault
+HasFrameFault form fault _ = ⊥
 
 -- how a listing is refused
-abbrev pub refused_listing : Fault → List Event → Type 0
-refused_listing fault events = Has (HasFrameFault fault) events
+abbrev pub refused_listing : Program → Fault → List Event → Type 0
+refused_listing program = λ fault events. Has (HasFrameFault (input_form program) fault) events
 
-abbrev pub refused_by : Command → Fault → List Event → Type 0
-refused_by (Blobs input) fault events = refused_listing fault events
-refused_by (Check input progress digests) fault events = IsRefused judged_file fault events
-refused_by (Show input dates progress) fault events = IsRefused judged_file fault events
-refused_by (Convert files) fault events = IsRefused judged_writable fault events
-refused_by (Pack files) fault events = IsRefused judged_file fault events
-refused_by (Unpack files) fault events = IsRefused judged_file fault events
-refused_by (Extract region parents files) fault events = IsRefused judged_writable fault events
-refused_by _ fault events = Unit {0}
+abbrev pub refused_by : Program → Command → Fault → List Event → Type 0
+refused_by program (Blobs input) = refused_listing program
+refused_by program (Check input progress digests) = IsRefusedBy program judged_file
+refused_by program (Show input dates progress) = IsRefusedBy program judged_file
+refused_by program (Convert files) = IsRefusedBy program judged_writable
+refused_by program (Pack files) = IsRefusedBy program judged_file
+refused_by program (Unpack files) = IsRefusedBy program judged_file
+refused_by program (Extract region parents files) = IsRefusedBy program judged_writable
+refused_by program _ = λ fault events. Unit {0}
 
 -- the program whose way of reading a command has
 abbrev pub reader_of : Program → Command → Program
@@ -239,7 +245,7 @@ reader_of program (Info input) = Pbfcutz
 reader_of program _ = program
 
 abbrev pub FailsIn : Program → Command → Ending → List Event → Type 0
-FailsIn program command how events = Fails (reader_of program command) (refused_by command) how events
+FailsIn program command how events = Fails (reader_of program command) (refused_by program command) how events
 
 -- ---- the whole run
 
@@ -249,7 +255,7 @@ IsMeant program words command = IsHelp command ⊎ IsRead (subcommand_of (progra
 
 -- it did its work
 abbrev pub IsDone : Program → List Text → List Event → Type 0
-IsDone program words events = (command : Command) × IsMeant program words command × Does program command events
+IsDone program words events = (command : Command) × IsMeant program words command × Does (manner_in program command) command events
 
 -- it failed: for wrong words nothing had happened
 abbrev pub IsWhy : Program → List Text → Ending → List Event → Type 0

@@ -1,10 +1,13 @@
 //! The calls of both programs: those of pbfcut over raw files, and those of pbfcutz over published ones.
 
-ghost use Rattle.std.specs.Prelude.{◌≡◌, ℕ, [], ◌∷◌, List, IfSome, IfErr, true};
+ghost use Rattle.std.specs.Prelude.{◌≡◌, ℕ, [], ◌∷◌, List, IfSome, IfErr, OnOk, false, true};
+ghost use Rattle.pbf_frame.specs.Verdict.{judged_known};
+ghost use Rattle.pbf_published.specs.Showing.{ShowsHeader};
 ghost use Rattle.pbfcut_cli.specs.declared.endings.Ending.TheVariants as ending;
-ghost use Rattle.pbf_pass.specs.Stops.{WriteFailed};
-ghost use Rattle.pbfcut_program.specs.Devices.{Takes, WorksBy};
-ghost use Rattle.pbfcut_program.specs.Outcomes.{EndsPacked, ListsBy, ReportsRaw};
+ghost use Rattle.pbfcut_cli.specs.declared.programs.Program.TheVariants.{Pbfcutz};
+ghost use Rattle.pbfcut_program.specs.Devices.{AreFresh, Works, WorksOn};
+ghost use Rattle.pbfcut_program.specs.Manner.{manner_of, meant_known, output_form, packed_file, raw_file, to_raw};
+ghost use Rattle.pbfcut_program.specs.Outcomes.{EndsAsStop, EndsPacked, ListsBy, ReportsPublished, ReportsRaw};
 ghost use Rattle.pbfcut_program.specs.Tasks.{checking, showing, converting, copying, extracting, extracting_parents};
 
 use crate::opening::{FourPasses, ThreePasses, TwoPasses};
@@ -12,7 +15,7 @@ use osm_area::Area;
 use pbf_frame::{Drain, Feed, Stop};
 use pbf_pass::{Counts, Halt, InputReceipt, Passes, Refusal};
 use pbf_published::{PublishedHalt, PublishedInput};
-use pbf_unpack::{Deflater, PackedDrain, Place, UnpackFault};
+use pbf_unpack::{Place, UnpackFault};
 use pbf_wire::{Fault, Reason};
 use pbfcut_cli::{Ending, PackedRefusal, Program};
 use std::alloc::Global;
@@ -80,7 +83,7 @@ fn zlib_fault_of(halt: &PublishedHalt, fault: Fault) -> Option<UnpackFault> {
 /// How pbfcutz ends after such a halt. A blob may have more than one occurrence of zlib data, of which the last counts: that is where a
 /// fault of such data is.
 fn ending_of(halt: &PublishedHalt) -> Ending
-    ensures { EndsPacked result }
+    ensures { EndsAsStop halt.now.stop result }
 {
     match (halt.stop, halt.place) {
         (Stop::Refused(fault), Some(place)) => {
@@ -96,7 +99,7 @@ fn ending_of(halt: &PublishedHalt) -> Ending
 }
 
 impl From<PublishedHalt> for Halted {
-    ghost from_gives = { λ _ e. EndsPacked e.ending };
+    ghost from_gives = { λ halt e. EndsAsStop halt.stop e.ending };
 
     fn from(halt: PublishedHalt) -> Halted {
         Halted {
@@ -108,7 +111,7 @@ impl From<PublishedHalt> for Halted {
 
 /// What a call over published files came to.
 fn published(outcome: Result<PublishedInput, PublishedHalt>) -> Result<Report, Halted>
-    ensures { IfErr result (λ halted. EndsPacked halted.ending) }
+    ensures { ReportsPublished outcome result }
 {
     match outcome {
         Ok(receipt) => {
@@ -130,7 +133,7 @@ pub(crate) struct Engine {
     pub(crate) alloc: Global,
     /// Whether the digests of what is read are printed.
     pub(crate) digests: bool,
-    /// Whether OUT has zlib blobs.
+    /// Whether OUT gets zlib blobs, if it is pbfcutz that writes it.
     pub(crate) packs: bool,
 }
 
@@ -156,25 +159,25 @@ impl Engine {
     }
 
     /// The same of a published file: it is the packed bytes that are compared, and the raw ones are hashed only for their digest.
-    fn packed_passes(self) -> Passes {
+    fn packed_passes(self) -> Passes
+        ensures { result.hashes ≡ self.digests }
+    {
         self.one_pass()
     }
 
-    /// A drain that gives OUT zlib blobs.
-    fn packed<D: Drain + Drop>(self, drain: D) -> Result<PackedDrain<D>, Stop>
-        requires { IfSome (D.taken drain) (λ taken. taken ≡ []) }
+    /// Whether OUT gets zlib blobs.
+    pub(crate) fn gives_packed(self) -> bool
+        ensures packed { result ≡ true → (self.program ≡ Pbfcutz) × (self.packs ≡ true) }
+        ensures raw { result ≡ false → output_form self.packs self.program ≡ raw_file }
     {
-        match Deflater::new(self.alloc) {
-            Ok(deflater) => Ok(PackedDrain::new(self.alloc, deflater, drain)),
-            Err(_) => Err(Stop::Memory),
-        }
+        self.program == Program::Pbfcutz && self.packs
     }
 }
 
 /// Judges IN, and counts its entities.
 pub(crate) fn check<F: Feed>(engine: Engine, pass: &mut F) -> Result<Report, Halted>
-    ensures { WorksBy engine.program F.Feed engine.digests checking (pass.old ∷ []) (pass.new ∷ [])
-        (λ took. took ≡ []) ⊥ result }
+    ensures { AreFresh F.Feed (pass.old ∷ []) → Works (manner_of engine) F.Feed checking
+        (pass.old ∷ []) (pass.new ∷ []) (λ took. took ≡ []) ⊥ result }
 {
     let how = engine.one_pass();
     match engine.program {
@@ -190,9 +193,9 @@ pub(crate) fn show<F: Feed, D: Drain>(
     drain: &mut D,
     dates: bool,
 ) -> Result<Report, Halted>
-    ensures { WorksBy engine.program F.Feed true (showing dates)
+    ensures { WorksOn (to_raw (manner_of engine)) F.Feed D.Drain (showing dates)
         (passes.old.one ∷ passes.old.two ∷ []) (passes.new.one ∷ passes.new.two ∷ [])
-        (Takes D.Drain drain.old drain.new) (WriteFailed D.Drain drain.old drain.new) result }
+        drain.old drain.new result }
 {
     let TwoPasses { one, two } = passes;
     match engine.program {
@@ -207,25 +210,6 @@ pub(crate) fn show<F: Feed, D: Drain>(
     }
 }
 
-/// Converts a published file.
-fn convert_published<F: Feed, D: Drain, S: BuildHasher + Drop>(
-    engine: Engine,
-    passes: &mut TwoPasses<F>,
-    drain: &mut D,
-    hasher: S,
-) -> Result<Report, Halted>
-    requires { IfSome (D.taken drain.old) (λ taken. taken ≡ []) }
-    ensures { IfErr result (λ halted. EndsPacked halted.ending) }
-{
-    let how = engine.packed_passes();
-    let TwoPasses { one, two } = passes;
-    if !engine.packs {
-        return published(pbf_published::convert_with_receipt(how, one, two, drain, hasher));
-    }
-    let mut packed = engine.packed(drain)?;
-    published(pbf_published::convert_packed(how, one, two, &mut packed, hasher))
-}
-
 /// Writes all entities of IN.
 pub(crate) fn convert<F: Feed, D: Drain, S: BuildHasher + Drop>(
     engine: Engine,
@@ -234,36 +218,21 @@ pub(crate) fn convert<F: Feed, D: Drain, S: BuildHasher + Drop>(
     hasher: S,
 ) -> Result<Report, Halted>
     requires { IfSome (D.taken drain.old) (λ taken. taken ≡ []) }
-    ensures { WorksBy engine.program F.Feed true converting
+    ensures { WorksOn (to_raw (manner_of engine)) F.Feed D.Drain converting
         (passes.old.one ∷ passes.old.two ∷ []) (passes.new.one ∷ passes.new.two ∷ [])
-        (Takes D.Drain drain.old drain.new) (WriteFailed D.Drain drain.old drain.new) result }
+        drain.old drain.new result }
 {
+    let TwoPasses { one, two } = passes;
     match engine.program {
         Program::Pbfcut => {
             let how = engine.raw_passes();
-            let TwoPasses { one, two } = passes;
             reported(pbfcut::convert_with_receipt(how, one, two, drain, hasher))
         }
-        Program::Pbfcutz => convert_published(engine, passes, drain, hasher),
+        Program::Pbfcutz => {
+            let how = engine.packed_passes();
+            published(pbf_published::convert_with_receipt(how, one, two, drain, hasher))
+        }
     }
-}
-
-/// Copies a published file.
-fn copy_published<F: Feed, D: Drain>(
-    engine: Engine,
-    passes: &mut TwoPasses<F>,
-    drain: &mut D,
-) -> Result<Report, Halted>
-    requires { IfSome (D.taken drain.old) (λ taken. taken ≡ []) }
-    ensures { IfErr result (λ halted. EndsPacked halted.ending) }
-{
-    let how = engine.packed_passes();
-    let TwoPasses { one, two } = passes;
-    if !engine.packs {
-        return published(pbf_published::copy_with_receipt(how, one, two, drain));
-    }
-    let mut packed = engine.packed(drain)?;
-    published(pbf_published::copy_packed(how, one, two, &mut packed))
 }
 
 /// Writes the bytes of IN unpacked, in raw blobs, or packed again.
@@ -273,40 +242,21 @@ pub(crate) fn copy<F: Feed, D: Drain>(
     drain: &mut D,
 ) -> Result<Report, Halted>
     requires { IfSome (D.taken drain.old) (λ taken. taken ≡ []) }
-    ensures { WorksBy engine.program F.Feed true copying
+    ensures { WorksOn (to_raw (manner_of engine)) F.Feed D.Drain copying
         (passes.old.one ∷ passes.old.two ∷ []) (passes.new.one ∷ passes.new.two ∷ [])
-        (Takes D.Drain drain.old drain.new) (WriteFailed D.Drain drain.old drain.new) result }
+        drain.old drain.new result }
 {
+    let TwoPasses { one, two } = passes;
     match engine.program {
         Program::Pbfcut => {
             let how = engine.raw_passes();
-            let TwoPasses { one, two } = passes;
             reported(pbfcut::copy_with_receipt(how, one, two, drain))
         }
-        Program::Pbfcutz => copy_published(engine, passes, drain),
+        Program::Pbfcutz => {
+            let how = engine.packed_passes();
+            published(pbf_published::copy_with_receipt(how, one, two, drain))
+        }
     }
-}
-
-/// Extracts from a published file.
-fn extract_published<A: Area + Copy, F: Feed, D: Drain, S: BuildHasher + Drop>(
-    engine: Engine,
-    passes: &mut ThreePasses<F>,
-    area: A,
-    drain: &mut D,
-    hasher: S,
-) -> Result<Report, Halted>
-    requires { IfSome (D.taken drain.old) (λ taken. taken ≡ []) }
-    ensures { IfErr result (λ halted. EndsPacked halted.ending) }
-{
-    let how = engine.packed_passes();
-    let ThreePasses { one, two, three } = passes;
-    if !engine.packs {
-        return published(pbf_published::extract_sorted_with_receipt(
-            how, one, two, three, area, drain, hasher,
-        ));
-    }
-    let mut packed = engine.packed(drain)?;
-    published(pbf_published::extract_packed(how, one, two, three, area, &mut packed, hasher))
 }
 
 /// Writes what lies in an area.
@@ -318,55 +268,24 @@ pub(crate) fn extract<A: Area + Copy, F: Feed, D: Drain, S: BuildHasher + Drop>(
     hasher: S,
 ) -> Result<Report, Halted>
     requires { IfSome (D.taken drain.old) (λ taken. taken ≡ []) }
-    ensures { WorksBy engine.program F.Feed true (extracting (A.area area))
+    ensures { WorksOn (to_raw (manner_of engine)) F.Feed D.Drain (extracting (A.area area))
         (passes.old.one ∷ passes.old.two ∷ passes.old.three ∷ [])
         (passes.new.one ∷ passes.new.two ∷ passes.new.three ∷ [])
-        (Takes D.Drain drain.old drain.new) (WriteFailed D.Drain drain.old drain.new) result }
+        drain.old drain.new result }
 {
+    let ThreePasses { one, two, three } = passes;
     match engine.program {
         Program::Pbfcut => {
             let how = engine.raw_passes();
-            let ThreePasses { one, two, three } = passes;
             reported(pbfcut::extract_sorted_with_receipt(how, one, two, three, area, drain, hasher))
         }
-        Program::Pbfcutz => extract_published(engine, passes, area, drain, hasher),
+        Program::Pbfcutz => {
+            let how = engine.packed_passes();
+            published(pbf_published::extract_sorted_with_receipt(
+                how, one, two, three, area, drain, hasher,
+            ))
+        }
     }
-}
-
-/// Extracts with all parents from a published file.
-fn extract_parents_published<A: Area + Copy, F: Feed, D: Drain, S: BuildHasher + Drop>(
-    engine: Engine,
-    passes: &mut FourPasses<F>,
-    area: A,
-    drain: &mut D,
-    hasher: S,
-) -> Result<Report, Halted>
-    requires { IfSome (D.taken drain.old) (λ taken. taken ≡ []) }
-    ensures { IfErr result (λ halted. EndsPacked halted.ending) }
-{
-    let how = engine.packed_passes();
-    let FourPasses {
-        one,
-        two,
-        three,
-        four,
-    } = passes;
-    if !engine.packs {
-        return published(pbf_published::extract_parents_sorted_with_receipt(
-            how, one, two, three, four, area, drain, hasher,
-        ));
-    }
-    let mut packed = engine.packed(drain)?;
-    published(pbf_published::extract_parents_packed(
-        how,
-        one,
-        two,
-        three,
-        four,
-        area,
-        &mut packed,
-        hasher,
-    ))
 }
 
 /// Writes what lies in an area, with all parents, for which IN is read once more.
@@ -378,25 +297,30 @@ pub(crate) fn extract_parents<A: Area + Copy, F: Feed, D: Drain, S: BuildHasher 
     hasher: S,
 ) -> Result<Report, Halted>
     requires { IfSome (D.taken drain.old) (λ taken. taken ≡ []) }
-    ensures { WorksBy engine.program F.Feed true (extracting_parents (A.area area))
+    ensures { WorksOn (to_raw (manner_of engine)) F.Feed D.Drain (extracting_parents (A.area area))
         (passes.old.one ∷ passes.old.two ∷ passes.old.three ∷ passes.old.four ∷ [])
         (passes.new.one ∷ passes.new.two ∷ passes.new.three ∷ passes.new.four ∷ [])
-        (Takes D.Drain drain.old drain.new) (WriteFailed D.Drain drain.old drain.new) result }
+        drain.old drain.new result }
 {
+    let FourPasses {
+        one,
+        two,
+        three,
+        four,
+    } = passes;
     match engine.program {
         Program::Pbfcut => {
             let how = engine.raw_passes();
-            let FourPasses {
-                one,
-                two,
-                three,
-                four,
-            } = passes;
             reported(pbfcut::extract_parents_sorted_with_receipt(
                 how, one, two, three, four, area, drain, hasher,
             ))
         }
-        Program::Pbfcutz => extract_parents_published(engine, passes, area, drain, hasher),
+        Program::Pbfcutz => {
+            let how = engine.packed_passes();
+            published(pbf_published::extract_parents_sorted_with_receipt(
+                how, one, two, three, four, area, drain, hasher,
+            ))
+        }
     }
 }
 
@@ -427,7 +351,9 @@ pub(crate) fn show_header<F: Feed, D: Drain>(
     pass: &mut F,
     drain: &mut D,
 ) -> Result<(), Halted>
-    ensures { IfErr result (λ halted. EndsPacked halted.ending) }
+    ensures shown { OnOk result (ShowsHeader D.Drain drain.old drain.new
+        (judged_known false 0 (meant_known packed_file (F.remaining pass.old)))) }
+    ensures ends { IfErr result (λ halted. EndsPacked halted.ending) }
 {
     match pbf_published::show_header(engine.alloc, pass, drain) {
         Ok(()) => Ok(()),

@@ -4,11 +4,11 @@ ghost use Rattle.std.specs.Prelude.{◌≡◌, ◌∷◌, ℕ, [], List, length,
 ghost use Rattle.osm_polygon.specs.Polygon.{Point};
 ghost use Rattle.osm_polygon.specs.Texts.{rings_of_text};
 ghost use Rattle.osm_polygon.specs.Rings.{polygon_of};
-ghost use Rattle.pbf_pass.specs.Stops.{WriteFailed};
-ghost use Rattle.pbfcut_program.specs.Devices.{AreFresh, CloseAll, Takes, WorksBy};
+ghost use Rattle.pbfcut_program.specs.Devices.{AreFresh, CloseAll, WorksOn};
 ghost use Rattle.pbfcut_program.specs.Events.{Event, text_read, then_all};
 ghost use Rattle.pbfcut_program.specs.Fails.{FailsOpening};
 ghost use Rattle.pbfcut_program.specs.Jobs.{area_of, feeds_of, plan_of, task_of};
+ghost use Rattle.pbfcut_program.specs.Manner.{manner_of, to_raw};
 ghost use Rattle.pbfcut_program.specs.Program.{MeansArea, openings};
 ghost use Rattle.pbfcut_program.specs.Tasks.{extracting, extracting_parents, passes_of};
 
@@ -140,9 +140,9 @@ fn cut_out<F: Feed, D: Drain, S: BuildHasher + Drop>(
 ) -> Result<Report, Halted>
     requires { IfSome (D.taken drain.old) (λ taken. taken ≡ []) }
     ensures { let old = cutting.old.passes in let now = cutting.new.passes in
-        WorksBy engine.program F.Feed true (extracting (area_of cutting.old.cut))
+        WorksOn (to_raw (manner_of engine)) F.Feed D.Drain (extracting (area_of cutting.old.cut))
         (old.one ∷ old.two ∷ old.three ∷ []) (now.one ∷ now.two ∷ now.three ∷ [])
-        (Takes D.Drain drain.old drain.new) (WriteFailed D.Drain drain.old drain.new) result }
+        drain.old drain.new result }
 {
     let Cutting { passes, cut } = cutting;
     match &*cut {
@@ -160,10 +160,10 @@ fn cut_out_parents<F: Feed, D: Drain, S: BuildHasher + Drop>(
 ) -> Result<Report, Halted>
     requires { IfSome (D.taken drain.old) (λ taken. taken ≡ []) }
     ensures { let old = cutting.old.passes in let now = cutting.new.passes in
-        WorksBy engine.program F.Feed true (extracting_parents (area_of cutting.old.cut))
+        WorksOn (to_raw (manner_of engine)) F.Feed D.Drain (extracting_parents (area_of cutting.old.cut))
         (old.one ∷ old.two ∷ old.three ∷ old.four ∷ [])
         (now.one ∷ now.two ∷ now.three ∷ now.four ∷ [])
-        (Takes D.Drain drain.old drain.new) (WriteFailed D.Drain drain.old drain.new) result }
+        drain.old drain.new result }
 {
     let Cutting { passes, cut } = cutting;
     match &*cut {
@@ -180,9 +180,8 @@ pub(crate) fn do_job<F: Feed, D: Drain, S: BuildHasher + Drop>(
     hasher: S,
 ) -> Result<Report, Halted>
     requires { IfSome (D.taken drain.old) (λ taken. taken ≡ []) }
-    ensures { WorksBy engine.program F.Feed true (task_of job.old) (feeds_of job.old)
-        (feeds_of job.new) (Takes D.Drain drain.old drain.new)
-        (WriteFailed D.Drain drain.old drain.new) result }
+    ensures { WorksOn (to_raw (manner_of engine)) F.Feed D.Drain (task_of job.old) (feeds_of job.old)
+        (feeds_of job.new) drain.old drain.new result }
 {
     match job {
         Job::Convert(passes) => convert(engine, passes, drain, hasher),

@@ -5,6 +5,7 @@ mod ending;
 mod engine;
 mod host;
 mod jobs;
+mod linked;
 mod opening;
 mod printing;
 mod program;

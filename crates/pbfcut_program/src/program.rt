@@ -3,10 +3,11 @@
 ghost use Rattle.std.specs.Prelude.{◌≡◌, [], List, IfErr, IfOk, OnOk, map, string_bytes};
 ghost use Rattle.pbfcut_cli.specs.Words.{word_texts};
 ghost use Rattle.pbfcut_program.specs.Events.{Event, then_all};
-ghost use Rattle.pbfcut_program.specs.Fails.{Fails, IsRefused};
+ghost use Rattle.pbfcut_program.specs.Fails.{Fails, IsRefusedBy};
 ghost use Rattle.pbfcut_program.specs.Jobs.{plan_of};
+ghost use Rattle.pbfcut_program.specs.Manner.{manner_of};
 ghost use Rattle.pbfcut_program.specs.Tasks.{judge_of};
-ghost use Rattle.pbfcut_program.specs.Program.{Does, FailsIn, IsRun, IsWhy, Writes, digests_of};
+ghost use Rattle.pbfcut_program.specs.Program.{Does, FailsIn, IsRun, IsWhy, Writes, digests_of, packs_of};
 
 use crate::ending::{report, report_command};
 use crate::engine::Engine;
@@ -33,15 +34,16 @@ fn prints_digests(command: &Command<'_>) -> bool
     }
 }
 
-/// Whether a command writes zlib blobs: of pbfcutz, unless raw ones are wanted.
-fn packs(program: Program, command: &Command<'_>) -> bool {
-    let raw = match command {
-        Command::Convert(files) => files.raw,
-        Command::Extract { files, .. } => files.raw,
-        Command::Pack(_) => false,
-        _ => true,
-    };
-    program == Program::Pbfcutz && !raw
+/// Whether OUT gets zlib blobs, if it is pbfcutz that writes it: unless raw ones are wanted.
+fn packs(command: &Command<'_>) -> bool
+    ensures { result ≡ packs_of command.now }
+{
+    match command {
+        Command::Convert(files) => !files.raw,
+        Command::Extract { files, .. } => !files.raw,
+        Command::Pack(_) => true,
+        _ => false,
+    }
 }
 
 /// Whether the progress of a run is shown: with `--progress`, and by pbfcutz also if the host shows it by itself.
@@ -56,13 +58,12 @@ fn run_writing<H: Host>(
     files: &Files<'_>,
     plan: Plan,
 ) -> Result<(), Ending>
-    requires { engine.digests ≡ files.now.digests }
     ensures ok { OnOk result ((events : List Event)
         × (H.log host.new ≡ then_all (H.log host.old) events)
-        × Writes engine.program (plan_of plan) files.now events) }
+        × Writes (manner_of engine) (plan_of plan) files.now events) }
     ensures err { IfErr result (λ how. (events : List Event)
         × (H.log host.new ≡ then_all (H.log host.old) events)
-        × Fails engine.program (IsRefused (judge_of (plan_of plan))) how events) }
+        × Fails engine.program (IsRefusedBy engine.program (judge_of (plan_of plan))) how events) }
 {
     let progress = shows_progress(&*host, engine.program, files.progress, files.input);
     write(engine, host, files, plan, progress)?;
@@ -71,10 +72,9 @@ fn run_writing<H: Host>(
 
 /// Runs a command.
 fn run_command<H: Host>(engine: Engine, host: &mut H, command: &Command<'_>) -> Result<(), Ending>
-    requires { engine.digests ≡ digests_of command.now }
     ensures ok { OnOk result ((events : List Event)
         × (H.log host.new ≡ then_all (H.log host.old) events)
-        × Does engine.program command.now events) }
+        × Does (manner_of engine) command.now events) }
     ensures err { IfErr result (λ how. (events : List Event)
         × (H.log host.new ≡ then_all (H.log host.old) events)
         × FailsIn engine.program command.now how events) }
@@ -163,7 +163,7 @@ fn work<H: Host>(
         program,
         alloc,
         digests: prints_digests(&command),
-        packs: packs(program, &command),
+        packs: packs(&command),
     };
     match run_command(engine, host, &command) {
         Ok(()) => Ok(0),

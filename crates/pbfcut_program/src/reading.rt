@@ -5,9 +5,11 @@ ghost use Rattle.pbf_pass.specs.Judged.{judged_file};
 ghost use Rattle.pbfcut_cli.specs.declared.programs.Program.TheVariants as program;
 ghost use Rattle.pbfcut_program.specs.Devices.{Finishes};
 ghost use Rattle.pbfcut_program.specs.Events.{Event, Reading, opened, read, then_all};
-ghost use Rattle.pbfcut_program.specs.Fails.{Fails, IsRefused};
+ghost use Rattle.pbfcut_program.specs.Fails.{Fails, IsRefusedBy};
+ghost use Rattle.pbfcut_program.specs.Manner.{manner_of};
 ghost use Rattle.pbfcut_program.specs.Outcomes.{EndsAs};
-ghost use Rattle.pbfcut_program.specs.Program.{Checks, IsWorkOf, Lists, Shows, refused_listing};
+ghost use Rattle.pbfcut_program.specs.Program.{Checks, IsHeaderText, IsListing, Lists, Shows, refused_listing};
+ghost use Rattle.pbfcut_program.specs.Readings.{IsWork};
 ghost use Rattle.pbfcut_program.specs.Tasks.{checking};
 
 use crate::engine::{Engine, Halted, Report, check, list_blobs, show, show_header};
@@ -27,11 +29,11 @@ fn read_once<H: Host>(
 ) -> Result<Report, Ending>
     ensures ok { IfOk result (λ report. (has : Option (List ℕ)) × (first : Reading)
         × (H.log host.new ≡ then_all (H.log host.old) (opened path.now 1 has ∷ read first ∷ []))
-        × IsWorkOf engine.program engine.digests checking (first ∷ []) [] report.counts
+        × IsWork (manner_of engine) checking (first ∷ []) [] report.counts
         report.input report.raw) }
     ensures err { IfErr result (λ how. (events : List Event)
         × (H.log host.new ≡ then_all (H.log host.old) events)
-        × Fails engine.program (IsRefused judged_file) how events) }
+        × Fails engine.program (IsRefusedBy engine.program judged_file) how events) }
 {
     let input = Input {
         path,
@@ -56,10 +58,10 @@ pub(crate) fn run_check<H: Host>(
 ) -> Result<(), Ending>
     ensures ok { OnOk result ((events : List Event)
         × (H.log host.new ≡ then_all (H.log host.old) events)
-        × Checks engine.program engine.digests path.now events) }
+        × Checks (manner_of engine) path.now events) }
     ensures err { IfErr result (λ how. (events : List Event)
         × (H.log host.new ≡ then_all (H.log host.old) events)
-        × Fails engine.program (IsRefused judged_file) how events) }
+        × Fails engine.program (IsRefusedBy engine.program judged_file) how events) }
 {
     let report = read_once(engine, host, path, progress)?;
     print_checked(engine, host, &report, path)
@@ -94,10 +96,10 @@ pub(crate) fn run_show<H: Host>(
 ) -> Result<(), Ending>
     ensures ok { OnOk result ((events : List Event)
         × (H.log host.new ≡ then_all (H.log host.old) events)
-        × Shows engine.program dates input.now.path.now events) }
+        × Shows (manner_of engine) dates input.now.path.now events) }
     ensures err { IfErr result (λ how. (events : List Event)
         × (H.log host.new ≡ then_all (H.log host.old) events)
-        × Fails engine.program (IsRefused judged_file) how events) }
+        × Fails engine.program (IsRefusedBy engine.program judged_file) how events) }
 {
     let mut passes = open_two(host, input)?;
     let mut out = open_screen(host)?;
@@ -114,10 +116,10 @@ pub(crate) fn run_blobs<H: Host>(
 ) -> Result<(), Ending>
     ensures ok { OnOk result ((events : List Event)
         × (H.log host.new ≡ then_all (H.log host.old) events)
-        × Lists engine.program input.now.path.now events) }
+        × Lists (IsListing engine.program) input.now.path.now events) }
     ensures err { IfErr result (λ how. (events : List Event)
         × (H.log host.new ≡ then_all (H.log host.old) events)
-        × Fails engine.program refused_listing how events) }
+        × Fails engine.program (refused_listing engine.program) how events) }
 {
     let mut pass = open_pass(host, input, 1)?;
     let mut out = open_screen(host)?;
@@ -134,7 +136,7 @@ pub(crate) fn run_info<H: Host>(
 ) -> Result<(), Ending>
     ensures ok { OnOk result ((events : List Event)
         × (H.log host.new ≡ then_all (H.log host.old) events)
-        × Lists program.Pbfcutz input.now.path.now events) }
+        × Lists IsHeaderText input.now.path.now events) }
     ensures err { IfErr result (λ how. (events : List Event)
         × (H.log host.new ≡ then_all (H.log host.old) events)
         × Fails program.Pbfcutz (λ _ _. Unit {0}) how events) }

@@ -1,24 +1,29 @@
 //! The commands that write a file. Before anything is written it is settled that OUT is new, IN is opened once for each pass, and there is
 //! a seed.
 
-ghost use Rattle.std.specs.Prelude.{◌≡◌, ◌⊎◌, ◌∷◌, ◌++◌, ◌<◌, [], List, length, map, is_ok, IfErr, IfOk, OnOk, true, false};
+ghost use Rattle.std.specs.Prelude.{◌≡◌, ◌⊎◌, ◌∷◌, ◌++◌, ◌<◌, [], List, length, map, is_ok, IfErr, IfOk, IfSome, None, OnOk, true, false};
 ghost use Rattle.pbf_frame.specs.declared.stop.Stop.TheVariants as stop;
 ghost use Rattle.pbfcut_cli.specs.declared.endings.Ending.TheVariants as ending;
 ghost use Rattle.pbf_pass.specs.HeaderLimit.{judged_writable};
-ghost use Rattle.pbfcut_program.specs.Devices.{AreFresh, IsAsked, IsFreshOut, TakenBy, WorksBy};
+ghost use Rattle.pbfcut_cli.specs.declared.programs.Program.TheVariants.{Pbfcutz};
+ghost use Rattle.pbfcut_program.specs.Devices.{AreFresh, FinishesPacked, IsAsked, IsFreshOut, TakenBy, Works, WorksOn};
 ghost use Rattle.pbfcut_program.specs.Events.{Event, Reading, Writing, read, seeded, wrote, then_all, then_one};
-ghost use Rattle.pbfcut_program.specs.Fails.{Fails, FailsOpening, IsRefused};
+ghost use Rattle.pbfcut_program.specs.Fails.{Fails, FailsOpening, IsRefusedBy, IsRefusedOf};
 ghost use Rattle.pbfcut_program.specs.Jobs.{area_of, feeds_of, plan_of, task_of};
-ghost use Rattle.pbfcut_program.specs.Program.{Extracts, advice, IsWorkOf, IsHashed, WritesCounts, extract_task, is_empty, is_screen, looks, makes, openings, screen_of};
+ghost use Rattle.pbfcut_program.specs.Program.{Extracts, WritesCounts, advice, digest_if_asked, extract_task, is_empty, is_screen, looks, makes, openings, screen_of};
+ghost use Rattle.pbfcut_program.specs.Manner.{manner_of, to_raw};
+ghost use Rattle.pbfcut_program.specs.Readings.{IsWork};
 ghost use Rattle.pbfcut_program.specs.Tasks.{judge_of, passes_of};
 
 use crate::engine::{Engine, Halted, Report};
 use crate::host::{CreateFault, FinishFault, Host, Screen};
 use crate::jobs::{Cut, Job, Plan, close_job, do_job, open_job, read_region};
+use crate::linked::LinkedDrain;
 use crate::opening::open_screen;
 use crate::printing::{Done, print_done, tell_refusal};
 use pbf_frame::{Drain, Feed, Stop};
 use pbf_pass::{Counts, HashedDrain};
+use pbf_unpack::{Deflater, PackedDrain};
 use pbfcut_cli::{Ending, Files, Program, Region};
 use std::hash::BuildHasher;
 
@@ -128,6 +133,114 @@ struct Ran<D> {
     output: Option<[u8; 32]>,
 }
 
+/// Does a job, into a drain that takes raw blobs as they are.
+fn run_raw<F: Feed, D: Drain + Drop, S: BuildHasher + Drop>(
+    engine: Engine,
+    job: &mut Job<F>,
+    out: D,
+    hasher: S,
+) -> Ran<D>
+    requires { IfSome (D.taken out) (λ taken. taken ≡ []) }
+    ensures works { WorksOn (to_raw (manner_of engine)) F.Feed D.Drain (task_of job.old)
+        (feeds_of job.old) (feeds_of job.new) out result.out result.result }
+    ensures unhashed { result.output ≡ None }
+{
+    let mut out = out;
+    let result = do_job(engine, job, &mut out, hasher);
+    Ran {
+        result,
+        out,
+        output: None,
+    }
+}
+
+/// How a call halted whose drain packs; or, if it failed to write for want of memory, that.
+fn named(halted: Halted, of_drain: Option<Stop>) -> Halted
+    ensures { (result.ending ≡ halted.ending) ⊎ (result.ending ≡ ending.Stopped stop.Memory) }
+{
+    let is_write = matches!(&halted.ending, Ending::Stopped(Stop::Write));
+    if is_write && of_drain == Some(Stop::Memory) {
+        return Halted::from(Stop::Memory);
+    }
+    halted
+}
+
+/// How a call ends whose drain couldn't give OUT the rest.
+fn lost(of_drain: Option<Stop>) -> Halted
+    ensures { (result.ending ≡ ending.Stopped stop.Write) ⊎ (result.ending ≡ ending.Stopped stop.Memory) }
+{
+    match of_drain {
+        Some(Stop::Memory) => Halted::from(Stop::Memory),
+        _ => Halted::from(Stop::Write),
+    }
+}
+
+/// Gives OUT the rest of what a drain packs, once a call has ended.
+fn finish<D: Drain>(
+    returned: Result<Report, Halted>,
+    drain: &mut PackedDrain<D>,
+) -> Result<Report, Halted>
+    ensures { FinishesPacked drain.old drain.new returned result }
+{
+    let report = match returned {
+        Ok(report) => report,
+        Err(halted) => return Err(named(halted, drain.stop())),
+    };
+    if drain.finish().is_err() {
+        return Err(lost(drain.stop()));
+    }
+    Ok(report)
+}
+
+/// Does a job, into a drain that gets zlib blobs.
+fn run_packed<F: Feed, D: Drain + Drop, S: BuildHasher + Drop>(
+    engine: Engine,
+    job: &mut Job<F>,
+    out: D,
+    hasher: S,
+) -> Ran<D>
+    requires fresh { IfSome (D.taken out) (λ taken. taken ≡ []) }
+    requires packs { (engine.program ≡ Pbfcutz) × (engine.packs ≡ true) }
+    ensures works { WorksOn (manner_of engine) F.Feed D.Drain (task_of job.old)
+        (feeds_of job.old) (feeds_of job.new) out result.out result.result }
+    ensures unhashed { result.output ≡ None }
+{
+    let Ok(deflater) = Deflater::new(engine.alloc) else {
+        return Ran {
+            result: Err(Halted::from(Stop::Memory)),
+            out,
+            output: None,
+        };
+    };
+    let mut packed = PackedDrain::new(engine.alloc, deflater, out);
+    let returned = do_job(engine, job, &mut packed, hasher);
+    let result = finish(returned, &mut packed);
+    Ran {
+        result,
+        out: packed.into_inner(),
+        output: None,
+    }
+}
+
+/// Does a job, into a drain that gets raw blobs or zlib blobs.
+fn run_unhashed<F: Feed, D: Drain + Drop, S: BuildHasher + Drop>(
+    engine: Engine,
+    job: &mut Job<F>,
+    out: D,
+    hasher: S,
+) -> Ran<D>
+    requires { IfSome (D.taken out) (λ taken. taken ≡ []) }
+    ensures works { WorksOn (manner_of engine) F.Feed D.Drain (task_of job.old)
+        (feeds_of job.old) (feeds_of job.new) out result.out result.result }
+    ensures unhashed { result.output ≡ None }
+{
+    if engine.gives_packed() {
+        run_packed(engine, job, out, hasher)
+    } else {
+        run_raw(engine, job, out, hasher)
+    }
+}
+
 /// Does a job, and hashes what OUT takes.
 fn run_hashed<F: Feed, D: Drain + Drop, S: BuildHasher + Drop>(
     engine: Engine,
@@ -136,40 +249,19 @@ fn run_hashed<F: Feed, D: Drain + Drop, S: BuildHasher + Drop>(
     hasher: S,
 ) -> Ran<D>
     requires { IsFreshOut D.Drain out }
-    ensures works { WorksBy engine.program F.Feed true (task_of job.old) (feeds_of job.old)
-        (feeds_of job.new) (TakenBy D.Drain result.out result.output)
-        (0 < D.failures result.out) result.result }
+    ensures works { AreFresh F.Feed (feeds_of job.old) → Works (manner_of engine) F.Feed
+        (task_of job.old) (feeds_of job.old) (feeds_of job.new)
+        (TakenBy D.Drain result.out result.output) (0 < D.failures result.out) result.result }
     ensures hashed { IsAsked true result.output }
 {
-    let mut hashed = HashedDrain::new(out);
-    let result = do_job(engine, job, &mut hashed, hasher);
+    let linked = LinkedDrain::new(HashedDrain::new(out));
+    let ran = run_unhashed(engine, job, linked, hasher);
+    let mut hashed = ran.out.into_inner();
     let digest = hashed.digest();
     Ran {
-        result,
+        result: ran.result,
         out: hashed.into_inner(),
         output: Some(digest),
-    }
-}
-
-/// Does a job.
-fn run_plain<F: Feed, D: Drain + Drop, S: BuildHasher + Drop>(
-    engine: Engine,
-    job: &mut Job<F>,
-    out: D,
-    hasher: S,
-) -> Ran<D>
-    requires { IsFreshOut D.Drain out }
-    ensures works { WorksBy engine.program F.Feed true (task_of job.old) (feeds_of job.old)
-        (feeds_of job.new) (TakenBy D.Drain result.out result.output)
-        (0 < D.failures result.out) result.result }
-    ensures hashed { IsAsked false result.output }
-{
-    let mut out = out;
-    let result = do_job(engine, job, &mut out, hasher);
-    Ran {
-        result,
-        out,
-        output: None,
     }
 }
 
@@ -181,15 +273,15 @@ fn run_into<F: Feed, D: Drain + Drop, S: BuildHasher + Drop>(
     hasher: S,
 ) -> Ran<D>
     requires { IsFreshOut D.Drain out }
-    ensures works { WorksBy engine.program F.Feed true (task_of job.old) (feeds_of job.old)
-        (feeds_of job.new) (TakenBy D.Drain result.out result.output)
-        (0 < D.failures result.out) result.result }
+    ensures works { AreFresh F.Feed (feeds_of job.old) → Works (manner_of engine) F.Feed
+        (task_of job.old) (feeds_of job.old) (feeds_of job.new)
+        (TakenBy D.Drain result.out result.output) (0 < D.failures result.out) result.result }
     ensures hashed { IsAsked engine.digests result.output }
 {
     if engine.digests {
         run_hashed(engine, job, out, hasher)
     } else {
-        run_plain(engine, job, out, hasher)
+        run_unhashed(engine, job, out, hasher)
     }
 }
 
@@ -216,12 +308,13 @@ fn run_job<H: Host>(
     requires fresh { AreFresh H.In.Feed (feeds_of ready.job) × IsFreshOut H.Out.Drain ready.out }
     ensures ok { IfOk result (λ done. (rs : List Reading) × (out : Writing)
         × (H.log host.new ≡ then_all (H.log host.old) (map read rs ++ wrote out ∷ []))
-        × (out.out ≡ true) × IsHashed engine.program engine.digests out.bytes done.output
-        × IsWorkOf engine.program true (task_of ready.job) rs out.bytes done.report.counts
+        × (out.out ≡ true) × (done.output ≡ digest_if_asked engine.digests out.bytes)
+        × IsWork (manner_of engine) (task_of ready.job) rs out.bytes done.report.counts
         done.report.input done.report.raw) }
     ensures err { IfErr result (λ how. (events : List Event)
         × (H.log host.new ≡ then_all (H.log host.old) events)
-        × Fails engine.program (IsRefused (judge_of (task_of ready.job))) how events) }
+        × Fails engine.program (IsRefusedOf engine.program (judge_of (task_of ready.job))
+        (map H.In.remaining (feeds_of ready.job))) how events) }
 {
     let Ready { job, out, hasher } = ready;
     let mut job = job;
@@ -248,10 +341,10 @@ pub(crate) fn write<H: Host>(
 ) -> Result<Counts, Ending>
     ensures ok { IfOk result (λ counts. (events : List Event)
         × (H.log host.new ≡ then_all (H.log host.old) events)
-        × WritesCounts engine.program engine.digests (plan_of plan) files.now counts events) }
+        × WritesCounts (manner_of engine) (plan_of plan) files.now counts events) }
     ensures err { IfErr result (λ how. (events : List Event)
         × (H.log host.new ≡ then_all (H.log host.old) events)
-        × Fails engine.program (IsRefused (judge_of (plan_of plan))) how events) }
+        × Fails engine.program (IsRefusedBy engine.program (judge_of (plan_of plan))) how events) }
 {
     let to_screen = is_screen(engine.program, files.output);
     let ready = prepare(host, to_screen, files, plan, progress)?;
@@ -300,10 +393,10 @@ pub(crate) fn run_extract<H: Host>(
 ) -> Result<(), Ending>
     ensures ok { OnOk result ((events : List Event)
         × (H.log host.new ≡ then_all (H.log host.old) events)
-        × Extracts engine.program engine.digests region.now parents files.now events) }
+        × Extracts (manner_of engine) region.now parents files.now events) }
     ensures err { IfErr result (λ how. (events : List Event)
         × (H.log host.new ≡ then_all (H.log host.old) events)
-        × Fails engine.program (IsRefused judged_writable) how events) }
+        × Fails engine.program (IsRefusedBy engine.program judged_writable) how events) }
 {
     let cut = read_region(engine.alloc, host, region)?;
     let counts = write(engine, host, files, plan_extract(cut, parents), progress)?;

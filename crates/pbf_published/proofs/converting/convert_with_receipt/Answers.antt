@@ -8,9 +8,9 @@ pub returns-clause-receipt : goal.returns-clause-receipt
 returns-clause-receipt g c =
     let digest = c.in_ok-input.input in
     let from_first = outcome_receipt _ _ c.convert_with_receipt-outcome.ensures.receipt _ _ c.in_ok-receipt.was _ c.published_outcome-outcome.ensures in
-    published_of g.F.Feed c.args.first.now _ from_first true _ c.open-one.ensures.remaining c.open-one.ensures.opened (closed_below g.F.Feed.has_passed c.close-one.result.1.now _ _ _ _ (search rules) c.close-one.ensures.closed) digest c.in_ok-input.ensures.there _ (λ b holds. (
+    published_of g.F.Feed c.args.first.now _ from_first true _ c.open-one.ensures.remaining c.open-one.ensures.opened (closed_below g.F.Feed c.close-one.result.1.now _ _ _ _ (search rules) c.close-one.ensures.closed) digest c.in_ok-input.ensures.there _ (λ b holds. (
       holds.0,
-      published_of g.G.Feed c.args.second.now _ holds.1 true _ c.open-two.ensures.remaining c.open-two.ensures.opened (closed_below g.G.Feed.has_passed c.close-two.result.1.now _ _ _ _ (search rules) c.close-two.ensures.closed) digest c.in_ok-compare.ensures.same _ (λ d took. took),
+      published_of g.G.Feed c.args.second.now _ holds.1 true _ c.open-two.ensures.remaining c.open-two.ensures.opened (closed_below g.G.Feed c.close-two.result.1.now _ _ _ _ (search rules) c.close-two.ensures.closed) digest c.in_ok-compare.ensures.same _ (λ d took. took),
     ))
 
 pub returns-in_err-receipt-clause-beginning : goal.returns-in_err-receipt-clause-beginning

@@ -11,8 +11,8 @@ returns-clause-opened g c =
     let fresh = c.new.result in
     let counted = opened_by (λ (s : Sha256) (b : List ℕ). Holds initial_hash_256 s.core b) g.F.Feed.has_passed fresh.feed fresh.hashes c.args.hashes fresh.hasher fresh.count c.new.ensures.hashes c.new.ensures.hasher c.new.ensures.count in
     record {
-      hashed = c.new-2.ensures.supplied _ (rw (sym c.new.ensures.feed) (traced_from _ fresh (log_of c.args.hashes) counted));
-      logged = λ log start. c.new-2.ensures.supplied _ (rw (sym c.new.ensures.feed) (traced_from _ fresh (suc (suc log)) (rw c.new.ensures.feed start)));
+      hashed = c.new-2.ensures.supplied _ (rw (sym c.new.ensures.feed) (traced_from _ fresh (log_of c.args.hashes) (log_of c.args.hashes) counted counted));
+      logged = λ log start. c.new-2.ensures.supplied _ (rw (sym c.new.ensures.feed) (traced_from _ fresh (log_of c.args.hashes) (suc (suc log)) counted (rw c.new.ensures.feed start)));
     }
 
 pub returns-clause-below : goal.returns-clause-below

@@ -8,13 +8,13 @@ pub returns-clause-receipt : goal.returns-clause-receipt
 returns-clause-receipt g c =
     let digest = c.in_ok-input.input in
     let from_first = outcome_receipt _ _ c.extract_parents_sorted_with_receipt-outcome.ensures.receipt _ _ c.in_ok-receipt.was _ c.published_outcome-outcome.ensures in
-    published_of g.F.Feed c.args.first.now _ from_first true _ c.open-one.ensures.remaining c.open-one.ensures.opened (closed_below g.F.Feed.has_passed c.close-one.result.1.now _ _ _ _ (search rules) c.close-one.ensures.closed) digest c.in_ok-input.ensures.there _ (λ b holds. (
+    published_of g.F.Feed c.args.first.now _ from_first true _ c.open-one.ensures.remaining c.open-one.ensures.opened (closed_below g.F.Feed c.close-one.result.1.now _ _ _ _ (search rules) c.close-one.ensures.closed) digest c.in_ok-input.ensures.there _ (λ b holds. (
       holds.0,
-      published_or_none g.G.Feed c.args.second.now _ _ _ _ c.in_ok-receipt.receipt.spared holds.1 _ c.open-two.ensures.remaining c.open-two.ensures.opened (closed_below g.G.Feed.has_passed c.close-two.result.1.now _ _ _ _ (search rules) c.close-two.ensures.closed) digest c.in_ok-compare_unless_spared.ensures.same
+      published_or_none g.G.Feed c.args.second.now _ _ _ _ c.in_ok-receipt.receipt.spared holds.1 _ c.open-two.ensures.remaining c.open-two.ensures.opened (closed_below g.G.Feed c.close-two.result.1.now _ _ _ _ (search rules) c.close-two.ensures.closed) digest c.in_ok-compare_unless_spared.ensures.same
           (λ e. same_by c.close-two.result.1.now _ _ (search rules) (ap (λ r. r.now) c.close-two.ensures.feed ∙ ap (λ u. u.feed.feed.feed.now) e ∙ ap (λ r. r.now) c.open-two.ensures.below))
           _ (λ e rest.
-          published_of g.H.Feed c.args.third.now _ rest true _ c.open-three.ensures.remaining c.open-three.ensures.opened (closed_below g.H.Feed.has_passed c.close-three.result.1.now _ _ _ _ (search rules) c.close-three.ensures.closed) digest c.in_ok-compare.ensures.same _ (λ d rest.
-          published_of g.I.Feed c.args.fourth.now _ rest true _ c.open-four.ensures.remaining c.open-four.ensures.opened (closed_below g.I.Feed.has_passed c.close-four.result.1.now _ _ _ _ (search rules) c.close-four.ensures.closed) digest c.in_ok-compare-2.ensures.same _ (λ e took. took))),
+          published_of g.H.Feed c.args.third.now _ rest true _ c.open-three.ensures.remaining c.open-three.ensures.opened (closed_below g.H.Feed c.close-three.result.1.now _ _ _ _ (search rules) c.close-three.ensures.closed) digest c.in_ok-compare.ensures.same _ (λ d rest.
+          published_of g.I.Feed c.args.fourth.now _ rest true _ c.open-four.ensures.remaining c.open-four.ensures.opened (closed_below g.I.Feed c.close-four.result.1.now _ _ _ _ (search rules) c.close-four.ensures.closed) digest c.in_ok-compare-2.ensures.same _ (λ e took. took))),
     ))
 
 pub returns-in_err-inflater-clause-beginning : goal.returns-in_err-inflater-clause-beginning

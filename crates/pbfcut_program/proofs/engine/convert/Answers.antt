@@ -1,3 +1,4 @@
+use Rattle.pbfcut_program.proofs.PublishedCalls.{convert_published}
 use Rattle.pbfcut_program.proofs.RawCalls.{convert_works}
 use Rattle.pbfcut_program.proofs.engine.convert.Goals as goal
 
@@ -6,4 +7,11 @@ returns-in-Pbfcut g c =
     let h = c.raw_passes-how.ensures in
     let receipt = c.convert_with_receipt.ensures.receipt in
     let ends = c.convert_with_receipt.ensures.ends in
-    rw c.in-Pbfcut.is (convert_works g.F.Feed g.D.Drain c.args.drain.now c.convert_with_receipt.new.drain c.args.passes.now.one c.convert_with_receipt.new.first c.args.passes.now.two c.convert_with_receipt.new.second c.convert_with_receipt.result c.reported.result (rw h at receipt) (rw h at ends) c.reported.ensures)
+    rw c.in-Pbfcut.is (λ fresh log start.
+    convert_works g.F.Feed g.D.Drain c.args.drain.now c.convert_with_receipt.new.drain c.args.engine.digests log start c.args.passes.now.one c.convert_with_receipt.new.first c.args.passes.now.two c.convert_with_receipt.new.second c.convert_with_receipt.result c.reported.result fresh (rw h at receipt) (rw h at ends) c.reported.ensures)
+
+pub returns-in-Pbfcutz : goal.returns-in-Pbfcutz
+returns-in-Pbfcutz g c =
+    let receipt = c.convert_with_receipt-in-Pbfcutz.ensures.receipt in
+    rw c.in-Pbfcutz.is (λ fresh log start.
+    convert_published g.F.Feed g.D.Drain c.args.drain.now c.convert_with_receipt-in-Pbfcutz.new.drain c.args.engine.digests log start c.args.passes.now.one c.convert_with_receipt-in-Pbfcutz.new.first c.args.passes.now.two c.convert_with_receipt-in-Pbfcutz.new.second c.convert_with_receipt-in-Pbfcutz.result c.published.result fresh (rw c.packed_passes-how.ensures at receipt) _ _ _ c.convert_with_receipt-in-Pbfcutz.ensures.stops c.published.ensures)

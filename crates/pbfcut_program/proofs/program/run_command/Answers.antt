@@ -34,19 +34,13 @@ pub returns-in-Show-clause-err : goal.returns-in-Show-clause-err
 returns-in-Show-clause-err g c = rw c.in-Show.is c.run_show.ensures.err
 
 pub returns-in-Check-clause-ok : goal.returns-in-Check-clause-ok
-returns-in-Check-clause-ok g c =
-    let asked = rw c.in-Check.is at c.requires in
-    let done = rw asked at c.run_check.ensures.ok in
-    rw c.in-Check.is done
+returns-in-Check-clause-ok g c = rw c.in-Check.is c.run_check.ensures.ok
 
 pub returns-in-Check-clause-err : goal.returns-in-Check-clause-err
 returns-in-Check-clause-err g c = rw c.in-Check.is c.run_check.ensures.err
 
 pub returns-in-Extract-clause-ok : goal.returns-in-Extract-clause-ok
-returns-in-Extract-clause-ok g c =
-    let asked = rw c.in-Extract.is at c.requires in
-    let done = rw asked at c.run_extract.ensures.ok in
-    rw c.in-Extract.is done
+returns-in-Extract-clause-ok g c = rw c.in-Extract.is c.run_extract.ensures.ok
 
 pub returns-in-Extract-clause-err : goal.returns-in-Extract-clause-err
 returns-in-Extract-clause-err g c = rw c.in-Extract.is c.run_extract.ensures.err

@@ -19,7 +19,8 @@ returns-in-Ok-clause-ok g c =
     let is : word_texts c.as_slice.result.now ≡ normalized words = ap word_texts c.as_slice.ensures.value ∙ c.in_ok-texts.ensures ∙ ap (map string_bytes) c.deref.ensures.value ∙ c.in_ok-normalized.ensures in
     let meant = is_meant c.args.program words (word_texts c.as_slice.result.now) c.in_ok-command.command is c.in_ok-command.ensures.read in
     let d = c.in-Ok.ensures.ok in
-    (d.0, d.1, inl (refl, (c.in_ok-command.command, meant, d.2)))
+    let does = rw (c.prints_digests.ensures, c.packs.ensures) at d.2 in
+    (d.0, d.1, inl (refl, (c.in_ok-command.command, meant, does)))
 
 pub returns-clause-ok : goal.returns-clause-ok
 returns-clause-ok g c =

@@ -3,9 +3,9 @@ use Rattle.std.proofs.lemmas.Result.{err_from_is_err_and, on_ok_weaker}
 use Rattle.pbfcut_cli.specs.declared.programs.Program.TheVariants.{Pbfcutz}
 use Rattle.pbfcut_program.specs.Events.{Event, Reading, Writing, opened, read, screened, wrote, then_all}
 use Rattle.pbfcut_program.specs.Fails.{Fails}
-use Rattle.pbfcut_program.specs.Program.{IsListing}
+use Rattle.pbfcut_program.specs.Program.{IsHeaderText}
 use Rattle.pbfcut_program.proofs.FailLemmas.{opening_after, opening_fails, text_err, text_ok}
-use Rattle.pbfcut_program.proofs.Listings.{any_done, any_fails, listing_lost}
+use Rattle.pbfcut_program.proofs.Listings.{any_fails, header_done, listing_lost}
 use Rattle.pbfcut_program.proofs.Logging.{and_then}
 use Rattle.pbfcut_program.proofs.reading.run_info.Goals as goal
 
@@ -31,8 +31,8 @@ returns-clause-ok g c =
     let first : List Event = opened input 1 has ∷ screened true ∷ [] in
     let begun = and_then (log c.args.host.now) _ _ (opened input 1 has ∷ []) (screened true ∷ []) c.in_ok-pass.ensures.opened c.in_ok-out.ensures.opened.0 in
     let e = c.ended.ensures in
-    let done : OnOk c.ended.result ((r : Reading) × (w : Writing) × (log c.ended.new.host ≡ then_all (log c.open_screen.new.host) (read r ∷ wrote w ∷ [])) × (w.out ≡ true) × IsListing Pbfcutz has w.bytes) =
-    text_ok e.0 c.show_header-outcome.result c.ended.result _ e.2 (λ went. rw (sym went) (any_done g.H.In.Feed g.H.Out.Drain c.show_header-outcome.new.pass c.show_header-outcome.new.drain e.0 (log c.open_screen.new.host) (log c.close.new.self) (log c.ended.new.host) (c.close.ensures.some, c.close.ensures.logged) e.1 has c.show_header-outcome.result)) in
+    let done : OnOk c.ended.result ((r : Reading) × (w : Writing) × (log c.ended.new.host ≡ then_all (log c.open_screen.new.host) (read r ∷ wrote w ∷ [])) × (w.out ≡ true) × IsHeaderText has w.bytes) =
+    text_ok e.0 c.show_header-outcome.result c.ended.result _ e.2 (λ went. rw (sym went) (header_done g.H.In.Feed g.H.Out.Drain c.show_header-outcome.new.pass c.show_header-outcome.new.drain e.0 (log c.open_screen.new.host) (log c.close.new.self) (log c.ended.new.host) (c.close.ensures.some, c.close.ensures.logged) e.1 has c.in_ok-out.out c.show_header-outcome.result c.in_ok-out.ensures.opened.1 c.show_header-outcome.ensures.shown)) in
     on_ok_weaker c.ended.result (λ d. (_, and_then (log c.args.host.now) _ _ first _ begun d.2, record { has = has; first = d.0; out = d.1; happened = refl; whole = d.3; lines = d.4 })) done
 
 pub returns-clause-err : goal.returns-clause-err
@@ -44,4 +44,4 @@ returns-clause-err g c =
     let e = c.ended.ensures in
     text_err e.0 c.show_header-outcome.result c.ended.result (λ how. (events : List Event) × (log c.ended.new.host ≡ then_all (log c.args.host.now) events) × Fails Pbfcutz (λ _ _. Unit {0}) how events) e.2
     (λ gone. listing_lost g.H.In.Feed g.H.Out.Drain c.show_header-outcome.new.pass c.show_header-outcome.new.drain e.0 (log c.open_screen.new.host) (log c.close.new.self) (log c.ended.new.host) (c.close.ensures.some, c.close.ensures.logged) e.1 Pbfcutz (λ _ _. Unit {0}) (log c.args.host.now) input has begun gone)
-    (any_fails g.H.In.Feed g.H.Out.Drain c.show_header-outcome.new.pass c.show_header-outcome.new.drain e.0 (log c.open_screen.new.host) (log c.close.new.self) (log c.ended.new.host) (c.close.ensures.some, c.close.ensures.logged) e.1 (λ _ _. Unit {0}) c.show_header-outcome.result (log c.args.host.now) input has begun c.show_header-outcome.ensures)
+    (any_fails g.H.In.Feed g.H.Out.Drain c.show_header-outcome.new.pass c.show_header-outcome.new.drain e.0 (log c.open_screen.new.host) (log c.close.new.self) (log c.ended.new.host) (c.close.ensures.some, c.close.ensures.logged) e.1 c.show_header-outcome.result (log c.args.host.now) input has begun c.show_header-outcome.ensures.ends)

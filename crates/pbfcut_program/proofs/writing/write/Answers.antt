@@ -2,12 +2,14 @@ use Rattle.std.proofs.Common.{◌≡◌, ◌∙◌, [], ◌∷◌, ◌++◌, Lis
 use Rattle.std.proofs.lemmas.Result.{err_from_is_err_and}
 use Rattle.pbfcut_program.specs.declared.host.Screen.{Screen}
 use Rattle.pbfcut_program.specs.Events.{Event, read, seeded, wrote, then_all}
-use Rattle.pbfcut_program.specs.Fails.{Fails, IsRefused}
+use Rattle.pbfcut_program.specs.Fails.{Fails, IsRefusedBy, IsRefusedOf}
 use Rattle.pbfcut_program.specs.Jobs.{feeds_of, plan_of}
-use Rattle.pbfcut_program.specs.Program.{IsWorkOf, counts_text, done_lines, is_screen, looks, makes, openings, prints, screen_of}
+use Rattle.pbfcut_program.specs.Program.{counts_text, done_lines, is_screen, looks, makes, openings, prints, screen_of}
+use Rattle.pbfcut_program.specs.Manner.{manner_of}
+use Rattle.pbfcut_program.specs.Readings.{IsWork}
 use Rattle.pbfcut_program.specs.Tasks.{judge_of}
-use Rattle.pbfcut_program.proofs.Beginning.{all_events, begun, length_has, quiet_begun}
-use Rattle.pbfcut_program.proofs.FailLemmas.{fails_after, opening_fails, print_fails, refused_keeps}
+use Rattle.pbfcut_program.proofs.Beginning.{all_events, begun, by_begun, length_has, quiet_begun}
+use Rattle.pbfcut_program.proofs.FailLemmas.{fails_after, opening_fails, print_fails}
 use Rattle.pbfcut_program.proofs.Logging.{and_then}
 use Rattle.pbfcut_program.proofs.writing.write.Goals as goal
 
@@ -27,9 +29,10 @@ returns-in_err-done-clause-err g c =
     let is = is_screen c.args.engine.program files.output.now in
     let has = map g.H.In.Feed.remaining (feeds_of c.in_ok-ready.ready.job) in
     let judge = judge_of (plan_of c.args.plan) in
-    let fails = subst (λ t. Fails c.args.engine.program (IsRefused (judge_of t)) how f.0) c.in_ok-ready.ensures.planned.0 f.2 in
+    let program = c.args.engine.program in
+    let fails = subst (λ t. Fails program (IsRefusedOf program (judge_of t) has) how f.0) c.in_ok-ready.ensures.planned.0 f.2 in
     let opened = rw c.is_screen-to_screen.ensures at c.in_ok-ready.ensures.ok in
-    rw (p.1, p.2) (_, and_then log _ _ (begun is files.input.now files.output.now has) f.0 opened f.1, fails_after c.args.engine.program (IsRefused judge) how (begun is files.input.now files.output.now has) f.0 (refused_keeps judge) (quiet_begun is files.input.now files.output.now has) fails)
+    rw (p.1, p.2) (_, and_then log _ _ (begun is files.input.now files.output.now has) f.0 opened f.1, fails_after program (IsRefusedOf program judge has) (IsRefusedBy program judge) how (begun is files.input.now files.output.now has) f.0 (λ e r. by_begun program judge is files.input.now files.output.now has e f.0 r) (quiet_begun is files.input.now files.output.now has) fails)
 
 pub returns-in_err-print_done-clause-err : goal.returns-in_err-print_done-clause-err
 returns-in_err-print_done-clause-err g c =
@@ -41,7 +44,7 @@ returns-in_err-print_done-clause-err g c =
     let has = map g.H.In.Feed.remaining (feeds_of c.in_ok-ready.ready.job) in
     let opened = rw c.is_screen-to_screen.ensures at c.in_ok-ready.ensures.ok in
     let done = and_then log _ _ (begun is files.input.now files.output.now has) (map (λ r. read r) d.0 ++ wrote d.1 ∷ []) opened d.2 in
-    rw (p.1, p.2) (print_fails c.args.engine.program (IsRefused (judge_of (plan_of c.args.plan))) c.in_err-print_done.field-0.0 log _ _ _ done c.in_err-print_done.ensures)
+    rw (p.1, p.2) (print_fails c.args.engine.program (IsRefusedBy c.args.engine.program (judge_of (plan_of c.args.plan))) c.in_err-print_done.field-0.0 log _ _ _ done c.in_err-print_done.ensures)
 
 pub returns-clause-ok : goal.returns-clause-ok
 returns-clause-ok g c =
@@ -72,6 +75,6 @@ returns-clause-ok g c =
         passes = length_has g.H.In.Feed.remaining (feeds_of c.in_ok-ready.ready.job) ∙ c.in_ok-ready.ensures.planned.1;
         whole = d.3;
         hashed = d.4;
-        work = subst (λ t. IsWorkOf c.args.engine.program true t d.0 d.1.bytes r.report.counts r.report.input r.report.raw) c.in_ok-ready.ensures.planned.0 d.5;
+        work = subst (λ t. IsWork (manner_of c.args.engine) t d.0 d.1.bytes r.report.counts r.report.input r.report.raw) c.in_ok-ready.ensures.planned.0 d.5;
       },
     )

@@ -1,0 +1,200 @@
+-- What pbfcutz's calls report of what went through their devices.
+use Rattle.std.proofs.Common.{◌≡◌, inl, inr, ℕ, List, [], ◌∷◌, Bool, true, false, Option, Some, Result, Ok, Err, IfOk, IfErr, refl, subst, sym}
+use Rattle.osm_area.specs.Area.{AreaSpec}
+use Rattle.osm_ways.specs.Parents.{extract_with_parents}
+use Rattle.osm_ways.specs.Seen.{seen_decoded}
+use Rattle.osm_ways.specs.Selection as select
+use Rattle.pbf_frame.specs.declared.device.Feed as feed
+use Rattle.pbf_frame.specs.declared.device.Drain as drain
+use Rattle.pbf_pass.specs.Given.{Took}
+use Rattle.pbf_pass.specs.Hashing.{IsDigestOf, digest_if}
+use Rattle.pbf_pass.specs.Judged.{judged_file}
+use Rattle.pbf_pass.specs.Pass.{CountsFile}
+use Rattle.pbf_pass.specs.HeaderLimit.{judged_writable}
+use Rattle.pbf_pass.specs.Stops.{Caused, FaultOf, WriteFailed}
+use Rattle.pbf_wire.specs.declared.fault.Fault.{Fault}
+use Rattle.pbf_frame.specs.declared.stop.Stop.{Stop}
+use Rattle.pbf_frame.specs.declared.stop.Stop.TheVariants as stop
+use Rattle.pbfcut.specs.Calls.{RefusedFirst}
+use Rattle.pbfcut_cli.specs.declared.endings.Ending.{Ending}
+use Rattle.pbfcut_cli.specs.declared.endings.Ending.TheVariants as ending
+use Rattle.pbf_unpack.specs.Unpacked.{unpacked}
+use Rattle.pbfcut.specs.Extracting.{all_parents, complete_ways}
+use Rattle.pbfcut.specs.Kept.{IsWritable}
+use Rattle.pbfcut.specs.Showing.{Shown}
+use Rattle.pbfcut.specs.Theorem.{IsConverted, IsExtraction}
+use Rattle.pbf_published.specs.declared.input.PublishedHalt.{PublishedHalt}
+use Rattle.pbf_published.specs.declared.input.PublishedInput.{PublishedInput}
+use Rattle.pbf_published.specs.Published.{GaveOrNone, GavePublished, raw_of}
+use Rattle.pbfcut_cli.specs.declared.programs.Program.TheVariants.{Pbfcutz}
+use Rattle.pbfcut_program.specs.declared.engine.Report.{Report}
+use Rattle.pbfcut_program.specs.declared.engine.Halted.{Halted}
+use Rattle.pbfcut_program.specs.Devices.{AreFresh, Gives, GivesOrNot, Works}
+use Rattle.pbfcut_program.specs.Fails.{FirstFault}
+use Rattle.pbfcut_program.specs.Manner.{AreDigests, manner}
+use Rattle.pbfcut_program.specs.Outcomes.{EndsAsStop, RefusesAs, ReportsPublished}
+use Rattle.pbfcut_program.specs.Tasks.{Holds, Task, checking, hashes_in, judge_of, showing, converting, copying, extracting, extracting_parents}
+use Rattle.pbfcut_program.proofs.RawCalls.{digest_or_not}
+
+-- a feed gave packed bytes, and this holds of the raw file that they mean
+record Gave {F : Type 0} (f : feed.Ghosts F) (known : List ℕ → Type 0) (now : F) (holds : List ℕ → Type 0) : Type 0 where
+  file : List ℕ
+  gives : Gives f known now file
+  holding : holds (unpacked file)
+
+-- the same of a later one, which may have been spared
+record GaveAfter {F : Type 0} (f : feed.Ghosts F) (known : List ℕ → Type 0) (first : List ℕ) (old now : F) (holds : List ℕ → Type 0) : Type 0 where
+  file : List ℕ
+  gives : GivesOrNot f known true first old now file
+  holding : holds (unpacked file)
+
+module _ {F : Type 0} (f : feed.Ghosts F) (packs digests hashes : Bool) (input r : List ℕ) (raw : Option (List ℕ)) (is : raw ≡ Some r) where
+  -- what is known of the files that one call reports
+  abbrev Known : List ℕ → Type 0
+  Known = AreDigests (manner Pbfcutz packs digests) hashes input raw
+
+  -- what passed by the first log is what is said of
+  gave : {old now : F} {digest : Option (List ℕ)} {holds : List ℕ → Type 0} → ((file : List ℕ) → IsDigestOf digest file → IsDigestOf (digest_if hashes input) file) → f.has_passed old 0 [] → GavePublished f old now digest (digest_if digests r) holds → Gave f Known now holds
+  gave {holds = holds} same start g =
+      let p = g.logged 0 start in
+      record {
+        file = p.packed;
+        gives = record {
+          passed = p.passed;
+          end = g.end;
+          is_known = (same p.packed p.digest_is, (r, is, subst (λ file. IsDigestOf (digest_if digests r) file) (sym p.means) g.raw_digest_is));
+        };
+        holding = subst holds (sym p.means) g.holding;
+      }
+
+  gave_all : {old now : F} {holds : List ℕ → Type 0} → f.has_passed old 0 [] → GavePublished f old now (Some input) (digest_if digests r) holds → Gave f Known now holds
+  gave_all start g = gave (digest_or_not hashes input) start g
+
+  gave_after : {old now : F} {first : List ℕ} {holds : List ℕ → Type 0} → f.has_passed old 0 [] → GaveOrNone f old now input (digest_if digests r) (unpacked first) holds → GaveAfter f Known first old now holds
+  gave_after start (inl g) = (let one = gave_all start g in record { file = one.file; gives = inl one.gives; holding = one.holding })
+  gave_after {first = first} start (inr none) = record { file = first; gives = inr (refl, none.0, refl); holding = none.1 }
+
+-- ---- how a call ends
+
+pub published_ends : (refused : Fault → Type 0) (s : Stop) (how : Ending) → ((e : Fault) → s ≡ stop.Refused e → refused e) → EndsAsStop s how → RefusesAs refused how
+published_ends refused s (ending.Stopped (stop.Refused e)) has ends = has e (sym ends)
+published_ends refused s (ending.Stopped stop.Read) has ends = tt
+published_ends refused s (ending.Stopped stop.Write) has ends = tt
+published_ends refused s (ending.Stopped stop.Memory) has ends = tt
+published_ends refused s (ending.Stopped (stop.Changed p)) has ends = tt
+published_ends refused s (ending.RefusedPacked r) has ends = (ends.0, ends.2, has ends.0 ends.1)
+published_ends refused s ending.CannotOpen has ends = absurd ends
+published_ends refused s ending.IsPipe has ends = absurd ends
+published_ends refused s ending.OutExists has ends = absurd ends
+published_ends refused s (ending.Polygon x) has ends = absurd ends
+published_ends refused s (ending.Words t) has ends = absurd ends
+published_ends refused s ending.NotText has ends = absurd ends
+published_ends refused s (ending.Box b) has ends = absurd ends
+published_ends refused s (ending.Choice b) has ends = absurd ends
+
+-- what is refused has its cause
+pub cause_of : (refused : Fault → Type 0) (read wrote : Type 0) (changed : ℕ → Type 0) (s : Stop) → Caused refused read wrote changed s → (e : Fault) → s ≡ stop.Refused e → refused e
+cause_of refused read wrote changed s caused e is = subst (λ (t : Stop). Caused refused read wrote changed t) is caused
+
+-- ---- one pass
+
+pub check_published : {F : Type 0} (f : feed.Ghosts F) (packs digests : Bool) (one one_now : F) → AreFresh f (one ∷ []) → (outcome : Result PublishedInput PublishedHalt) (result : Result Report Halted)
+    → IfOk outcome (λ receipt. GavePublished f one one_now (digest_if digests receipt.input) (digest_if digests receipt.raw) (λ file. CountsFile (judged_file (Some file)) receipt.counts)) → (read : Type 0) (changed : ℕ → Type 0) → IfErr outcome (λ h. Caused (FaultOf (judged_file (raw_of (f.remaining one)))) read ⊥ changed h.stop) → ReportsPublished outcome result
+    → Works (manner Pbfcutz packs digests) f checking (one ∷ []) (one_now ∷ []) (λ took. took ≡ []) ⊥ result
+check_published f packs digests one one_now fresh (Ok receipt) (Ok report) given read changed stops r =
+    let first = gave f packs digests digests receipt.input receipt.raw report.raw r.2 (λ file same. same) fresh.0.0 given in
+    rw (r.0, r.1) record { files = first.file ∷ []; written = []; gave = (first.gives, tt); took_them = refl; holds = first.holding }
+check_published f packs digests one one_now fresh (Err halt) (Err halted) given read changed stops r =
+    published_ends (λ e. FirstFault judged_file e (f.remaining one ∷ [])) halt.stop halted.ending (cause_of (FaultOf (judged_file (raw_of (f.remaining one)))) read ⊥ changed halt.stop stops) r
+check_published f packs digests one one_now fresh (Ok receipt) (Err halted) given read changed stops r = absurd r
+check_published f packs digests one one_now fresh (Err halt) (Ok report) given read changed stops r = absurd r
+
+-- ---- more passes
+
+module _ {F D : Type 0} (f : feed.Ghosts F) (d : drain.Ghosts D) (out out_now : D) (digests : Bool) (log : ℕ) (start : d.has_taken out log []) where
+  two_published : (task : Task) (P : PublishedInput → List ℕ → Type 0) (Q : PublishedInput → (b c w : List ℕ) → Type 0)
+      → ((receipt : PublishedInput) (b c w : List ℕ) → P receipt b → Q receipt b c w → Holds task (b ∷ c ∷ []) receipt.counts w)
+      → (one one_now two two_now : F) (outcome : Result PublishedInput PublishedHalt) (result : Result Report Halted) → AreFresh f (one ∷ two ∷ [])
+      → IfOk outcome (λ receipt. GavePublished f one one_now (Some receipt.input) (digest_if digests receipt.raw) (λ b. P receipt b × GavePublished f two two_now (Some receipt.input) (digest_if digests receipt.raw) (λ c. Took d out out_now (λ w. Q receipt b c w))))
+      → (read wrote : Type 0) (changed : ℕ → Type 0) → IfErr outcome (λ h. Caused (RefusedFirst (judge_of task (raw_of (f.remaining one))) (d.taken out) (d.taken out_now)) read wrote changed h.stop) → ReportsPublished outcome result
+      → Works (manner Pbfcutz false digests) f task (one ∷ two ∷ []) (one_now ∷ two_now ∷ []) (d.has_taken out_now log) (WriteFailed d out out_now) result
+  two_published task P Q meant one one_now two two_now (Ok receipt) (Ok report) fresh given read wrote changed stops r =
+      let first = gave_all f false digests (hashes_in task digests) receipt.input receipt.raw report.raw r.2 fresh.0.0 given in
+      let again = gave_all f false digests (hashes_in task digests) receipt.input receipt.raw report.raw r.2 fresh.1.0.0 first.holding.1 in
+      let took = again.holding in
+      rw (r.0, r.1) record {
+        files = first.file ∷ again.file ∷ [];
+        written = took.written;
+        gave = (first.gives, (inl again.gives, tt));
+        took_them = took.added.logged log [] start;
+        holds = meant receipt (unpacked first.file) (unpacked again.file) took.written first.holding.0 took.holding;
+      }
+  two_published task P Q meant one one_now two two_now (Err halt) (Err halted) fresh given read wrote changed stops r =
+      published_ends (λ e. FirstFault (judge_of task) e (f.remaining one ∷ f.remaining two ∷ [])) halt.stop halted.ending (λ e is. (cause_of (RefusedFirst ((judge_of task) (raw_of (f.remaining one))) (d.taken out) (d.taken out_now)) read wrote changed halt.stop stops e is).0) r
+  two_published task P Q meant one one_now two two_now (Ok receipt) (Err halted) fresh given read wrote changed stops r = absurd r
+  two_published task P Q meant one one_now two two_now (Err halt) (Ok report) fresh given read wrote changed stops r = absurd r
+
+  pub show_published : (dates : Bool) (one one_now two two_now : F) (outcome : Result PublishedInput PublishedHalt) (result : Result Report Halted) → AreFresh f (one ∷ two ∷ [])
+      → IfOk outcome (λ receipt. GavePublished f one one_now (Some receipt.input) (digest_if digests receipt.raw) (λ b. CountsFile (judged_file (Some b)) receipt.counts × GavePublished f two two_now (Some receipt.input) (digest_if digests receipt.raw) (λ c. Took d out out_now (Shown dates (judged_file (Some c))))))
+      → (read wrote : Type 0) (changed : ℕ → Type 0) → IfErr outcome (λ h. Caused (RefusedFirst (judged_file (raw_of (f.remaining one))) (d.taken out) (d.taken out_now)) read wrote changed h.stop) → ReportsPublished outcome result
+      → Works (manner Pbfcutz false digests) f (showing dates) (one ∷ two ∷ []) (one_now ∷ two_now ∷ []) (d.has_taken out_now log) (WriteFailed d out out_now) result
+  show_published dates = two_published (showing dates) (λ receipt b. CountsFile (judged_file (Some b)) receipt.counts) (λ receipt b c w. Shown dates (judged_file (Some c)) w) (λ receipt b c w p q. (p, q))
+
+  pub convert_published : (one one_now two two_now : F) (outcome : Result PublishedInput PublishedHalt) (result : Result Report Halted) → AreFresh f (one ∷ two ∷ [])
+      → IfOk outcome (λ receipt. GavePublished f one one_now (Some receipt.input) (digest_if digests receipt.raw) (λ b. IsWritable b × GavePublished f two two_now (Some receipt.input) (digest_if digests receipt.raw) (λ c. Took d out out_now (λ w. b ≡ c → IsConverted b receipt.counts w))))
+      → (read wrote : Type 0) (changed : ℕ → Type 0) → IfErr outcome (λ h. Caused (RefusedFirst (judged_writable (raw_of (f.remaining one))) (d.taken out) (d.taken out_now)) read wrote changed h.stop) → ReportsPublished outcome result
+      → Works (manner Pbfcutz false digests) f converting (one ∷ two ∷ []) (one_now ∷ two_now ∷ []) (d.has_taken out_now log) (WriteFailed d out out_now) result
+  convert_published = two_published converting (λ receipt b. IsWritable b) (λ receipt b c w. b ≡ c → IsConverted b receipt.counts w) (λ receipt b c w p q. (p, q))
+
+  pub copy_published : (one one_now two two_now : F) (outcome : Result PublishedInput PublishedHalt) (result : Result Report Halted) → AreFresh f (one ∷ two ∷ [])
+      → IfOk outcome (λ receipt. GavePublished f one one_now (Some receipt.input) (digest_if digests receipt.raw) (λ b. CountsFile (judged_file (Some b)) receipt.counts × GavePublished f two two_now (Some receipt.input) (digest_if digests receipt.raw) (λ c. Took d out out_now (λ w. w ≡ c))))
+      → (read wrote : Type 0) (changed : ℕ → Type 0) → IfErr outcome (λ h. Caused (RefusedFirst (judged_file (raw_of (f.remaining one))) (d.taken out) (d.taken out_now)) read wrote changed h.stop) → ReportsPublished outcome result
+      → Works (manner Pbfcutz false digests) f copying (one ∷ two ∷ []) (one_now ∷ two_now ∷ []) (d.has_taken out_now log) (WriteFailed d out out_now) result
+  copy_published = two_published copying (λ receipt b. CountsFile (judged_file (Some b)) receipt.counts) (λ receipt b c w. w ≡ c) (λ receipt b c w p q. (p, q))
+
+  -- three passes
+  pub extract_published : (area : AreaSpec) (one one_now two two_now three three_now : F) (outcome : Result PublishedInput PublishedHalt) (result : Result Report Halted) → AreFresh f (one ∷ two ∷ three ∷ [])
+      → IfOk outcome (λ receipt. GavePublished f one one_now (Some receipt.input) (digest_if digests receipt.raw) (λ b. IsWritable b × GaveOrNone f two two_now receipt.input (digest_if digests receipt.raw) b (λ c. GavePublished f three three_now (Some receipt.input) (digest_if digests receipt.raw) (λ e. Took d out out_now (λ w. b ≡ c → b ≡ e → IsExtraction (complete_ways area) (select.extract (seen_decoded area)) area b receipt.counts w)))))
+      → (read wrote : Type 0) (changed : ℕ → Type 0) → IfErr outcome (λ h. Caused (RefusedFirst (judged_writable (raw_of (f.remaining one))) (d.taken out) (d.taken out_now)) read wrote changed h.stop) → ReportsPublished outcome result
+      → Works (manner Pbfcutz false digests) f (extracting area) (one ∷ two ∷ three ∷ []) (one_now ∷ two_now ∷ three_now ∷ []) (d.has_taken out_now log) (WriteFailed d out out_now) result
+  extract_published area one one_now two two_now three three_now (Ok receipt) (Ok report) fresh given read wrote changed stops r =
+      let task = extracting area in
+      let first = gave_all f false digests (hashes_in task digests) receipt.input receipt.raw report.raw r.2 fresh.0.0 given in
+      let again = gave_after f false digests (hashes_in task digests) receipt.input receipt.raw report.raw r.2 fresh.1.0.0 first.holding.1 in
+      let last = gave_all f false digests (hashes_in task digests) receipt.input receipt.raw report.raw r.2 fresh.1.1.0.0 again.holding in
+      let took = last.holding in
+      rw (r.0, r.1) record {
+        files = first.file ∷ again.file ∷ last.file ∷ [];
+        written = took.written;
+        gave = (first.gives, (again.gives, (inl last.gives, tt)));
+        took_them = took.added.logged log [] start;
+        holds = (first.holding.0, took.holding);
+      }
+  extract_published area one one_now two two_now three three_now (Err halt) (Err halted) fresh given read wrote changed stops r =
+      published_ends (λ e. FirstFault judged_writable e (f.remaining one ∷ f.remaining two ∷ f.remaining three ∷ [])) halt.stop halted.ending (λ e is. (cause_of (RefusedFirst (judged_writable (raw_of (f.remaining one))) (d.taken out) (d.taken out_now)) read wrote changed halt.stop stops e is).0) r
+  extract_published area one one_now two two_now three three_now (Ok receipt) (Err halted) fresh given read wrote changed stops r = absurd r
+  extract_published area one one_now two two_now three three_now (Err halt) (Ok report) fresh given read wrote changed stops r = absurd r
+
+  -- four passes
+  pub extract_parents_published : (area : AreaSpec) (one one_now two two_now three three_now four four_now : F) (outcome : Result PublishedInput PublishedHalt) (result : Result Report Halted) → AreFresh f (one ∷ two ∷ three ∷ four ∷ [])
+      → IfOk outcome (λ receipt. GavePublished f one one_now (Some receipt.input) (digest_if digests receipt.raw) (λ b. IsWritable b × GaveOrNone f two two_now receipt.input (digest_if digests receipt.raw) b (λ c. GavePublished f three three_now (Some receipt.input) (digest_if digests receipt.raw) (λ e. GavePublished f four four_now (Some receipt.input) (digest_if digests receipt.raw) (λ g. Took d out out_now (λ w. b ≡ c → b ≡ e → b ≡ g → IsExtraction (all_parents area) (extract_with_parents (seen_decoded area)) area b receipt.counts w))))))
+      → (read wrote : Type 0) (changed : ℕ → Type 0) → IfErr outcome (λ h. Caused (RefusedFirst (judged_writable (raw_of (f.remaining one))) (d.taken out) (d.taken out_now)) read wrote changed h.stop) → ReportsPublished outcome result
+      → Works (manner Pbfcutz false digests) f (extracting_parents area) (one ∷ two ∷ three ∷ four ∷ []) (one_now ∷ two_now ∷ three_now ∷ four_now ∷ []) (d.has_taken out_now log) (WriteFailed d out out_now) result
+  extract_parents_published area one one_now two two_now three three_now four four_now (Ok receipt) (Ok report) fresh given read wrote changed stops r =
+      let task = extracting_parents area in
+      let first = gave_all f false digests (hashes_in task digests) receipt.input receipt.raw report.raw r.2 fresh.0.0 given in
+      let again = gave_after f false digests (hashes_in task digests) receipt.input receipt.raw report.raw r.2 fresh.1.0.0 first.holding.1 in
+      let third = gave_all f false digests (hashes_in task digests) receipt.input receipt.raw report.raw r.2 fresh.1.1.0.0 again.holding in
+      let last = gave_all f false digests (hashes_in task digests) receipt.input receipt.raw report.raw r.2 fresh.1.1.1.0.0 third.holding in
+      let took = last.holding in
+      rw (r.0, r.1) record {
+        files = first.file ∷ again.file ∷ third.file ∷ last.file ∷ [];
+        written = took.written;
+        gave = (first.gives, (again.gives, (inl third.gives, (inl last.gives, tt))));
+        took_them = took.added.logged log [] start;
+        holds = (first.holding.0, took.holding);
+      }
+  extract_parents_published area one one_now two two_now three three_now four four_now (Err halt) (Err halted) fresh given read wrote changed stops r =
+      published_ends (λ e. FirstFault judged_writable e (f.remaining one ∷ f.remaining two ∷ f.remaining three ∷ f.remaining four ∷ [])) halt.stop halted.ending (λ e is. (cause_of (RefusedFirst (judged_writable (raw_of (f.remaining one))) (d.taken out) (d.taken out_now)) read wrote changed halt.stop stops e is).0) r
+  extract_parents_published area one one_now two two_now three three_now four four_now (Ok receipt) (Err halted) fresh given read wrote changed stops r = absurd r
+  extract_parents_published area one one_now two two_now three three_now four four_now (Err halt) (Ok report) fresh given read wrote changed stops r = absurd r
