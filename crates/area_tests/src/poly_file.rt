@@ -67,18 +67,21 @@ fn one_ring_in_many_spellings(rt: HostRuntime) {
 /// Numbers that end far beyond the ninth decimal place.
 #[test]
 fn small_numbers(rt: HostRuntime) {
-    let text = "x\n1\n 9e-13 0.00000000012345678901234567890123\n -999e-11 99.9E-10\n 9.55000000000000000000000000001 5e-99\nEND\nEND\n";
+    let text =
+        "x\n1\n 9e-13 0.00000000012345678901234567890123\n -999e-11 99.9E-10\n 9.55000000000000000000000000001 5e-99\nEND\nEND\n";
     let rings = read_rings(rt.alloc(), text).ok();
     let places = rings.as_ref().and_then(|rings| rings.first());
-    assert!(rt; match places {
-        Some(ring) => match ring.places.as_slice() {
-            [first, second, third] => {
-                is_at(*first, 0, 0) && is_at(*second, 9, -9) && is_at(*third, 0, 9_550_000_000)
-            }
-            _ => false,
-        },
-        None => false,
-    });
+    assert!(rt;
+        match places {
+            Some(ring) => match ring.places.as_slice() {
+                [first, second, third] => {
+                    is_at(*first, 0, 0) && is_at(*second, 9, -9) && is_at(*third, 0, 9_550_000_000)
+                }
+                _ => false,
+            },
+            None => false,
+        }
+    );
 }
 
 /// How many rings and places the text has.

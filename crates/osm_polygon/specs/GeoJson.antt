@@ -1,4 +1,4 @@
--- GeoJSON (RFC 7946): polygons by themselves, in a collection of geometries, or in features.
+-- GeoJSON (RFC 7946) of polygons: geometries, collections of them, and features.
 use Rattle.std.specs.Prelude.{ℕ, ◌+◌, ◌-◌, ℤ, pos, Bool, false, ◌&&◌, List, [], ◌∷◌, ◌++◌, length, codes, nat_lt, if◌then◌else◌}
 use Rattle.std.specs.Prelude.{Option, Some, None, option_and_then, Result, Ok, Err}
 use Rattle.std.specs.List.{slice_get}
