@@ -191,7 +191,7 @@ fn absent_so_far(alloc: Global, ids: &[i64], id: i64) -> Result<(i64, i64), Allo
     Ok((absent.above, absent.below))
 }
 
-/// And what it shows to be there.
+/// And what it shows to be there: ids from this one on.
 fn present_near(ids: &SealedIds, id: i64) -> (i64, i64) {
     let mut window = Window::new();
     let _is_there = window.has(ids, id);
@@ -202,8 +202,9 @@ fn present_near(ids: &SealedIds, id: i64) -> (i64, i64) {
 #[test]
 fn present_ids_of_a_run(rt: HostRuntime) -> Result<(), AllocError> {
     let ids = sealed(gathered(rt.alloc(), &[1, 2, 3, 5, 6, 9])?)?;
-    assert_eq!(rt; present_near(&ids, 2), (0, 4));
-    assert_eq!(rt; present_near(&ids, 6), (4, 7));
+    assert_eq!(rt; present_near(&ids, 1), (0, 4));
+    assert_eq!(rt; present_near(&ids, 2), (1, 4));
+    assert_eq!(rt; present_near(&ids, 6), (5, 7));
     assert_eq!(rt; present_near(&ids, 9), (8, 10));
     assert_eq!(rt; present_near(&ids, 4), (0, 0));
     Ok(())
