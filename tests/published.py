@@ -293,8 +293,9 @@ def other_lines(bench: Bench):
     _, said, _, _ = bench.run(bench.pbfcutz, ["check", "--digests", "in"], data)
     yield "digests of check", [f"{digest['packed']}  in", f"# unpacked {digest['raw']}"], said.splitlines()[1:]
     _, said, _, out = bench.run(bench.pbfcutz, ["extract", "--digests", BOX, "in", "out"], data)
-    of_out = subprocess.run(["sha256sum"], input=out, capture_output=True, check=True).stdout.decode()[:64]
-    yield "digests of extract", [f"{digest['packed']}  in", f"# unpacked {digest['raw']}", f"{of_out}  out"], said.splitlines()[1:]
+    of_out, of_meaning = (subprocess.run(["sha256sum"], input=of, capture_output=True, check=True).stdout.decode()[:64] for of in (out, unpacked(out)))
+    wanted = [f"{digest['packed']}  in", f"# unpacked {digest['raw']}", f"{of_out}  out", f"# unpacked {of_meaning}"]
+    yield "digests of extract", wanted, said.splitlines()[1:]
     yield "all data of the extract compressed", {ZLIB}, {form for _, kind, blob in pieces_of(out) for form in forms_of(blob) if kind == b"OSMData"}
     yield "hardly longer than by zlib's level 1", True, len(out) <= len(packed(unpacked(out), 1)) * 1.05 + 100
     piped = subprocess.run([bench.pbfcutz, "check", "/dev/stdin"], input=data, capture_output=True, timeout=SECONDS)

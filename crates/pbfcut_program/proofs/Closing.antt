@@ -1,6 +1,8 @@
 -- What a call of the engine did, as events, once its devices are returned.
 use Rattle.std.proofs.Common.{◌≡◌, ◌⊎◌, inl, inr, ℕ, zero, suc, ◌+◌, ◌<◌, List, [], ◌∷◌, ◌++◌, length, map, Bool, true, false, Option, Some, None, Result, Ok, Err, IfErr, OnOk, refl, ap, sym, subst, ◌∙◌, arith}
 use Rattle.std.proofs.lemmas.List.{append-nil}
+use Rattle.std.specs.Prelude.{IfSome}
+use Rattle.sha2.specs.Sha256.{sha256}
 use Rattle.pbf_frame.specs.declared.device.Feed as feed
 use Rattle.pbf_frame.specs.declared.device.Drain as drain
 use Rattle.pbf_frame.specs.declared.stop.Stop.{Stop}
@@ -14,7 +16,7 @@ use Rattle.pbfcut_cli.specs.declared.programs.Program.{Program}
 use Rattle.pbfcut_cli.specs.declared.programs.Program.TheVariants.{Pbfcut, Pbfcutz}
 use Rattle.pbfcut_program.specs.declared.engine.Report.{Report}
 use Rattle.pbfcut_program.specs.declared.engine.Halted.{Halted}
-use Rattle.pbfcut_program.specs.Devices.{AnyFailed, AreFresh, CloseAll, Closes, EndsFor, Finishes, GiveAll, GiveLater, GivesOrNot, GivesOtherAt, IsAsked, IsFresh, StopsFor, TakenBy, Works}
+use Rattle.pbfcut_program.specs.Devices.{AnyFailed, AreFresh, CloseAll, Closes, EndsFor, Finishes, GiveAll, GiveLater, GivesOrNot, GivesOtherAt, IsAsked, IsFresh, StopsFor, Works}
 use Rattle.pbfcut_program.specs.Events.{Event, Reading, Writing, read, wrote, then_all, then_one}
 use Rattle.pbfcut_program.specs.Fails.{Each, Fails, FailsFor, FailsToFinish, FailsToRead, FailsToWrite, FirstFault, Has, IsRefused, IsRefusedOf, TookNothing, readings}
 use Rattle.pbfcut_program.specs.Outcomes.{RefusesAs}
@@ -332,11 +334,11 @@ if_fails program packs digests f task took failed l m n olds news (Ok report) ta
 if_fails program packs digests f task took failed l m n olds news (Err halted) tail fresh c works = work_fails program packs digests f task took failed l m n olds news halted tail fresh c works
 
 -- the digest that was wanted
-pub hashed_as : {D : Type 0} (d : drain.Ghosts D) (out : D) (digests : Bool) (known : Option (List ℕ)) (w : List ℕ) → TakenBy d out known w → IsAsked digests known → known ≡ digest_if_asked digests w
-hashed_as d out true (Some known) w took asked = ap (λ (x : List ℕ). Some x) took.1
-hashed_as d out true None w took asked = absurd asked
-hashed_as d out false (Some known) w took asked = absurd asked
-hashed_as d out false None w took asked = refl
+pub hashed_as : (digests : Bool) (known : Option (List ℕ)) (w : List ℕ) → IfSome known (λ digest. digest ≡ sha256 w) → IsAsked digests known → known ≡ digest_if_asked digests w
+hashed_as true (Some known) w is asked = ap (λ (x : List ℕ). Some x) is
+hashed_as true None w is asked = absurd asked
+hashed_as false (Some known) w is asked = absurd asked
+hashed_as false None w is asked = refl
 
 -- not all went out, or OUT didn't get its name
 pub keep_fails : (program : Program) (refused : Fault → List Event → Type 0) (how : Ending) (events : List Event) → ((how ≡ ending.Stopped stop.Write) ⊎ (how ≡ ending.OutExists)) → Has FailsToWrite events → Has FailsToFinish events → Fails program refused how events

@@ -1,5 +1,7 @@
 -- What holds of a call by what its drain took holds by what that says of OUT.
 use Rattle.std.proofs.Common.{◌≡◌, ◌⊎◌, inl, inr, ℕ, List, [], ◌∷◌, map, Bool, true, false, Option, Result, Ok, Err, ap, subst, sym}
+use Rattle.std.specs.Prelude.{IfSome}
+use Rattle.sha2.specs.Sha256.{sha256}
 use Rattle.pbf_frame.specs.declared.device.Feed as feed
 use Rattle.pbf_frame.specs.declared.device.Drain as drain
 use Rattle.pbf_frame.specs.declared.stop.Stop.{Stop}
@@ -14,9 +16,9 @@ use Rattle.pbfcut_cli.specs.declared.programs.Program.{Program}
 use Rattle.pbfcut_cli.specs.declared.programs.Program.TheVariants.{Pbfcut, Pbfcutz}
 use Rattle.pbfcut_program.specs.declared.engine.Report.{Report}
 use Rattle.pbfcut_program.specs.declared.engine.Halted.{Halted}
-use Rattle.pbfcut_program.specs.Devices.{Change, EndsFor, FinishesPacked, StopsFor, Works}
+use Rattle.pbfcut_program.specs.Devices.{Change, EndsFor, FinishesPacked, MeansBy, StopsFor, Works}
 use Rattle.pbfcut_program.specs.Fails.{FirstFault}
-use Rattle.pbfcut_program.specs.Manner.{manner, meant, of_input, output_form, raw_file}
+use Rattle.pbfcut_program.specs.Manner.{manner, meant, of_input, output_form, packed_file, raw_file}
 use Rattle.pbfcut_program.specs.Outcomes.{RefusesAs}
 use Rattle.pbfcut_program.specs.Tasks.{Holds, Task, judge_of}
 
@@ -70,25 +72,26 @@ works_raw program packs digests f task olds news took failed (Ok report) is work
 works_raw program packs digests f task olds news took failed (Err halted) is works = works
 
 -- zlib blobs are, by a drain that was finished
-pub works_packed : (packs digests : Bool) {F D : Type 0} (f : feed.Ghosts F) {d : drain.Ghosts D} (mid new : PackedDrain D d) (log : ℕ) (task : Task) (olds news : List F) (failed risen : Type 0) (returned result : Result Report Halted) → packs ≡ true → FinishesPacked mid new returned result
-    → Works (manner Pbfcutz false digests) f task olds news (HasPacked mid log) failed returned → Works (manner Pbfcutz packs digests) f task olds news (d.has_taken new.below.drain log) risen result
-works_packed false digests f mid new log task olds news failed risen returned result is fin works = (let bad : ⊥ = cc in absurd bad)
-works_packed true digests f {d = d} mid new log task olds news failed risen (Ok report) (Ok same) is fin works =
-    let p = fin.1.logged log works.written works.took_them in
+pub works_packed : (packs digests : Bool) {F D : Type 0} (f : feed.Ghosts F) {d : drain.Ghosts D} (mid new : PackedDrain D d) (digest : Option (List ℕ)) (task : Task) (olds news : List F) (failed risen : Type 0) (returned result : Result Report Halted) → packs ≡ true → FinishesPacked mid new returned result
+    → Works (manner Pbfcutz false digests) f task olds news (λ w. HasPacked mid 0 w × IfSome digest (λ known. known ≡ sha256 w)) failed returned
+    → Works (manner Pbfcutz packs digests) f task olds news (λ w. d.has_taken new.below.drain 0 w × MeansBy packed_file digest w) risen result
+works_packed false digests f mid new digest task olds news failed risen returned result is fin works = (let bad : ⊥ = cc in absurd bad)
+works_packed true digests f {d = d} mid new digest task olds news failed risen (Ok report) (Ok same) is fin works =
+    let p = fin.1.logged 0 works.written works.took_them.0 in
     let means = ap (λ (u : Unpacked). u.0) p.means in
     rw fin.0 record {
       files = works.files;
       written = p.packed;
       gave = works.gave;
-      took_them = p.has_them;
+      took_them = (p.has_them, subst (λ w. IfSome digest (λ known. known ≡ sha256 w)) (sym means) works.took_them.1);
       holds = subst (λ w. Holds task (map (of_input (manner Pbfcutz true digests)) works.files) report.counts w) (sym means) works.holds;
     }
-works_packed true digests f mid new log task olds news failed risen (Ok report) (Err halted) is fin works = lost fin where
+works_packed true digests f mid new digest task olds news failed risen (Ok report) (Err halted) is fin works = lost fin where
   lost : ((halted.ending ≡ ending.Stopped stop.Write) ⊎ (halted.ending ≡ ending.Stopped stop.Memory)) → RefusesAs (λ e. FirstFault (judge_of task) e (map f.remaining olds)) halted.ending
   lost (inl e) = subst (RefusesAs (λ x. FirstFault (judge_of task) x (map f.remaining olds))) (sym e) tt
   lost (inr e) = subst (RefusesAs (λ x. FirstFault (judge_of task) x (map f.remaining olds))) (sym e) tt
-works_packed true digests f mid new log task olds news failed risen (Err halted) (Err same) is fin works = ends_same fin.1 where
+works_packed true digests f mid new digest task olds news failed risen (Err halted) (Err same) is fin works = ends_same fin.1 where
   ends_same : ((same.ending ≡ halted.ending) ⊎ (same.ending ≡ ending.Stopped stop.Memory)) → RefusesAs (λ e. FirstFault (judge_of task) e (map f.remaining olds)) same.ending
   ends_same (inl e) = subst (RefusesAs (λ x. FirstFault (judge_of task) x (map f.remaining olds))) (sym e) works
   ends_same (inr e) = subst (RefusesAs (λ x. FirstFault (judge_of task) x (map f.remaining olds))) (sym e) tt
-works_packed true digests f mid new log task olds news failed risen (Err halted) (Ok report) is fin works = absurd fin
+works_packed true digests f mid new digest task olds news failed risen (Err halted) (Ok report) is fin works = absurd fin

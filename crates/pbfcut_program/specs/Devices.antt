@@ -19,7 +19,7 @@ use Rattle.pbfcut_program.specs.declared.engine.Report.{Report}
 use Rattle.pbfcut_program.specs.declared.engine.Halted.{Halted}
 use Rattle.pbfcut_program.specs.Events.{Event, read, wrote, then_one}
 use Rattle.pbfcut_program.specs.Fails.{FirstFault}
-use Rattle.pbfcut_program.specs.Manner.{AreDigests, Manner, of_input, of_output}
+use Rattle.pbfcut_program.specs.Manner.{AreDigests, Form, Manner, meant, of_input, of_output}
 use Rattle.pbfcut_program.specs.Outcomes.{RefusesAs}
 use Rattle.pbfcut_program.specs.Readings.{IsFaulty, IsOther}
 use Rattle.pbfcut_program.specs.Tasks.{Task, Holds, hashes_in, judge_of, spares}
@@ -170,6 +170,10 @@ FinishesPacked old new (Err halted) (Ok report) = ⊥
 -- OUT took these bytes, and this is their digest, if there is one
 abbrev pub TakenBy : {D : Type 0} → drain.Ghosts D → D → (digest : Option (List ℕ)) → List ℕ → Type 0
 TakenBy d out digest written = d.has_taken out 0 written × IfSome digest (λ known. known ≡ sha256 written)
+
+-- and this is the digest of the raw file that they mean, if there is one
+abbrev pub MeansBy : Form → (digest : Option (List ℕ)) → List ℕ → Type 0
+MeansBy form digest written = IfSome digest (λ known. known ≡ sha256 (meant form written))
 
 -- there is a digest if it is wanted
 abbrev pub IsAsked : Bool → Option (List ℕ) → Type 0

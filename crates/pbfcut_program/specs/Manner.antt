@@ -54,6 +54,11 @@ of_input m bytes = meant (input_form m.program) bytes
 abbrev pub of_output : Manner → List ℕ → List ℕ
 of_output m bytes = meant (output_form m.packs m.program) bytes
 
+-- whether the raw file that bytes mean has a digest of its own, if digests are printed
+abbrev pub hashes_meaning : Form → (digests : Bool) → Bool
+hashes_meaning raw_file digests = false
+hashes_meaning packed_file digests = digests
+
 -- the digest of the raw file that bytes mean, if it isn't those bytes, and is hashed
 abbrev pub IsMeaningDigest : Form → (hashes : Bool) → Option (List ℕ) → (bytes : List ℕ) → Type 0
 IsMeaningDigest raw_file hashes raw bytes = raw ≡ None

@@ -38,7 +38,7 @@ use Rattle.pbfcut_program.specs.declared.host.Screen.{Screen}
 use Rattle.pbfcut_program.specs.declared.host.Screen.TheVariants.{Output, Error}
 use Rattle.pbfcut_program.specs.Events.{Event, text_read, looked, opened, seeded, created, screened, read, wrote, printed, told, advised, Reading, Writing}
 use Rattle.pbfcut_program.specs.Fails.{Fails, Has, IsRefusedBy}
-use Rattle.pbfcut_program.specs.Manner.{Form, Manner, input_form, manner, meant_known, packed_file, to_raw}
+use Rattle.pbfcut_program.specs.Manner.{Form, Manner, hashes_meaning, input_form, manner, meant_known, of_output, output_form, packed_file, to_raw}
 use Rattle.pbfcut_program.specs.Readings.{IsWork}
 use Rattle.pbfcut_program.specs.Tasks.{Task, checking, showing, converting, copying, extracting, extracting_parents, passes_of}
 
@@ -50,20 +50,20 @@ counts_text c = codes "nodes " ++ decimal c.nodes ++ codes " ways " ++ decimal c
 abbrev pub unpacked_text : List ℕ → List ℕ
 unpacked_text digest = codes "# unpacked " ++ flat_map hex_byte digest ++ codes "\n"
 
--- the digest of IN, and that of IN unpacked, if it is
-abbrev pub input_lines : (digest : List ℕ) → (raw : Option (List ℕ)) → (input : List ℕ) → List (List ℕ)
-input_lines digest None input = digest_line digest input ∷ []
-input_lines digest (Some raw) input = digest_line digest input ∷ unpacked_text raw ∷ []
+-- the digest of a file, and that of the file unpacked, if it is
+abbrev pub file_lines : (digest : List ℕ) → (raw : Option (List ℕ)) → (path : List ℕ) → List (List ℕ)
+file_lines digest None path = digest_line digest path ∷ []
+file_lines digest (Some raw) path = digest_line digest path ∷ unpacked_text raw ∷ []
 
 -- with `--digests`
 abbrev pub check_lines : Bool → (digest : List ℕ) → Option (List ℕ) → (input : List ℕ) → List (List ℕ)
-check_lines true digest raw input = input_lines digest raw input
+check_lines true digest raw input = file_lines digest raw input
 check_lines false digest raw input = []
 
--- the same, and the digest of what OUT took, if it is known
-abbrev pub done_lines : (output_digest : Option (List ℕ)) → (digest : List ℕ) → Option (List ℕ) → (input output : List ℕ) → List (List ℕ)
-done_lines (Some known) digest raw input output = input_lines digest raw input ++ digest_line known output ∷ []
-done_lines None digest raw input output = []
+-- the same, and those of what OUT took, if it was hashed
+abbrev pub done_lines : (known meaning : Option (List ℕ)) → (digest : List ℕ) → Option (List ℕ) → (input output : List ℕ) → List (List ℕ)
+done_lines (Some known) meaning digest raw input output = file_lines digest raw input ++ file_lines known meaning output
+done_lines None meaning digest raw input output = []
 
 abbrev pub digest_if_asked : Bool → (written : List ℕ) → Option (List ℕ)
 digest_if_asked true written = Some (sha256 written)
@@ -152,13 +152,15 @@ pub record WritesCounts (m : Manner) (task : Task) (files : Files) (counts : Cou
   pub digest : List ℕ
   pub raw : Option (List ℕ)
   pub known : Option (List ℕ)
+  pub meaning : Option (List ℕ)
   pub happened : events ≡ looks (is_screen m.program files.output.now) files.output.now ++ openings files.input.now 1 has
       ++ seeded true ∷ makes (is_screen m.program files.output.now) files.output.now ∷ map read rs
       ++ wrote out ∷ prints (screen_of (is_screen m.program files.output.now))
-      (counts_text counts ∷ done_lines known digest raw files.input.now files.output.now)
+      (counts_text counts ∷ done_lines known meaning digest raw files.input.now files.output.now)
   pub passes : length has ≡ passes_of task
   pub whole : out.out ≡ true
   pub hashed : known ≡ digest_if_asked m.digests out.bytes
+  pub meaning_hashed : meaning ≡ digest_if_asked (hashes_meaning (output_form m.packs m.program) m.digests) (of_output m out.bytes)
   pub work : IsWork m task rs out.bytes counts digest raw
 
 abbrev pub Writes : Manner → Task → Files → List Event → Type 0

@@ -2,7 +2,7 @@
 
 ghost use Rattle.std.specs.Prelude.{◌≡◌, ◌∷◌, [], List, IfOk, None, string_bytes};
 ghost use Rattle.osm_text.specs.Digests.{digest_line};
-ghost use Rattle.pbfcut_program.specs.Program.{check_lines, counts_text, done_lines, input_lines, prints, unpacked_text};
+ghost use Rattle.pbfcut_program.specs.Program.{check_lines, counts_text, done_lines, file_lines, prints, unpacked_text};
 ghost use Rattle.pbfcut_program.specs.declared.host.Screen.TheVariants as screen;
 ghost use Rattle.pbfcut_program.specs.Telling.{Tells, TellsQuietly};
 
@@ -76,7 +76,7 @@ pub(crate) fn print_digest<H: Host>(
     }
 }
 
-/// The line of the digest of IN unpacked. It is a comment to `sha256sum -c`, since there is no such file.
+/// The line of the digest of a file unpacked. It is a comment to `sha256sum -c`, since there is no such file.
 fn unpacked_line(alloc: Global, digest: [u8; 32]) -> Result<Vec<u8>, AllocError>
     ensures { IfOk result (λ line. line.items ≡ unpacked_text digest) }
 {
@@ -87,7 +87,7 @@ fn unpacked_line(alloc: Global, digest: [u8; 32]) -> Result<Vec<u8>, AllocError>
     Ok(line)
 }
 
-/// Prints the digest of IN unpacked.
+/// Prints the digest of a file unpacked.
 fn print_unpacked<H: Host>(
     alloc: Global,
     host: &mut H,
@@ -103,19 +103,26 @@ fn print_unpacked<H: Host>(
     }
 }
 
-/// Prints the digest of IN, and that of IN unpacked, if it is.
-pub(crate) fn print_input<H: Host>(
+/// The digests of a file: of its bytes, and of the raw file that they mean, if it isn't those bytes.
+#[derive(Clone, Copy)]
+pub(crate) struct Digested<'a> {
+    pub(crate) path: &'a str,
+    pub(crate) digest: [u8; 32],
+    pub(crate) raw: Option<[u8; 32]>,
+}
+
+/// Prints the digest of a file, and that of the file unpacked, if it is.
+fn print_file<H: Host>(
     alloc: Global,
     host: &mut H,
     screen: Screen,
-    report: &Report,
-    input: &str,
+    file: &Digested<'_>,
 ) -> Result<(), Ending>
     ensures { Tells (H.log host.old) (H.log host.new)
-        (prints screen (input_lines report.now.input report.now.raw input.now)) result }
+        (prints screen (file_lines file.now.digest file.now.raw file.now.path.now)) result }
 {
-    print_digest(alloc, host, screen, report.input, input)?;
-    match report.raw {
+    print_digest(alloc, host, screen, file.digest, file.path)?;
+    match file.raw {
         Some(raw) => print_unpacked(alloc, host, screen, raw),
         None => Ok(()),
     }
@@ -176,16 +183,27 @@ pub(crate) fn print_checked<H: Host>(
 {
     print_counts(engine.alloc, host, Screen::Output, report.counts)?;
     if engine.digests {
-        return print_input(engine.alloc, host, Screen::Output, report, input);
+        return print_file(
+            engine.alloc,
+            host,
+            Screen::Output,
+            &Digested {
+                path: input,
+                digest: report.input,
+                raw: report.raw,
+            },
+        );
     }
     Ok(())
 }
 
-/// What a command that writes reports: what was read, and the digest of what OUT took, if it is wanted.
+/// What a command that writes reports: what was read; the digest of what OUT took, if digests are printed; and that of the raw file which
+/// this means, if it isn't that.
 #[derive(Clone, Copy)]
 pub(crate) struct Done {
     pub(crate) report: Report,
     pub(crate) output: Option<[u8; 32]>,
+    pub(crate) meaning: Option<[u8; 32]>,
 }
 
 /// Prints what a command that writes reports.
@@ -197,14 +215,24 @@ pub(crate) fn print_done<H: Host>(
     files: &Files<'_>,
 ) -> Result<(), Ending>
     ensures { Tells (H.log host.old) (H.log host.new) (prints screen
-        (counts_text done.now.report.counts ∷ done_lines done.now.output done.now.report.input
-        done.now.report.raw files.now.input.now files.now.output.now)) result }
+        (counts_text done.now.report.counts ∷ done_lines done.now.output done.now.meaning
+        done.now.report.input done.now.report.raw files.now.input.now files.now.output.now)) result }
 {
     print_counts(alloc, host, screen, done.report.counts)?;
     match done.output {
         Some(digest) => {
-            print_input(alloc, host, screen, &done.report, files.input)?;
-            print_digest(alloc, host, screen, digest, files.output)
+            let input = Digested {
+                path: files.input,
+                digest: done.report.input,
+                raw: done.report.raw,
+            };
+            let output = Digested {
+                path: files.output,
+                digest,
+                raw: done.meaning,
+            };
+            print_file(alloc, host, screen, &input)?;
+            print_file(alloc, host, screen, &output)
         }
         None => Ok(()),
     }

@@ -5,13 +5,14 @@ ghost use Rattle.std.specs.Prelude.{◌≡◌, ◌⊎◌, ◌∷◌, ◌++◌, �
 ghost use Rattle.pbf_frame.specs.declared.stop.Stop.TheVariants as stop;
 ghost use Rattle.pbfcut_cli.specs.declared.endings.Ending.TheVariants as ending;
 ghost use Rattle.pbf_pass.specs.HeaderLimit.{judged_writable};
+ghost use Rattle.pbf_pass.specs.Stops.{WriteFailed};
 ghost use Rattle.pbfcut_cli.specs.declared.programs.Program.TheVariants.{Pbfcutz};
-ghost use Rattle.pbfcut_program.specs.Devices.{AreFresh, FinishesPacked, IsAsked, IsFreshOut, TakenBy, Works, WorksOn};
+ghost use Rattle.pbfcut_program.specs.Devices.{AreFresh, FinishesPacked, IsAsked, IsFreshOut, MeansBy, TakenBy, Works, WorksOn};
 ghost use Rattle.pbfcut_program.specs.Events.{Event, Reading, Writing, read, seeded, wrote, then_all, then_one};
 ghost use Rattle.pbfcut_program.specs.Fails.{Fails, FailsOpening, IsRefusedBy, IsRefusedOf};
 ghost use Rattle.pbfcut_program.specs.Jobs.{area_of, feeds_of, plan_of, task_of};
 ghost use Rattle.pbfcut_program.specs.Program.{Extracts, WritesCounts, advice, digest_if_asked, extract_task, is_empty, is_screen, looks, makes, openings, screen_of};
-ghost use Rattle.pbfcut_program.specs.Manner.{manner_of, to_raw};
+ghost use Rattle.pbfcut_program.specs.Manner.{hashes_meaning, manner_of, of_output, output_form, packed_file, to_raw};
 ghost use Rattle.pbfcut_program.specs.Readings.{IsWork};
 ghost use Rattle.pbfcut_program.specs.Tasks.{judge_of, passes_of};
 
@@ -125,12 +126,14 @@ fn prepare<H: Host>(
     Ok(Ready { job, out, hasher })
 }
 
-/// What a job came to, and the digest of what OUT took, if it was hashed.
+/// What a job came to, and the drain that took what it wrote. If these are hashed, the digest of what was taken, and that of the raw file
+/// which this means, if it isn't that.
 #[derive(Drop)]
 struct Ran<D> {
     result: Result<Report, Halted>,
     out: D,
     output: Option<[u8; 32]>,
+    meaning: Option<[u8; 32]>,
 }
 
 /// Does a job, into a drain that takes raw blobs as they are.
@@ -143,7 +146,7 @@ fn run_raw<F: Feed, D: Drain + Drop, S: BuildHasher + Drop>(
     requires { IfSome (D.taken out) (λ taken. taken ≡ []) }
     ensures works { WorksOn (to_raw (manner_of engine)) F.Feed D.Drain (task_of job.old)
         (feeds_of job.old) (feeds_of job.new) out result.out result.result }
-    ensures unhashed { result.output ≡ None }
+    ensures unhashed { (result.output ≡ None) × (result.meaning ≡ None) }
 {
     let mut out = out;
     let result = do_job(engine, job, &mut out, hasher);
@@ -151,6 +154,54 @@ fn run_raw<F: Feed, D: Drain + Drop, S: BuildHasher + Drop>(
         result,
         out,
         output: None,
+        meaning: None,
+    }
+}
+
+/// The same, and what the drain takes is hashed.
+fn run_raw_hashed<F: Feed, D: Drain + Drop, S: BuildHasher + Drop>(
+    engine: Engine,
+    job: &mut Job<F>,
+    out: D,
+    hasher: S,
+) -> Ran<D>
+    requires { IfSome (D.taken out) (λ taken. taken ≡ []) }
+    ensures works { AreFresh F.Feed (feeds_of job.old) → D.has_taken out 0 []
+        → Works (to_raw (manner_of engine)) F.Feed (task_of job.old) (feeds_of job.old)
+        (feeds_of job.new) (TakenBy D.Drain result.out result.output)
+        (WriteFailed D.Drain out result.out) result.result }
+    ensures hashed { IsAsked true result.output }
+{
+    let linked = LinkedDrain::new(HashedDrain::new(out));
+    let ran = run_raw(engine, job, linked, hasher);
+    let mut hashed = ran.out.into_inner();
+    let digest = hashed.digest();
+    Ran {
+        result: ran.result,
+        out: hashed.into_inner(),
+        output: Some(digest),
+        meaning: None,
+    }
+}
+
+/// The same, and what the drain takes is hashed if digests are printed.
+fn run_raw_into<F: Feed, D: Drain + Drop, S: BuildHasher + Drop>(
+    engine: Engine,
+    job: &mut Job<F>,
+    out: D,
+    hasher: S,
+) -> Ran<D>
+    requires { IfSome (D.taken out) (λ taken. taken ≡ []) }
+    ensures works { AreFresh F.Feed (feeds_of job.old) → D.has_taken out 0 []
+        → Works (to_raw (manner_of engine)) F.Feed (task_of job.old) (feeds_of job.old)
+        (feeds_of job.new) (TakenBy D.Drain result.out result.output)
+        (WriteFailed D.Drain out result.out) result.result }
+    ensures hashed { IsAsked engine.digests result.output }
+{
+    if engine.digests {
+        run_raw_hashed(engine, job, out, hasher)
+    } else {
+        run_raw(engine, job, out, hasher)
     }
 }
 
@@ -201,8 +252,11 @@ fn run_packed<F: Feed, D: Drain + Drop, S: BuildHasher + Drop>(
 ) -> Ran<D>
     requires fresh { IfSome (D.taken out) (λ taken. taken ≡ []) }
     requires packs { (engine.program ≡ Pbfcutz) × (engine.packs ≡ true) }
-    ensures works { WorksOn (manner_of engine) F.Feed D.Drain (task_of job.old)
-        (feeds_of job.old) (feeds_of job.new) out result.out result.result }
+    ensures works { AreFresh F.Feed (feeds_of job.old) → D.has_taken out 0 []
+        → Works (manner_of engine) F.Feed (task_of job.old) (feeds_of job.old) (feeds_of job.new)
+        (λ w. D.has_taken result.out 0 w × MeansBy packed_file result.meaning w)
+        (WriteFailed D.Drain out result.out) result.result }
+    ensures hashed { IfOk result.result (λ _. IsAsked engine.digests result.meaning) }
     ensures unhashed { result.output ≡ None }
 {
     let Ok(deflater) = Deflater::new(engine.alloc) else {
@@ -210,15 +264,18 @@ fn run_packed<F: Feed, D: Drain + Drop, S: BuildHasher + Drop>(
             result: Err(Halted::from(Stop::Memory)),
             out,
             output: None,
+            meaning: None,
         };
     };
-    let mut packed = PackedDrain::new(engine.alloc, deflater, out);
-    let returned = do_job(engine, job, &mut packed, hasher);
-    let result = finish(returned, &mut packed);
+    let packed = PackedDrain::new(engine.alloc, deflater, out);
+    let ran = run_raw_into(engine, job, packed, hasher);
+    let mut packed = ran.out;
+    let result = finish(ran.result, &mut packed);
     Ran {
         result,
         out: packed.into_inner(),
         output: None,
+        meaning: ran.output,
     }
 }
 
@@ -230,8 +287,13 @@ fn run_unhashed<F: Feed, D: Drain + Drop, S: BuildHasher + Drop>(
     hasher: S,
 ) -> Ran<D>
     requires { IfSome (D.taken out) (λ taken. taken ≡ []) }
-    ensures works { WorksOn (manner_of engine) F.Feed D.Drain (task_of job.old)
-        (feeds_of job.old) (feeds_of job.new) out result.out result.result }
+    ensures works { AreFresh F.Feed (feeds_of job.old) → D.has_taken out 0 []
+        → Works (manner_of engine) F.Feed (task_of job.old) (feeds_of job.old) (feeds_of job.new)
+        (λ w. D.has_taken result.out 0 w
+        × MeansBy (output_form engine.packs engine.program) result.meaning w)
+        (WriteFailed D.Drain out result.out) result.result }
+    ensures hashed { IfOk result.result (λ _. IsAsked
+        (hashes_meaning (output_form engine.packs engine.program) engine.digests) result.meaning) }
     ensures unhashed { result.output ≡ None }
 {
     if engine.gives_packed() {
@@ -251,8 +313,12 @@ fn run_hashed<F: Feed, D: Drain + Drop, S: BuildHasher + Drop>(
     requires { IsFreshOut D.Drain out }
     ensures works { AreFresh F.Feed (feeds_of job.old) → Works (manner_of engine) F.Feed
         (task_of job.old) (feeds_of job.old) (feeds_of job.new)
-        (TakenBy D.Drain result.out result.output) (0 < D.failures result.out) result.result }
+        (λ w. TakenBy D.Drain result.out result.output w
+        × MeansBy (output_form engine.packs engine.program) result.meaning w)
+        (0 < D.failures result.out) result.result }
     ensures hashed { IsAsked true result.output }
+    ensures meaning { IfOk result.result (λ _. IsAsked
+        (hashes_meaning (output_form engine.packs engine.program) engine.digests) result.meaning) }
 {
     let linked = LinkedDrain::new(HashedDrain::new(out));
     let ran = run_unhashed(engine, job, linked, hasher);
@@ -262,6 +328,7 @@ fn run_hashed<F: Feed, D: Drain + Drop, S: BuildHasher + Drop>(
         result: ran.result,
         out: hashed.into_inner(),
         output: Some(digest),
+        meaning: ran.meaning,
     }
 }
 
@@ -275,8 +342,12 @@ fn run_into<F: Feed, D: Drain + Drop, S: BuildHasher + Drop>(
     requires { IsFreshOut D.Drain out }
     ensures works { AreFresh F.Feed (feeds_of job.old) → Works (manner_of engine) F.Feed
         (task_of job.old) (feeds_of job.old) (feeds_of job.new)
-        (TakenBy D.Drain result.out result.output) (0 < D.failures result.out) result.result }
+        (λ w. TakenBy D.Drain result.out result.output w
+        × MeansBy (output_form engine.packs engine.program) result.meaning w)
+        (0 < D.failures result.out) result.result }
     ensures hashed { IsAsked engine.digests result.output }
+    ensures meaning { IfOk result.result (λ _. IsAsked
+        (hashes_meaning (output_form engine.packs engine.program) engine.digests) result.meaning) }
 {
     if engine.digests {
         run_hashed(engine, job, out, hasher)
@@ -309,6 +380,9 @@ fn run_job<H: Host>(
     ensures ok { IfOk result (λ done. (rs : List Reading) × (out : Writing)
         × (H.log host.new ≡ then_all (H.log host.old) (map read rs ++ wrote out ∷ []))
         × (out.out ≡ true) × (done.output ≡ digest_if_asked engine.digests out.bytes)
+        × (done.meaning ≡ digest_if_asked
+        (hashes_meaning (output_form engine.packs engine.program) engine.digests)
+        (of_output (manner_of engine) out.bytes))
         × IsWork (manner_of engine) (task_of ready.job) rs out.bytes done.report.counts
         done.report.input done.report.raw) }
     ensures err { IfErr result (λ how. (events : List Event)
@@ -322,11 +396,19 @@ fn run_job<H: Host>(
         result,
         out,
         output,
+        meaning,
     } = run_into(engine, &mut job, out, hasher);
     close_job(host, job);
     let finished = host.finish(out, result.is_ok());
     match result {
-        Ok(report) => kept(finished, Done { report, output }),
+        Ok(report) => kept(
+            finished,
+            Done {
+                report,
+                output,
+                meaning,
+            },
+        ),
         Err(halted) => Err(tell_refusal(engine, host, halted, path)),
     }
 }

@@ -1,7 +1,7 @@
 use Rattle.std.proofs.Common.{[], ◌∷◌}
 use Rattle.std.proofs.lemmas.Result.{err_from_is_err_and}
 use Rattle.pbfcut_program.specs.declared.host.Screen.TheVariants.{Output}
-use Rattle.pbfcut_program.specs.Program.{counts_text, input_lines, prints}
+use Rattle.pbfcut_program.specs.Program.{counts_text, file_lines, prints}
 use Rattle.pbfcut_program.proofs.FailLemmas.{tells_more}
 use Rattle.pbfcut_program.proofs.printing.print_checked.Goals as goal
 
@@ -13,4 +13,4 @@ returns-in_err-print_counts g c =
 pub returns-then-engine : goal.returns-then-engine
 returns-then-engine g c =
     let r = c.args.report.now in
-    rw c.if-engine.true (tells_more _ _ _ (prints Output (counts_text r.counts ∷ [])) (prints Output (input_lines r.input r.raw c.args.input.now)) c.print_input.result c.in_ok-print_counts.ensures c.print_input.ensures)
+    rw c.if-engine.true (tells_more _ _ _ (prints Output (counts_text r.counts ∷ [])) (prints Output (file_lines r.input r.raw c.args.input.now)) c.print_file.result c.in_ok-print_counts.ensures c.print_file.ensures)

@@ -1,10 +1,10 @@
 use Rattle.std.proofs.Common.{◌∙◌, ◌<◌, map}
 use Rattle.std.proofs.lemmas.Result.{IfErr-weaker, IfOk-weaker}
 use Rattle.std.specs.Result.{is_ok}
-use Rattle.pbfcut_program.specs.Devices.{TakenBy}
+use Rattle.pbfcut_program.specs.Devices.{MeansBy, TakenBy}
 use Rattle.pbfcut_program.specs.Fails.{IsRefusedOf}
 use Rattle.pbfcut_program.specs.Jobs.{feeds_of, task_of}
-use Rattle.pbfcut_program.specs.Manner.{manner_of}
+use Rattle.pbfcut_program.specs.Manner.{hashes_meaning, manner_of, of_output, output_form}
 use Rattle.pbfcut_program.specs.Tasks.{judge_of}
 use Rattle.pbfcut_program.proofs.Closing.{ends_with_out, finish_fails, hashed_as, keep_fails, work_done, work_fails}
 use Rattle.pbfcut_program.proofs.FailLemmas.{of_stays, told_fails}
@@ -16,11 +16,13 @@ returns-in-Ok-clause-ok g c =
     let job = c.args.ready.job in
     let ran = c.run_into-result.result in
     let works = rw c.in-Ok.is at (c.run_into-result.ensures.works c.requires.fresh.0) in
-    let done = work_done g.H.In.Feed g.H.Out.Drain ran.out (is_ok c.finish-finished.result) (manner_of c.args.engine) (task_of job) (TakenBy g.H.Out.Drain ran.out ran.output) (0 < g.H.Out.Drain.failures ran.out)
+    let done = work_done g.H.In.Feed g.H.Out.Drain ran.out (is_ok c.finish-finished.result) (manner_of c.args.engine) (task_of job) (λ w. TakenBy g.H.Out.Drain ran.out ran.output w × MeansBy (output_form c.args.engine.packs c.args.engine.program) ran.meaning w) (0 < g.H.Out.Drain.failures ran.out)
     (log c.args.host.now) (log c.close_job.new.host) (log c.finish-finished.new.self) (feeds_of job) (feeds_of c.run_into-result.new.job) c.in-Ok.report c.requires.fresh.0 c.close_job.ensures
-    (c.finish-finished.ensures.some, c.finish-finished.ensures.logged) (λ w t. t.0) works in
-    let hashed = hashed_as g.H.Out.Drain ran.out c.args.engine.digests ran.output done.1.bytes done.4 c.run_into-result.ensures.hashed in
-    IfOk-weaker c.kept.result _ _ (λ d e. rw e.0 (done.0, done.1, done.2, done.3 ∙ e.1, hashed, done.5)) c.kept.ensures.ok
+    (c.finish-finished.ensures.some, c.finish-finished.ensures.logged) (λ w t. t.0.0) works in
+    let form = output_form c.args.engine.packs c.args.engine.program in
+    let hashed = hashed_as c.args.engine.digests ran.output done.1.bytes done.4.0.1 c.run_into-result.ensures.hashed in
+    let meaning = hashed_as (hashes_meaning form c.args.engine.digests) ran.meaning (of_output (manner_of c.args.engine) done.1.bytes) done.4.1 (rw c.in-Ok.is at c.run_into-result.ensures.meaning) in
+    IfOk-weaker c.kept.result _ _ (λ d e. rw e.0 (done.0, done.1, done.2, done.3 ∙ e.1, hashed, meaning, done.5)) c.kept.ensures.ok
 
 pub returns-in-Ok-clause-err : goal.returns-in-Ok-clause-err
 returns-in-Ok-clause-err g c =
@@ -39,8 +41,8 @@ returns-in-Err-clause-err g c =
     let ran = c.run_into-result.result in
     let program = c.args.engine.program in
     let works = rw c.in-Err.is at (c.run_into-result.ensures.works c.requires.fresh.0) in
-    let tail = ends_with_out g.H.Out.Drain ran.out (is_ok c.finish-finished.result) (TakenBy g.H.Out.Drain ran.out ran.output) (0 < g.H.Out.Drain.failures ran.out) (log c.close_job.new.host) (log c.finish-finished.new.self)
-    (λ w t. t.0) (λ risen. risen) (c.finish-finished.ensures.some, c.finish-finished.ensures.logged) in
-    let fail = work_fails program c.args.engine.packs c.args.engine.digests g.H.In.Feed (task_of job) (TakenBy g.H.Out.Drain ran.out ran.output) (0 < g.H.Out.Drain.failures ran.out)
+    let tail = ends_with_out g.H.Out.Drain ran.out (is_ok c.finish-finished.result) (λ w. TakenBy g.H.Out.Drain ran.out ran.output w × MeansBy (output_form c.args.engine.packs c.args.engine.program) ran.meaning w) (0 < g.H.Out.Drain.failures ran.out) (log c.close_job.new.host) (log c.finish-finished.new.self)
+    (λ w t. t.0.0) (λ risen. risen) (c.finish-finished.ensures.some, c.finish-finished.ensures.logged) in
+    let fail = work_fails program c.args.engine.packs c.args.engine.digests g.H.In.Feed (task_of job) (λ w. TakenBy g.H.Out.Drain ran.out ran.output w × MeansBy (output_form c.args.engine.packs c.args.engine.program) ran.meaning w) (0 < g.H.Out.Drain.failures ran.out)
     (log c.args.host.now) (log c.close_job.new.host) (log c.finish-finished.new.self) (feeds_of job) (feeds_of c.run_into-result.new.job) c.in-Err.halted tail c.requires.fresh.0 c.close_job.ensures works in
     told_fails program (IsRefusedOf program (judge_of (task_of job)) (map g.H.In.Feed.remaining (feeds_of job))) (of_stays program (judge_of (task_of job)) (map g.H.In.Feed.remaining (feeds_of job))) c.in-Err.halted.ending c.tell_refusal.result (log c.args.host.now) (log c.finish-finished.new.self) (log c.tell_refusal.new.host) fail.0 fail.1 fail.2 c.tell_refusal.ensures

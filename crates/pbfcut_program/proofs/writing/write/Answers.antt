@@ -55,11 +55,11 @@ returns-clause-ok g c =
     let is = is_screen c.args.engine.program files.output.now in
     let has = map g.H.In.Feed.remaining (feeds_of c.in_ok-ready.ready.job) in
     let rs : List Event = map (λ r. read r) d.0 in
-    let lines = prints (screen_of is) (counts_text r.report.counts ∷ done_lines r.output r.report.input r.report.raw files.input.now files.output.now) in
+    let lines = prints (screen_of is) (counts_text r.report.counts ∷ done_lines r.output r.meaning r.report.input r.report.raw files.input.now files.output.now) in
     let opened = rw c.is_screen-to_screen.ensures at c.in_ok-ready.ensures.ok in
     let done = and_then log _ _ (begun is files.input.now files.output.now has) (rs ++ wrote d.1 ∷ []) opened d.2 in
     let same_screen = c.screen_of.ensures ∙ ap screen_of c.is_screen-to_screen.ensures in
-    let printed = subst (λ (s : Screen). g.H.Host.log c.print_done.new.host ≡ then_all (g.H.Host.log c.run_job.new.host) (prints s (counts_text r.report.counts ∷ done_lines r.output r.report.input r.report.raw files.input.now files.output.now))) same_screen c.in_ok-print_done.ensures in
+    let printed = subst (λ (s : Screen). g.H.Host.log c.print_done.new.host ≡ then_all (g.H.Host.log c.run_job.new.host) (prints s (counts_text r.report.counts ∷ done_lines r.output r.meaning r.report.input r.report.raw files.input.now files.output.now))) same_screen c.in_ok-print_done.ensures in
     let all = and_then log _ _ (begun is files.input.now files.output.now has ++ (rs ++ wrote d.1 ∷ [])) lines done printed in
     let same = all_events (looks is files.output.now ++ openings files.input.now 1 has) rs lines (seeded true) (makes is files.output.now) (wrote d.1) in (
       _,
@@ -71,10 +71,12 @@ returns-clause-ok g c =
         digest = r.report.input;
         raw = r.report.raw;
         known = r.output;
+        meaning = r.meaning;
         happened = refl;
         passes = length_has g.H.In.Feed.remaining (feeds_of c.in_ok-ready.ready.job) ∙ c.in_ok-ready.ensures.planned.1;
         whole = d.3;
         hashed = d.4;
-        work = subst (λ t. IsWork (manner_of c.args.engine) t d.0 d.1.bytes r.report.counts r.report.input r.report.raw) c.in_ok-ready.ensures.planned.0 d.5;
+        meaning_hashed = d.5;
+        work = subst (λ t. IsWork (manner_of c.args.engine) t d.0 d.1.bytes r.report.counts r.report.input r.report.raw) c.in_ok-ready.ensures.planned.0 d.6;
       },
     )
