@@ -214,7 +214,7 @@ pub(crate) const RAW: &str = "Write raw blobs: OUT is not compressed";
 
 pub(crate) const BOX: &str = "Edges of the box, in degrees; also --bbox";
 
-pub(crate) const POLYGON: &str = "Cut out the polygon of a .poly or GeoJSON file";
+pub(crate) const POLYGON: &str = "Cut out a polygon: a .poly or GeoJSON file";
 
 pub(crate) const ANY_OUTPUT: &str = "The file to write, or - for standard output";
 
