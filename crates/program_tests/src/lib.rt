@@ -1,18 +1,24 @@
-//! The tests of `pbfcut`, with `pbf_pass`, and of `pbfcut_cli`: what no contract says.
+//! The tests of `pbfcut`, with `pbf_pass`, of `pbfcut_cli` and of `pbfcut_program`: what no contract says.
 #![tactic(auto)]
 
 #[cfg(test)]
 mod blobs;
 #[cfg(test)]
 mod check;
+mod happened;
 #[cfg(test)]
 mod later_pass;
+#[cfg(test)]
+mod recorder;
+#[cfg(test)]
+mod runs;
 #[cfg(test)]
 mod show;
 #[cfg(test)]
 mod sorted;
 #[cfg(test)]
 mod steps;
+mod tape;
 #[cfg(test)]
 mod words;
 #[cfg(test)]

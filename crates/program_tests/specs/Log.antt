@@ -1,0 +1,22 @@
+-- What was recorded, as events.
+use Rattle.std.specs.Prelude.{Some}
+use Rattle.pbfcut_program.specs.Events.{Event, text_read, text_not_read, looked, opened, not_opened, seeded, created, not_created, screened, read, wrote, printed, told, advised}
+use Rattle.program_tests.specs.declared.happened.Happened.{Happened}
+use Rattle.program_tests.specs.declared.happened.Happened.TheVariants as happened
+
+-- one value recorded is one event
+abbrev pub event_of : Happened → Event
+event_of (happened.TextRead path text) = text_read path.items text.items
+event_of (happened.TextNotRead path) = text_not_read path.items
+event_of (happened.Looked path there) = looked path.items there
+event_of (happened.Opened path pass has) = opened path.items pass (Some has.items)
+event_of (happened.NotOpened path fault) = not_opened path.items fault
+event_of (happened.Seeded there) = seeded there
+event_of (happened.Created path) = created path.items
+event_of (happened.NotCreated path) = not_created path.items
+event_of (happened.Screened there) = screened there
+event_of (happened.Read bytes left failures) = read (record { bytes = bytes.items; left = Some left.items; failures = failures })
+event_of (happened.Wrote bytes failures out) = wrote (record { bytes = bytes.items; failures = failures; out = out })
+event_of (happened.Printed screen text whole) = printed screen text.items whole
+event_of (happened.Told text) = told text.items
+event_of happened.Advised = advised

@@ -1,0 +1,28 @@
+//! What a host recorded, as data.
+
+use pbfcut_program::{OpenFault, Screen};
+
+/// One event, in the order of the calls of a host. Paths and texts are bytes.
+#[derive(Debug, PartialEq, Drop)]
+pub enum Happened {
+    /// A path, and the text that was read there.
+    TextRead(Vec<u8>, Vec<u8>),
+    TextNotRead(Vec<u8>),
+    /// A path, and whether there is a file that isn't to be replaced.
+    Looked(Vec<u8>, bool),
+    /// A path, the number of the pass, and the bytes of the file.
+    Opened(Vec<u8>, u8, Vec<u8>),
+    NotOpened(Vec<u8>, OpenFault),
+    Seeded(bool),
+    Created(Vec<u8>),
+    NotCreated(Vec<u8>),
+    Screened(bool),
+    /// The bytes that were read of IN, those that were left, and how many reads failed.
+    Read(Vec<u8>, Vec<u8>, u64),
+    /// The bytes that OUT took, how many writes failed, and whether all that it took went out.
+    Wrote(Vec<u8>, u64, bool),
+    /// Where a text went, the text, and whether all of it did.
+    Printed(Screen, Vec<u8>, bool),
+    Told(Vec<u8>),
+    Advised,
+}

@@ -1,0 +1,115 @@
+//! Whole runs over a host in memory: what happened, in order, and the exit status.
+
+use crate::blobs::THREE_DENSE_NODES;
+use crate::happened::Happened;
+use crate::recorder::{File, Recorder, copy};
+use crate::words::owned;
+use pbfcut_cli::Program;
+use pbfcut_program::{Screen, run};
+use std::alloc::AllocError;
+use std::process::Abort;
+use std::test::Fail;
+
+/// The box has the first and the last of the three nodes.
+const EXTRACT: [&str; 4] = ["extract", "--box=0,0,1,1", "a", "b"];
+
+/// The extract of the three dense nodes, from the suite of vectors.
+const EXTRACTED: [u8; 111] =
+    *b"\x00\x00\x00\x0d\x0a\x09OSMHeader\x18\x39\x0a\x37\x0a\x10\x08\x00\x10\x80\xa8\xd6\xb9\x07\x18\x80\xa8\xd6\xb9\x07\x20\x00\x22\x0eOsmSchema-V0.6\x22\x0aDenseNodes\x82\x01\x06pbfcut\x00\x00\x00\x0b\x0a\x07OSMData\x18\x16\x0a\x14\x0a\x02\x0a\x00\x12\x0e\x12\x0c\x0a\x02\x14\x0a\x42\x02\x02\x00\x4a\x02\x02\x00";
+
+fn opened<R: Abort + AllocGlobal>(rt: &R, pass: u8, file: &[u8]) -> Happened {
+    Happened::Opened(copy(rt, b"a"), pass, copy(rt, file))
+}
+
+fn read<R: Abort + AllocGlobal>(rt: &R, bytes: &[u8], left: &[u8]) -> Happened {
+    Happened::Read(copy(rt, bytes), copy(rt, left), 0)
+}
+
+/// What happens before an extract of this file `a` into `b` reads.
+fn prepared<R: Abort + AllocGlobal>(rt: &R, file: &[u8]) -> Result<Vec<Happened>, AllocError> {
+    let mut events = Vec::new(rt.alloc());
+    events.push(Happened::Looked(copy(rt, b"b"), false))?;
+    events.push(opened(rt, 1, file))?;
+    events.push(opened(rt, 2, file))?;
+    events.push(opened(rt, 3, file))?;
+    events.push(Happened::Seeded(true))?;
+    events.push(Happened::Created(copy(rt, b"b")))?;
+    Ok(events)
+}
+
+/// The same, and then the passes over the three nodes, of which this was taken. No node comes after a way, so nothing is read in the second.
+fn extracted<R: Abort + AllocGlobal>(
+    rt: &R,
+    taken: &[u8],
+    failures: u64,
+) -> Result<Vec<Happened>, AllocError> {
+    let mut events = prepared(rt, &THREE_DENSE_NODES)?;
+    events.push(read(rt, &THREE_DENSE_NODES, &[]))?;
+    events.push(read(rt, &[], &THREE_DENSE_NODES))?;
+    events.push(read(rt, &THREE_DENSE_NODES, &[]))?;
+    events.push(Happened::Wrote(copy(rt, taken), failures, true))?;
+    Ok(events)
+}
+
+/// Whether these words end with this status over a file `a` and so much room for OUT, and exactly this happened.
+fn goes<R: Abort + AllocGlobal>(
+    rt: &R,
+    given: &[&str],
+    file: &[u8],
+    room: usize,
+    status: u8,
+    events: &[Happened],
+) -> Result<bool, AllocError> {
+    let words = owned(rt.alloc(), given)?;
+    let files = [File {
+        path: "a",
+        bytes: file,
+    }];
+    let mut host = Recorder::new(rt, &files, room);
+    let ended = run(rt.alloc(), &mut host, Program::Pbfcut, &words);
+    Ok(ended == status && host.events.as_slice() == events)
+}
+
+#[test]
+fn an_extract(rt: HostRuntime) -> Result<(), Fail> {
+    let mut events = extracted(&rt, &EXTRACTED, 0)?;
+    let counts = copy(&rt, b"nodes 2 ways 0 relations 0\n");
+    events.push(Happened::Printed(Screen::Output, counts, true))?;
+    assert!(rt; goes(&rt, &EXTRACT, &THREE_DENSE_NODES, 4_096, 0, &events)?);
+    Ok(())
+}
+
+/// A file that ends in its second frame: nothing is read in the later passes.
+#[test]
+fn a_refused_file(rt: HostRuntime) -> Result<(), Fail> {
+    let file = &THREE_DENSE_NODES[..20];
+    let mut events = prepared(&rt, file)?;
+    events.push(read(&rt, file, &[]))?;
+    events.push(read(&rt, &[], file))?;
+    events.push(read(&rt, &[], file))?;
+    events.push(Happened::Wrote(copy(&rt, &[]), 0, true))?;
+    events.push(Happened::Told(copy(&rt, b"pbfcut: refused at 19: 10 PrefixCut\n")))?;
+    events.push(Happened::Advised)?;
+    assert!(rt; goes(&rt, &EXTRACT, file, 4_096, 1, &events)?);
+    Ok(())
+}
+
+#[test]
+fn a_wrong_command_line(rt: HostRuntime) -> Result<(), Fail> {
+    let words = ["extract", "--box=0,0,1", "a", "b"];
+    let mut events = Vec::new(rt.alloc());
+    events.push(Happened::Told(copy(&rt, b"pbfcut: box: Shape\n")))?;
+    events.push(Happened::Advised)?;
+    assert!(rt; goes(&rt, &words, &THREE_DENSE_NODES, 4_096, 2, &events)?);
+    Ok(())
+}
+
+/// OUT takes 100 bytes of the 111, and then a write fails.
+#[test]
+fn a_failed_write(rt: HostRuntime) -> Result<(), Fail> {
+    let mut events = extracted(&rt, &EXTRACTED[..100], 1)?;
+    events.push(Happened::Told(copy(&rt, b"pbfcut: write failed\n")))?;
+    events.push(Happened::Advised)?;
+    assert!(rt; goes(&rt, &EXTRACT, &THREE_DENSE_NODES, 100, 3, &events)?);
+    Ok(())
+}
