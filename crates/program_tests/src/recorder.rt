@@ -1,4 +1,4 @@
-//! A host in memory that keeps its log: so the clauses of a host can be met. A test ends where memory for the log is refused.
+//! A host in memory that keeps its log: so the clauses of a host can be met. A test ends if memory for the log is refused.
 
 ghost use Rattle.std.specs.Prelude.{◌≡◌, map, string_bytes, Some, IfSome};
 ghost use Rattle.program_tests.specs.Log.{event_of};

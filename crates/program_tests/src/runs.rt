@@ -37,7 +37,7 @@ fn prepared<R: Abort + AllocGlobal>(rt: &R, file: &[u8]) -> Result<Vec<Happened>
     Ok(events)
 }
 
-/// The same, and then the passes over the three nodes, of which this was taken. No node comes after a way, so nothing is read in the second.
+/// The same, and then the passes of the three nodes, of which this was taken. No node comes after a way, so nothing is read in the second.
 fn extracted<R: Abort + AllocGlobal>(
     rt: &R,
     taken: &[u8],
@@ -79,7 +79,7 @@ fn an_extract(rt: HostRuntime) -> Result<(), Fail> {
     Ok(())
 }
 
-/// A file that ends in its second frame: nothing is read in the later passes.
+/// A file whose second frame is cut: nothing is read in the later passes.
 #[test]
 fn a_refused_file(rt: HostRuntime) -> Result<(), Fail> {
     let file = &THREE_DENSE_NODES[..20];
