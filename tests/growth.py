@@ -341,6 +341,12 @@ def ring(edges: int, inner: float) -> bytes:
     return ("ring\n1\n" + "".join(lines) + "END\nEND\n").encode()
 
 
+def zigzag_ring(edges: int) -> bytes:
+    """A ring through that square that goes from pole to pole and back with each two edges."""
+    lines = [f" {number / edges:.9f} {89 if number % 2 else -89}\n" for number in range(edges)]
+    return ("ring\n1\n" + "".join(lines) + " 1 -89.5\n 0 -89.5\nEND\nEND\n").encode()
+
+
 def as_geojson(text: bytes) -> bytes:
     """The ring of a .poly file as GeoJSON."""
     places = [line.split() for line in text.decode().splitlines()[2:-2]]
@@ -353,11 +359,12 @@ def nested(depth: int) -> bytes:
     return b'{"properties": [%s], %s' % (beside.encode(), as_geojson(ring(100, 0.4499))[1:])
 
 
-# by the size: the nodes, and the ring. An edge of a coast crosses few latitudes, and each edge of a star nearly all; so a star takes as long as
-# its edges and the nodes, multiplied
+# by the size: the nodes, and the ring. An edge of a coast crosses few latitudes, and each edge of a zigzag all, but few longitudes. Each edge of a
+# star goes near its middle; so a star takes as long as its edges and the nodes, multiplied
 POLYGONS = {
     "coast of more edges": (lambda size: scattered(10_000), lambda size: ring(8_000 * size, 0.4499)),
     "coast with more nodes": (lambda size: scattered(40_000 * size), lambda size: ring(10_000, 0.4499)),
+    "zigzag of more edges with more nodes": (lambda size: scattered(10_000 * size), lambda size: zigzag_ring(4_000 * size)),
     "star of more edges": (lambda size: scattered(10_000), lambda size: ring(200 * size, 0.01)),
     "geojson of more edges": (lambda size: scattered(10_000), lambda size: as_geojson(ring(8_000 * size, 0.4499))),
     "geojson of more lists": (lambda size: scattered(10_000), lambda size: nested(400 * size)),

@@ -4,7 +4,7 @@
 
 use osm_area::Area;
 use osm_box::BoundingBox;
-use osm_polygon::{Polygon, Ring, read_rings};
+use osm_polygon::{Place, Polygon, Ring, read_rings};
 use std::alloc::{AllocError, Global};
 use std::test::Fail;
 
@@ -302,6 +302,139 @@ fn edges_over_all_latitudes(rt: HostRuntime) -> Result<(), Fail> {
             false
         )
     );
+    Ok(())
+}
+
+/// How far the place lies left of the line from one place to another.
+fn turn(from: Place, to: Place, place: Place) -> i128 {
+    let left = i128::from(to.lon)
+        .wrapping_sub(i128::from(from.lon))
+        .wrapping_mul(i128::from(place.lat).wrapping_sub(i128::from(from.lat)));
+    let right = i128::from(to.lat)
+        .wrapping_sub(i128::from(from.lat))
+        .wrapping_mul(i128::from(place.lon).wrapping_sub(i128::from(from.lon)));
+    left.wrapping_sub(right)
+}
+
+/// Whether the place lies on the edge from one place to another.
+fn is_on_edge(from: Place, to: Place, place: Place) -> bool {
+    let is_amid = from.lat.min(to.lat) <= place.lat
+        && place.lat <= from.lat.max(to.lat)
+        && from.lon.min(to.lon) <= place.lon
+        && place.lon <= from.lon.max(to.lon);
+    is_amid && turn(from, to, place) == 0
+}
+
+/// Whether the ray to the east crosses the edge from one place to another.
+fn is_crossed(from: Place, to: Place, place: Place) -> bool {
+    if from.lat <= to.lat {
+        from.lat <= place.lat && place.lat < to.lat && 0 < turn(from, to, place)
+    } else {
+        to.lat <= place.lat && place.lat < from.lat && 0 < turn(to, from, place)
+    }
+}
+
+/// Whether the polygon of a ring has the place: edge by edge, as it is defined.
+fn is_in_ring(places: &[Place], place: Place) -> bool {
+    let mut is_odd = false;
+    let Some(last) = places.last() else {
+        return false;
+    };
+    let mut from = *last;
+    for to in places {
+        if is_on_edge(from, *to, place) {
+            return true;
+        }
+        is_odd = is_odd != is_crossed(from, *to, place);
+        from = *to;
+    }
+    is_odd
+}
+
+/// The next of a row of numbers that look random.
+fn next_number(number: u64) -> u64 {
+    number
+        .wrapping_mul(6_364_136_223_846_793_005)
+        .wrapping_add(1_442_695_040_888_963_407)
+}
+
+/// A number of nanodegrees that is at most 20 degrees from 0: whole degrees for half of the numbers.
+fn some_nanodegrees(number: u64) -> i128 {
+    let part = number >> 24;
+    if number % 4096 < 2048 {
+        i128::from(part % 41) * 1_000_000_000 - 20_000_000_000
+    } else {
+        i128::from(part % 40_000_000_001) - 20_000_000_000
+    }
+}
+
+/// A place for a number.
+fn some_place(number: u64) -> Option<Place> {
+    Place::of(
+        some_nanodegrees(number),
+        some_nanodegrees(next_number(number)),
+    )
+}
+
+/// A ring that goes to so many places in no order.
+fn scribble(alloc: Global, count: u32) -> Result<Ring, AllocError> {
+    let mut places = Vec::new(alloc);
+    let mut number = u64::from(count);
+    for _corner in 0..count {
+        number = next_number(next_number(number));
+        if let Some(place) = some_place(number) {
+            places.push(place)?;
+        }
+    }
+    Ok(Ring { places })
+}
+
+/// A ring that goes so often from 20 degrees south to 20 degrees north or back.
+fn up_and_down(alloc: Global, count: u32) -> Result<Ring, AllocError> {
+    let mut places = Vec::new(alloc);
+    for corner in 0..count {
+        let lat = if corner % 2 == 0 {
+            -20_000_000_000
+        } else {
+            20_000_000_000
+        };
+        if let Some(place) = Place::of(lat, i128::from(corner) * 100_000_000 - 20_000_000_000) {
+            places.push(place)?;
+        }
+    }
+    Ok(Ring { places })
+}
+
+/// Whether the polygon of the ring has those of so many places that it is defined to have.
+fn is_as_defined(alloc: Global, ring: Ring, count: u32) -> Result<bool, AllocError> {
+    let rings = [ring];
+    let polygon = Polygon::new(alloc, &rings)?;
+    let mut number = 1;
+    for _asked in 0..count {
+        number = next_number(next_number(number));
+        if let Some(place) = some_place(number) {
+            let has = polygon.contains(i128::from(place.lat), i128::from(place.lon));
+            if has != is_in_ring(rings[0].places.as_slice(), place) {
+                return Ok(false);
+            }
+        }
+    }
+    Ok(true)
+}
+
+#[test]
+fn many_edges_in_each_band(rt: HostRuntime) -> Result<(), Fail> {
+    let zigzag = up_and_down(rt.alloc(), 401)?;
+    assert!(rt; is_as_defined(rt.alloc(), zigzag, 2000)?);
+    Ok(())
+}
+
+#[test]
+fn many_crossings(rt: HostRuntime) -> Result<(), Fail> {
+    for count in [3, 4, 7, 60, 400] {
+        let ring = scribble(rt.alloc(), count)?;
+        assert!(rt; is_as_defined(rt.alloc(), ring, 1000)?);
+    }
     Ok(())
 }
 

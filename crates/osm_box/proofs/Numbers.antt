@@ -7,12 +7,8 @@ use Rattle.std.specs.Result.{result_ok}
 use Rattle.std.proofs.lemmas.Nat.{pow-add}
 use Rattle.std.proofs.Math.Nat.{mul-lt-mul_of_pos_right, one-le-pow, pow-le-pow_right}
 use Rattle.std.proofs.lemmas.Int.Digits.{digits_value-lt}
+use Rattle.std.proofs.lemmas.Bool.{and_parts}
 use Rattle.osm_box.specs.Degrees.{are_digits, digits_of}
-
-both : (a b : Bool) → (a && b) ≡ true → (a ≡ true) × (b ≡ true)
-both true true e = (refl, refl)
-both true false e = cc
-both false b e = cc
 
 digit_small : (c : ℕ) → is_ascii_digit c ≡ true → digit_value c < 10
 digit_small c e = search rules
@@ -23,13 +19,13 @@ not_plus c e = search rules
 all_small : (t : List ℕ) → list_all is_ascii_digit t ≡ true → AllDigits 10 t
 all_small [] e = tt
 all_small (c ∷ cs) e =
-    let h = both (is_ascii_digit c) (list_all is_ascii_digit cs) e in
+    let h = and_parts (is_ascii_digit c) (list_all is_ascii_digit cs) e in
     (digit_small c h.0, all_small cs h.1)
 
 no_plus : (t : List ℕ) → 1 ≤ length t → list_all is_ascii_digit t ≡ true → without_leading_plus t ≡ t
 no_plus [] h e = refl
 no_plus (c ∷ cs) h e =
-    let first = not_plus c (both (is_ascii_digit c) (list_all is_ascii_digit cs) e).0 in
+    let first = not_plus c (and_parts (is_ascii_digit c) (list_all is_ascii_digit cs) e).0 in
     rw first refl
 
 le_true : (a b : ℕ) → a ≤ b → nat_le a b ≡ true
@@ -62,8 +58,8 @@ digits_below most t = go (are_digits most t) refl
     go : (b : Bool) → are_digits most t ≡ b → IfSome (digits_of most t) (λ n. n < 10 ^ length t)
     go false e = rw e tt
     go true e =
-        let rest = (both (nat_le 1 (length t)) (nat_le (length t) most && list_all is_ascii_digit t) e).1 in
-        let digits = (both (nat_le (length t) most) (list_all is_ascii_digit t) rest).1 in
+        let rest = (and_parts (nat_le 1 (length t)) (nat_le (length t) most && list_all is_ascii_digit t) e).1 in
+        let digits = (and_parts (nat_le (length t) most) (list_all is_ascii_digit t) rest).1 in
         rw e (digits_value-lt 10 t (all_small t digits))
 
 -- a text that does not begin with a byte begins with another

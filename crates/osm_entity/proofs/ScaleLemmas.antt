@@ -84,10 +84,10 @@ units_exceed (pos g) (negsuc v) (negsuc x) one exceeds =
     let above : suc v ≤ x / g = omega (arith, ints, exceeds) in
     omega (arith, ints, mul_comm (suc v) g, (le-div_iff_mul-le {x = suc v} {y = x} positive).0 above)
 
-between : (low high n : ℤ) → low ≤ℤ n → n ≤ℤ high → is_between low high n ≡ true
+pub between : (low high n : ℤ) → low ≤ℤ n → n ≤ℤ high → is_between low high n ≡ true
 between low high n above below = search (rules, above, below)
 
-ends : (low high n : ℤ) → is_between low high n ≡ true → (low ≤ℤ n) × (n ≤ℤ high)
+pub ends : (low high n : ℤ) → is_between low high n ≡ true → (low ≤ℤ n) × (n ≤ℤ high)
 ends low high n h = (search rules, search rules)
 
 -- the span of these quotients has the stored numbers from low to high

@@ -12,6 +12,7 @@ use Rattle.osm_ids.specs.declared.links.Link.{Link}
 use Rattle.osm_ids.specs.Links.{link_cmp, Has, IsClosed, IsLeast, is_link_among, is_of, is_in, missing_parents, IsAdded}
 use Rattle.osm_ids.proofs.Sets.{Ids, ids_of, contains-ids_of, insert_has}
 use Rattle.osm_ids.proofs.LinkOrder.{found_is, all_kept}
+use Rattle.pbf_wire.proofs.AllLemmas.{all_push, all_middle, all_weaker}
 
 insert_new : (s : Ids) (p : ℤ) → set.contains (set.insert s p) p ≡ true
 insert_new s p = set.contains-insert int_cmp_total s p p ∙ or_left (int_eq p p) (set.contains s p) ((Decides-int_eq p p).1 refl)
@@ -100,18 +101,6 @@ adding_start links rest id old old_work e =
       only = λ test closed at_id has. has;
       work = omega arith;
     }
-
-all_push : (P : Link → Type 0) (done : List Link) (l : Link) → AllByRecursion P done → P l → AllByRecursion P (done ++ l ∷ [])
-all_push P [] l h p = (p, tt)
-all_push P (d ∷ done) l h p = (h.0, all_push P done l h.1 p)
-
-all_weaker : (P Q : Link → Type 0) → ((l : Link) → P l → Q l) → (done : List Link) → AllByRecursion P done → AllByRecursion Q done
-all_weaker P Q f [] h = tt
-all_weaker P Q f (d ∷ done) h = (f d h.0, all_weaker P Q f done h.1)
-
-all_middle : (P : Link → Type 0) (done : List Link) (x : Link) (rest : List Link) → AllByRecursion P (done ++ x ∷ rest) → P x
-all_middle P [] x rest h = h.0
-all_middle P (d ∷ done) x rest h = all_middle P done x rest h.1
 
 module _ (links : List Link) (x : Link) (rest : List Link) (id : ℤ) (old : Ids) (old_work : List ℤ) (new : Ids) (new_work : List ℤ) (a : Adding links (x ∷ rest) id old old_work new new_work) where
   one_of : (is_of id x ≡ true) × (is_link_among links x ≡ true)

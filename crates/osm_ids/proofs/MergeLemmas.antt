@@ -10,12 +10,13 @@ use Rattle.std.specs.Cmp.{int_cmp_total, int_ranked}
 use Rattle.std.specs.FinSet as set
 use Rattle.std.proofs.lemmas.Bool.Decides.{Decides-int_eq}
 use Rattle.std.proofs.lemmas.Int.{ints}
+use Rattle.std.proofs.Math.Bool.{or_assoc, or-false}
 use Rattle.osm_ids.specs.Pages.{Rises, IsRising}
 use Rattle.osm_ids.specs.Order.{AreLate}
 use Rattle.osm_ids.specs.Merging.{merged, AreApart, IsMerging}
 use Rattle.osm_ids.proofs.Sets.{Ids, ids_of, contains-ids_of, ids_of-insert_key, or_swap}
-use Rattle.osm_ids.proofs.Rising.{rising_tail, rises_from, insert_rises, insert_rising, or_none}
-use Rattle.osm_ids.proofs.OrderLemmas.{with_late, contains-with_late, same_ids, none_late, or_assoc}
+use Rattle.osm_ids.proofs.Rising.{rising_tail, rises_from, insert_rises, insert_rising}
+use Rattle.osm_ids.proofs.OrderLemmas.{with_late, contains-with_late, same_ids, none_late}
 
 -- ---- if an id is inserted
 
@@ -176,7 +177,7 @@ gathered_more done id left all g =
 pub gathered_end : (done : Ids) (left all : List ℤ) → Gathered done left all → left ≡ [] → done ≡ ids_of all
 gathered_end done left all g e =
     same_ids _ _ (λ x.
-    sym (or_none (set.contains done x))
+    sym (or-false (set.contains done x))
     ∙ ap (λ (rest : List ℤ). set.contains done x || list_any (int_eq x) rest) (sym e)
     ∙ g.whole x
     ∙ sym (contains-ids_of all x))

@@ -1,5 +1,5 @@
 -- The greatest id of a set, and the ids that came out of order.
-use Rattle.std.proofs.Common.{◌≡◌, ◌<◌, Bool, true, false, ◌||◌, List, [], ◌∷◌, length, ℤ, ◌<ℤ◌, ◌≤ℤ◌, refl, sym, ap, subst, ◌∙◌, arith, true≢false}
+use Rattle.std.proofs.Common.{◌≡◌, ◌<◌, true, false, ◌||◌, List, [], ◌∷◌, length, ℤ, ◌<ℤ◌, ◌≤ℤ◌, refl, sym, ap, subst, ◌∙◌, arith, true≢false}
 use Rattle.std.specs.List.{list_any}
 use Rattle.std.specs.Ordering.{int_eq, int_cmp}
 use Rattle.std.specs.Cmp.{int_cmp_total}
@@ -8,9 +8,10 @@ use Rattle.std.specs.FinSet as set
 use Rattle.std.proofs.lemmas.Bool.{false_from_ne_true, or_from, or_right}
 use Rattle.std.proofs.lemmas.Bool.Decides.{Decides-int_eq}
 use Rattle.std.proofs.lemmas.Int.{ints}
+use Rattle.std.proofs.Math.Bool.{or_assoc, or-false}
 use Rattle.osm_ids.specs.Order.{IsAbove, IsGreatest, IsReached, AreLate}
 use Rattle.osm_ids.proofs.Sets.{Ids, ids_of, contains-ids_of, any-insert_key, or_swap}
-use Rattle.osm_ids.proofs.Rising.{other, len-rising, rising_list, or_none}
+use Rattle.osm_ids.proofs.Rising.{other, len-rising, rising_list}
 
 -- ---- the greatest id
 
@@ -85,10 +86,6 @@ new_above ids late id l up =
 pub same_ids : (s t : Ids) → ((x : ℤ) → set.contains s x ≡ set.contains t x) → s ≡ t
 same_ids s t = set.same_set int_cmp_total set.int_cmp-IsAntisymmetric s t
 
-pub or_assoc : (a b c : Bool) → ((a || b) || c) ≡ (a || (b || c))
-or_assoc true b c = refl
-or_assoc false b c = refl
-
 pub lay-with_late : (ids : Ids) (late : List ℤ) (id : ℤ) → with_late (set.insert ids id) late ≡ set.insert (with_late ids late) id
 lay-with_late ids late id =
     same_ids _ _ (λ x.
@@ -108,7 +105,7 @@ insert-with_late ids late id =
     ∙ sym (set.contains-insert int_cmp_total (with_late ids late) id x))
 
 pub none_late : (ids : Ids) → with_late ids [] ≡ ids
-none_late ids = same_ids _ _ (λ x. contains-with_late ids [] x ∙ or_none (set.contains ids x))
+none_late ids = same_ids _ _ (λ x. contains-with_late ids [] x ∙ or-false (set.contains ids x))
 
 pub known_laid : (ids : Ids) (late : List ℤ) (id : ℤ) → set.contains ids id ≡ true → set.contains (with_late ids late) id ≡ true
 known_laid ids late id e = contains-with_late ids late id ∙ ap (λ b. b || list_any (int_eq id) late) e

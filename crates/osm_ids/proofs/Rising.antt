@@ -1,5 +1,5 @@
 -- Rising ids, and where an id can be among them.
-use Rattle.std.proofs.Common.{◌≡◌, Bool, true, false, ◌||◌, ◌⊎◌, inl, inr, List, [], ◌∷◌, ◌++◌, length, ℤ, ◌<ℤ◌, ◌≤ℤ◌, refl, sym, ap, ◌∙◌, arith, Less, Equal, Greater, true≢false}
+use Rattle.std.proofs.Common.{◌≡◌, true, false, ◌||◌, ◌⊎◌, inl, inr, List, [], ◌∷◌, ◌++◌, length, ℤ, ◌<ℤ◌, ◌≤ℤ◌, refl, sym, ap, ◌∙◌, arith, Less, Equal, Greater, true≢false}
 use Rattle.std.specs.List.{list_any}
 use Rattle.std.specs.List.Sorted.{IsStrictlySortedBy}
 use Rattle.std.specs.BTreeSet.{insert_key}
@@ -11,6 +11,7 @@ use Rattle.std.proofs.lemmas.Bool.Decides.{Decides-int_eq}
 use Rattle.std.proofs.lemmas.Int.{ints}
 use Rattle.std.proofs.lemmas.Map.Keys.{sorted_head, sorted_tail}
 use Rattle.std.proofs.lemmas.List.Folds.{list_any-append}
+use Rattle.std.proofs.Math.Bool.{or-false}
 use Rattle.osm_ids.proofs.Sets.{Ids, ids_of, contains-ids_of, ids_of-insert_key}
 use Rattle.osm_ids.specs.Pages.{Rises, IsRising, last_of, in_order, rising}
 
@@ -76,10 +77,6 @@ len-rising (x ∷ ids) h =
     let absent = contains-ids_of ids x ∙ none_above x ids x h (omega (arith, ints)) in
     set.len-insert int_cmp_total (ids_of ids) x ∙ rw absent (omega (arith, len-rising ids (rising_tail x ids h)))
 
-pub or_none : (b : Bool) → (b || false) ≡ b
-or_none true = refl
-or_none false = refl
-
 pub rises_from : (low x : ℤ) (ids : List ℤ) → low <ℤ x → Rises x ids → Rises low ids
 rises_from low x [] h r = tt
 rises_from low x (id ∷ ids) h r = let up = r.0 in (omega (arith, ints), r.1)
@@ -95,7 +92,7 @@ low_last low [] h = omega (arith, ints)
 low_last low (id ∷ ids) h = let next = low_last id ids h.1 in let first = h.0 in omega (arith, ints)
 
 pub all_last : (low : ℤ) (ids : List ℤ) (x : ℤ) → Rises low ids → list_any (int_eq x) (low ∷ ids) ≡ true → x ≤ℤ last_of low ids
-all_last low [] x h e = let same : x ≡ low = (Decides-int_eq x low).0 (sym (or_none (int_eq x low)) ∙ e) in omega (arith, ints)
+all_last low [] x h e = let same : x ≡ low = (Decides-int_eq x low).0 (sym (or-false (int_eq x low)) ∙ e) in omega (arith, ints)
 all_last low (id ∷ ids) x h e =
     let later = λ (among : list_any (int_eq x) (id ∷ ids) ≡ true). all_last id ids x h.1 among in
     elim (int_eq x low) as (λ b. int_eq x low ≡ b → (b || list_any (int_eq x) (id ∷ ids)) ≡ true → x ≤ℤ last_of id ids) [
@@ -112,7 +109,7 @@ last_among low (id ∷ ids) = or_right (int_eq (last_of id ids) low) (list_any (
 -- one of the parts has it, if the others do not
 pub any_in_middle : (xs ys zs : List ℤ) (id : ℤ) → list_any (int_eq id) xs ≡ false → list_any (int_eq id) zs ≡ false → list_any (int_eq id) (xs ++ (ys ++ zs)) ≡ list_any (int_eq id) ys
 any_in_middle xs ys zs id before after =
-    list_any-append (int_eq id) xs (ys ++ zs) ∙ rw before (list_any-append (int_eq id) ys zs ∙ rw after (or_none (list_any (int_eq id) ys)))
+    list_any-append (int_eq id) xs (ys ++ zs) ∙ rw before (list_any-append (int_eq id) ys zs ∙ rw after (or-false (list_any (int_eq id) ys)))
 
 -- and an id of a part is one of all
 pub any_in_last : (xs ys zs : List ℤ) (id : ℤ) → list_any (int_eq id) zs ≡ true → list_any (int_eq id) (xs ++ (ys ++ zs)) ≡ true

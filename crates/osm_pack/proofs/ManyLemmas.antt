@@ -1,5 +1,5 @@
 -- Nodes that are added to an open block many at a time.
-use Rattle.std.proofs.Common.{◌≡◌, ℕ, zero, suc, ◌+◌, ◌≤◌, List, [], ◌∷◌, ◌++◌, true, leb, length, map, take, refl, sym, ap, ◌∙◌, subst, arith, append_assoc, append-nil, length-append, true≢false}
+use Rattle.std.proofs.Common.{◌≡◌, ℕ, ◌+◌, ◌≤◌, List, [], ◌∷◌, ◌++◌, true, leb, length, map, refl, sym, ap, ◌∙◌, subst, arith, append_assoc, append-nil, length-append, true≢false}
 use Rattle.std.specs.List.{sum_by, flat_map, AllByRecursion}
 use Rattle.std.proofs.lemmas.Bool.{le-leb}
 use Rattle.std.proofs.lemmas.List.{length_push}
@@ -16,18 +16,14 @@ use Rattle.osm_pack.specs.declared.open_block.OpenBlock.{OpenBlock}
 use Rattle.osm_pack.specs.Likenesses.{likeness_of, has_like}
 use Rattle.osm_pack.specs.Open.{likeness_among, Holds}
 use Rattle.osm_pack.proofs.CutLemmas.{joins, kept_bounds}
-use Rattle.osm_pack.proofs.OpenLemmas.{alike_likeness, texts_later, text_count, nodes_node, messages_node}
+use Rattle.osm_pack.proofs.OpenLemmas.{alike_likeness, texts_later, nodes_node, messages_node}
 use Rattle.osm_entity.specs.declared.weight.TheConstants.{HIGHEST_WEIGHT}
+use Rattle.pbf_block.proofs.WrittenLaw.{all_count}
 use Rattle.pbf_block.specs.declared.block_write.TheConstants.{MOST_ENTITIES}
 
 -- the first of them, and the others
 regrouped : (es : List EntitySpec) (n : NodeSpec) (ns : List NodeSpec) → (es ++ node n ∷ []) ++ map node ns ≡ es ++ map node (n ∷ ns)
 regrouped es n ns = append_assoc es (node n ∷ []) (map node ns)
-
-pub all_taken : {X : Type 0} (P : X → Type 0) (k : ℕ) (xs : List X) → AllByRecursion P xs → AllByRecursion P (take k xs)
-all_taken P zero xs all = tt
-all_taken P (suc k) [] all = tt
-all_taken P (suc k) (x ∷ xs) all = (all.0, all_taken P k xs all.1)
 
 nodes_many : (es : List EntitySpec) (ns : List NodeSpec) → nodes_among (es ++ map node ns) ≡ nodes_among es ++ ns
 nodes_many es [] = ap nodes_among (append-nil es) ∙ sym (append-nil (nodes_among es))
@@ -83,7 +79,7 @@ texts_joined (e ∷ es) ns =
 room_many : (es : List EntitySpec) (ns : List NodeSpec) → is_block (es ++ map node ns) ≡ true → length (texts_of_all es) + length (flat_map node_texts ns) ≤ 1048575
 room_many es ns h =
     let bound = (kept_bounds (es ++ map node ns) h).1 in
-    omega (arith, bound, text_count (es ++ map node ns), texts_joined es ns, length_after (flat_map entity_texts es) [])
+    omega (arith, bound, all_count (es ++ map node ns), texts_joined es ns, length_after (flat_map entity_texts es) [])
 
 -- ---- in the block that is open
 

@@ -1,11 +1,11 @@
 -- An open block, entity by entity.
-use Rattle.std.proofs.Common.{◌≡◌, ◌⊎◌, inl, inr, ℕ, ◌+◌, ◌*◌, ◌^◌, ◌≤◌, List, [], ◌∷◌, ◌++◌, Bool, true, false, ◌&&◌, length, map, Some, None, refl, sym, ap, ◌∙◌, subst, arith, append_assoc, append-nil, length-append, true≢false}
+use Rattle.std.proofs.Common.{◌≡◌, ◌⊎◌, inl, inr, ℕ, ◌+◌, ◌^◌, ◌≤◌, List, [], ◌∷◌, ◌++◌, Bool, true, false, ◌&&◌, length, map, Some, None, refl, sym, ap, ◌∙◌, subst, arith, append_assoc, append-nil, true≢false}
 use Rattle.std.specs.Prelude.{unwrap_or, nat_le, min, ◌-◌, if◌then◌else◌}
 use Rattle.osm_entity.specs.declared.scale.Scale.{Scale}
 use Rattle.std.specs.List.{sum_by, flat_map, list_all}
 use Rattle.std.proofs.lemmas.Bool.{and_parts}
 use Rattle.std.proofs.lemmas.List.{length_push, map_push}
-use Rattle.std.proofs.lemmas.List.Sums.{sum_by_push, sum_by-cons}
+use Rattle.std.proofs.lemmas.List.Sums.{sum_by_push}
 use Rattle.std.proofs.Math.Bool.{and-true}
 use Rattle.pbf_wire.specs.Message.{Each, slot_bytes, message, unless_empty}
 use Rattle.pbf_wire.proofs.LengthLemmas.{each_short}
@@ -16,9 +16,8 @@ use Rattle.osm_entity.specs.Entity.{NodeSpec, WaySpec, RelationSpec, EntitySpec,
 use Rattle.osm_entity.specs.EntityTexts.{node_texts, way_texts, relation_texts, entity_texts}
 use Rattle.osm_entity.specs.Ranges.{EntityFits}
 use Rattle.osm_entity.specs.Weight.{entity_weight}
-use Rattle.osm_entity.proofs.TextCounts.{node_count, way_count, relation_count}
 use Rattle.pbf_dense.specs.declared.dense_out.DenseOut.{DenseOut}
-use Rattle.pbf_dense.specs.WrittenDense.{HoldsNodes, columns_of, columns_held, dense_message, dense_info_message, dense_length}
+use Rattle.pbf_dense.specs.WrittenDense.{HoldsNodes, columns_of, columns_held, dense_message, dense_length}
 use Rattle.pbf_block.specs.WrittenBlock.{are_alike, is_block, nodes_among, ways_among, relations_among, texts_of_all, messages_among, group_message, scale_among, block_slots, block_message}
 use Rattle.pbf_block.specs.declared.entity_out.EntityOut.{EntityOut}
 use Rattle.pbf_block.specs.WrittenEntity.{way_message, relation_message, writer_length, most_way_held, most_relation_held}
@@ -32,6 +31,8 @@ use Rattle.osm_pack.specs.Likenesses.{likeness_of, same_likeness, is_like}
 use Rattle.osm_pack.specs.Open.{likeness_among, Holds, IsOpen, IsJoining, Encodes, Counts, IsClosing, block_held}
 use Rattle.osm_pack.proofs.CutLemmas.{like_first, joins, kept_parts, kept_bounds, kept_none, kept_one}
 use Rattle.osm_entity.specs.declared.weight.TheConstants.{HIGHEST_WEIGHT}
+use Rattle.pbf_block.proofs.EachLaw.{no_dense}
+use Rattle.pbf_block.proofs.WrittenLaw.{one_count, all_count}
 use Rattle.pbf_block.specs.declared.block_write.TheConstants.{MOST_ENTITIES}
 
 -- ---- what entities have in common
@@ -64,20 +65,11 @@ texts_push es e = sym (after_both (flat_map entity_texts es) (entity_texts e) []
 pub texts_later : (es : List EntitySpec) (e : EntitySpec) (used : List (List ℕ)) → texts_after (texts_of_all es) (entity_texts e ++ used) ≡ texts_after (texts_of_all (es ++ e ∷ [])) used
 texts_later es e used = used_later (texts_of_all es) (texts_of_all (es ++ e ∷ [])) (entity_texts e) used (sym (texts_push es e))
 
-entity_count : (e : EntitySpec) → 16 * length (entity_texts e) ≤ entity_weight e
-entity_count (node n) = node_count n
-entity_count (way w) = way_count w
-entity_count (relation r) = relation_count r
-
-pub text_count : (es : List EntitySpec) → 16 * length (flat_map entity_texts es) ≤ sum_by entity_weight es
-text_count [] = omega arith
-text_count (e ∷ es) = let more = text_count es in omega (arith, more, entity_count e, length-append (entity_texts e) (flat_map entity_texts es), sum_by-cons entity_weight e es)
-
 -- there is room for the texts of an entity that may join
 pub room : (es : List EntitySpec) (e : EntitySpec) → is_block (es ++ e ∷ []) ≡ true → length (texts_of_all es) + length (entity_texts e) ≤ 1048575
 room es e h =
     let bound = (kept_bounds (es ++ e ∷ []) h).1 in
-    omega (arith, bound, sum_by_push entity_weight es e, text_count es, entity_count e, length_after (flat_map entity_texts es) [])
+    omega (arith, bound, sum_by_push entity_weight es e, all_count es, one_count e, length_after (flat_map entity_texts es) [])
 
 -- ---- the entities of each kind
 
@@ -191,10 +183,6 @@ messages_way texts es w none =
 messages_relation : (texts : List (List ℕ)) (es : List EntitySpec) (r : RelationSpec) → messages_among texts es ++ slot_bytes (Each 4 (relation_message texts r ∷ [])) ≡ messages_among texts (es ++ relation r ∷ [])
 messages_relation texts es r =
     rw (ways_relation es r, relations_relation es r, append_assoc) (ap (λ (bs : List ℕ). slot_bytes (Each 3 (map (way_message texts) (ways_among es))) ++ bs) (pushed 4 (relation_message texts) (relations_among es) r))
-
-no_dense : (texts : List (List ℕ)) → dense_message texts [] ≡ []
-unfolding dense_message dense_info_message message
-no_dense texts = refl
 
 group_parts : (texts : List (List ℕ)) (es : List EntitySpec) → group_message texts es ≡ slot_bytes (Each 2 (unless_empty (dense_message texts (nodes_among es)))) ++ messages_among texts es
 unfolding group_message

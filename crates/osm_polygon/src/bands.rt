@@ -1,142 +1,211 @@
-//! Bands of latitude, each with the edges that have a place in it. So a place is compared with the edges of one band only.
+//! Bands of latitude, each cut into cells of longitude. So a place is compared with the edges of one cell only.
+//!
+//! From a place in a cell a way goes south to the southern border of its band, and from there to the east. The rings are closed; so an odd
+//! number of edges crosses the ray to the east just if an odd number crosses this way. Those in the cell are compared with the place, and of
+//! those east of it, which cross the border or not, the cell knows whether they are an odd number.
 
-ghost use Rattle.std.specs.Prelude.{◌≡◌, ◌<◌, ◌≤◌, ◌+◌, ◌*◌, true, [], IfOk, OnOk, length};
-ghost use Rattle.osm_polygon.specs.Bands.{AreBands, lists_of, pushed_at, with_edge, span_of, spans_of, held};
-ghost use Rattle.osm_polygon.specs.Edges.{is_in_band};
+ghost use Rattle.std.specs.Prelude.{◌≡◌, ◌<◌, ◌≤◌, ◌+◌, ◌-◌, ◌*◌, IfOk, length};
+ghost use Rattle.osm_polygon.specs.declared.edge.Axis.TheVariants.{Latitude};
+ghost use Rattle.osm_polygon.specs.Strips.{held, spans_of};
+ghost use Rattle.osm_polygon.specs.Bands.{differ, is_south_of, crosses_border, is_beside, is_told, is_odd_of, is_last, IsBand, AreBands, held_by, cells_by, Tells};
 
-use crate::edge::{Edge, band_of};
+use crate::edge::{Axis, Edge, Meeting, strip_of};
+use crate::place::Place;
+use crate::strips::{Cut, Strip, choose_cut, strips_of};
 use std::alloc::{AllocError, Global};
 
-/// A band that is 2^38 nanodegrees high reaches from pole to pole.
-const POLE_TO_POLE: u32 = 38;
-
-/// The edges that have a place in one band, in their order.
+/// A band, and its cells from the one with the number `first` to the west.
 #[derive(Debug, Drop)]
 pub(crate) struct Band {
-    pub(crate) edges: Vec<Edge>,
-}
-
-/// Which bands there are: `count` bands, each 2^shift nanodegrees high, from the one with the number `first` to the north.
-#[derive(Clone, Copy, Debug)]
-pub(crate) struct Cut {
+    /// For each cell the edges that have a place in it and in the band: at most twice as many together as the band has.
+    pub(crate) cells: Vec<Strip>,
+    /// For each cell, whether an odd number of edges east of it crosses the southern border of the band.
+    pub(crate) odds: Vec<bool>,
+    /// The number of the first cell.
     pub(crate) first: u64,
-    pub(crate) count: u64,
+    /// A cell is 2^shift nanodegrees wide.
     pub(crate) shift: u32,
 }
 
-/// Whether the bands of this height have at most `most` edges together. An edge counts once in each band that it has a place in.
-fn are_few(edges: &[Edge], shift: u32, most: u64) -> bool
-    requires { shift < 64 }
-    ensures { result ≡ true → spans_of shift edges.now ≤ most }
+/// The southern border of a band: bands are 2^shift nanodegrees high, and this one has the number `band`.
+#[derive(Clone, Copy, Debug)]
+pub(crate) struct Border {
+    pub(crate) shift: u32,
+    pub(crate) band: u64,
+}
+
+/// A place that is looked up, and the southern border of its band.
+#[derive(Clone, Copy, Debug)]
+pub(crate) struct Asked {
+    pub(crate) place: Place,
+    pub(crate) border: Border,
+}
+
+/// Whether one of two is true, and not the other.
+#[inline(always)]
+fn differ(a: bool, b: bool) -> bool
+    ensures { result ≡ differ a b }
 {
-    let mut left = most;
+    if a { !b } else { b }
+}
+
+impl Border {
+    /// Whether a place lies north of it, or on it.
+    #[inline(always)]
+    fn is_south_of(self, place: Place) -> bool
+        requires { self.shift < 64 }
+        ensures { result ≡ is_south_of self place }
+    {
+        self.band <= strip_of(Axis::Latitude, self.shift, place)
+    }
+
+    /// Whether the edge crosses it.
+    fn is_crossed(self, edge: &Edge) -> bool
+        requires { self.shift < 64 }
+        ensures { result ≡ crosses_border self edge.now }
+    {
+        differ(self.is_south_of(edge.from), self.is_south_of(edge.to))
+    }
+}
+
+impl Asked {
+    /// Whether an end of an edge lies north of the way from the place, and no farther north than the place.
+    #[inline(always)]
+    fn is_beside(self, end: Place) -> bool
+        requires { self.border.shift < 64 }
+        ensures { result ≡ is_beside self end }
+    {
+        self.place.lon < end.lon && end.lat <= self.place.lat && self.border.is_south_of(end)
+    }
+
+    /// Whether the edge crosses the way from the place, if it crosses the ray or not.
+    #[inline(always)]
+    fn is_passed(self, edge: &Edge, is_crossed: bool) -> bool
+        requires { self.border.shift < 64 }
+        ensures { result ≡ differ is_crossed
+            (differ (is_beside self edge.now.from) (is_beside self edge.now.to)) }
+    {
+        differ(
+            is_crossed,
+            differ(self.is_beside(edge.from), self.is_beside(edge.to)),
+        )
+    }
+}
+
+/// Whether the place lies on one of these edges, or an odd number of edges crosses the way from it. `is_odd` says whether an odd number of others
+/// does.
+#[tactic(auto, using(crate::proofs::Counting::none_left, crate::proofs::Counting::step_on, crate::proofs::Counting::step_off))]
+fn is_within(edges: &[Edge], is_odd: bool, asked: Asked) -> bool
+    requires { asked.border.shift < 64 }
+    ensures { result ≡ is_told asked is_odd edges.now }
+{
+    let mut is_odd = is_odd;
+    let mut rest = edges;
+    'edges: while let Some((edge, more)) = rest.split_first() {
+        let is_crossed = match edge.meeting(asked.place) {
+            Meeting::On => return true,
+            Meeting::Crossed => true,
+            Meeting::Nothing => false,
+        };
+        is_odd = differ(is_odd, asked.is_passed(edge, is_crossed));
+        rest = more;
+    }
+    is_odd
+}
+
+/// Whether the edge crosses the border and has its last cell here. In all further cells it lies east.
+fn is_last(edge: &Edge, shift: u32, cell: u64, border: Border) -> bool
+    requires cells { shift < 64 }
+    requires bands { border.shift < 64 }
+    ensures { result ≡ is_last shift cell (crosses_border border) edge.now }
+{
+    edge.highest(Axis::Longitude, shift) == cell && border.is_crossed(edge)
+}
+
+/// Whether an odd number of these edges crosses the border and has its last cell here.
+fn is_odd_here(edges: &[Edge], shift: u32, cell: u64, border: Border) -> bool
+    requires cells { shift < 64 }
+    requires bands { border.shift < 64 }
+    ensures { result ≡ is_odd_of (is_last shift cell (crosses_border border)) edges.now }
+{
+    let mut is_odd = false;
     for edge in edges {
-        let Some(rest) = left.checked_sub(edge.span(shift)) else {
+        is_odd = differ(is_odd, is_last(edge, shift, cell, border));
+    }
+    is_odd
+}
+
+/// The band north of this border, which has these edges.
+fn band_of(alloc: Global, edges: &[Edge], border: Border) -> Result<Band, AllocError>
+    requires { border.shift < 64 }
+    ensures is { IfOk result (λ band. IsBand border edges.now band) }
+    ensures few { IfOk result (λ band. held band.cells.items ≤ 2 * length edges.now) }
+    ensures number { IfOk result (λ band. length band.cells.items ≤ length edges.now + 1) }
+{
+    let cut = choose_cut(edges, Axis::Longitude, 2);
+    let cells = strips_of(alloc, edges, cut)?;
+    let mut odds = Vec::new(alloc);
+    let mut is_odd = false;
+    let mut number = cut.first;
+    for cell in cells.as_slice() {
+        odds.push(is_odd)?;
+        is_odd = differ(
+            is_odd,
+            is_odd_here(cell.edges.as_slice(), cut.shift, number, border),
+        );
+        number += 1;
+    }
+    Ok(Band {
+        cells,
+        odds,
+        first: cut.first,
+        shift: cut.shift,
+    })
+}
+
+/// The bands of `cut`, each with its edges.
+pub(crate) fn bands_of(alloc: Global, edges: &[Edge], cut: Cut) -> Result<Vec<Band>, AllocError>
+    requires { (cut.axis ≡ Latitude) × (cut.shift < 64) }
+    ensures are { IfOk result (λ bands. AreBands cut.shift cut.first edges.now bands.items) }
+    ensures number { IfOk result (λ bands. length bands.items ≡ cut.end - cut.first) }
+    ensures few { IfOk result (λ bands.
+        held_by bands.items ≤ 2 * spans_of Latitude cut.shift edges.now) }
+    ensures cells { IfOk result (λ bands.
+        cells_by bands.items ≤ spans_of Latitude cut.shift edges.now + length bands.items) }
+{
+    let strips = strips_of(alloc, edges, cut)?;
+    let mut bands = Vec::new(alloc);
+    let mut number = cut.first;
+    for strip in strips.as_slice() {
+        let border = Border {
+            shift: cut.shift,
+            band: number,
+        };
+        bands.push(band_of(alloc, strip.edges.as_slice(), border)?)?;
+        number += 1;
+    }
+    Ok(bands)
+}
+
+impl Band {
+    /// Whether a place of the band lies on one of its edges, or the ray from it to the east crosses an odd number of them.
+    #[inline(always)]
+    pub(crate) fn has(&self, asked: Asked) -> bool
+        requires cells { self.now.shift < 64 }
+        requires bands { asked.border.shift < 64 }
+        ensures { Tells self.now asked result }
+    {
+        let number = strip_of(Axis::Longitude, self.shift, asked.place);
+        if number < self.first {
+            return false;
+        }
+        let index = (number - self.first) as usize;
+        let Some(cell) = self.cells.get(index) else {
             return false;
         };
-        left = rest;
+        let Some(is_odd) = self.odds.get(index) else {
+            return false;
+        };
+        is_within(cell.edges.as_slice(), *is_odd, asked)
     }
-    true
-}
-
-/// The southernmost and the northernmost end of an edge, in nanodegrees from the south pole.
-fn ends(edges: &[Edge]) -> (u64, u64) {
-    let mut south = u64::MAX;
-    let mut north = 0;
-    for edge in edges {
-        let height = band_of(0, edge.to);
-        south = south.min(height);
-        north = north.max(height);
-    }
-    (south, north)
-}
-
-/// The bands of this height from one end to the other.
-fn cut_at(south: u64, north: u64, shift: u32) -> Cut
-    requires { shift < 64 }
-    ensures { result.shift ≡ shift }
-{
-    let first = south >> shift;
-    let last = north >> shift;
-    Cut {
-        first,
-        count: last.saturating_sub(first).saturating_add(1),
-        shift,
-    }
-}
-
-/// Which bands edges get: the lowest bands such that there are no more bands than edges, and that they have at most eight times as many edges
-/// together. So edges that all reach from south to north get few bands, and no polygon gets bands that take more memory than that.
-pub(crate) fn choose_cut(edges: &[Edge]) -> Cut
-    ensures height { result.shift < 64 }
-    ensures number { result.count ≤ length edges.now + 1 }
-    ensures few { spans_of result.shift edges.now ≤ 8 * length edges.now }
-{
-    let most = edges.len() as u64;
-    let (south, north) = ends(edges);
-    for shift in 0..POLE_TO_POLE {
-        let cut = cut_at(south, north, shift);
-        if cut.count <= most && are_few(edges, shift, most.saturating_mul(8)) {
-            return cut;
-        }
-    }
-    Cut {
-        first: 0,
-        count: 1,
-        shift: POLE_TO_POLE,
-    }
-}
-
-/// As many bands as `cut` says, without edges.
-fn empty_bands(alloc: Global, cut: Cut) -> Result<Vec<Band>, AllocError>
-    ensures are { IfOk result (λ bands. AreBands cut.shift cut.first [] (lists_of bands.items)) }
-    ensures none { IfOk result (λ bands. held bands.items ≡ 0) }
-{
-    let mut bands = Vec::new(alloc);
-    for _number in 0..cut.count {
-        bands.push(Band {
-            edges: Vec::new(alloc),
-        })?;
-    }
-    Ok(bands)
-}
-
-/// Adds an edge to the band with this index, if there is one.
-fn push_at(bands: &mut Vec<Band>, index: usize, edge: Edge) -> Result<(), AllocError>
-    ensures { OnOk result (lists_of bands.new.items
-        ≡ pushed_at index edge (lists_of bands.old.items)) }
-{
-    if let Some(band) = bands.get_mut(index) {
-        band.edges.push(edge)?;
-    }
-    Ok(())
-}
-
-/// Adds an edge to each band that it has a place in.
-fn add_edge(bands: &mut Vec<Band>, first: u64, shift: u32, edge: Edge) -> Result<(), AllocError>
-    requires { shift < 64 }
-    ensures with { OnOk result (lists_of bands.new.items
-        ≡ with_edge (λ n. is_in_band shift n edge) edge first (lists_of bands.old.items)) }
-    ensures few { OnOk result (held bands.new.items ≤ held bands.old.items + span_of shift edge) }
-{
-    let from = edge.lowest(shift).max(first);
-    let end = edge.highest(shift) + 1;
-    for number in from..end {
-        push_at(bands, (number - first) as usize, edge)?;
-    }
-    Ok(())
-}
-
-/// The bands of `cut`, each with its edges. Each edge is compared with no band but pushed to those that it reaches.
-pub(crate) fn bands_of(alloc: Global, edges: &[Edge], cut: Cut) -> Result<Vec<Band>, AllocError>
-    requires { cut.shift < 64 }
-    ensures are { IfOk result (λ bands.
-        AreBands cut.shift cut.first edges.now (lists_of bands.items)) }
-    ensures few { IfOk result (λ bands. held bands.items ≤ spans_of cut.shift edges.now) }
-{
-    let mut bands = empty_bands(alloc, cut)?;
-    for edge in edges {
-        add_edge(&mut bands, cut.first, cut.shift, *edge)?;
-    }
-    Ok(bands)
 }

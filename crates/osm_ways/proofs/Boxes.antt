@@ -1,5 +1,5 @@
 -- What the selection sees by an area is within what it sees by a larger one, as of boxes.
-use Rattle.std.proofs.Common.{◌≡◌, ℤ, ◌≤ℤ◌, true, refl, arith, rules}
+use Rattle.std.proofs.Common.{◌≡◌, ℤ, true, refl, arith}
 use Rattle.std.proofs.lemmas.Int.{ints}
 use Rattle.std.proofs.lemmas.Bool.{and_from, and_parts}
 use Rattle.osm_area.specs.Area.{AreaSpec, IsAreaWithin, box_area}
@@ -8,12 +8,7 @@ use Rattle.osm_box.specs.BoundingBox.{is_between, is_inside, is_box_within}
 use Rattle.osm_entity.specs.Entity.{node_at, way_through, relation_among, decoded}
 use Rattle.osm_ways.specs.Selection.{IsWithin}
 use Rattle.osm_ways.specs.Seen.{seen_decoded, seen_entity}
-
-ends : (low high n : ℤ) → is_between low high n ≡ true → (low ≤ℤ n) × (n ≤ℤ high)
-ends low high n h = (search rules, search rules)
-
-between : (low high n : ℤ) → low ≤ℤ n → n ≤ℤ high → is_between low high n ≡ true
-between low high n above below = search (rules, above, below)
+use Rattle.osm_entity.proofs.ScaleLemmas.{between, ends}
 
 -- if both ends of a span lie in a wider one, so does what is between them
 between_wider : (low high least most n : ℤ) → is_between least most low ≡ true → is_between least most high ≡ true → is_between low high n ≡ true → is_between least most n ≡ true

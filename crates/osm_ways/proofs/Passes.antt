@@ -4,6 +4,7 @@ use Rattle.std.specs.List.{list_any, fold}
 use Rattle.std.specs.Ordering.{int_eq, int_cmp, ordering_then, is_eq}
 use Rattle.std.specs.Cmp.{int_cmp_total}
 use Rattle.std.specs.FinSet as set
+use Rattle.std.proofs.Math.Bool.{or_assoc}
 use Rattle.osm_ids.specs.declared.links.Link.{Link}
 use Rattle.osm_ids.specs.Links.{link_cmp, IsLeast}
 use Rattle.osm_ids.proofs.LinkOrder.{link_cmp_total}
@@ -17,10 +18,6 @@ or_later : (new old rest : Bool) → ((new || old) || rest) ≡ (old || (new || 
 or_later true true rest = refl
 or_later true false rest = refl
 or_later false old rest = refl
-
-or_assoc : (a b c : Bool) → ((a || b) || c) ≡ (a || (b || c))
-or_assoc true b c = refl
-or_assoc false b c = refl
 
 or_none : (b : Bool) → b ≡ (b || false)
 or_none true = refl

@@ -4,11 +4,11 @@ use Rattle.std.specs.List.{list_any}
 use Rattle.std.specs.Ordering.{int_eq, int_cmp}
 use Rattle.std.specs.Cmp.{int_cmp_total}
 use Rattle.std.specs.FinSet as set
+use Rattle.std.proofs.Math.Bool.{or-false}
 use Rattle.pbf_wire.specs.declared.span.Span.{Span}
 use Rattle.pbf_wire.specs.Spans.{AreAlike}
 use Rattle.osm_ids.specs.Windows.{Lacks}
 use Rattle.osm_ids.proofs.Closing.{insert_same}
-use Rattle.osm_ids.proofs.Rising.{or_none}
 use Rattle.osm_ids.proofs.Sets.{or_swap}
 use Rattle.osm_ways.specs.Phases.{Ids, sets_of, start_ways, sets_with_way, refs_if}
 use Rattle.osm_ways.specs.Selection.{is_kept_way}
@@ -16,7 +16,7 @@ use Rattle.osm_ways.specs.Selection.{is_kept_way}
 union-empty : (s : Ids) → set.union s set.empty ≡ s
 union-empty s =
     set.same_set int_cmp_total set.int_cmp-IsAntisymmetric _ _
-    (λ id. set.contains-union int_cmp_total s set.empty id ∙ ap (λ b. set.contains s id || b) (set.contains-empty int_cmp id) ∙ or_none (set.contains s id))
+    (λ id. set.contains-union int_cmp_total s set.empty id ∙ ap (λ b. set.contains s id || b) (set.contains-empty int_cmp id) ∙ or-false (set.contains s id))
 
 -- to add to a part is to add to the union
 pub union-insert : (s t : Ids) (new : ℤ) → set.union s (set.insert t new) ≡ set.insert (set.union s t) new

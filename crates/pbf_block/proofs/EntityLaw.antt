@@ -32,6 +32,7 @@ use Rattle.pbf_block.specs.Scale.{number_or}
 use Rattle.pbf_block.specs.WrittenEntity.{key_index, value_index, info_message, entity_slots}
 use Rattle.pbf_block.proofs.InfoLaw.{IsAmong, MetaReady, named_read, stored_fits, stored_read, info_read, info_wire, info_quiet}
 use Rattle.pbf_wire.proofs.SlotLemmas.{IfSome}
+use Rattle.pbf_wire.proofs.AllLemmas.{all_weaker}
 
 -- ---- columns of other fields
 
@@ -69,14 +70,6 @@ own_quiet k f (Each number messages ∷ own) h = absurd h.0
 
 -- ---- tags
 
-pub all_such : {X : Type 0} (P Q : X → Type 0) → ((x : X) → P x → Q x) → (xs : List X) → AllByRecursion P xs → AllByRecursion Q xs
-all_such P Q each [] h = tt
-all_such P Q each (x ∷ xs) h = (each x h.0, all_such P Q each xs h.1)
-
-pub map_of_all : {X Y : Type 0} (P : Y → Type 0) (f : X → Y) (xs : List X) → AllByRecursion (λ x. P (f x)) xs → AllByRecursion P (map f xs)
-map_of_all P f [] h = tt
-map_of_all P f (x ∷ xs) h = (h.0, map_of_all P f xs h.1)
-
 abbrev pub AreAmong : List (List ℕ) → List (List ℕ) → Type 0
 AreAmong texts used = AllByRecursion (IsAmong texts) used
 
@@ -94,11 +87,11 @@ values_named texts (tag ∷ tags) h = (index_below texts tag.1 h.1.0, values_nam
 
 module _ (texts : List (List ℕ)) (few : length (table_of texts) ≤ 1048576) where
   pub named_fit : (indexes : List ℕ) → AllByRecursion (IsNamed texts) indexes → AllByRecursion (λ v. v < 2 ^ 64) indexes
-  named_fit indexes h = all_such (IsNamed texts) (λ v. v < 2 ^ 64) (λ i lt. omega (arith, few, lt)) indexes h
+  named_fit indexes h = all_weaker (IsNamed texts) (λ v. v < 2 ^ 64) (λ i lt. omega (arith, few, lt)) indexes h
 
   pub named_good : (entries : List (ℕ × ℕ)) (indexes : List ℕ) → map (λ p. p.0) entries ≡ indexes → AllByRecursion (IsNamed texts) indexes → index_faults (length (table_of texts)) entries ≡ []
   named_good entries indexes e h =
-      let low = all_such (IsNamed texts) (λ v. v % 2 ^ 32 < length (table_of texts)) (λ i lt. omega (arith, few, lt)) indexes h in
+      let low = all_weaker (IsNamed texts) (λ v. v % 2 ^ 32 < length (table_of texts)) (λ i lt. omega (arith, few, lt)) indexes h in
       indexes_good (length (table_of texts)) entries (subst (λ (ns : List ℕ). AllByRecursion (λ v. v % 2 ^ 32 < length (table_of texts)) ns) (sym e) low)
 
   tags_given : (tags : List TagSpec) → AreAmong texts (tag_texts tags) → paired_tags (table_of texts) (map (key_index texts) tags) (map (value_index texts) tags) ≡ tags

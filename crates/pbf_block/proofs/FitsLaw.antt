@@ -12,7 +12,6 @@ use Rattle.pbf_wire.specs.Occurrence.{Content, Bytes, Occurrence}
 use Rattle.pbf_wire.specs.Reading.{last_value, last_number}
 use Rattle.pbf_wire.specs.Signed.{low_i32, low_i64}
 use Rattle.pbf_wire.specs.Faults.{inside, fields_in, in_last, embedded}
-use Rattle.pbf_wire.proofs.MessageLemmas.{all_append}
 use Rattle.pbf_wire.proofs.SoundLemmas.{both_nil, all_nil, not_wrong}
 use Rattle.osm_entity.specs.declared.scale.Scale.{Scale}
 use Rattle.osm_entity.specs.declared.weight.TheConstants.{HIGHEST_WEIGHT}
@@ -21,6 +20,7 @@ use Rattle.osm_entity.specs.Entity.{EntitySpec, node, way, relation}
 use Rattle.osm_entity.specs.Ranges.{EntityFits, IsInt32, IsInt64, ScaleTyped, EntityTyped}
 use Rattle.osm_entity.specs.Weight.{entity_weight}
 use Rattle.osm_entity.proofs.RangeLemmas.{int32_typed, int64_typed}
+use Rattle.pbf_wire.proofs.AllLemmas.{all_append, all_weaker, all_map}
 use Rattle.pbf_dense.proofs.FitsLemmas.{nodes_fit, nodes_typed, version_typed}
 use Rattle.pbf_block.specs.Group.{in_group, message_entities, member_entities, member_values, weight_fault, member_weights}
 use Rattle.pbf_dense.specs.declared.dense_info.TheConstants.{VERSION}
@@ -33,7 +33,6 @@ use Rattle.pbf_block.specs.Relation.{relation_in}
 use Rattle.pbf_block.specs.PrimitiveBlock.{indexed, entities, payload_weights, block_fault, value_faults, positive}
 use Rattle.pbf_block.specs.Scale.{scale_of, stored_texts}
 use Rattle.pbf_block.specs.declared.scale.TheConstants.{DEFAULT_SCALE}
-use Rattle.pbf_block.proofs.EntityLaw.{all_such, map_of_all}
 use Rattle.pbf_block.proofs.MemberLemmas.{cond_all, inside_all, InGroup, groups_all, groups_nil, IsClean, HoldsClean, payload_clean}
 use Rattle.pbf_block.proofs.TableLemmas.{table_few}
 use Rattle.pbf_block.proofs.PhaseLemmas.{no_fault}
@@ -52,7 +51,7 @@ module _ (table : List (List ℕ)) (scale : Scale) where
   held = member_entities indexed table scale
 
   member_light : (o : Occurrence) → weights o ≡ [] → AllByRecursion IsLight (held o)
-  member_light o e = all_such (λ x. weight_fault o.place x ≡ []) IsLight (light o.place) (held o) (all_nil (weight_fault o.place) (held o) e)
+  member_light o e = all_weaker (λ x. weight_fault o.place x ≡ []) IsLight (light o.place) (held o) (all_nil (weight_fault o.place) (held o) e)
 
   payload_light : (os : List Occurrence) → flat_map (in_group weights) os ≡ [] → AllByRecursion IsLight (flat_map (in_group held) os)
   payload_light os e = groups_all IsLight held (λ o. weights o ≡ []) member_light os (groups_nil weights os e)
@@ -84,7 +83,7 @@ module _ (table : List (List ℕ)) (few : length table ≤ 2 ^ 62) (scale : Scal
   message_fits k place at m h =
       cond_all FitsLight (eqb k NODES) _ _ (λ t. let is = eqb-true k NODES t in (node_fits limit table scale scaled place at m (h.node_numbers is), tt))
       (cond_all FitsLight (eqb k DENSE) _ _
-      (λ t. let is = eqb-true k DENSE t in map_of_all FitsLight node _ (nodes_fit table scale at m scaled (record { place = place; few = few; wire = h.dense_form is; structure = h.dense_parts is; values = h.dense_numbers is })))
+      (λ t. let is = eqb-true k DENSE t in all_map FitsLight node _ (nodes_fit table scale at m scaled (record { place = place; few = few; wire = h.dense_form is; structure = h.dense_parts is; values = h.dense_numbers is })))
       (cond_all FitsLight (eqb k WAYS) _ _ (λ t. let is = eqb-true k WAYS t in (way_fits limit table scale scaled place at m (h.way_form is) (h.way_parts is) (h.way_numbers is), tt))
       (cond_all FitsLight (eqb k RELATIONS) _ _ (λ t. let is = eqb-true k RELATIONS t in (relation_fits limit table scale scaled place at m (h.relation_numbers is), tt)) tt)))
 
@@ -126,7 +125,7 @@ module _ (table : List (List ℕ)) (scale : Scale) (scaled : ScaleTyped scale) w
 
   message_typed : (k : ℕ) (os : List Occurrence) → AllByRecursion EntityTyped (message_entities indexed table scale k os)
   message_typed k os =
-      cond_all EntityTyped (eqb k NODES) _ _ (λ t. (node_typed os, tt)) (cond_all EntityTyped (eqb k DENSE) _ _ (λ t. map_of_all EntityTyped node _ (nodes_typed table scale scaled os))
+      cond_all EntityTyped (eqb k NODES) _ _ (λ t. (node_typed os, tt)) (cond_all EntityTyped (eqb k DENSE) _ _ (λ t. all_map EntityTyped node _ (nodes_typed table scale scaled os))
       (cond_all EntityTyped (eqb k WAYS) _ _ (λ t. (way_typed os, tt)) (cond_all EntityTyped (eqb k RELATIONS) _ _ (λ t. (relation_typed os, tt)) tt)))
 
   inside_typed : (f : ℕ → List ℕ → List EntitySpec) (c : Content) → ((at : ℕ) (m : List ℕ) → AllByRecursion EntityTyped (f at m)) → AllByRecursion EntityTyped (inside f c)

@@ -12,7 +12,6 @@ use Rattle.pbf_wire.specs.Faults.{column_count, fields_in, embedded}
 use Rattle.pbf_wire.specs.Occurrence.{Occurrence}
 use Rattle.pbf_wire.specs.Reading.{last_number}
 use Rattle.pbf_wire.specs.Signed.{unzigzag}
-use Rattle.pbf_wire.specs.Sums.{added, sums_within}
 use Rattle.pbf_wire.proofs.SoundLemmas.{length_counted}
 use Rattle.pbf_wire.proofs.FaultLemmas.{count_short}
 use Rattle.pbf_strings.specs.Texts.{text, longest}
@@ -36,6 +35,7 @@ use Rattle.pbf_block.specs.Entity.{values_in}
 use Rattle.pbf_block.specs.Group.{message_entities, weight_fault}
 use Rattle.pbf_block.specs.PrimitiveBlock.{streaming}
 use Rattle.osm_entity.specs.declared.weight.TheConstants.{HIGHEST_WEIGHT}
+use Rattle.pbf_wire.proofs.SpanLemmas.{sums_fit}
 
 -- ---- texts
 
@@ -75,13 +75,6 @@ zip_short [] ys = omega arith
 zip_short (x ∷ xs) [] = omega arith
 zip_short (x ∷ xs) (y ∷ ys) = omega (arith, zip_short xs ys)
 
-abbrev then_more : ℤ → List ℤ → Option ℤ → List ℤ
-then_more limit ds sum = elim sum [ None ↦ [] | Some sum ↦ sum ∷ sums_within limit sum ds ]
-
-sums_short : (limit start : ℤ) (ds : List ℤ) → length (sums_within limit start ds) ≤ length ds
-sums_short limit start [] = omega arith
-sums_short limit start (d ∷ ds) = elim (added limit start d) as (λ s. length (then_more limit ds s) ≤ suc (length ds)) [ None ↦ omega arith | Some sum ↦ omega (arith, sums_short limit sum ds) ]
-
 column_counted : (k : ℕ) (os : List Occurrence) → length (column k os) ≤ column_count k os
 column_counted k os = omega (arith, length-map {B = ℕ} (joined k os) (λ p. p.0), length_counted k os)
 
@@ -90,7 +83,7 @@ column_short k at m = omega (arith, column_counted k (fields_in at m), count_sho
 
 values_short : (k at : ℕ) (m : List ℕ) → length (values_in streaming k (fields_in at m)) ≤ length m
 values_short k at m =
-    omega (arith, sums_short (pos (2 ^ 62)) (pos 0) (map unzigzag (column k (fields_in at m))), length-map {B = ℤ} (column k (fields_in at m)) unzigzag, column_short k at m)
+    omega (arith, sums_fit (pos (2 ^ 62)) (pos 0) (map unzigzag (column k (fields_in at m))), length-map {B = ℤ} (column k (fields_in at m)) unzigzag, column_short k at m)
 
 pairs_short : (at : ℕ) (m : List ℕ) → length (zip (map low_32 (column KEYS (fields_in at m))) (map low_32 (column VALS (fields_in at m)))) ≤ length m
 pairs_short at m =

@@ -9,7 +9,7 @@ use Rattle.pbf_wire.specs.Columns.{column, joined}
 use Rattle.pbf_wire.specs.Faults.{fields_in, below_fault, nested_faults}
 use Rattle.pbf_wire.specs.Message.{Slot, Column, message, SlotFits}
 use Rattle.pbf_wire.specs.Sums.{deltas}
-use Rattle.pbf_wire.proofs.MessageLemmas.{all_left, all_right, column_written}
+use Rattle.pbf_wire.proofs.MessageLemmas.{column_written}
 use Rattle.pbf_wire.proofs.NoFaultLemmas.{below_good}
 use Rattle.pbf_wire.proofs.SumLemmas.{deltas_fit}
 use Rattle.pbf_strings.specs.TableOut.{has_text, table_of}
@@ -20,6 +20,7 @@ use Rattle.osm_entity.specs.Entity.{MemberSpec, RelationSpec, relation}
 use Rattle.osm_entity.specs.EntityTexts.{tag_texts, relation_texts}
 use Rattle.osm_entity.specs.Ranges.{IsStored, MemberFits, RelationFits, EntityTyped}
 use Rattle.osm_entity.specs.Sources.{member_kind, column_members}
+use Rattle.pbf_wire.proofs.AllLemmas.{all_left, all_right, all_weaker}
 use Rattle.pbf_dense.proofs.InfoLaw.{deltas_length}
 use Rattle.pbf_block.specs.declared.relation.TheConstants.{RELATION_KINDS, ROLES_SID, MEMIDS, TYPES}
 use Rattle.pbf_block.specs.declared.entity.TheConstants.{INFO}
@@ -28,7 +29,7 @@ use Rattle.pbf_block.specs.Relation.{relation_in, are_members, relation_structur
 use Rattle.pbf_block.specs.PrimitiveBlock.{indexed}
 use Rattle.pbf_block.specs.WrittenEntity.{kind_number, role_index, relation_slots, relation_message}
 use Rattle.pbf_block.proofs.InfoLaw.{named_read}
-use Rattle.pbf_block.proofs.EntityLaw.{AreAmong, IsNamed, AreKnown, IsOwn, IsReady, all_such, user_among, named_fit, named_good, values_read, count_is, sums_good, entity_fits, id_read, tags_read, meta_read, entity_wire, no_structure, id_quiet, no_value}
+use Rattle.pbf_block.proofs.EntityLaw.{AreAmong, IsNamed, AreKnown, IsOwn, IsReady, user_among, named_fit, named_good, values_read, count_is, sums_good, entity_fits, id_read, tags_read, meta_read, entity_wire, no_structure, id_quiet, no_value}
 
 -- ---- members
 
@@ -86,7 +87,7 @@ module _ (texts : List (List ℕ)) (r : RelationSpec) (h : RelationFits r) (type
   own_is =
       let sids = named_fit texts few (map (role_index texts) r.members) (roles_named texts r.members roles) in
       let ids = deltas_fit (map (λ m. m.id) r.members) (ids_stored r.members h.members) in
-      let kinds = all_such (λ v. v < 3) (λ v. v < 2 ^ 64) (λ v lt. omega (arith, lt)) (map (λ m. kind_number m.kind) r.members) (kinds_small r.members) in
+      let kinds = all_weaker (λ v. v < 3) (λ v. v < 2 ^ 64) (λ v lt. omega (arith, lt)) (map (λ m. kind_number m.kind) r.members) (kinds_small r.members) in
       record {
         ids = (refl, (refl, (refl, tt)));
         keys = (refl, (refl, (refl, tt)));
@@ -140,7 +141,7 @@ module _ (texts : List (List ℕ)) (r : RelationSpec) (h : RelationFits r) (type
         let common = no_value RELATION_KINDS known texts r.id r.meta r.tags own ready own_is at room in
         let sids = named_good texts few (joined ROLES_SID (fields_in at (message (relation_slots texts r)))) (map (role_index texts) r.members) roles_column (roles_named texts r.members roles) in
         let ids = sums_good (joined MEMIDS (fields_in at (message (relation_slots texts r)))) (map (λ m. m.id) r.members) ids_column (ids_stored r.members h.members) in
-        let low = all_such (λ v. v < 3) (λ v. v % 2 ^ 32 < 3) (λ v lt. omega (arith, lt)) (map (λ m. kind_number m.kind) r.members) (kinds_small r.members) in
+        let low = all_weaker (λ v. v < 3) (λ v. v % 2 ^ 32 < 3) (λ v lt. omega (arith, lt)) (map (λ m. kind_number m.kind) r.members) (kinds_small r.members) in
         let kinds : flat_map (below_fault WrongKind 3) (joined TYPES (fields_in at (message (relation_slots texts r)))) ≡ [] =
         below_good WrongKind 3 (joined TYPES (fields_in at (message (relation_slots texts r)))) (subst (λ (ns : List ℕ). AllByRecursion (λ v. v % 2 ^ 32 < 3) ns) (sym kinds_column) low) in
         rw (id, common, sids, ids, kinds) refl

@@ -8,12 +8,13 @@ use Rattle.pbf_wire.specs.Columns.{column, joined}
 use Rattle.pbf_wire.specs.Faults.{fields_in, nested_faults}
 use Rattle.pbf_wire.specs.Message.{Slot, Column, message, SlotFits}
 use Rattle.pbf_wire.specs.Sums.{deltas}
-use Rattle.pbf_wire.proofs.MessageLemmas.{all_left, all_right, column_written}
+use Rattle.pbf_wire.proofs.MessageLemmas.{column_written}
 use Rattle.pbf_wire.proofs.SumLemmas.{deltas_fit}
 use Rattle.pbf_strings.specs.TableOut.{has_text, table_of}
 use Rattle.osm_entity.specs.Entity.{LocationSpec, WaySpec, way}
 use Rattle.osm_entity.specs.EntityTexts.{tag_texts, way_texts}
 use Rattle.osm_entity.specs.Ranges.{IsStored, LocationFits, AreLocated, WayFits, EntityTyped}
+use Rattle.pbf_wire.proofs.AllLemmas.{all_left, all_right}
 use Rattle.pbf_dense.proofs.InfoLaw.{deltas_length}
 use Rattle.pbf_block.specs.declared.way.TheConstants.{WAY_KINDS, REFS, WAY_LAT, WAY_LON}
 use Rattle.pbf_block.specs.declared.entity.TheConstants.{INFO}

@@ -6,11 +6,11 @@ use Rattle.std.specs.List.{flat_map, list_all, sum_by, AllByRecursion}
 use Rattle.std.specs.Option.{is_some}
 use Rattle.std.specs.Ordering.{int_eq}
 use Rattle.std.proofs.lemmas.Int.{ints}
-use Rattle.std.proofs.lemmas.Bool.{leb-true}
+use Rattle.std.proofs.lemmas.Bool.{leb-true, and_parts}
 use Rattle.std.proofs.lemmas.Bool.Decides.{Decides-int_eq}
 use Rattle.std.proofs.lemmas.List.Sums.{sum_by-cons}
 use Rattle.pbf_wire.specs.Message.{Each, message, unless_empty}
-use Rattle.pbf_wire.proofs.MessageLemmas.{all_left, all_right, embedded_below}
+use Rattle.pbf_wire.proofs.MessageLemmas.{embedded_below}
 use Rattle.pbf_strings.specs.TableOut.{has_text, table_of}
 use Rattle.pbf_strings.proofs.UsedTexts.{has_used, length_after}
 use Rattle.osm_entity.specs.declared.scale.Scale.{Scale}
@@ -24,13 +24,14 @@ use Rattle.pbf_dense.specs.WrittenDense.{dense_message, AreAlike}
 use Rattle.pbf_block.specs.declared.group.TheConstants.{DENSE}
 use Rattle.pbf_block.specs.PrimitiveBlock.{block_fault, entities}
 use Rattle.pbf_block.specs.WrittenBlock.{same_scale, iff, same_fields, are_alike, all_alike, is_block, scale_among, texts_of_all, group_message, block_slots, block_message}
-use Rattle.pbf_block.proofs.EntityLaw.{all_such, AreAmong, map_of_all}
+use Rattle.pbf_block.proofs.EntityLaw.{AreAmong}
 use Rattle.pbf_block.proofs.GroupLaw.{GroupGood}
 use Rattle.pbf_block.proofs.NodesLaw.{group_of_nodes, nodes_good}
 use Rattle.pbf_block.proofs.EachLaw.{WayHeld, ways_good, RelationHeld, relations_good}
 use Rattle.pbf_block.proofs.LengthLaw.{block_fits}
 use Rattle.pbf_block.proofs.BlockLaw.{block_sound, block_read}
 use Rattle.osm_entity.specs.declared.weight.TheConstants.{HIGHEST_WEIGHT}
+use Rattle.pbf_wire.proofs.AllLemmas.{all_left, all_right, all_weaker, all_map}
 use Rattle.pbf_block.specs.declared.block_write.TheConstants.{MOST_ENTITIES}
 
 -- ---- what the tests of likeness say
@@ -50,10 +51,6 @@ six true true false d e f h = absurd cc
 six true true true false e f h = absurd cc
 six true true true true false f h = absurd cc
 six true true true true true false h = absurd cc
-
-two : (a b : Bool) → (a && b) ≡ true → (a ≡ true) × (b ≡ true)
-two true b e = (refl, e)
-two false b e = absurd cc
 
 equal : (x y : ℤ) → int_eq x y ≡ true → x ≡ y
 equal x y e = (Decides-int_eq x y).0 e
@@ -102,12 +99,12 @@ all_of_map P f (x ∷ xs) h = (h.0, all_of_map P f xs h.1)
 
 alike_fields : (m : MetaSpec) (metas : List MetaSpec) → AllByRecursion (SameFields m) metas → AreAlike (m ∷ metas)
 alike_fields m metas h = record {
-  version = (is_some m.version, (refl, all_such (SameFields m) (λ n. is_some n.version ≡ is_some m.version) (λ n s. s.version) metas h));
-  timestamp = (is_some m.timestamp, (refl, all_such (SameFields m) (λ n. is_some n.timestamp ≡ is_some m.timestamp) (λ n s. s.timestamp) metas h));
-  changeset = (is_some m.changeset, (refl, all_such (SameFields m) (λ n. is_some n.changeset ≡ is_some m.changeset) (λ n s. s.changeset) metas h));
-  uid = (is_some m.uid, (refl, all_such (SameFields m) (λ n. is_some n.uid ≡ is_some m.uid) (λ n s. s.uid) metas h));
-  user = (is_some m.user, (refl, all_such (SameFields m) (λ n. is_some n.user ≡ is_some m.user) (λ n s. s.user) metas h));
-  visible = (is_some m.visible, (refl, all_such (SameFields m) (λ n. is_some n.visible ≡ is_some m.visible) (λ n s. s.visible) metas h));
+  version = (is_some m.version, (refl, all_weaker (SameFields m) (λ n. is_some n.version ≡ is_some m.version) (λ n s. s.version) metas h));
+  timestamp = (is_some m.timestamp, (refl, all_weaker (SameFields m) (λ n. is_some n.timestamp ≡ is_some m.timestamp) (λ n s. s.timestamp) metas h));
+  changeset = (is_some m.changeset, (refl, all_weaker (SameFields m) (λ n. is_some n.changeset ≡ is_some m.changeset) (λ n s. s.changeset) metas h));
+  uid = (is_some m.uid, (refl, all_weaker (SameFields m) (λ n. is_some n.uid ≡ is_some m.uid) (λ n s. s.uid) metas h));
+  user = (is_some m.user, (refl, all_weaker (SameFields m) (λ n. is_some n.user ≡ is_some m.user) (λ n s. s.user) metas h));
+  visible = (is_some m.visible, (refl, all_weaker (SameFields m) (λ n. is_some n.visible ≡ is_some m.visible) (λ n s. s.visible) metas h));
 }
 
 -- ---- entities that are like the first are of its kind
@@ -121,7 +118,7 @@ one_more f P x es p h = (x ∷ h.0, ap (λ (es : List EntitySpec). f x ∷ es) h
 like_node : (m : NodeSpec) (es : List EntitySpec) → list_all (are_alike (node m)) es ≡ true → AllOf node (λ n. same_scale m.scale n.scale && same_fields m.meta n.meta) es
 like_node m [] e = ([], refl, tt)
 like_node m (node n ∷ es) e =
-    let h = two (same_scale m.scale n.scale && same_fields m.meta n.meta) (list_all (are_alike (node m)) es) e in
+    let h = and_parts (same_scale m.scale n.scale && same_fields m.meta n.meta) (list_all (are_alike (node m)) es) e in
     one_more node (λ n. same_scale m.scale n.scale && same_fields m.meta n.meta) n es h.0 (like_node m es h.1)
 like_node m (way w ∷ es) e = absurd (true≢false (sym e))
 like_node m (relation r ∷ es) e = absurd (true≢false (sym e))
@@ -129,14 +126,14 @@ like_node m (relation r ∷ es) e = absurd (true≢false (sym e))
 like_way : (v : WaySpec) (es : List EntitySpec) → list_all (are_alike (way v)) es ≡ true → AllOf way (λ w. same_scale v.scale w.scale) es
 like_way v [] e = ([], refl, tt)
 like_way v (node n ∷ es) e = absurd (true≢false (sym e))
-like_way v (way w ∷ es) e = let h = two (same_scale v.scale w.scale) (list_all (are_alike (way v)) es) e in one_more way (λ w. same_scale v.scale w.scale) w es h.0 (like_way v es h.1)
+like_way v (way w ∷ es) e = let h = and_parts (same_scale v.scale w.scale) (list_all (are_alike (way v)) es) e in one_more way (λ w. same_scale v.scale w.scale) w es h.0 (like_way v es h.1)
 like_way v (relation r ∷ es) e = absurd (true≢false (sym e))
 
 like_relation : (q : RelationSpec) (es : List EntitySpec) → list_all (are_alike (relation q)) es ≡ true → AllOf relation (λ r. same_scale q.scale r.scale) es
 like_relation q [] e = ([], refl, tt)
 like_relation q (node n ∷ es) e = absurd (true≢false (sym e))
 like_relation q (way w ∷ es) e = absurd (true≢false (sym e))
-like_relation q (relation r ∷ es) e = let h = two (same_scale q.scale r.scale) (list_all (are_alike (relation q)) es) e in one_more relation (λ r. same_scale q.scale r.scale) r es h.0 (like_relation q es h.1)
+like_relation q (relation r ∷ es) e = let h = and_parts (same_scale q.scale r.scale) (list_all (are_alike (relation q)) es) e in one_more relation (λ r. same_scale q.scale r.scale) r es h.0 (like_relation q es h.1)
 
 -- ---- the group
 
@@ -183,10 +180,10 @@ no_nodes texts scale short few = nodes_good texts scale [] (record {
 nodes_ready : (texts : List (List ℕ)) (m : NodeSpec) (ns : List NodeSpec) → AllByRecursion (λ n. (same_scale m.scale n.scale && same_fields m.meta n.meta) ≡ true) ns → Ready texts (map node (m ∷ ns)) → Good texts m.scale (map node (m ∷ ns))
 nodes_ready texts m ns alike h = nodes_good texts m.scale (m ∷ ns) (record {
   fit = all_of_map EntityFits node (m ∷ ns) h.fit;
-  versions = all_such (λ n. EntityTyped (node n)) (λ n. IfPresent IsInt32 n.meta.version) (λ n t. t.version) (m ∷ ns) (all_of_map EntityTyped node (m ∷ ns) h.typed);
-  scaled = (refl, all_such (λ n. (same_scale m.scale n.scale && same_fields m.meta n.meta) ≡ true) (λ n. n.scale ≡ m.scale) (λ n e. scale_same m.scale n.scale (two (same_scale m.scale n.scale) (same_fields m.meta n.meta) e).0) ns alike);
-  alike = alike_fields m.meta (map (λ n. n.meta) ns) (map_of_all (SameFields m.meta) (λ n. n.meta) ns
-      (all_such (λ n. (same_scale m.scale n.scale && same_fields m.meta n.meta) ≡ true) (λ n. SameFields m.meta n.meta) (λ n e. fields_same m.meta n.meta (two (same_scale m.scale n.scale) (same_fields m.meta n.meta) e).1) ns alike));
+  versions = all_weaker (λ n. EntityTyped (node n)) (λ n. IfPresent IsInt32 n.meta.version) (λ n t. t.version) (m ∷ ns) (all_of_map EntityTyped node (m ∷ ns) h.typed);
+  scaled = (refl, all_weaker (λ n. (same_scale m.scale n.scale && same_fields m.meta n.meta) ≡ true) (λ n. n.scale ≡ m.scale) (λ n e. scale_same m.scale n.scale (and_parts (same_scale m.scale n.scale) (same_fields m.meta n.meta) e).0) ns alike);
+  alike = alike_fields m.meta (map (λ n. n.meta) ns) (all_map (SameFields m.meta) (λ n. n.meta) ns
+      (all_weaker (λ n. (same_scale m.scale n.scale && same_fields m.meta n.meta) ≡ true) (λ n. SameFields m.meta n.meta) (λ n e. fields_same m.meta n.meta (and_parts (same_scale m.scale n.scale) (same_fields m.meta n.meta) e).1) ns alike));
   named = subst (λ (ts : List (List ℕ)). AreAmong texts ts) (used_of_map node (m ∷ ns)) h.among;
   few = h.few;
   short = dense_short texts (m ∷ ns) h.short;
@@ -194,19 +191,19 @@ nodes_ready texts m ns alike h = nodes_good texts m.scale (m ∷ ns) (record {
 
 ways_ready : (texts : List (List ℕ)) (v : WaySpec) (ws : List WaySpec) → AllByRecursion (λ w. same_scale v.scale w.scale ≡ true) ws → Ready texts (map way (v ∷ ws)) → Good texts v.scale (map way (v ∷ ws))
 ways_ready texts v ws alike h =
-    let scaled : AllByRecursion (λ w. w.scale ≡ v.scale) (v ∷ ws) = (refl, all_such (λ w. same_scale v.scale w.scale ≡ true) (λ w. w.scale ≡ v.scale) (λ w e. scale_same v.scale w.scale e) ws alike) in
+    let scaled : AllByRecursion (λ w. w.scale ≡ v.scale) (v ∷ ws) = (refl, all_weaker (λ w. same_scale v.scale w.scale ≡ true) (λ w. w.scale ≡ v.scale) (λ w e. scale_same v.scale w.scale e) ws alike) in
     let among = each_among texts way_texts (v ∷ ws) (subst (λ (ts : List (List ℕ)). AreAmong texts ts) (used_of_map way (v ∷ ws)) h.among) in
     let all = all_four (λ w. EntityFits (way w)) (λ w. EntityTyped (way w)) (λ w. w.scale ≡ v.scale) (λ w. AreAmong texts (way_texts w)) (v ∷ ws) (all_of_map EntityFits way (v ∷ ws) h.fit) (all_of_map EntityTyped way (v ∷ ws) h.typed) scaled among in
     ways_good texts v.scale (v ∷ ws)
-    (all_such (λ w. EntityFits (way w) × EntityTyped (way w) × (w.scale ≡ v.scale) × AreAmong texts (way_texts w)) (WayHeld texts v.scale) (λ w p. record { fits = p.0; typed = p.1; scaled = p.2; among = p.3; few = h.few }) (v ∷ ws) all) h.short
+    (all_weaker (λ w. EntityFits (way w) × EntityTyped (way w) × (w.scale ≡ v.scale) × AreAmong texts (way_texts w)) (WayHeld texts v.scale) (λ w p. record { fits = p.0; typed = p.1; scaled = p.2; among = p.3; few = h.few }) (v ∷ ws) all) h.short
 
 relations_ready : (texts : List (List ℕ)) (q : RelationSpec) (rs : List RelationSpec) → AllByRecursion (λ r. same_scale q.scale r.scale ≡ true) rs → Ready texts (map relation (q ∷ rs)) → Good texts q.scale (map relation (q ∷ rs))
 relations_ready texts q rs alike h =
-    let scaled : AllByRecursion (λ r. r.scale ≡ q.scale) (q ∷ rs) = (refl, all_such (λ r. same_scale q.scale r.scale ≡ true) (λ r. r.scale ≡ q.scale) (λ r e. scale_same q.scale r.scale e) rs alike) in
+    let scaled : AllByRecursion (λ r. r.scale ≡ q.scale) (q ∷ rs) = (refl, all_weaker (λ r. same_scale q.scale r.scale ≡ true) (λ r. r.scale ≡ q.scale) (λ r e. scale_same q.scale r.scale e) rs alike) in
     let among = each_among texts relation_texts (q ∷ rs) (subst (λ (ts : List (List ℕ)). AreAmong texts ts) (used_of_map relation (q ∷ rs)) h.among) in
     let all = all_four (λ r. EntityFits (relation r)) (λ r. EntityTyped (relation r)) (λ r. r.scale ≡ q.scale) (λ r. AreAmong texts (relation_texts r)) (q ∷ rs) (all_of_map EntityFits relation (q ∷ rs) h.fit) (all_of_map EntityTyped relation (q ∷ rs) h.typed) scaled among in
     relations_good texts q.scale (q ∷ rs)
-    (all_such (λ r. EntityFits (relation r) × EntityTyped (relation r) × (r.scale ≡ q.scale) × AreAmong texts (relation_texts r)) (RelationHeld texts q.scale) (λ r p. record { fits = p.0; typed = p.1; scaled = p.2; among = p.3; few = h.few }) (q ∷ rs) all) h.short
+    (all_weaker (λ r. EntityFits (relation r) × EntityTyped (relation r) × (r.scale ≡ q.scale) × AreAmong texts (relation_texts r)) (RelationHeld texts q.scale) (λ r p. record { fits = p.0; typed = p.1; scaled = p.2; among = p.3; few = h.few }) (q ∷ rs) all) h.short
 
 -- what is like the first is a good group
 alike_good : (texts : List (List ℕ)) (es : List EntitySpec) → all_alike es ≡ true → Ready texts es → Good texts (scale_among es) es
@@ -223,12 +220,12 @@ alike_good texts (relation q ∷ es) e h =
 
 -- ---- the block
 
-one_count : (e : EntitySpec) → 16 * length (entity_texts e) ≤ entity_weight e
+pub one_count : (e : EntitySpec) → 16 * length (entity_texts e) ≤ entity_weight e
 one_count (node n) = node_count n
 one_count (way w) = way_count w
 one_count (relation r) = relation_count r
 
-all_count : (es : List EntitySpec) → 16 * length (flat_map entity_texts es) ≤ sum_by entity_weight es
+pub all_count : (es : List EntitySpec) → 16 * length (flat_map entity_texts es) ≤ sum_by entity_weight es
 all_count [] = omega arith
 all_count (e ∷ es) = omega (arith, one_count e, all_count es, sum_by-cons entity_weight e es, length-append (entity_texts e) (flat_map entity_texts es))
 
@@ -260,8 +257,8 @@ record Parts (es : List EntitySpec) : Type 0 where
 block_parts : (es : List EntitySpec) → is_block es ≡ true → Parts es
 unfolding is_block
 block_parts es e =
-    let first = two (all_alike es) (nat_le (length es) MOST_ENTITIES && nat_le (sum_by entity_weight es) HIGHEST_WEIGHT) e in
-    let second = two (nat_le (length es) MOST_ENTITIES) (nat_le (sum_by entity_weight es) HIGHEST_WEIGHT) first.1 in
+    let first = and_parts (all_alike es) (nat_le (length es) MOST_ENTITIES && nat_le (sum_by entity_weight es) HIGHEST_WEIGHT) e in
+    let second = and_parts (nat_le (length es) MOST_ENTITIES) (nat_le (sum_by entity_weight es) HIGHEST_WEIGHT) first.1 in
     record { alike = first.0; light = leb-true _ _ second.1 }
 
 module _ (es : List EntitySpec) (is : is_block es ≡ true) (fit : AllByRecursion EntityFits es) (typed : AllByRecursion EntityTyped es) where

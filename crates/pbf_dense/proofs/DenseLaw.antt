@@ -17,7 +17,7 @@ use Rattle.pbf_wire.specs.Signed.{sign_extended}
 use Rattle.pbf_wire.specs.Sums.{deltas}
 use Rattle.pbf_wire.specs.Faults.{fault_where, entered, fields_in, leaf_faults, column_count, index_faults, is_index, twice}
 use Rattle.pbf_wire.specs.Message.{message, unless_empty, SlotFits, SlotIs, numbers_at, messages_at}
-use Rattle.pbf_wire.proofs.MessageLemmas.{all_append, all_left, all_right, column_written, embedded_below}
+use Rattle.pbf_wire.proofs.MessageLemmas.{column_written, embedded_below}
 use Rattle.pbf_wire.proofs.SumLemmas.{deltas_fit, signs_fit}
 use Rattle.pbf_wire.proofs.NoFaultLemmas.{SlotQuiet, field_at, column_quiet, fields_quiet, no_fault_within, counted_written, indexes_good, once_written, unless_all, unless_below, unless_few, column_passed}
 use Rattle.pbf_strings.specs.TableOut.{has_text, index_in, table_of}
@@ -27,6 +27,7 @@ use Rattle.osm_entity.specs.EntityTexts.{tag_texts, node_texts}
 use Rattle.osm_entity.specs.Ranges.{NodeFits, MetaFits, IfPresent, IsInt32, IsStored, IsUid}
 use Rattle.osm_entity.specs.Sources.{low_32}
 use Rattle.osm_entity.specs.declared.scale.Scale.{Scale}
+use Rattle.pbf_wire.proofs.AllLemmas.{all_append, all_left, all_right}
 use Rattle.pbf_dense.specs.declared.dense_nodes.TheConstants.{DENSE_KINDS, ID, DENSEINFO, LAT, LON, KEYS_VALS}
 use Rattle.pbf_dense.specs.declared.dense_info.TheConstants.{DENSEINFO_KINDS}
 use Rattle.pbf_dense.specs.Judged.{dense_wire, dense_structure, dense_values, coordinate_counts, are_runs, are_tags, run_faults, info_counts, texts_named, dense_info_values}

@@ -1,11 +1,12 @@
 -- Columns of dense nodes, put node by node while the table grows.
-use Rattle.std.proofs.Common.{◌≡◌, ℕ, ℤ, pos, ◌+◌, ◌≤◌, Bool, true, false, ◌||◌, List, [], ◌∷◌, ◌++◌, length, length-append, map, Option, Some, None, refl, sym, ap, ◌∙◌, arith, append_assoc, append-nil, subst}
+use Rattle.std.proofs.Common.{◌≡◌, ℕ, ℤ, pos, ◌+◌, ◌≤◌, Bool, false, ◌||◌, List, [], ◌∷◌, ◌++◌, length, length-append, map, Option, Some, None, refl, sym, ap, ◌∙◌, arith, append_assoc, append-nil, subst}
 use Rattle.std.specs.Prelude.{if◌then◌else◌}
 use Rattle.std.specs.List.{flat_map, filter_map, list_any, cons_option}
 use Rattle.std.specs.Option.{option_map, option_to_list}
 use Rattle.std.proofs.lemmas.List.{map-append}
 use Rattle.std.proofs.lemmas.List.Elements.{filter_map-append}
 use Rattle.std.proofs.lemmas.Grind.{flat_map-append}
+use Rattle.std.proofs.Math.Bool.{or_assoc, or-false}
 use Rattle.pbf_wire.specs.Message.{Column, Each, slot_bytes, message, unless_empty}
 use Rattle.pbf_wire.specs.Sums.{deltas}
 use Rattle.pbf_wire.specs.Signed.{sign_extended}
@@ -68,17 +69,9 @@ runs_one : (texts : List (List ℕ)) (ns : List NodeSpec) (n : NodeSpec) (old ne
 runs_one texts ns n old new e h =
     h ∙ (ap (λ (w : List ℕ). w ++ run_of texts n.tags) e ∙ (ap (λ (w : List ℕ). flat_map (λ n. run_of texts n.tags) ns ++ w) (sym (append-nil (run_of texts n.tags))) ∙ sym (flat_map-append (λ n. run_of texts n.tags) ns (n ∷ []))))
 
-pub or_none : (b : Bool) → (b || false) ≡ b
-or_none true = refl
-or_none false = refl
-
-pub or_after : (a b c : Bool) → ((a || b) || c) ≡ (a || (b || c))
-or_after true b c = refl
-or_after false b c = refl
-
 any_one : (ns : List NodeSpec) (n : NodeSpec) → (list_any has_tag ns || are_some n.tags) ≡ list_any has_tag (ns ++ n ∷ [])
-any_one [] n = sym (or_none (are_some n.tags))
-any_one (m ∷ ns) n = or_after (has_tag m) (list_any has_tag ns) (are_some n.tags) ∙ ap (λ b. has_tag m || b) (any_one ns n)
+any_one [] n = sym (or-false (are_some n.tags))
+any_one (m ∷ ns) n = or_assoc (has_tag m) (list_any has_tag ns) (are_some n.tags) ∙ ap (λ b. has_tag m || b) (any_one ns n)
 
 named : (texts : List (List ℕ)) (user : Option (List ℕ)) → option_map pos (option_map (index_in texts) user) ≡ option_map (λ text. pos (index_in texts text)) user
 named texts None = refl

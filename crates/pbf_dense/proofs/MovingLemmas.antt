@@ -1,5 +1,5 @@
 -- Columns that move together give what indices into whole columns give.
-use Rattle.std.proofs.Common.{◌≡◌, ◌-◌, ◌<◌, ◌≤◌, ℕ, zero, suc, ℤ, List, [], ◌∷◌, drop, map, refl, sym, ap, ◌∙◌, arith}
+use Rattle.std.proofs.Common.{◌≡◌, ◌+◌, ◌-◌, ◌<◌, ◌≤◌, ℕ, zero, suc, ℤ, List, [], ◌∷◌, ◌++◌, replicate, drop, map, refl, sym, ap, ◌∙◌, arith}
 use Rattle.osm_entity.specs.declared.scale.Scale.{Scale}
 use Rattle.osm_entity.specs.Entity.{TagSpec, MetaSpec, NodeSpec}
 use Rattle.osm_entity.specs.Sources.{tag_of, run}
@@ -51,18 +51,17 @@ one_run (suc n) keys_vals some =
     let less : suc n - 1 ≡ n = omega arith in
     ap (λ k. after_runs k (after_run keys_vals)) less ∙ sym (run_first n keys_vals)
 
--- each of eight zeros ends a run
-two_runs : (n : ℕ) (rest : List ℕ) → after_runs (suc (suc n)) (0 ∷ 0 ∷ rest) ≡ after_runs n rest
-two_runs n rest = run_first (suc n) (0 ∷ 0 ∷ rest) ∙ run_first n (0 ∷ rest)
+-- each of some zeros ends a run
+zero_runs : (n left : ℕ) (rest : List ℕ) → after_runs (left + n) (replicate n 0 ++ rest) ≡ after_runs left rest
+zero_runs zero left rest = let same : left + 0 ≡ left = omega arith in ap (λ k. after_runs k rest) same
+zero_runs (suc n) left rest =
+    let count : left + suc n ≡ suc (left + n) = omega arith in
+    ap (λ k. after_runs k (0 ∷ replicate n 0 ++ rest)) count ∙ run_first (left + n) (0 ∷ replicate n 0 ++ rest) ∙ zero_runs n left rest
 
-four_runs : (n : ℕ) (rest : List ℕ) → after_runs (suc (suc (suc (suc n)))) (0 ∷ 0 ∷ 0 ∷ 0 ∷ rest) ≡ after_runs n rest
-four_runs n rest = two_runs (suc (suc n)) (0 ∷ 0 ∷ rest) ∙ two_runs n rest
-
-pub eight_runs : (left : ℕ) (keys_vals rest : List ℕ) → 8 ≤ left → keys_vals ≡ 0 ∷ 0 ∷ 0 ∷ 0 ∷ 0 ∷ 0 ∷ 0 ∷ 0 ∷ rest → after_runs (left - 8) rest ≡ after_runs left keys_vals
+pub eight_runs : (left : ℕ) (keys_vals rest : List ℕ) → 8 ≤ left → keys_vals ≡ replicate 8 0 ++ rest → after_runs (left - 8) rest ≡ after_runs left keys_vals
 eight_runs left keys_vals rest enough e =
-    let n = left - 8 in
-    let count : left ≡ suc (suc (suc (suc (suc (suc (suc (suc n))))))) = omega (arith, enough) in
-    sym (ap (after_runs left) e ∙ ap (λ k. after_runs k (0 ∷ 0 ∷ 0 ∷ 0 ∷ 0 ∷ 0 ∷ 0 ∷ 0 ∷ rest)) count ∙ four_runs (suc (suc (suc (suc n)))) (0 ∷ 0 ∷ 0 ∷ 0 ∷ rest) ∙ four_runs n rest)
+    let count : left - 8 + 8 ≡ left = omega (arith, enough) in
+    sym (ap (after_runs left) e ∙ ap (λ k. after_runs k (replicate 8 0 ++ rest)) (sym count) ∙ zero_runs 8 (left - 8) rest)
 
 -- ---- runs, step by step
 

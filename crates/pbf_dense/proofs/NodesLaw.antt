@@ -1,9 +1,9 @@
 -- The nodes of a written dense message are those that it was written of.
 use Rattle.pbf_wire.specs.declared.fault.Reason.TheVariants.{EntityLarge}
-use Rattle.std.proofs.lemmas.Bool.{le-ltb}
+use Rattle.std.proofs.lemmas.Bool.{le-ltb, or_parts}
 use Rattle.osm_entity.proofs.TagLemmas.{run_goes_on}
 use Rattle.pbf_dense.specs.Judged.{node_weight_fault, dense_weights, as_stored, early_fault, dense_fault}
-use Rattle.std.proofs.Common.{◌≡◌, ℕ, ◌||◌, ℤ, Bool, true, false, List, [], ◌∷◌, ◌++◌, length, map, Option, refl, sym, ap, ap₂, ◌∙◌, arith, true≢false, None}
+use Rattle.std.proofs.Common.{◌≡◌, ℕ, ℤ, Bool, true, false, List, [], ◌∷◌, ◌++◌, length, map, Option, refl, sym, ap, ap₂, ◌∙◌, arith, true≢false, None}
 use Rattle.std.specs.Prelude.{unwrap_or}
 use Rattle.std.specs.List.{flat_map, list_any, range_with_len, AllByRecursion}
 use Rattle.std.proofs.lemmas.List.{append-nil, length-map}
@@ -79,13 +79,9 @@ no_tags : (tags : List TagSpec) → are_some tags ≡ false → tags ≡ []
 no_tags [] e = refl
 no_tags (t ∷ tags) e = absurd (true≢false e)
 
-neither : (a b : Bool) → (a || b) ≡ false → (a ≡ false) × (b ≡ false)
-neither true b e = absurd (true≢false e)
-neither false b e = (refl, e)
-
 none_give : (table : List (List ℕ)) (ns : List NodeSpec) → list_any has_tag ns ≡ false → GivesTags table [] ns
 none_give table [] e = tt
-none_give table (n ∷ ns) e = let both = neither (has_tag n) (list_any has_tag ns) e in (sym (no_tags n.tags both.0), none_give table ns both.1)
+none_give table (n ∷ ns) e = let both = or_parts (has_tag n) (list_any has_tag ns) e in (sym (no_tags n.tags both.0), none_give table ns both.1)
 
 tags_given : (texts : List (List ℕ)) (ns : List NodeSpec) → AllByRecursion (NamedNode texts) ns → GivesTags (table_of texts) (written_runs (list_any has_tag ns) (flat_map (λ n. run_of texts n.tags) ns)) ns
 tags_given texts ns h = by (list_any has_tag ns) refl

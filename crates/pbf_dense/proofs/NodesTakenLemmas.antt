@@ -6,6 +6,7 @@ use Rattle.std.specs.Option.{option_map}
 use Rattle.std.proofs.lemmas.List.{map-append}
 use Rattle.std.proofs.lemmas.List.Elements.{filter_map-append}
 use Rattle.std.proofs.lemmas.Grind.{flat_map-append}
+use Rattle.std.proofs.Math.Bool.{or_assoc}
 use Rattle.pbf_wire.specs.Signed.{low_i32, sign_extended}
 use Rattle.pbf_strings.specs.TableOut.{texts_after}
 use Rattle.pbf_strings.proofs.UsedTexts.{used_later}
@@ -18,7 +19,6 @@ use Rattle.pbf_dense.specs.Runs.{after_run, after_runs}
 use Rattle.pbf_dense.specs.Nodes.{nodes_of_columns}
 use Rattle.pbf_dense.specs.WrittenDense.{DenseColumns, bit_of, run_of, has_tag, columns_of}
 use Rattle.pbf_dense.specs.NodeTexts.{NodeTexts, texts_along, texts_used, runs_for, user_index, users_for, any_tagged, TextColumns, columns_with, TakesTexts}
-use Rattle.pbf_dense.proofs.DenseOutLemmas.{or_after}
 use Rattle.pbf_dense.specs.InfoTaken.{written_version, written_flag, TakesInfo}
 
 -- ---- what so many nodes have
@@ -105,7 +105,7 @@ more_present {Y = Y} f ns more old new taken e h t =
 
 any_both : (ns more : List NodeSpec) → (list_any has_tag ns || list_any has_tag more) ≡ list_any has_tag (ns ++ more)
 any_both [] more = refl
-any_both (n ∷ ns) more = or_after (has_tag n) (list_any has_tag ns) (list_any has_tag more) ∙ ap (λ b. has_tag n || b) (any_both ns more)
+any_both (n ∷ ns) more = or_assoc (has_tag n) (list_any has_tag ns) (list_any has_tag more) ∙ ap (λ b. has_tag n || b) (any_both ns more)
 
 -- the columns with what else was written
 pub written_after : (ns : List NodeTexts) (start texts : List (List ℕ)) (runs r more_runs : List ℕ) (users u more_users : List ℤ) (before now after : Bool) → TakesTexts ns start texts (columns_with runs users false) (columns_with r u now)

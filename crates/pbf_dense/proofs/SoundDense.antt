@@ -1,9 +1,9 @@
 -- What no fault in the phases before the weights shows of a dense message.
-use Rattle.std.proofs.Common.{◌≡◌, ◌≤◌, ◌^◌, ◌==◌, ◌&&◌, ℕ, ℤ, pos, negsuc, Bool, true, false, List, [], ◌∷◌, length, refl, sym, ◌∙◌, arith}
+use Rattle.std.proofs.Common.{◌≡◌, ◌≤◌, ◌^◌, ◌==◌, ◌&&◌, ℕ, ℤ, pos, negsuc, true, false, List, [], ◌∷◌, length, refl, sym, ◌∙◌, arith}
 use Rattle.std.specs.Prelude.{Option, Some, None, filter, if◌then◌else◌}
 use Rattle.std.specs.List.{flat_map, last_or, AllByRecursion}
 use Rattle.std.proofs.lemmas.Int.{ints}
-use Rattle.std.proofs.lemmas.Bool.{ltb-true}
+use Rattle.std.proofs.lemmas.Bool.{ltb-true, and_parts}
 use Rattle.std.proofs.lemmas.List.{length-map}
 use Rattle.std.proofs.lemmas.List.FromFn.{length-map-range_with_len}
 use Rattle.pbf_wire.specs.declared.fault.Fault.{Fault}
@@ -75,10 +75,6 @@ no_info = record { timestamps = tt; changesets = tt; uids = tt; users = tt }
 
 -- ---- counts
 
-both_true : (a b : Bool) → (a && b) ≡ true → (a ≡ true) × (b ≡ true)
-both_true true b e = (refl, e)
-both_true false b e = absurd (cc)
-
 module _ (at : ℕ) (m : List ℕ) (e : dense_wire 0 at m ≡ []) where
   counted : (k : ℕ) → kind_of DENSE_KINDS k ≡ Some kind.Column → column_count k (fields_in at m) ≡ length (column k (fields_in at m))
   unfolding dense_wire
@@ -117,7 +113,7 @@ dense_reads table at m h =
     let os = fields_in at m in
     let wire : dense_wire 0 at m ≡ [] = sym (wire_anywhere h.place at m) ∙ h.wire in
     let counts = both_nil (coordinate_counts h.place os) _ h.structure in
-    let long = both_true _ _ (is_right ((column_count LAT os == column_count ID os) && (column_count LON os == column_count ID os)) h.place ColumnLengths counts.0) in
+    let long = and_parts _ _ (is_right ((column_count LAT os == column_count ID os) && (column_count LON os == column_count ID os)) h.place ColumnLengths counts.0) in
     let ids = both_nil (range_faults ID os) _ h.values in
     let lats = both_nil (range_faults LAT os) _ ids.1 in
     let lons = both_nil (range_faults LON os) _ lats.1 in

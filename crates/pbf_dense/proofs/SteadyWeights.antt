@@ -1,13 +1,12 @@
 -- What nodes weigh together, by the columns of users and of tags.
-use Rattle.std.proofs.Common.{◌≡◌, ◌+◌, ◌*◌, ◌<◌, ◌≤◌, ℕ, zero, suc, ℤ, List, [], ◌∷◌, ◌++◌, length, take, drop, map, refl, sym, ap, subst, ◌∙◌, arith, add-one}
+use Rattle.std.proofs.Common.{◌≡◌, ◌+◌, ◌*◌, ◌≤◌, ℕ, zero, suc, ℤ, List, [], ◌∷◌, ◌++◌, replicate, length, take, drop, map, refl, sym, ap, subst, ◌∙◌, arith, add-one}
 use Rattle.std.specs.List.{sum_by}
 use Rattle.std.proofs.lemmas.List.Sums.{sum_by-cons}
 use Rattle.pbf_wire.specs.Cursors.{numbers_left, sums_left}
 use Rattle.pbf_wire.specs.Passing.{eight_of}
 use Rattle.osm_entity.specs.declared.scale.Scale.{Scale}
 use Rattle.osm_entity.specs.Sources.{low_32, tag_of, run}
-use Rattle.osm_entity.specs.Weight.{node_weight, tags_weight}
-use Rattle.pbf_strings.specs.Texts.{text}
+use Rattle.osm_entity.specs.Weight.{node_weight}
 use Rattle.pbf_dense.specs.Cursors.{dense_left, info_left}
 use Rattle.pbf_dense.specs.Info.{InfoSpec, meta_at, info_rest, user_text}
 use Rattle.pbf_dense.specs.Nodes.{nodes_of_columns}
@@ -16,24 +15,6 @@ use Rattle.pbf_dense.specs.Steady.{AreEight, first_weight}
 use Rattle.pbf_dense.specs.declared.dense.Dense.{Dense}
 use Rattle.pbf_dense.proofs.EntryLemmas.{passed_one}
 use Rattle.pbf_dense.proofs.MovingLemmas.{drop_one, run_first, node_made}
-
--- ---- one run
-
-abbrev run_weight : List (List ℕ) → List ℕ → ℕ
-run_weight table keys_vals = tags_weight (map (tag_of table) (run keys_vals))
-
-pub no_tag : (table : List (List ℕ)) (key : ℕ) (rest : List ℕ) → key ≡ 0 → tags_weight (map (tag_of table) (run (key ∷ rest))) ≡ 0
-no_tag table zero rest h = refl
-no_tag table (suc key) rest h = absurd (omega arith)
-
-pub no_value : (table : List (List ℕ)) (key : ℕ) → tags_weight (map (tag_of table) (run (key ∷ []))) ≡ 0
-no_value table zero = refl
-no_value table (suc key) = refl
-
-pub one_tag : (table : List (List ℕ)) (key value : ℕ) (rest : List ℕ) → 0 < key
-    → tags_weight (map (tag_of table) (run (key ∷ value ∷ rest))) ≡ 32 + length (text table key) + length (text table value) + tags_weight (map (tag_of table) (run rest))
-one_tag table zero value rest h = absurd (omega arith)
-one_tag table (suc key) value rest h = refl
 
 -- ---- many nodes
 
@@ -66,9 +47,6 @@ module _ (table : List (List ℕ)) where
     pub passed : later ≡ drop count users
     pub runs : rest ≡ after_runs count keys_vals
 
-  pub none_weighed : (users : List ℤ) (keys_vals : List ℕ) → AreWeighed users keys_vals users keys_vals 0 0
-  none_weighed users keys_vals = record { sum = refl; passed = refl; runs = refl }
-
   pub one_weighed : (users later next : List ℤ) (keys_vals rest after : List ℕ) (count weight one : ℕ) → AreWeighed users keys_vals later rest count weight → one ≡ first_weight table later rest → next ≡ drop 1 later → after ≡ after_run rest
       → AreWeighed users keys_vals next after (count + 1) (weight + one)
   one_weighed users later next keys_vals rest after count weight one h is moved run =
@@ -89,28 +67,21 @@ module _ (table : List (List ℕ)) where
       one_bare : (later : List ℤ) (rest : List ℕ) (count weight : ℕ) → AreWeighed users keys_vals (user ∷ later) (0 ∷ rest) count weight → AreWeighed users keys_vals later rest (count + 1) (weight + bare)
       one_bare later rest count weight h = one_weighed users (user ∷ later) later keys_vals (0 ∷ rest) rest count weight bare h (omega arith) refl refl
 
-      two_bare : (later : List ℤ) (rest : List ℕ) (count weight : ℕ) → AreWeighed users keys_vals (user ∷ user ∷ later) (0 ∷ 0 ∷ rest) count weight → AreWeighed users keys_vals later rest (count + 2) (weight + 2 * bare)
-      two_bare later rest count weight h =
-          let both : count + 1 + 1 ≡ count + 2 = omega arith in
-          let sum : weight + bare + bare ≡ weight + 2 * bare = omega arith in
-          subst (λ n. AreWeighed users keys_vals later rest n (weight + 2 * bare)) both (subst (AreWeighed users keys_vals later rest (count + 1 + 1)) sum (one_bare later rest (count + 1) (weight + bare) (one_bare (user ∷ later) (0 ∷ rest) count weight h)))
-
-      four_bare : (later : List ℤ) (rest : List ℕ) (count weight : ℕ) → AreWeighed users keys_vals (user ∷ user ∷ user ∷ user ∷ later) (0 ∷ 0 ∷ 0 ∷ 0 ∷ rest) count weight → AreWeighed users keys_vals later rest (count + 4) (weight + 4 * bare)
-      four_bare later rest count weight h =
-          let both : count + 2 + 2 ≡ count + 4 = omega arith in
-          let sum : weight + 2 * bare + 2 * bare ≡ weight + 4 * bare = omega arith in
-          subst (λ n. AreWeighed users keys_vals later rest n (weight + 4 * bare)) both (subst (AreWeighed users keys_vals later rest (count + 2 + 2)) sum (two_bare later rest (count + 2) (weight + 2 * bare) (two_bare (user ∷ user ∷ later) (0 ∷ 0 ∷ rest) count weight h)))
-
-      eight_bare : (later : List ℤ) (rest : List ℕ) (count weight : ℕ) → AreWeighed users keys_vals (eight_of user ++ later) (eight_of 0 ++ rest) count weight → AreWeighed users keys_vals later rest (count + 8) (weight + 8 * bare)
-      eight_bare later rest count weight h =
-          let both : count + 4 + 4 ≡ count + 8 = omega arith in
-          let sum : weight + 4 * bare + 4 * bare ≡ weight + 8 * bare = omega arith in
-          subst (λ n. AreWeighed users keys_vals later rest n (weight + 8 * bare)) both (subst (AreWeighed users keys_vals later rest (count + 4 + 4)) sum (four_bare later rest (count + 4) (weight + 4 * bare) (four_bare (user ∷ user ∷ user ∷ user ∷ later) (0 ∷ 0 ∷ 0 ∷ 0 ∷ rest) count weight h)))
+      bare_run : (n : ℕ) (later : List ℤ) (rest : List ℕ) (count weight : ℕ) → AreWeighed users keys_vals (replicate n user ++ later) (replicate n 0 ++ rest) count weight → AreWeighed users keys_vals later rest (count + n) (weight + n * bare)
+      bare_run zero later rest count weight h =
+          let all : count ≡ count + 0 = omega arith in
+          let sum : weight ≡ weight + 0 * bare = omega arith in
+          subst (λ n. AreWeighed users keys_vals later rest n (weight + 0 * bare)) all (subst (AreWeighed users keys_vals later rest count) sum h)
+      bare_run (suc n) later rest count weight h =
+          let all : count + 1 + n ≡ count + suc n = omega arith in
+          let sum : weight + bare + n * bare ≡ weight + suc n * bare = omega arith in
+          subst (λ k. AreWeighed users keys_vals later rest k (weight + suc n * bare)) all (subst (AreWeighed users keys_vals later rest (count + 1 + n)) sum
+          (bare_run n later rest (count + 1) (weight + bare) (one_bare (replicate n user ++ later) (replicate n 0 ++ rest) count weight h)))
 
   pub eight_weighed : (users later next : List ℤ) (keys_vals rest after : List ℕ) (count weight eight : ℕ) → AreWeighed users keys_vals later rest count weight → AreEight table later next rest after eight → AreWeighed users keys_vals next after (count + 8) (weight + eight)
   eight_weighed users later next keys_vals rest after count weight eight h e =
       let here = subst (λ us. AreWeighed users keys_vals us (eight_of 0 ++ after) count weight) e.users_are (subst (λ ks. AreWeighed users keys_vals later ks count weight) e.runs_are h) in
-      subst (λ w. AreWeighed users keys_vals next after (count + 8) (weight + w)) (sym e.weight_is) (eight_bare e.user users keys_vals next after count weight here)
+      subst (λ w. AreWeighed users keys_vals next after (count + 8) (weight + w)) (sym e.weight_is) (bare_run e.user users keys_vals 8 next after count weight here)
 
 -- the columns of a dense message
 pub nodes_weighed : (dense : Dense) (later : List ℤ) (rest : List ℕ) (count weight : ℕ) → count ≤ length (dense_left dense) → AreWeighed dense.table.now (sums_left dense.info.users) (map low_32 (numbers_left dense.keys_vals)) later rest count weight

@@ -3,6 +3,7 @@ use Rattle.std.proofs.Common.{◌≡◌, ℕ, zero, suc, ℤ, pos, ◌+◌, ◌-
 use Rattle.std.specs.Prelude.{slice_get, Ok}
 use Rattle.std.specs.List.{cons_option}
 use Rattle.std.specs.Option.{option_map, option_to_list}
+use Rattle.std.proofs.Math.Bool.{or_assoc, or-false}
 use Rattle.pbf_strings.specs.TableOut.{with_text, texts_after, has_text, index_in, GivesIndex}
 use Rattle.pbf_strings.proofs.UsedTexts.{any_with, has_after, index_after, index_later, length_after, recent_gives, used_both, used_later}
 use Rattle.osm_entity.specs.Entity.{TagSpec}
@@ -12,7 +13,6 @@ use Rattle.osm_entity.proofs.TagLemmas.{run_ends, run_cut, run_goes_on}
 use Rattle.pbf_dense.specs.Info.{user_text}
 use Rattle.pbf_dense.specs.Runs.{after_run}
 use Rattle.pbf_dense.specs.WrittenDense.{are_some, run_of}
-use Rattle.pbf_dense.proofs.DenseOutLemmas.{or_none, or_after}
 use Rattle.pbf_dense.proofs.MovingLemmas.{drop_one}
 use Rattle.pbf_dense.specs.NodeTexts.{NodeTexts, texts_along, texts_used, runs_for, user_index, users_for, any_tagged, TextColumns, TakesTexts, IsKnown}
 
@@ -35,7 +35,7 @@ all_taken start all before texts now left h e =
       texts = d.texts_are;
       runs = λ used. sym (append-nil now.runs) ∙ d.runs_are used;
       users = λ used. sym (append-nil now.users) ∙ d.users_are used;
-      tagged = sym (or_none now.tagged) ∙ d.tagged_is;
+      tagged = sym (or-false now.tagged) ∙ d.tagged_is;
     }
 
 one_more : {Y : Type 0} (ys : List Y) (o : Option Y) (rest : List Y) → (ys ++ option_to_list o) ++ rest ≡ ys ++ cons_option o rest
@@ -68,7 +68,7 @@ node_taken start all before texts middle later now next was left n h is em el ru
           ap (λ (xs : List ℤ). xs ++ users_for all_texts left) (users (texts_used left ++ used))
           ∙ one_more now.users (user_index all_texts n.user) (users_for all_texts left)
           ∙ subst (λ (ts : List (List ℕ)). now.users ++ users_for ts (n ∷ left) ≡ before.users ++ users_for ts all) (after used) (d.users_are used);
-      tagged_is = ap (λ (b : Bool). b || any_tagged left) tagged ∙ or_after now.tagged (are_some n.tags) (any_tagged left) ∙ d.tagged_is;
+      tagged_is = ap (λ (b : Bool). b || any_tagged left) tagged ∙ or_assoc now.tagged (are_some n.tags) (any_tagged left) ∙ d.tagged_is;
       room =
           let q = d.room in
           let l = length_after own texts in

@@ -1,10 +1,9 @@
 -- Ids by spans of stored places are those of the nodes in the box.
-use Rattle.std.proofs.Common.{◌≡◌, ◌+◌, ◌-◌, ◌<◌, ◌≤◌, length, ℕ, zero, suc, ℤ, Bool, true, false, ◌&&◌, cond, List, [], ◌∷◌, map, drop, take, refl, sym, ap, ap₂, ◌∙◌, arith, rules, subst}
-use Rattle.std.proofs.Math.Seq.{drop-nil, take-add}
+use Rattle.std.proofs.Common.{◌≡◌, ◌+◌, ◌<◌, ◌≤◌, length, ℕ, zero, suc, ℤ, Bool, true, false, ◌&&◌, cond, List, [], ◌∷◌, map, drop, take, refl, sym, ap, ap₂, ◌∙◌, arith, subst}
+use Rattle.std.proofs.Math.Seq.{take-add}
 use Rattle.std.proofs.lemmas.List.{drop-drop, length-drop, take_all}
 use Rattle.pbf_wire.specs.Spans.{is_in, AreAlike, ArePassed}
 use Rattle.pbf_wire.specs.declared.span.Span.{Span}
-use Rattle.pbf_wire.proofs.MessageLemmas.{all_append}
 use Rattle.pbf_wire.proofs.SpanLemmas.{one_past}
 use Rattle.osm_box.specs.BoundingBox.{is_between}
 use Rattle.osm_box.specs.declared.bounding_box.BoundingBox.{BoundingBox}
@@ -12,6 +11,7 @@ use Rattle.osm_entity.specs.declared.scale.Scale.{Scale}
 use Rattle.osm_entity.specs.Entity.{NodeSpec}
 use Rattle.osm_entity.specs.Sources.{tag_of, run}
 use Rattle.osm_entity.specs.Scale.{nano_lat, nano_lon}
+use Rattle.pbf_wire.proofs.AllLemmas.{all_append}
 use Rattle.pbf_dense.specs.Info.{InfoSpec, meta_at, info_rest}
 use Rattle.pbf_dense.specs.Runs.{after_run}
 use Rattle.pbf_dense.specs.Nodes.{nodes_of_columns}

@@ -11,39 +11,21 @@ ghost use Rattle.pbf_dense.specs.Runs.{after_runs};
 ghost use Rattle.pbf_dense.specs.Taking.{PassesRun, TakesTags};
 
 use crate::dense_nodes::{ID, KEYS_VALS, LAT, LON};
-use crate::entries::next_number;
 use crate::info::InfoColumns;
 use crate::places::Places;
+use crate::run_out::next_pair;
 use crate::within::IdsWithin;
 use osm_entity::{BoundingBox, MetaRef, NodeRef, OwnedTags, RunTags, STORED_LIMIT, Scale, Tags};
 use pbf_strings::Table;
-use pbf_wire::{Column, Message, Sums, column_count, low_u32};
+use pbf_wire::{Column, Message, Sums, column_count};
 
-/// Moves past the next 0 in key place.
-#[tactic(auto, using(crate::proofs::MovingLemmas::run_steps))]
+/// Moves past the next 0 in key place. A copy is read on, so that the cursor of a loop stays in registers.
+#[inline(always)]
 fn skip_run(numbers: &mut Column<'_>)
     ensures { PassesRun numbers.old numbers.new }
 {
-    'tags: while let Some(key) = next_number(numbers) {
-        if low_u32(key) == 0 {
-            break;
-        }
-        let _value = next_number(numbers);
-    }
-}
-
-/// Like [`skip_run`], if the next number is that 0, as it mostly is. If not, a copy is read on, so that the cursor of a loop stays
-/// in registers.
-#[inline(always)]
-#[tactic(auto, using(crate::proofs::MovingLemmas::run_steps))]
-fn pass_run(numbers: &mut Column<'_>)
-    ensures { PassesRun numbers.old numbers.new }
-{
-    if numbers.pass_zero() {
-        return;
-    }
     let mut rest = *numbers;
-    skip_run(&mut rest);
+    'tags: while next_pair(&mut rest).is_some() {}
     *numbers = rest;
 }
 
@@ -59,7 +41,7 @@ fn skip_runs(numbers: &mut Column<'_>, count: usize)
             left -= 8;
             continue;
         }
-        pass_run(&mut rest);
+        skip_run(&mut rest);
         left -= 1;
     }
     *numbers = rest;
@@ -79,14 +61,12 @@ fn take_run<'a>(numbers: &mut Column<'a>, table: &'a Table<'a>, tags: &mut Tags<
     ensures { TakesTags table.now numbers.old numbers.new tags.new }
 {
     let run = RunTags::new(*numbers, table);
-    match next_number(numbers) {
-        Some(first) if low_u32(first) != 0 => {
-            let _value = next_number(numbers);
-            skip_run(numbers);
-            *tags = Tags::Run(run);
-        }
-        _ => clear_tags(tags),
+    if next_pair(numbers).is_none() {
+        clear_tags(tags);
+        return;
     }
+    skip_run(numbers);
+    *tags = Tags::Run(run);
 }
 
 /// Like [`take_run`], and quick if there is no tag, as of most nodes, and there was none in the place before.

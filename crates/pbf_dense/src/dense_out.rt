@@ -120,8 +120,8 @@ impl DenseOut {
         let user = table.index_if_some(node.meta.user)?;
         self.info.push(&node.meta, user)?;
         self.ids.push(node.id())?;
-        self.lats.push_far(node.lat())?;
-        self.lons.push_far(node.lon())?;
+        self.lats.push(node.lat())?;
+        self.lons.push(node.lon())?;
         self.tagged = self.tagged || is_tagged(node);
         Ok(())
     }

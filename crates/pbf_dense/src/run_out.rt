@@ -20,7 +20,7 @@ use std::hash::BuildHasher;
 /// The numbers of the next key of a run and of its value. `None` at the end of the run, which is passed.
 #[inline(always)]
 #[tactic(auto, using(crate::proofs::MovingLemmas::run_steps, crate::proofs::TextLemmas::pair_steps))]
-fn next_pair(numbers: &mut Column<'_>) -> Option<(u32, u32)>
+pub(crate) fn next_pair(numbers: &mut Column<'_>) -> Option<(u32, u32)>
     ensures pair { MatchOption result (run (map low_32 (numbers_left numbers.old)) ≡ [])
         (λ pair. run (map low_32 (numbers_left numbers.old))
         ≡ pair ∷ run (map low_32 (numbers_left numbers.new))) }
@@ -51,36 +51,8 @@ fn index_of<S: BuildHasher>(
     table.index_of(texts.text(number as usize))
 }
 
-/// Takes the next run over: adds the indexes of its keys and values in turn, and then a 0. Returns whether it has a tag.
-#[inline(never)]
-fn take_each_tag<S: BuildHasher>(
-    runs: &mut ColumnOut,
-    numbers: &mut Column<'_>,
-    texts: &Table<'_>,
-    table: &mut TableOut<S>,
-) -> Result<bool, AllocError>
-    requires { length table.old + length (tag_texts (run_tags texts.now (numbers_left numbers.old)))
-        ≤ MOST_USED_TEXTS }
-    ensures texts { OnOk result (table.new
-        ≡ texts_after table.old (tag_texts (run_tags texts.now (numbers_left numbers.old)))) }
-    ensures runs { (used : List (List ℕ)) → OnOk result (runs.new ≡ runs.old
-        ++ run_of (texts_after table.new used) (run_tags texts.now (numbers_left numbers.old))) }
-    ensures tagged { IfOk result
-        (λ tagged. tagged ≡ are_some (run_tags texts.now (numbers_left numbers.old))) }
-    ensures rest { OnOk result (PassesRun numbers.old numbers.new) }
-{
-    let mut tagged = false;
-    'tags: while let Some((key, value)) = next_pair(numbers) {
-        runs.push(u64::from(index_of(key, texts, table)?))?;
-        runs.push(u64::from(index_of(value, texts, table)?))?;
-        tagged = true;
-    }
-    runs.push(0)?;
-    Ok(tagged)
-}
-
-/// Like [`take_each_tag`], and quick if there is no tag, as of most nodes. If there is one, a copy of the cursor is read on, so that
-/// the cursor of a loop stays in registers.
+/// Takes the next run over: adds the indexes of its keys and values in turn, and then a 0. Returns whether it has a tag. That is quick if
+/// it has none, as of most nodes; otherwise a copy of the cursor is read on, so that the cursor of a loop stays in registers.
 #[inline(always)]
 pub(crate) fn take_run<S: BuildHasher>(
     runs: &mut ColumnOut,
@@ -104,7 +76,13 @@ pub(crate) fn take_run<S: BuildHasher>(
         return Ok(false);
     }
     let mut rest = *numbers;
-    let tagged = take_each_tag(runs, &mut rest, texts, table)?;
+    let mut tagged = false;
+    'tags: while let Some((key, value)) = next_pair(&mut rest) {
+        runs.push(u64::from(index_of(key, texts, table)?))?;
+        runs.push(u64::from(index_of(value, texts, table)?))?;
+        tagged = true;
+    }
+    runs.push(0)?;
     *numbers = rest;
     Ok(tagged)
 }

@@ -9,11 +9,12 @@ ghost use Rattle.pbf_dense.specs.Steady.{InEachOrNone};
 ghost use Rattle.pbf_dense.specs.Taking.{PassesRun};
 
 use crate::dense::Dense;
-use crate::entries::{next_number, next_sum};
+use crate::entries::next_sum;
+use crate::run_out::next_pair;
 use crate::user_texts::{text_if_some, text_of};
 use osm_entity::{ENTITY_WEIGHT, PART_WEIGHT};
 use pbf_strings::Table;
-use pbf_wire::{Column, Sums, low_u32};
+use pbf_wire::{Column, Sums};
 
 /// Some of the next nodes, and what they weigh together.
 #[derive(Clone, Copy)]
@@ -51,38 +52,16 @@ pub(crate) fn numbers_go_with(numbers: &Column<'_>, count: usize) -> bool
 }
 
 /// The length of the text of a stored number.
-fn length_of(table: &Table<'_>, number: u64) -> u64
-    ensures { result ≡ length (text table.now (low_32 number)) }
+fn length_of(table: &Table<'_>, number: u32) -> u64
+    ensures { result ≡ length (text table.now number) }
 {
-    table.text(low_u32(number) as usize).len() as u64
+    table.text(number as usize).len() as u64
 }
 
-/// Moves past the next 0 in key place, and returns what the tags before it weigh. If it is more than a `u64` holds, the greatest.
-fn weigh_run(numbers: &mut Column<'_>, table: &Table<'_>) -> u64
-    ensures weight { result ≡ min
-        (tags_weight (run_tags table.now (numbers_left numbers.old))) (2 ^ 64 - 1) }
-    ensures rest { PassesRun numbers.old numbers.new }
-{
-    let mut weight: u64 = 0;
-    'tags: while let Some(key) = next_number(numbers) {
-        if low_u32(key) == 0 {
-            break;
-        }
-        let Some(value) = next_number(numbers) else {
-            break;
-        };
-        weight = weight
-            .saturating_add(PART_WEIGHT)
-            .saturating_add(length_of(table, key))
-            .saturating_add(length_of(table, value));
-    }
-    weight
-}
-
-/// Like [`weigh_run`], and quick if there is no tag, as of most nodes. Otherwise a copy is read on, so that the cursor of a loop stays in
-/// registers.
+/// Moves past the next 0 in key place, and returns what the tags before it weigh. If it is more than a `u64` holds, the greatest. That is
+/// quick if there is no tag, as of most nodes; otherwise a copy is read on, so that the cursor of a loop stays in registers.
 #[inline(always)]
-fn weigh_tags(numbers: &mut Column<'_>, table: &Table<'_>) -> u64
+fn weigh_run(numbers: &mut Column<'_>, table: &Table<'_>) -> u64
     ensures weight { result ≡ min
         (tags_weight (run_tags table.now (numbers_left numbers.old))) (2 ^ 64 - 1) }
     ensures rest { PassesRun numbers.old numbers.new }
@@ -91,7 +70,13 @@ fn weigh_tags(numbers: &mut Column<'_>, table: &Table<'_>) -> u64
         return 0;
     }
     let mut rest = *numbers;
-    let weight = weigh_run(&mut rest, table);
+    let mut weight: u64 = 0;
+    'tags: while let Some((key, value)) = next_pair(&mut rest) {
+        weight = weight
+            .saturating_add(PART_WEIGHT)
+            .saturating_add(length_of(table, key))
+            .saturating_add(length_of(table, value));
+    }
     *numbers = rest;
     weight
 }
@@ -136,7 +121,7 @@ impl<'a> Weights<'a> {
         ensures table { self.new.table ≡ self.old.table }
     {
         let user = self.next_user();
-        let tags = weigh_tags(&mut self.keys_vals, self.table);
+        let tags = weigh_run(&mut self.keys_vals, self.table);
         user.saturating_add(ENTITY_WEIGHT).saturating_add(tags)
     }
 
@@ -175,7 +160,7 @@ impl<'a> Weights<'a> {
 
 impl<'a> Dense<'a> {
     ghost use Rattle.std.specs.Prelude.{◌≡◌, ◌≤◌, ⊤, MatchOption, length, take};
-    ghost use Rattle.std.specs.List.{AllByRecursion, sum_by};
+    ghost use Rattle.std.specs.List.{sum_by};
     ghost use Rattle.osm_entity.specs.Weight.{node_weight};
     ghost use Rattle.pbf_dense.specs.Cursors.{dense_left};
     ghost use Rattle.pbf_dense.specs.Steady.{IsSteady};

@@ -39,28 +39,9 @@ impl<'a> UserIndexes<'a> {
         }
     }
 
-    /// Looks up the index of a user, and keeps it.
-    #[inline(never)]
-    #[tactic(auto, using(crate::proofs::TextLemmas::known_now))]
-    fn find<S: BuildHasher>(
-        &mut self,
-        user: i64,
-        table: &mut TableOut<S>,
-    ) -> Result<u32, AllocError>
-        requires { length table.old < MOST_USED_TEXTS }
-        ensures given { GivesIndex (user_text self.old.texts.now user) table.old table.new result }
-        ensures known { OnOk result
-            (IsKnown self.old.texts.now table.new self.new.user self.new.index) }
-        ensures texts { self.new.texts ≡ self.old.texts }
-    {
-        let index = table.index_of(text_of(self.texts, user))?;
-        self.user = user;
-        self.index = index;
-        Ok(index)
-    }
-
-    /// The index of a user.
+    /// The index of a user, which is kept.
     #[inline(always)]
+    #[tactic(auto, using(crate::proofs::TextLemmas::known_now))]
     fn index_of<S: BuildHasher>(
         &mut self,
         user: i64,
@@ -76,7 +57,10 @@ impl<'a> UserIndexes<'a> {
         if self.index > 0 && self.user == user {
             return Ok(self.index);
         }
-        self.find(user, table)
+        let index = table.index_of(text_of(self.texts, user))?;
+        self.user = user;
+        self.index = index;
+        Ok(index)
     }
 
     /// Takes the user of the next node over, if it has one: adds the index.

@@ -21,8 +21,8 @@ use Rattle.pbf_frame.specs.Header.{head_says, header_faults}
 use Rattle.pbf_frame.specs.Frames.{FrameSpec, is_header, header_at, blob_at, frame_at, frame_kind, frame_bytes, frame_end, cut_faults, order_faults, phases_of_blob, frame_phases, next_within}
 use Rattle.pbf_frame.specs.Sound.{IsSoundBlob, IsFrameWithin, AreFramesWithin, had_after}
 use Rattle.pbf_frame.specs.Verdict.{with_frame_first, judged_after, judged_fueled, judged_within, joined_frames}
-use Rattle.pbf_frame.proofs.BlobLemmas.{earlier_none}
 use Rattle.pbf_frame.proofs.Stepping.{given_or}
+use Rattle.pbf_wire.proofs.SoundLemmas.{both_none}
 
 -- ---- a frame without a fault is the next
 
@@ -143,11 +143,11 @@ prefix_whole true x later e = (let bad : ⊥ = cc in absurd bad)
 
 first_and_fifth : (a b c d e : List Fault) (late : List (List Fault)) → first_fault (a ∷ b ∷ c ∷ d ∷ e ∷ late) ≡ None → (least a ≡ None) × (least e ≡ None)
 first_and_fifth a b c d e late none =
-    let one = earlier_none (least a) (first_fault (b ∷ c ∷ d ∷ e ∷ late)) none in
-    let two = earlier_none (least b) (first_fault (c ∷ d ∷ e ∷ late)) one.1 in
-    let three = earlier_none (least c) (first_fault (d ∷ e ∷ late)) two.1 in
-    let four = earlier_none (least d) (first_fault (e ∷ late)) three.1 in
-    (one.0, (earlier_none (least e) (first_fault late) four.1).0)
+    let one = both_none (least a) (first_fault (b ∷ c ∷ d ∷ e ∷ late)) none in
+    let two = both_none (least b) (first_fault (c ∷ d ∷ e ∷ late)) one.1 in
+    let three = both_none (least c) (first_fault (d ∷ e ∷ late)) two.1 in
+    let four = both_none (least d) (first_fault (e ∷ late)) three.1 in
+    (one.0, (both_none (least e) (first_fault late) four.1).0)
 
 ordered_same : (limit : ℕ) (h : Bool) (p : ℕ) (k : FrameKind) (last : ℕ) → last ≤ limit → order_faults (Some limit) h p k last ≡ order_faults None h p k last
 ordered_same limit h p k last low =

@@ -1,10 +1,10 @@
 -- What a blob without a fault holds.
-use Rattle.std.proofs.Common.{◌≡◌, ℕ, ◌<◌, Bool, true, false, if◌then◌else◌, nat_le, List, [], ◌∷◌, ◌++◌, Option, Some, None, length, refl, sym, ap₂, ◌∙◌, arith}
+use Rattle.std.proofs.Common.{◌≡◌, ℕ, ◌<◌, Bool, true, false, nat_le, List, [], ◌++◌, Option, Some, None, length, refl, sym, ap₂, ◌∙◌, arith}
 use Rattle.std.specs.Option.{option_or}
 use Rattle.std.proofs.lemmas.Bool.Decides.{nat_tests}
 use Rattle.pbf_wire.specs.declared.fault.Fault.{Fault}
 use Rattle.pbf_wire.specs.declared.fault.Reason.TheVariants.{RawLong}
-use Rattle.pbf_wire.specs.Least.{least, lesser}
+use Rattle.pbf_wire.specs.Least.{least}
 use Rattle.pbf_wire.specs.Occurrence.{Occurrence, items, found}
 use Rattle.pbf_wire.specs.Reading.{bytes_held, occurrence_text, last_of}
 use Rattle.pbf_wire.specs.Wire.{wire}
@@ -13,24 +13,7 @@ use Rattle.pbf_frame.specs.declared.blob.TheConstants.{RAW, BLOB_KINDS}
 use Rattle.pbf_wire.specs.declared.limits.TheConstants.{RAW_LIMIT}
 use Rattle.pbf_wire.specs.Faults.{fault_where}
 use Rattle.pbf_frame.specs.Blob.{compressed, raw_faults, blob_faults, blob_fault, raw_payload_of}
-
--- only an empty list has no least
-pub least_none : (fs : List Fault) → least fs ≡ None → fs ≡ []
-least_none [] e = refl
-least_none (f ∷ fs) e = absurd (never f (least fs) e) where
-  chosen : (b : Bool) (f g : Fault) → (if b then Some g else Some f) ≡ None → ⊥
-  chosen true f g e = cc
-  chosen false f g e = cc
-
-  never : (f : Fault) (rest : Option Fault) → lesser (Some f) rest ≡ None → ⊥
-  never f None e = cc
-  never f (Some g) e = chosen _ f g e
-
-pub earlier_none : (one other : Option Fault) → option_or one other ≡ None → (one ≡ None) × (other ≡ None)
-earlier_none None other e = (refl, e)
-earlier_none (Some f) other e = absurd (never f e) where
-  never : (f : Fault) → Some f ≡ None → ⊥
-  never f e = cc
+use Rattle.pbf_wire.proofs.SoundLemmas.{no_least, both_none, option_last}
 
 raw_short : (at : ℕ) (last : Option Occurrence) (others : List Fault) → raw_faults at last others ≡ [] → length (occurrence_text last) < RAW_LIMIT
 raw_short at None others e = omega arith
@@ -39,14 +22,10 @@ raw_short at (Some o) others e = cases (nat_le RAW_LIMIT (length (bytes_held o.c
   cases true is e = (let bad : ⊥ = cc in absurd bad)
   cases false is e = grind (arith, nat_tests)
 
-option_last : (o : Option Fault) → option_or o None ≡ o
-option_last None = refl
-option_last (Some f) = refl
-
 -- the first fault of a blob, in which the first wire fault represents the phase of its wire form
 pub blob_steps : (at : ℕ) (blob : List ℕ) → blob_fault at blob ≡ option_or (wire BLOB_KINDS (items at blob)) (least (blob_faults at blob))
 unfolding blob_fault
 blob_steps at blob = ap₂ option_or (leaf_is_wire BLOB_KINDS (items at blob)) (option_last (least (blob_faults at blob)))
 
 pub payload_short : (at : ℕ) (blob : List ℕ) → blob_fault at blob ≡ None → length (raw_payload_of at blob) < RAW_LIMIT
-payload_short at blob e = raw_short at (last_of RAW (found (items at blob))) (compressed (found (items at blob))) (least_none (blob_faults at blob) (earlier_none (wire BLOB_KINDS (items at blob)) _ (sym (blob_steps at blob) ∙ e)).1)
+payload_short at blob e = raw_short at (last_of RAW (found (items at blob))) (compressed (found (items at blob))) (no_least (blob_faults at blob) (both_none (wire BLOB_KINDS (items at blob)) _ (sym (blob_steps at blob) ∙ e)).1)

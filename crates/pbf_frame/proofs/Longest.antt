@@ -19,10 +19,10 @@ use Rattle.pbf_frame.specs.Verdict.{Verdict, with_frame_first, with_all, judged_
 use Rattle.pbf_frame.specs.Sound.{IsSoundBlob, IsFrame, AreFrames, had_after, place_after, EndsAs, IsLongestFront}
 use Rattle.pbf_frame.specs.Steps.{prefix_at}
 use Rattle.pbf_frame.proofs.AnyLength.{frame_is_next_within}
-use Rattle.pbf_frame.proofs.BlobLemmas.{least_none}
 use Rattle.pbf_frame.proofs.FrameLemmas.{head_parts}
 use Rattle.pbf_frame.proofs.Parting.{FrameParts, next_parts, next_split, next_none}
 use Rattle.pbf_frame.proofs.Judging.{judged_step, judged_some}
+use Rattle.pbf_wire.proofs.SoundLemmas.{no_least}
 
 -- ---- one frame
 
@@ -53,7 +53,7 @@ frame_at h bytes f rest parts =
       short = subst (λ (n : ℕ). n < HEADER_LIMIT) (sym parts.header_is.long) parts.small;
       wired = says.0;
       whole = says.1;
-      sized = sized (header_at f) (fault_where (is_none (last_of TYPE (found (items (header_at f) f.header)))) (header_at f) (Missing TYPE)) last (least_none (header_faults (header_at f) f.header) says.1) ∙ ap Some (sym size);
+      sized = sized (header_at f) (fault_where (is_none (last_of TYPE (found (items (header_at f) f.header)))) (header_at f) (Missing TYPE)) last (no_least (header_faults (header_at f) f.header) says.1) ∙ ap Some (sym size);
       ordered = ap (λ (k : FrameKind). least (order_faults (Some FILE_LIMIT) h f.offset k (frame_end f))) (sym says.2) ∙ ap (λ (n : ℕ). least (order_faults (Some FILE_LIMIT) h f.offset parts.head.kind (blob_at f + n))) parts.blob_is.long ∙ parts.header_is.ordered;
       sound = subst (λ (k : FrameKind). IsSoundBlob k (blob_at f) f.blob) says.2 parts.blob_is.sound;
     }

@@ -2,6 +2,7 @@
 use Rattle.std.proofs.Common.{◌≡◌, ◌⊎◌, inl, inr, ℕ, ◌+◌, ◌≤◌, ◌==◌, nat_lt, nat_le, Bool, true, false, cond, ◌||◌, List, [], ◌∷◌, ◌++◌, length, take, drop, Option, Some, None, Result, Ok, Err, refl, sym, ap, ◌∙◌, append_assoc, take-append-drop, arith}
 use Rattle.std.proofs.lemmas.Bool.Decides.{nat_tests}
 use Rattle.std.proofs.lemmas.List.{length-take}
+use Rattle.std.proofs.lemmas.Bool.{both_ways}
 use Rattle.byteorder.specs.Endian.{big_number}
 use Rattle.pbf_wire.specs.declared.fault.Fault.{Fault}
 use Rattle.pbf_wire.specs.declared.fault.Reason.TheVariants.{PrefixCut, HeaderLong, HeaderCut, BlobCut, NoHeader}
@@ -37,12 +38,9 @@ Headed = Result ((List ℕ × Head) × List ℕ) Fault
 err_same : {A : Type 0} (a b : Fault) → ◌≡◌ {A = Result A Fault} (Err a) (Err b) → a ≡ b
 err_same a b e = cc
 
-not_both : (b : Bool) → b ≡ true → b ≡ false → ⊥
-not_both b e f = cc
-
 -- a fault of the end isn't this one
 other_fault : (x e : Fault) → comes_of_end x.reason ≡ true → comes_of_end e.reason ≡ false → x ≡ e → ⊥
-other_fault x e ends stays same = not_both (comes_of_end e.reason) (ap (λ (f : Fault). comes_of_end f.reason) (sym same) ∙ ends) stays
+other_fault x e ends stays same = both_ways (comes_of_end e.reason) stays (ap (λ (f : Fault). comes_of_end f.reason) (sym same) ∙ ends)
 
 -- ---- the bytes before a header
 
@@ -76,7 +74,7 @@ prefix_fault h p bytes e is = empty (length bytes == 0) is where
 prefix_stays : (h : Bool) (p : ℕ) (bytes rest : List ℕ) (e : Fault) → prefix_at h p bytes ≡ Err e → comes_of_end e.reason ≡ false → prefix_at h p (bytes ++ rest) ≡ Err e
 prefix_stays h p bytes rest e is stays = of (prefix_fault h p bytes e is) where
   of : (comes_of_end e.reason ≡ true) ⊎ ((e ≡ fault p HeaderLong) × IsLarge bytes) → prefix_at h p (bytes ++ rest) ≡ Err e
-  of (inl ends) = absurd (not_both _ ends stays)
+  of (inl ends) = absurd (both_ways _ stays ends)
   of (inr (same, (long, large))) =
       ap (λ (l : List ℕ). prefix_at h p (l ++ rest)) (sym (take-append-drop 4 bytes))
       ∙ ap (prefix_at h p) (append_assoc (take 4 bytes) (drop 4 bytes) rest)

@@ -2,11 +2,11 @@
 use Rattle.std.proofs.Common.{ℕ, ◌≡◌, inl, inr, List, [], ◌∷◌, Option, Some, None, refl, sym, subst}
 use Rattle.std.specs.List.{AllByRecursion, fold}
 use Rattle.osm_entity.specs.Entity.{EntitySpec}
-use Rattle.pbf_wire.proofs.MessageLemmas.{all_append}
 use Rattle.pbf_frame.specs.declared.stop.Stop.{Stop}
 use Rattle.pbf_frame.specs.declared.stop.Stop.TheVariants as why
 use Rattle.pbf_frame.specs.Frames.{FrameSpec}
 use Rattle.pbf_frame.specs.Verdict.{Verdict, with_first_known, Says}
+use Rattle.pbf_wire.proofs.AllLemmas.{all_append}
 use Rattle.pbf_pass.specs.declared.pass.Pass.{Pass}
 use Rattle.pbf_pass.specs.Unjudged.{IsSound}
 use Rattle.pbf_pass.specs.Counting.{counts_of, stored_entities}

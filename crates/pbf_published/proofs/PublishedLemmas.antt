@@ -12,8 +12,10 @@ use Rattle.pbf_frame.specs.Verdict.{Verdict}
 use Rattle.pbf_pass.specs.Given.{GaveFile}
 use Rattle.pbf_pass.specs.Hashing.{HasCounted, IsDigestOf, digest_if}
 use Rattle.pbf_pass.specs.declared.receipt.Halt.{Halt}
+use Rattle.pbf_pass.specs.declared.receipt.Halt.TheVariants as halt
+use Rattle.pbf_pass.specs.declared.receipt.Refusal.{Refusal}
 use Rattle.pbf_pass.specs.declared.receipt.InputReceipt.{InputReceipt}
-use Rattle.pbf_pass.specs.Refused.{stop_of}
+use Rattle.pbf_pass.specs.Refused.{Halts, stop_of}
 use Rattle.pbf_pass.specs.Stops.{Caused, FaultOf, ReadFailed}
 use Rattle.pbf_unpack.specs.declared.feed.UnpackedFeed.{UnpackedFeed}
 use Rattle.pbf_unpack.specs.declared.feed.State.{State}
@@ -21,7 +23,7 @@ use Rattle.pbf_unpack.specs.declared.feed.State.TheVariants.{Reading, PassingOn,
 use Rattle.pbf_unpack.specs.Reports.{has_all, stop_in}
 use Rattle.pbf_unpack.specs.Supplying.{left_in, unless_failed}
 use Rattle.pbf_unpack.specs.Unpacked.{unpacked}
-use Rattle.pbfcut.specs.Calls.{Differ, GaveOrNot, RefusedFirst}
+use Rattle.pbfcut.specs.Calls.{Differ, GaveOrNot}
 use Rattle.pbfcut.proofs.ConvertingLemmas.{nothing_out}
 use Rattle.pbf_published.specs.declared.input.PublishedHalt.{PublishedHalt}
 use Rattle.pbf_published.specs.Published.{Closed, GavePublished, GaveOrNone, Opened, ReportsOutcome, UnlessChanged, log_number, log_of, raw_of, told_by}
@@ -169,9 +171,20 @@ module _ (lacks : Bool) (o : Result InputReceipt Halt) (r : Result InputReceipt 
     of (Ok receipt) same held = absurd same
     of (Err halt) same held = unless_changed above reported.stop (step held)
 
--- a raw file that is refused, by what is known of it
-pub refused_as : (judge : Option (List ℕ) → Option Verdict) (known raw old new : Option (List ℕ)) (e : Fault) → known ≡ raw → RefusedFirst (judge known) old new e → RefusedFirst (judge raw) old new e
-refused_as judge known raw old new e same refused = (subst (λ (k : Option (List ℕ)). FaultOf (judge k) e) same refused.0, refused.1)
+-- the fault of a raw file, by what is known of it
+pub fault_as : (judge : Option (List ℕ) → Option Verdict) (known raw : Option (List ℕ)) (e : Fault) → known ≡ raw → FaultOf (judge known) e → FaultOf (judge raw) e
+fault_as judge known raw e same fault = subst (λ (k : Option (List ℕ)). FaultOf (judge k) e) same fault
+
+-- of what is refused by a call over raw files nothing went out
+pub with_nothing : (o : Result InputReceipt Halt) (refuses : Refusal → Type 0) (nothing : Type 0) (refused : Fault → Type 0) (read wrote : Type 0) (changed : ℕ → Type 0) → IfErr o (Halts (λ r. refuses r × nothing)) → IfErr o (λ h. Caused refused read wrote changed (stop_of h))
+    → IfErr o (λ h. Caused (λ e. refused e × nothing) read wrote changed (stop_of h))
+with_nothing (Ok receipt) refuses nothing refused read wrote changed halts caused = tt
+with_nothing (Err (halt.Refused r)) refuses nothing refused read wrote changed halts caused = (caused, halts.1)
+with_nothing (Err (halt.Stopped (stop.Refused e))) refuses nothing refused read wrote changed halts caused = absurd (halts e refl)
+with_nothing (Err (halt.Stopped stop.Read)) refuses nothing refused read wrote changed halts caused = caused
+with_nothing (Err (halt.Stopped stop.Write)) refuses nothing refused read wrote changed halts caused = caused
+with_nothing (Err (halt.Stopped stop.Memory)) refuses nothing refused read wrote changed halts caused = tt
+with_nothing (Err (halt.Stopped (stop.Changed pass))) refuses nothing refused read wrote changed halts caused = caused
 
 -- each of two cases gives one
 pub either_of : {A B C D : Type 0} → (A → C) → (B → D) → A ⊎ B → C ⊎ D

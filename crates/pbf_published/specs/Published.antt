@@ -1,14 +1,19 @@
 -- What a call over published files was given: packed bytes, and the raw files that they mean.
 use Rattle.std.specs.Prelude.{◌≡◌, ◌⊎◌, ℕ, zero, suc, ◌+◌, ◌*◌, List, [], ◌∷◌, Bool, true, false, Option, Some, None, Result, Ok, Err, IfSome}
 use Rattle.std.specs.Option.{option_map}
+use Rattle.pbf_wire.specs.declared.fault.Fault.{Fault}
 use Rattle.pbf_frame.specs.declared.device.Feed as feed
+use Rattle.pbf_frame.specs.declared.device.Drain as drain
 use Rattle.pbf_frame.specs.declared.stop.Stop.{Stop}
 use Rattle.pbf_frame.specs.declared.stop.Stop.TheVariants.{Refused, Read, Write, Memory, Changed}
 use Rattle.pbf_frame.specs.Devices.{IsAtEnd, prepend}
+use Rattle.pbf_frame.specs.Transfers.{Added}
+use Rattle.pbf_frame.specs.Verdict.{Verdict}
 use Rattle.pbf_pass.specs.Hashing.{IsDigestOf, digest_if}
 use Rattle.pbf_pass.specs.declared.receipt.Halt.{Halt}
 use Rattle.pbf_pass.specs.declared.receipt.InputReceipt.{InputReceipt}
 use Rattle.pbf_pass.specs.Refused.{stop_of}
+use Rattle.pbf_pass.specs.Stops.{FaultOf}
 use Rattle.pbf_unpack.specs.Unpacked.{unpacked}
 use Rattle.pbfcut.specs.Calls.{ChangedIn}
 use Rattle.pbf_published.specs.declared.input.PublishedHalt.{PublishedHalt}
@@ -104,19 +109,19 @@ pub record Closed (passed : ℕ → List ℕ → Type 0) (left_below : Option (L
 abbrev pub raw_of : Option (List ℕ) → Option (List ℕ)
 raw_of known = option_map unpacked known
 
+-- what is refused is the raw file that the first feed's bytes mean, by its first fault, and then the drain took nothing
+abbrev pub RefusedRaw : {D : Type 0} → Option Verdict → drain.Ghosts D → (old new : D) → Fault → Type 0
+RefusedRaw known d old new e = FaultOf known e × Added d old [] new
+
 -- the packed bytes that were changed: `Changed` has the number of the pass whose feed has other bytes than the first, as far as both report them.
 -- The number 1 comes only if the first doesn't
-abbrev pub ChangedOfOne : Option (List ℕ) → ℕ → Type 0
-ChangedOfOne first = ChangedIn 1 first first
+abbrev pub ChangedFrom : ℕ → (first : Option (List ℕ)) → List (Option (List ℕ)) → ℕ → Type 0
+ChangedFrom number first [] pass = ⊥
+ChangedFrom number first (has ∷ later) pass = ChangedIn number first has pass ⊎ ChangedFrom (number + 1) first later pass
 
-abbrev pub ChangedOfTwo : (first second : Option (List ℕ)) → ℕ → Type 0
-ChangedOfTwo first second pass = ChangedOfOne first pass ⊎ ChangedIn 2 first second pass
-
-abbrev pub ChangedOfThree : (first second third : Option (List ℕ)) → ℕ → Type 0
-ChangedOfThree first second third pass = ChangedOfTwo first second pass ⊎ ChangedIn 3 first third pass
-
-abbrev pub ChangedOfFour : (first second third fourth : Option (List ℕ)) → ℕ → Type 0
-ChangedOfFour first second third fourth pass = ChangedOfThree first second third pass ⊎ ChangedIn 4 first fourth pass
+abbrev pub ChangedOf : List (Option (List ℕ)) → ℕ → Type 0
+ChangedOf [] pass = ⊥
+ChangedOf (first ∷ later) pass = ChangedFrom 1 first (first ∷ later) pass
 
 -- this holds unless the stop is that a later pass read other bytes
 abbrev pub UnlessChanged : Type 0 → Stop → Type 0

@@ -1,18 +1,18 @@
 //! `extract --parents` of published files.
 
-ghost use Rattle.std.specs.Prelude.{Some, ◌≡◌, ◌⊎◌, ℕ, List, IfOk, IfErr};
+ghost use Rattle.std.specs.Prelude.{Some, ◌≡◌, ◌⊎◌, ◌∷◌, [], ℕ, List, IfOk, IfErr};
 ghost use Rattle.osm_ways.specs.Parents.{extract_with_parents};
 ghost use Rattle.osm_ways.specs.Seen.{seen_decoded};
 ghost use Rattle.pbf_frame.specs.Devices.{IsFront};
 ghost use Rattle.pbf_pass.specs.Given.{Took};
 ghost use Rattle.pbf_pass.specs.HeaderLimit.{judged_writable};
 ghost use Rattle.pbf_pass.specs.Hashing.{digest_if};
-ghost use Rattle.pbfcut.specs.Calls.{FourSupply, RefusedFirst};
+ghost use Rattle.pbfcut.specs.Calls.{FourSupply};
 ghost use Rattle.pbfcut.specs.Extracting.{all_parents};
 ghost use Rattle.pbfcut.specs.Kept.{IsWritable, extract_of};
 ghost use Rattle.pbfcut.specs.Theorem.{IsExtraction};
 ghost use Rattle.pbf_pass.specs.Stops.{Caused, ReadFailed, WriteFailed};
-ghost use Rattle.pbf_published.specs.Published.{ChangedOfFour, GaveOrNone, GavePublished, UnlessChanged, raw_of};
+ghost use Rattle.pbf_published.specs.Published.{ChangedOf, GaveOrNone, GavePublished, RefusedRaw, UnlessChanged, raw_of};
 
 use crate::input::{
     PublishedHalt, PublishedInput, close, compare, compare_unless_spared, first_digest,
@@ -63,14 +63,14 @@ pub fn extract_parents_sorted_with_receipt<
     // Each stop has its cause. What is refused is the raw file that the first feed's bytes mean, by its first fault, and then the drain took
     // nothing. `Read` and `Write` come only if a count of failures rose: of a feed, of the drain. `Changed` has the number of the pass
     // whose feed has other packed bytes than the first, as far as both report them.
-    ensures stops { IfErr result (λ h. Caused (RefusedFirst
-        (judged_writable (raw_of (F.remaining first.old))) (D.taken drain.old) (D.taken drain.new))
+    ensures stops { IfErr result (λ h. Caused (RefusedRaw
+        (judged_writable (raw_of (F.remaining first.old))) D.Drain drain.old drain.new)
         ((ReadFailed F.Feed first.old first.new
         ⊎ (ReadFailed G.Feed second.old second.new ⊎ ReadFailed H.Feed third.old third.new))
         ⊎ ReadFailed I.Feed fourth.old fourth.new)
         (WriteFailed D.Drain drain.old drain.new)
-        (ChangedOfFour (F.remaining first.old) (G.remaining second.old) (H.remaining third.old)
-        (I.remaining fourth.old)) h.stop) }
+        (ChangedOf (F.remaining first.old ∷ G.remaining second.old ∷ H.remaining third.old
+        ∷ I.remaining fourth.old ∷ [])) h.stop) }
     // Whatever stopped it, except `Changed`, if all feeds mean this raw file, a prefix of its extract went out.
     ensures beginning { IfErr result (λ h. UnlessChanged ((b : List ℕ)
         → FourSupply b (raw_of (F.remaining first.old)) (raw_of (G.remaining second.old))

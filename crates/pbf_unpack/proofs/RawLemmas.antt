@@ -10,7 +10,7 @@ use Rattle.pbf_wire.specs.Least.{least}
 use Rattle.pbf_wire.specs.Occurrence.{Occurrence, items, found}
 use Rattle.pbf_wire.specs.Reading.{last_of}
 use Rattle.pbf_wire.specs.Wire.{wire}
-use Rattle.pbf_wire.proofs.SoundLemmas.{not_wrong}
+use Rattle.pbf_wire.proofs.SoundLemmas.{not_wrong, no_least, both_none}
 use Rattle.pbf_frame.specs.declared.blob.TheConstants.{RAW, RAW_SIZE, ZLIB_DATA, LZMA_DATA, BZIP2_DATA, LZ4_DATA, ZSTD_DATA, BLOB_KINDS}
 use Rattle.pbf_frame.specs.declared.frame.FrameKind.{FrameKind}
 use Rattle.pbf_frame.specs.declared.frame.FrameKind.TheVariants as kind
@@ -22,7 +22,7 @@ use Rattle.pbf_frame.specs.Header.{head_says}
 use Rattle.pbf_frame.specs.Sound.{IsSoundBlob, IsFrame, AreFrames, EndsAs, had_after, place_after}
 use Rattle.pbf_frame.specs.Steps.{head_of}
 use Rattle.pbf_frame.specs.Verdict.{joined_frames, judged}
-use Rattle.pbf_frame.proofs.BlobLemmas.{least_none, earlier_none, blob_steps}
+use Rattle.pbf_frame.proofs.BlobLemmas.{blob_steps}
 use Rattle.pbf_frame.proofs.FrameLemmas.{head_parts}
 use Rattle.pbf_frame.proofs.Longest.{frame_is_next, longest_front}
 use Rattle.pbf_frame.proofs.Parting.{FrameParts, next_none, next_parts}
@@ -46,8 +46,8 @@ second_of_six false b c d e g is = refl
 raw_not_packed : (at : ℕ) (blob : List ℕ) → blob_fault at blob ≡ None → packed_in at blob ≡ None
 raw_not_packed at blob sound =
     let os = found (items at blob) in
-    let parts = earlier_none (wire BLOB_KINDS (items at blob)) (least (blob_faults at blob)) (sym (blob_steps at blob) ∙ sound) in
-    let raw : is_none (last_of RAW os) ≡ false = has_raw at (last_of RAW os) _ (least_none (blob_faults at blob) parts.1) in
+    let parts = both_none (wire BLOB_KINDS (items at blob)) (least (blob_faults at blob)) (sym (blob_steps at blob) ∙ sound) in
+    let raw : is_none (last_of RAW os) ≡ false = has_raw at (last_of RAW os) _ (no_least (blob_faults at blob) parts.1) in
     let test = second_of_six (is_none (wire BLOB_KINDS (items at blob))) (is_none (last_of RAW os)) (is_none (last_of LZMA_DATA os)) (is_none (last_of BZIP2_DATA os)) (is_none (last_of LZ4_DATA os)) (is_none (last_of ZSTD_DATA os)) raw in
     ap (λ (b : Bool). cond b (last_of ZLIB_DATA os) None) test
 
@@ -74,7 +74,7 @@ module _ (had : Bool) (place : ℕ) (f : FrameSpec) (is : IsFrame had place f) w
 
   ends : frame_end f ≤ 2 ^ 62
   ends =
-      let none = least_none (order_faults (Some FILE_LIMIT) had place (frame_kind f) (frame_end f)) is.ordered in
+      let none = no_least (order_faults (Some FILE_LIMIT) had place (frame_kind f) (frame_end f)) is.ordered in
       let far = not_wrong (nat_lt (2 ^ 62) (frame_end f)) place FileLong (last_nil (fault_where (had && is_header (frame_kind f)) place SecondHeader ++ _) _ none) in
       grind (arith, nat_tests, far)
 

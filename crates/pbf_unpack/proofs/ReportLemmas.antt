@@ -26,7 +26,7 @@ at_end Failed place none = (let bad : ⊥ = cc in absurd bad)
 at_end Refused place none = (let bad : ⊥ = cc in absurd bad)
 
 -- bytes that mean none are none
-means_none : (place : ℕ) (rest : List ℕ) → (unpacked_from place rest).0 ≡ [] → rest ≡ []
+pub means_none : (place : ℕ) (rest : List ℕ) → (unpacked_from place rest).0 ≡ [] → rest ≡ []
 means_none place [] is = refl
 means_none place (b ∷ bs) is = elim (is_whole (frame_at place (b ∷ bs))) as (λ w. is_whole (frame_at place (b ∷ bs)) ≡ w → (b ∷ bs) ≡ []) [
   | true ↦ λ whole.

@@ -1,7 +1,9 @@
+pub mod AllLemmas
 pub mod Varints
 pub mod Spellings
 pub mod Shortest
 pub mod ShortestRead
+pub mod SpelledLemmas
 pub mod Items
 pub mod Cutting
 pub mod Columns

@@ -17,16 +17,13 @@ use Rattle.pbf_wire.specs.Writing.{Part, Single, Whole, spelling, written, IsWri
 use Rattle.pbf_wire.specs.Message.{Slot, Scalar, Column, Each, parts_of, message, SlotFits, SlotIs, SlotBelow, numbers_at, scalars_at, messages_at}
 use Rattle.pbf_wire.proofs.Written.{reads_back, column_reads_back}
 use Rattle.pbf_wire.proofs.PackedLemmas.{column_read}
+use Rattle.pbf_wire.proofs.AllLemmas.{all_append, all_left, all_right}
 
 -- ---- all fields can be written
 
 abbrev PartFits : Part → Type 0
 PartFits (Single number value) = (0 < number) × (number < 2 ^ 29) × (value < 2 ^ 64)
 PartFits (Whole number bytes) = (0 < number) × (number < 2 ^ 29)
-
-pub all_append : {X : Type 0} (P : X → Type 0) (xs ys : List X) → AllByRecursion P xs → AllByRecursion P ys → AllByRecursion P (xs ++ ys)
-all_append P [] ys p q = q
-all_append P (x ∷ xs) ys p q = (p.0, all_append P xs ys p.1 q)
 
 wholes_fit : (number : ℕ) (messages : List (List ℕ)) → 0 < number → number < 2 ^ 29 → AllByRecursion PartFits (map (Whole number) messages)
 wholes_fit number [] p q = tt
@@ -260,14 +257,6 @@ parts_below n [] lt = tt
 parts_below n (p ∷ ps) lt =
     let len = length-append (spelling p) (written ps) in
     (one_below n p (omega arith), parts_below n ps (omega arith))
-
-pub all_left : {X : Type 0} (P : X → Type 0) (xs ys : List X) → AllByRecursion P (xs ++ ys) → AllByRecursion P xs
-all_left P [] ys h = tt
-all_left P (x ∷ xs) ys h = (h.0, all_left P xs ys h.1)
-
-pub all_right : {X : Type 0} (P : X → Type 0) (xs ys : List X) → AllByRecursion P (xs ++ ys) → AllByRecursion P ys
-all_right P [] ys h = h
-all_right P (x ∷ xs) ys h = all_right P xs ys h.1
 
 each_below : (n number : ℕ) (ms : List (List ℕ)) → AllByRecursion (PartBelow n) (map (Whole number) ms) → AllByRecursion (λ m. length m < n) ms
 each_below n number [] h = tt

@@ -1,5 +1,5 @@
 -- The next values of a delta column.
-use Rattle.std.proofs.Common.{◌≡◌, Bool, true, false, true≢false, ℕ, suc, ◌+◌, ◌^◌, ◌<◌, ℤ, pos, ◌+ℤ◌, w64, to_z, of_z, FitsSigned, List, ◌∷◌, drop, length, map, refl, ap, subst, sym, ◌∙◌, arith}
+use Rattle.std.proofs.Common.{◌≡◌, Bool, true, false, true≢false, ℕ, zero, suc, ◌^◌, ◌<◌, ℤ, pos, ◌+ℤ◌, w64, to_z, of_z, FitsSigned, List, ◌∷◌, ◌++◌, replicate, map, refl, ap, subst, sym, ◌∙◌, arith}
 use Rattle.std.specs.Prelude.{IsTrue}
 use Rattle.std.proofs.lemmas.Int.{ints, to_z-of_z}
 use mir.Val.{SFits}
@@ -64,33 +64,15 @@ next_is old new entries near number only small numbers total_is entries_are limi
     rw (entries_are, limit_is, narrow_is) (entry_gives old entries near number new.total only small numbers total_is within)
 
 -- an entry 0 gives the last value again
-pub zero_gives_last : (sums : Sums) (entries : Column) → numbers_left sums.entries ≡ 0 ∷ numbers_left entries
-    → sums_left sums ≡ sums.total ∷ sums_within sums.limit sums.total (map (delta_in sums.narrow) (numbers_left entries))
-zero_gives_last sums entries numbers = let still : sums.total ≡ sums.total +ℤ pos 0 = omega (arith, ints) in entry_gives sums entries true 0 sums.total (λ _. refl) (omega arith) numbers still sums.within
-
--- eight entries 0 give it eight times
 module _ (limit total : ℤ) (narrow : Bool) (within : IsWithin limit total) where
   abbrev pub values : List ℕ → List ℤ
   values ns = sums_within limit total (map (delta_in narrow) ns)
 
-  once : (ns : List ℕ) → values (0 ∷ ns) ≡ total ∷ values ns
-  once ns =
+  pub once_more : (ns : List ℕ) → values (0 ∷ ns) ≡ total ∷ values ns
+  once_more ns =
       let still : total +ℤ pos 0 ≡ total = omega (arith, ints) in
       value_after limit total narrow 0 ns (omega arith) (subst (IsWithin limit) (sym still) within) ∙ ap (λ (t : ℤ). t ∷ sums_within limit t (map (delta_in narrow) ns)) still
 
-  twice : (ns : List ℕ) → values (0 ∷ 0 ∷ ns) ≡ total ∷ total ∷ values ns
-  twice ns = once (0 ∷ ns) ∙ ap (λ (zs : List ℤ). total ∷ zs) (once ns)
-
-  four_times : (ns : List ℕ) → values (0 ∷ 0 ∷ 0 ∷ 0 ∷ ns) ≡ total ∷ total ∷ total ∷ total ∷ values ns
-  four_times ns = twice (0 ∷ 0 ∷ ns) ∙ ap (λ (zs : List ℤ). total ∷ total ∷ zs) (twice ns)
-
-  pub eight_times : (ns : List ℕ) → values (0 ∷ 0 ∷ 0 ∷ 0 ∷ 0 ∷ 0 ∷ 0 ∷ 0 ∷ ns) ≡ total ∷ total ∷ total ∷ total ∷ total ∷ total ∷ total ∷ total ∷ values ns
-  eight_times ns = four_times (0 ∷ 0 ∷ 0 ∷ 0 ∷ ns) ∙ ap (λ (zs : List ℤ). total ∷ total ∷ total ∷ total ∷ zs) (four_times ns)
-
-  pub eight_passed : (n : ℕ) (ns : List ℕ) → drop (n + 8) (values (0 ∷ 0 ∷ 0 ∷ 0 ∷ 0 ∷ 0 ∷ 0 ∷ 0 ∷ ns)) ≡ drop n (values ns)
-  eight_passed n ns =
-      let count : n + 8 ≡ suc (suc (suc (suc (suc (suc (suc (suc n))))))) = omega arith in
-      ap (drop (n + 8)) (eight_times ns) ∙ ap (λ k. drop k (total ∷ total ∷ total ∷ total ∷ total ∷ total ∷ total ∷ total ∷ values ns)) count
-
-  pub eight_there : (ns : List ℕ) → length (values (0 ∷ 0 ∷ 0 ∷ 0 ∷ 0 ∷ 0 ∷ 0 ∷ 0 ∷ ns)) ≡ length (values ns) + 8
-  eight_there ns = ap (λ (zs : List ℤ). length zs) (eight_times ns) ∙ omega arith
+  pub repeated : (n : ℕ) (ns : List ℕ) → values (replicate n 0 ++ ns) ≡ replicate n total ++ values ns
+  repeated zero ns = refl
+  repeated (suc n) ns = once_more (replicate n 0 ++ ns) ∙ ap (λ (zs : List ℤ). total ∷ zs) (repeated n ns)

@@ -20,10 +20,11 @@ use Rattle.pbf_wire.specs.Message.{Slot, Scalar, Column, Each, parts_of, message
 use Rattle.pbf_wire.specs.Signed.{delta_in, IsWithin, is_within}
 use Rattle.pbf_wire.specs.Sums.{sums, sums_from}
 use Rattle.pbf_wire.specs.Faults.{fault_where, or_more, message_faults, leaf_faults, fields_in, column_count, below_fault, index_faults, faults_of_sums, sum_faults, index_sum_faults, is_index, fault, fields_of, embedded, missing, twice, of_value, in_last}
-use Rattle.pbf_wire.proofs.MessageLemmas.{all_append, fields_written, column_written, no_wire_fault, part_scalars, part_messages, slots_scalars, slots_messages, numbers, values_written}
+use Rattle.pbf_wire.proofs.MessageLemmas.{fields_written, column_written, no_wire_fault, part_scalars, part_messages, slots_scalars, slots_messages, numbers, values_written}
 use Rattle.pbf_wire.proofs.SumLemmas.{running_sums, within_true}
 use Rattle.pbf_wire.proofs.SoundLemmas.{both_nil, whole_count}
 use Rattle.pbf_wire.proofs.RisingLemmas.{running, running_is}
+use Rattle.pbf_wire.proofs.AllLemmas.{all_append}
 
 -- ---- what the fields give
 

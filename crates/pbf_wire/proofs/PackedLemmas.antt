@@ -13,6 +13,7 @@ use Rattle.pbf_wire.specs.Sums.{sums_from, differences, deltas}
 use Rattle.pbf_wire.specs.Packed.{IsPacked, numbers_of, last_from, HoldsDeltas, values_of}
 use Rattle.pbf_wire.proofs.Written.{column_reads_back}
 use Rattle.pbf_wire.proofs.SumLemmas.{IsSmall, small_zero, deltas_fit, sums_undo_deltas}
+use Rattle.pbf_wire.proofs.AllLemmas.{all_push}
 
 -- ---- plain numbers
 
@@ -26,10 +27,6 @@ all_read (n ∷ ns) = ap (λ (xs : List ℕ). n ∷ xs) (all_read ns)
 -- the numbers of a packed column are those that it was packed of
 pub column_read : (ns : List ℕ) → AllByRecursion (λ n. n < 2 ^ 64) ns → numbers_of (packed ns) ≡ ns
 column_read ns h = ap read_entries (column_reads_back ns h) ∙ all_read ns
-
-pub all_push : {X : Type 0} (P : X → Type 0) (xs : List X) (x : X) → AllByRecursion P xs → P x → AllByRecursion P (xs ++ x ∷ [])
-all_push P [] x h p = (p, tt)
-all_push P (y ∷ ys) x h p = (h.0, all_push P ys x h.1 p)
 
 pub packed_push : (ns : List ℕ) (n : ℕ) → packed ns ++ shortest n ≡ packed (ns ++ n ∷ [])
 packed_push [] n = sym (append-nil (shortest n))

@@ -72,9 +72,13 @@ pub all_read : (front rest : List ℕ) → AllByRecursion (λ b. b < 128) front 
 all_read [] rest h = refl
 all_read (b ∷ bs) rest h = first_read b (bs ++ rest) h.0 ∙ ap (λ (ns : List ℕ). b ∷ ns) (all_read bs rest h.1)
 
-single : (xs : List ℕ) → AllByRecursion IsHalved xs → AllByRecursion (λ b. b < 128) xs
+pub single : (xs : List ℕ) → AllByRecursion IsHalved xs → AllByRecursion (λ b. b < 128) xs
 single [] h = tt
 single (x ∷ xs) h = (h.0.0, single xs h.1)
+
+pub zeros_halved : (n : ℕ) → AllByRecursion IsHalved (replicate n 0)
+zeros_halved zero = tt
+zeros_halved (suc n) = ((omega arith, refl), zeros_halved n)
 
 pub run_read : (bytes front : List ℕ) (rise : ℕ) → front ≡ take 16 bytes → AreRising front rise → read_entries (entries bytes) ≡ front ++ read_entries (entries (drop 16 bytes))
 run_read bytes front rise is h =

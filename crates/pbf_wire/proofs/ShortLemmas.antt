@@ -24,12 +24,12 @@ use Rattle.pbf_wire.specs.Short.{EndsWithin, IsShort}
 use Rattle.pbf_wire.proofs.Varints.{pow_128, ended_at}
 use Rattle.pbf_wire.proofs.Spellings.{value_below}
 use Rattle.pbf_wire.proofs.Columns.{entries_none, entries_ok}
-use Rattle.pbf_wire.proofs.MessageLemmas.{all_append}
 use Rattle.pbf_wire.specs.Sums.{sums_within}
 use Rattle.pbf_wire.proofs.SumLemmas.{within_true, added_within, then_more}
 use Rattle.pbf_wire.proofs.RisingLemmas.{running, running_is}
 use Rattle.pbf_wire.proofs.FaultLemmas.{column_short, ends_counted, numbers_within}
 use Rattle.pbf_wire.proofs.SoundLemmas.{ends_are_numbers}
+use Rattle.pbf_wire.proofs.AllLemmas.{all_append}
 
 -- ---- a mask of ends
 

@@ -1,9 +1,9 @@
 -- Bytes that spell a number without a needless byte are its shortest spelling.
-use Rattle.std.proofs.Common.{◌≡◌, ℕ, zero, suc, ◌+◌, ◌-◌, ◌/◌, ◌%◌, ◌<◌, ◌≤◌, List, [], ◌∷◌, ◌++◌, length, get_or, take, drop, take-append-drop, refl, sym, ap, subst, ◌∙◌, arith, inl, inr, ◌⊎◌}
+use Rattle.std.proofs.Common.{◌≡◌, ℕ, zero, suc, ◌+◌, ◌/◌, ◌%◌, ◌<◌, ◌≤◌, List, [], ◌∷◌, length, get_or, take, drop, take-append-drop, refl, sym, ap, ◌∙◌, arith, inl, inr}
 use Rattle.std.specs.Prelude.{Ok}
 use Rattle.std.proofs.lemmas.Bool.{cases_lt}
 use Rattle.std.proofs.lemmas.List.{length-take-le, get_or-take, get_or_past}
-use Rattle.pbf_wire.specs.Varint.{EndsOnce, value_of, varint_at, spelled_within, shortest}
+use Rattle.pbf_wire.specs.Varint.{AreNeeded, EndsOnce, Spells, value_of, varint_at, spelled_within, shortest}
 use Rattle.pbf_wire.proofs.Shortest.{value_of-cons, last_byte, first_byte}
 use Rattle.pbf_wire.proofs.Spellings.{varint_ok}
 
@@ -35,21 +35,18 @@ respelled (suc n) (b ∷ c ∷ bs) h le many =
     let first : v % 128 + 128 ≡ b = omega (arith, e, h.0, many.0) in
     first_byte n v large ∙ rw (rest, first) (ap (λ (w : List ℕ). b ∷ w) (respelled n (c ∷ bs) h.1 (omega (arith, le)) many.1))
 
-by_index : (s : List ℕ) → 0 < length s → ((k : ℕ) → get_or s k 0 < 256) → 0 < get_or s (length s - 1) 0 → NoneNeedless s
-by_index [] lt byte last = absurd (omega arith)
-by_index (b ∷ []) lt byte last = last
-by_index (b ∷ c ∷ bs) lt byte last =
-    let at : length (b ∷ c ∷ bs) - 1 ≡ suc (length (c ∷ bs) - 1) = omega arith in
-    (byte 0, by_index (c ∷ bs) (omega arith) (λ k. byte (suc k)) (subst (λ (k : ℕ). 0 < get_or (b ∷ c ∷ bs) k 0) at last))
+after_more : (before : ℕ) (s : List ℕ) → 128 ≤ before → EndsOnce s → AreNeeded before s → ((k : ℕ) → get_or s k 0 < 256) → NoneNeedless s
+after_more before [] more h needed byte = absurd h
+after_more before (b ∷ []) more h needed byte = needed.0 more
+after_more before (b ∷ c ∷ bs) more h needed byte = (byte 0, after_more b (c ∷ bs) h.0 h.1 needed.1 (λ k. byte (suc k)))
 
--- the value of one byte that ends
-one_value : (s : List ℕ) → EndsOnce s → length s ≤ 1 → spelled_within 9 (value_of s) ≡ s
-one_value [] h le = absurd h
-one_value (b ∷ []) h le =
+spelled_shortest : (s : List ℕ) → EndsOnce s → length s ≤ 10 → AreNeeded 0 s → ((k : ℕ) → get_or s k 0 < 256) → spelled_within 9 (value_of s) ≡ s
+spelled_shortest [] h le needed byte = absurd h
+spelled_shortest (b ∷ []) h le needed byte =
     let nothing : value_of [] ≡ 0 = unfold value_of in refl in
     let is : value_of (b ∷ []) ≡ b = omega (arith, value_of-cons b [], nothing, h) in
     rw is (last_byte 9 b h)
-one_value (b ∷ c ∷ bs) h le = absurd (omega (arith, le))
+spelled_shortest (b ∷ c ∷ bs) h le needed byte = respelled 9 (b ∷ c ∷ bs) h le (byte 0, after_more b (c ∷ bs) h.0 h.1 needed.1 (λ k. byte (suc k)))
 
 module _ (bytes : List ℕ) (byte : (k : ℕ) → get_or bytes k 0 < 256) (v n : ℕ) (read : varint_at bytes ≡ Ok (v, n)) where
   front_byte : (k : ℕ) → get_or (take n bytes) k 0 < 256
@@ -58,19 +55,13 @@ module _ (bytes : List ℕ) (byte : (k : ℕ) → get_or bytes k 0 < 256) (v n :
     | inr ge ↦ rw (get_or_past (take n bytes) k 0 (omega (arith, length-take-le n bytes (varint_ok bytes v n read).within, ge))) (omega arith)
   ]
 
-  pub is_shortest : (n ≤ 1) ⊎ (0 < get_or bytes (n - 1) 0) → take n bytes ≡ shortest v
+  -- the bytes of a number that was read
+  pub read_spells : Spells v bytes (drop n bytes)
   unfolding shortest
-  is_shortest needed =
+  read_spells =
       let f = varint_ok bytes v n read in
-      let s = take n bytes in
-      let len : length s ≡ n = length-take-le n bytes f.within in
-      let spelled : spelled_within 9 (value_of s) ≡ s = elim needed [
-        | inl one ↦ one_value s f.spelled.ended (omega (arith, len, one))
-        | inr last ↦
-            let at : get_or s (length s - 1) 0 ≡ get_or bytes (n - 1) 0 = ap (λ k. get_or s (k - 1) 0) len ∙ get_or-take n bytes (n - 1) 0 (omega (arith, f.positive)) in
-            respelled 9 s f.spelled.ended (omega (arith, f.spelled.short)) (by_index s (omega (arith, len, f.positive)) front_byte (omega (arith, at, last)))
-      ] in
-      sym spelled ∙ ap (spelled_within 9) (sym f.spelled.value)
-
-pub after_shortest : (bytes : List ℕ) (v n : ℕ) → take n bytes ≡ shortest v → bytes ≡ shortest v ++ drop n bytes
-after_shortest bytes v n is = sym (take-append-drop n bytes) ∙ ap (λ (w : List ℕ). w ++ drop n bytes) is
+      record {
+        front = take n bytes;
+        parts = sym (take-append-drop n bytes);
+        spelled = λ needed. sym (spelled_shortest (take n bytes) f.spelled.ended f.spelled.short needed front_byte) ∙ ap (spelled_within 9) (sym f.spelled.value);
+      }

@@ -9,16 +9,13 @@ use Rattle.pbf_wire.specs.Cursors.{column_left, found_left, numbers_left}
 use Rattle.pbf_wire.specs.Packed.{IsPacked, numbers_of}
 use Rattle.pbf_wire.specs.Rising.{AreSingle}
 use Rattle.pbf_wire.specs.declared.column.Column.{Column}
-use Rattle.pbf_wire.proofs.MessageLemmas.{all_append}
 use Rattle.pbf_wire.proofs.PackedLemmas.{is_read}
 use Rattle.pbf_wire.proofs.RisingRuns.{all_read, placed_run}
 use Rattle.pbf_wire.proofs.Shortest.{one_byte}
+use Rattle.pbf_wire.proofs.AllLemmas.{all_append}
 
 abbrev pub AllSingle : List ℕ → Type 0
 AllSingle bytes = AllByRecursion (λ b. b < 128) bytes
-
-pub none_single : (bytes : List ℕ) → AreSingle bytes bytes
-none_single bytes = record { front = []; parts = refl; each = tt }
 
 pub more_single : (bytes rest after front : List ℕ) → AreSingle bytes rest → rest ≡ front ++ after → AllSingle front → AreSingle bytes after
 more_single bytes rest after front h parts each = record {

@@ -4,6 +4,7 @@ use Rattle.std.specs.Prelude.{Option, Some, None, Result, Ok, Err, filter, nat_l
 use Rattle.std.specs.List.{flat_map, last_or, AllByRecursion}
 use Rattle.std.proofs.lemmas.List.{length-append, length-map, take-append-drop, length-drop}
 use Rattle.std.proofs.lemmas.List.Elements.{filter-append}
+use Rattle.std.specs.Option.{option_or}
 use Rattle.pbf_wire.specs.declared.fault.Fault.{Fault}
 use Rattle.pbf_wire.specs.declared.fault.Reason.{Reason}
 use Rattle.pbf_wire.specs.declared.kind.Kind.{Kind}
@@ -33,6 +34,15 @@ some_least f (Some g) e = absurd (grind arith)
 pub no_least : (fs : List Fault) → least fs ≡ None → fs ≡ []
 no_least [] e = refl
 no_least (f ∷ fs) e = absurd (some_least f (least fs) e)
+
+-- neither is there, if the first of them that is isn't
+pub both_none : {X : Type 0} (one other : Option X) → option_or one other ≡ None → (one ≡ None) × (other ≡ None)
+both_none None other e = (refl, e)
+both_none (Some x) other e = absurd (cc)
+
+pub option_last : {X : Type 0} (o : Option X) → option_or o None ≡ o
+option_last None = refl
+option_last (Some x) = refl
 
 pub both_nil : {X : Type 0} (xs ys : List X) → xs ++ ys ≡ [] → (xs ≡ []) × (ys ≡ [])
 both_nil [] ys e = (refl, e)

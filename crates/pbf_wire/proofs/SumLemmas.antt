@@ -156,12 +156,6 @@ added_within limit total number h = rw (within_true limit (total +ℤ number) h)
 pub within_is : (limit n : ℤ) → is_within limit n ≡ true → IsWithin limit n
 within_is limit n h = record { above = search rules; below = search rules }
 
-pub not_within : (limit n : ℤ) → ¬ IsWithin limit n → is_within limit n ≡ false
-not_within limit n h = by (is_within limit n) refl where
-  by : (b : Bool) → is_within limit n ≡ b → b ≡ false
-  by true e = absurd (h (within_is limit n e))
-  by false e = refl
-
 pub added_out : (limit total number : ℤ) → ¬ IsWithin limit (total +ℤ number) → added limit total number ≡ None
 unfolding added
 added_out limit total number h = by (is_within limit (total +ℤ number)) refl

@@ -2,7 +2,7 @@
 
 ghost use Rattle.std.specs.Prelude.{◌≡◌, ◌<◌, ◌≤◌, ◌^◌, ◌∷◌, ◌++◌, [], MatchOption, ⊤, IsTrue, false, length, take};
 ghost use Rattle.pbf_wire.specs.Signed.{IsNear};
-ghost use Rattle.pbf_wire.specs.Varint.{shortest};
+ghost use Rattle.pbf_wire.specs.Varint.{Spells};
 ghost use Rattle.pbf_wire.specs.Columns.{entries, read_entries};
 ghost use Rattle.pbf_wire.specs.declared.limits.TheConstants.{OFFSET_LIMIT};
 
@@ -10,7 +10,7 @@ use crate::field::Payload;
 use crate::fields::{Fields, FoundFields};
 use crate::runs::{after_singles, rise_of};
 use crate::short::{MOST_BYTES, count_left_if_small, count_short};
-use crate::varint::{first_varint, near_varint, spelled_varint};
+use crate::varint::{first_varint, near_varint};
 
 /// The first number of a packed column, and the bytes after it; `None` if the bytes don't begin with a varint.
 pub fn first_number(packed: &[u8]) -> Option<(u64, &[u8])>
@@ -27,23 +27,12 @@ pub fn first_number(packed: &[u8]) -> Option<(u64, &[u8])>
 /// Like [`first_number`], if it takes at most five bytes, or three if it is narrow.
 #[inline(always)]
 fn first_near(packed: &[u8], narrow: bool) -> Option<(u64, &[u8])>
-    ensures { MatchOption result ⊤ (λ found. (read_entries (entries packed.now)
+    ensures number { MatchOption result ⊤ (λ found. (read_entries (entries packed.now)
         ≡ found.0 ∷ read_entries (entries found.1.now)) × IsNear narrow found.0) }
+    ensures spelled { MatchOption result ⊤ (λ found. Spells found.0 packed.now found.1.now) }
 {
     let (value, length) = near_varint(packed, narrow)?;
     Some((value, &packed[length..]))
-}
-
-/// Like [`first_near`], if it is spelled as it is written.
-#[inline(always)]
-fn first_spelled(packed: &[u8], narrow: bool) -> Option<(u64, &[u8])>
-    ensures number { MatchOption result ⊤ (λ found. (read_entries (entries packed.now)
-        ≡ found.0 ∷ read_entries (entries found.1.now)) × IsNear narrow found.0) }
-    ensures spelled { MatchOption result ⊤
-        (λ found. packed.now ≡ shortest found.0 ++ found.1.now) }
-{
-    let (spelled, length) = spelled_varint(packed, narrow)?;
-    Some((spelled, &packed[length..]))
 }
 
 /// Whether the first eight bytes are there and are all 0.
@@ -217,26 +206,13 @@ impl<'a> Column<'a> {
     #[inline(always)]
     #[tactic(auto, unfolding(crate::specs::Cursors::column_left))]
     pub(crate) fn next_near(&mut self, narrow: bool) -> Option<u64>
-        ensures { MatchOption result (self.new ≡ self.old)
-            (λ value. (numbers_left self.old ≡ value ∷ numbers_left self.new)
-            × IsNear narrow value) }
-    {
-        let (value, rest) = first_near(self.packed, narrow)?;
-        self.packed = rest;
-        Some(value)
-    }
-
-    /// Like [`Column::next_near`], if the number is spelled as it is written.
-    #[inline(always)]
-    #[tactic(auto, unfolding(crate::specs::Cursors::column_left))]
-    pub(crate) fn next_spelled(&mut self, narrow: bool) -> Option<u64>
         ensures number { MatchOption result (self.new ≡ self.old)
             (λ value. (numbers_left self.old ≡ value ∷ numbers_left self.new)
             × IsNear narrow value) }
         ensures spelled { MatchOption result ⊤
-            (λ value. self.old.packed.now ≡ shortest value ++ self.new.packed.now) }
+            (λ value. Spells value self.old.packed.now self.new.packed.now) }
     {
-        let (value, rest) = first_spelled(self.packed, narrow)?;
+        let (value, rest) = first_near(self.packed, narrow)?;
         self.packed = rest;
         Some(value)
     }

@@ -9,10 +9,18 @@ ghost use Rattle.pbf_wire.specs.Sums.{deltas};
 ghost use Rattle.pbf_wire.specs.declared.limits.TheConstants.{SUM_LIMIT};
 
 use crate::signed::zigzag;
+use crate::spelled::are_needed;
 use crate::sums::Sums;
-use crate::varint::{put_mostly_longer, put_varint};
+use crate::varint::put_varint;
 use std::alloc::{AllocError, Global};
 use std::marker::Model;
+
+/// How many values are still to be taken, and how many of them one by one, before a run is tried again.
+#[derive(Clone, Copy)]
+struct Run {
+    left: usize,
+    apart: usize,
+}
 
 /// A packed column of deltas (`sint64`), encoded as it is pushed to: it holds bytes and the last value. Contracts see it as
 /// the list of its values.
@@ -65,36 +73,35 @@ impl DeltaOut {
         Ok(())
     }
 
-    /// Like [`DeltaOut::push`], and quicker if the difference takes two or three bytes, as that of most coordinates does.
-    #[inline(never)]
-    pub fn push_far(&mut self, value: i64) -> Result<(), AllocError>
-        requires { IsWithin (pos SUM_LIMIT) value }
-        ensures ok { OnOk result (self.new ≡ self.old ++ value ∷ []) }
-        ensures err { OnErr result (self.new ≡ self.old) }
-    {
-        put_mostly_longer(&mut self.bytes, zigzag(value - self.last))?;
-        self.last = value;
-        Ok(())
-    }
-
-    /// Adds the next values of another column, at most so many, as long as its entries are spelled as they are to be written: their bytes
-    /// are copied. The values are taken from it, and it is said how many are still to be taken. The last value must be the same in both, or
-    /// none is taken.
-    fn take_spelled(&mut self, values: &mut Sums<'_>, count: usize) -> Result<usize, AllocError>
+    /// Adds the next values of another column, at most so many, as far as they are read quickly, if they are spelled as they are to be
+    /// written: their bytes are copied. The values are taken from it. The last value must be the same in both, or none is taken.
+    fn take_spelled(&mut self, values: &mut Sums<'_>, count: usize) -> Result<Run, AllocError>
         requires { AllByRecursion (IsWithin (pos SUM_LIMIT)) (sums_left values.old) }
-        ensures few { IfOk result (λ left. left ≤ count) }
+        ensures few { IfOk result (λ run. run.left ≤ count) }
         ensures taken { IfOk result
-            (λ left. self.new ≡ self.old ++ take (count - left) (sums_left values.old)) }
+            (λ run. self.new ≡ self.old ++ take (count - run.left) (sums_left values.old)) }
         ensures rest { IfOk result
-            (λ left. sums_left values.new ≡ drop (count - left) (sums_left values.old)) }
+            (λ run. sums_left values.new ≡ drop (count - run.left) (sums_left values.old)) }
     {
         if self.last != values.total {
-            return Ok(count);
+            return Ok(Run {
+                left: count,
+                apart: 1,
+            });
         }
-        let spelled = values.take_spelled(count);
-        self.bytes.extend_from_slice(spelled.bytes)?;
-        self.last = values.total;
-        Ok(spelled.left)
+        let mut rest = *values;
+        let left = rest.pass_quick(count);
+        let bytes = values.entries.bytes_until(&rest.entries);
+        if !are_needed(bytes) {
+            return Ok(Run {
+                left: count,
+                apart: count - left,
+            });
+        }
+        self.bytes.extend_from_slice(bytes)?;
+        self.last = rest.total;
+        *values = rest;
+        Ok(Run { left, apart: 1 })
     }
 
     /// Adds the next values of another column, at most so many, which are taken from it. Where its entries are spelled as they are
@@ -104,15 +111,19 @@ impl DeltaOut {
         ensures taken { OnOk result (self.new ≡ self.old ++ take count (sums_left values.old)) }
         ensures rest { OnOk result (sums_left values.new ≡ drop count (sums_left values.old)) }
     {
-        let mut left = count;
-        'values: while left > 0 {
-            left = self.take_spelled(values, left)?;
-            if left > 0 {
-                let Some(value) = values.next() else {
-                    break;
-                };
-                self.push(value)?;
-                left -= 1;
+        let mut run = Run {
+            left: count,
+            apart: 1,
+        };
+        'values: while run.left > 0 {
+            let Some(value) = values.next() else {
+                break;
+            };
+            self.push(value)?;
+            run.left -= 1;
+            run.apart = run.apart.saturating_sub(1);
+            if run.apart == 0 {
+                run = self.take_spelled(values, run.left)?;
             }
         }
         Ok(())

@@ -43,6 +43,7 @@ impl<'a> Sums<'a> {
     ghost use Rattle.pbf_wire.specs.Cursors.{numbers_left, sums_left, last_given};
     ghost use Rattle.pbf_wire.specs.Passing.{PassesSome, eight_of};
     ghost use Rattle.pbf_wire.specs.Spans.{ArePassed};
+    ghost use Rattle.pbf_wire.specs.Taking.{PassesSpelled, left_of};
 
     /// The values of a column of `sint64`.
     pub fn new(entries: Column<'a>, limit: i64) -> Self
@@ -79,10 +80,8 @@ impl<'a> Sums<'a> {
             → IsWithin self.now.limit (self.now.total +ℤ unzigzag number) }
     {
         let Sums { total, limit, .. } = *self;
-        if narrow {
-            return total.abs() < limit - NARROW_REACH;
-        }
-        total.abs() < limit - REACH
+        let reach = if narrow { NARROW_REACH } else { REACH };
+        total.abs() < limit - reach
     }
 
     /// Adds the entry of a number to the sum, which stays within its limit.
@@ -134,23 +133,29 @@ impl<'a> Sums<'a> {
         Some(total)
     }
 
-    /// Skips the next value, if it is read at once.
+    /// Skips the next value, if its entry takes at most five bytes of the packed occurrence that was begun, or three if it is narrow, and
+    /// the sum is near.
     #[inline(always)]
     fn pass_one(&mut self) -> bool
-        ensures passed { IsTrue result
-            → (n : ℕ) → drop (n + 1) (sums_left self.old) ≡ drop n (sums_left self.new) }
-        ensures there { IsTrue result
-            → length (sums_left self.old) ≡ length (sums_left self.new) + 1 }
-        ensures kept { result ≡ false → sums_left self.new ≡ sums_left self.old }
+        ensures passed { IsTrue result → PassesSpelled (left_of self.old) (left_of self.new) 1 }
+        ensures kept { result ≡ false → left_of self.new ≡ left_of self.old }
     {
-        self.next_near(self.narrow).is_some()
+        if !self.is_near(self.narrow) {
+            return false;
+        }
+        let Some(number) = self.entries.next_near(self.narrow) else {
+            return false;
+        };
+        self.add_near(number);
+        true
     }
 
     /// Skips the next value, if it is the last one again, by a 0 of one byte in the packed occurrence that was begun.
     #[inline(always)]
     fn pass_same(&mut self) -> bool
-        ensures passed { IsTrue result → sums_left self.old ≡ self.new.total ∷ sums_left self.new }
-        ensures kept { result ≡ false → sums_left self.new ≡ sums_left self.old }
+        ensures same { IsTrue result → sums_left self.old ≡ self.new.total ∷ sums_left self.new }
+        ensures passed { IsTrue result → PassesSpelled (left_of self.old) (left_of self.new) 1 }
+        ensures kept { result ≡ false → left_of self.new ≡ left_of self.old }
     {
         self.entries.pass_short_zero()
     }
@@ -171,11 +176,8 @@ impl<'a> Sums<'a> {
         ensures same { IsTrue result
             → sums_left self.old ≡ eight_of (last_given self.old) ++ sums_left self.new }
         ensures last { last_given self.new ≡ last_given self.old }
-        ensures passed { IsTrue result
-            → (n : ℕ) → drop (n + 8) (sums_left self.old) ≡ drop n (sums_left self.new) }
-        ensures there { IsTrue result
-            → length (sums_left self.old) ≡ length (sums_left self.new) + 8 }
-        ensures kept { result ≡ false → sums_left self.new ≡ sums_left self.old }
+        ensures passed { IsTrue result → PassesSpelled (left_of self.old) (left_of self.new) 8 }
+        ensures kept { result ≡ false → left_of self.new ≡ left_of self.old }
     {
         self.entries.pass_zeros()
     }
@@ -183,7 +185,8 @@ impl<'a> Sums<'a> {
     /// Skips values, eight at a time, as long as they are the last one again, and returns how many of `count` are still to be skipped.
     #[inline(always)]
     fn pass_equal(&mut self, count: usize) -> usize
-        ensures { PassesSome self.old self.new count result }
+        ensures passed { PassesSpelled (left_of self.old) (left_of self.new) (count - result) }
+        ensures fewer { result ≤ count }
     {
         let mut left = count;
         'values: while left >= 8 {
@@ -202,7 +205,8 @@ impl<'a> Sums<'a> {
         ensures passed { IsTrue result → (values : List ℤ) (n : ℕ)
             → ArePassed span true values (sums_left self.old) n
             → ArePassed span true values (sums_left self.new) (n + 16) }
-        ensures kept { result ≡ false → sums_left self.new ≡ sums_left self.old }
+        ensures spelled { IsTrue result → PassesSpelled (left_of self.old) (left_of self.new) 16 }
+        ensures kept { result ≡ false → left_of self.new ≡ left_of self.old }
     {
         let mut next = *self;
         let Some(rise) = next.entries.pass_rising() else {
@@ -225,6 +229,7 @@ impl<'a> Sums<'a> {
     fn pass_runs(&mut self, span: Span, is_there: bool, most: usize) -> usize
         ensures past { ArePassed span is_there (sums_left self.old) (sums_left self.new)
             (most - result) }
+        ensures spelled { PassesSpelled (left_of self.old) (left_of self.new) (most - result) }
         ensures fewer { result ≤ most }
     {
         self.entries.numbers_are_few();
@@ -238,22 +243,22 @@ impl<'a> Sums<'a> {
         left
     }
 
-    /// Skips values as long as that is quick, and returns how many of `count` are still to be skipped. They are read from a copy,
-    /// which stays in registers.
-    fn pass_quick(&mut self, count: usize) -> usize
-        ensures { PassesSome self.old self.new count result }
+    /// Skips values of the packed occurrence that was begun, as long as that is quick, and returns how many of `count` are still to be
+    /// skipped. They are read from a copy, which stays in registers.
+    pub(crate) fn pass_quick(&mut self, count: usize) -> usize
+        ensures some { PassesSome self.old self.new count result }
+        ensures spelled { PassesSpelled (left_of self.old) (left_of self.new) (count - result) }
     {
         let mut rest = *self;
         let mut left = rest.pass_runs(WHOLE_SPAN, true, count);
         'entries: while left > 0 {
             if rest.pass_same() {
                 left = rest.pass_equal(left - 1);
-                continue;
-            }
-            if !rest.pass_one() {
+            } else if rest.pass_one() {
+                left -= 1;
+            } else {
                 break;
             }
-            left -= 1;
         }
         *self = rest;
         left

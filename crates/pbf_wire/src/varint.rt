@@ -1,6 +1,6 @@
 //! Varints: numbers of 64 bits, seven bits a byte, the lowest first. The top bit is set on every byte but the last.
 
-ghost use Rattle.std.specs.Prelude.{◌≡◌, ◌≤◌, ◌<◌, ◌^◌, ℕ, IfOk, MatchOption, ⊤, Result, Ok, Err, ◌↔◌, length, take, drop, slice_index, slice_range};
+ghost use Rattle.std.specs.Prelude.{◌≡◌, ◌≤◌, ◌<◌, ◌^◌, ℕ, IfOk, MatchOption, ⊤, Result, Ok, Err, ◌↔◌, length, take, drop, slice_range};
 ghost use Rattle.pbf_wire.specs.Signed.{IsNear};
 ghost use Rattle.pbf_wire.specs.Varint.{AppendsVarint, IsVarint, IsCut, IsLong, number_or_reason, varint_at, moved_by, shortest};
 
@@ -115,20 +115,6 @@ pub(crate) fn near_varint(bytes: &[u8], narrow: bool) -> Option<(u64, usize)>
     }
 }
 
-/// Like [`near_varint`], if none of the bytes is needless: the number is spelled as it is written.
-#[inline(always)]
-pub(crate) fn spelled_varint(bytes: &[u8], narrow: bool) -> Option<(u64, usize)>
-    ensures number { MatchOption result ⊤ (λ found. (varint_at bytes.now ≡ Ok found)
-        × (0 < found.1) × (found.1 ≤ length bytes.now) × IsNear narrow found.0) }
-    ensures spelled { MatchOption result ⊤ (λ found. take found.1 bytes.now ≡ shortest found.0) }
-{
-    let (number, length) = near_varint(bytes, narrow)?;
-    if length > 1 && bytes[length - 1] == 0 {
-        return None;
-    }
-    Some((number, length))
-}
-
 /// The number that the bytes begin with, and how many bytes it takes.
 #[inline(always)]
 pub(crate) fn first_varint(bytes: &[u8]) -> Result<(u64, usize), Reason>
@@ -197,9 +183,8 @@ pub fn shortest_spelling(value: u64) -> ([u8; 10], usize)
     (spelling, length + 1)
 }
 
-// The functions that append a number do so by one rule, `shortest`, which the contract of each cites. They differ in what is part of
-// their callers: of `put_varint`, which many call, only the case of one byte; of `put_mostly_longer`, which one column calls whose
-// numbers mostly take two or three, the cases of one to three.
+// The functions that append a number do so by one rule, `shortest`, which the contract of each cites. Of `put_varint`, which many call,
+// only the case of one byte is part of its callers.
 
 /// Like [`put_longer`], of a number that takes four bytes or more: most of them take four or five.
 #[inline(never)]
@@ -230,8 +215,8 @@ fn put_longest(out: &mut Vec<u8>, value: u64) -> Result<(), AllocError>
 }
 
 /// Like [`put_varint`], of a number that takes two bytes or more: most of them take two or three, which are spelled at once.
-#[inline(always)]
-fn put_longer_here(out: &mut Vec<u8>, value: u64) -> Result<(), AllocError>
+#[inline(never)]
+fn put_longer(out: &mut Vec<u8>, value: u64) -> Result<(), AllocError>
     requires { 128 ≤ value }
     ensures { AppendsVarint value out.old.items out.new.items result }
 {
@@ -249,15 +234,6 @@ fn put_longer_here(out: &mut Vec<u8>, value: u64) -> Result<(), AllocError>
     Ok(())
 }
 
-/// [`put_longer_here`] as a call.
-#[inline(never)]
-fn put_longer(out: &mut Vec<u8>, value: u64) -> Result<(), AllocError>
-    requires { 128 ≤ value }
-    ensures { AppendsVarint value out.old.items out.new.items result }
-{
-    put_longer_here(out, value)
-}
-
 /// Appends the shortest spelling, of one to ten bytes. An `Err` leaves the output as it was.
 ///
 /// Most numbers of a file take one byte, which is written inline, without a call.
@@ -269,19 +245,6 @@ pub fn put_varint(out: &mut Vec<u8>, value: u64) -> Result<(), AllocError>
         out.push(value as u8)?;
     } else {
         put_longer(out, value)?;
-    }
-    Ok(())
-}
-
-/// Like [`put_varint`], for numbers of which most take two or three bytes: those are written without a call too.
-#[inline(always)]
-pub(crate) fn put_mostly_longer(out: &mut Vec<u8>, number: u64) -> Result<(), AllocError>
-    ensures { AppendsVarint number out.old.items out.new.items result }
-{
-    if number < 128 {
-        out.push(number as u8)?;
-    } else {
-        put_longer_here(out, number)?;
     }
     Ok(())
 }

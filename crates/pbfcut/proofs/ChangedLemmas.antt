@@ -14,6 +14,7 @@ use Rattle.pbf_pass.specs.Judged.{judged_file}
 use Rattle.pbf_pass.specs.Stops.{Caused, unchanged, ReadFailed}
 use Rattle.pbf_pass.proofs.UnjudgedLemmas.{refuses_less}
 use Rattle.pbfcut.specs.declared.repeat.LaterPass.{LaterPass}
+use Rattle.pbfcut.specs.Calls.{fed}
 use Rattle.pbfcut.specs.Changes.{ChangedAt, IfChanged}
 use Rattle.pbfcut.specs.Repeat.{IsUnlike, StopsLater, as_change, digest_of}
 use Rattle.pbfcut.proofs.ConvertingLemmas.{known_says}
@@ -77,7 +78,7 @@ changed_before changed also (stop.Changed pass) step stops = step pass stops
 
 -- in a later one
 pub changed_later : {F G : Type 0} (f : feed.Ghosts F) (first now : F) (g : feed.Ghosts G) (old new : G) (repeat : LaterPass) (digest : Option (List ℕ)) (holds : List ℕ → Type 0) (wrote : Type 0) (changed : ℕ → Type 0) (s : Stop)
-    → (given : GaveFile f first now digest holds) → (frames : List FrameSpec) → Says (judged_file (Some given.file)) (frames, None) → digest_of repeat ≡ digest → ((pass : ℕ) → ChangedAt repeat.number f first now g old new pass → changed pass) → StopsLater g repeat old new wrote s → IfChanged changed s
+    → (given : GaveFile f first now digest holds) → (frames : List FrameSpec) → Says (judged_file (Some given.file)) (frames, None) → digest_of repeat ≡ digest → ((pass : ℕ) → ChangedAt repeat.number (fed f first now) (fed g old new) pass → changed pass) → StopsLater g repeat old new wrote s → IfChanged changed s
 changed_later f first now g old new repeat digest holds wrote changed (stop.Refused e) given frames says is step stops = tt
 changed_later f first now g old new repeat digest holds wrote changed stop.Read given frames says is step stops = tt
 changed_later f first now g old new repeat digest holds wrote changed stop.Write given frames says is step stops = tt

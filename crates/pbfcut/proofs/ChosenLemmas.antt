@@ -23,6 +23,7 @@ use Rattle.pbf_pass.specs.Refused.{Halts, stop_of}
 use Rattle.pbf_pass.proofs.GivenLemmas.{gave_file_less}
 use Rattle.pbfcut.specs.declared.extracting.Choice.{Choice as Choosing}
 use Rattle.pbfcut.specs.declared.repeat.LaterPass.{LaterPass}
+use Rattle.pbfcut.specs.Calls.{drained, fed}
 use Rattle.pbfcut.specs.Extracting.{Choice, complete_ways, all_parents, AddsParents, IsChoice, IsChoiceWithParents}
 use Rattle.pbfcut.specs.Kept.{IsWritable, extract_of}
 use Rattle.pbfcut.specs.Pick.{taken_by}
@@ -48,7 +49,7 @@ later_halts f again old new wrote refused (halt.Stopped s) stops = no_refusal f 
 
 -- what it wrote is the extract of a file, if it wrote from that file, and a prefix of it went out otherwise
 module _ {K D : Type 0} (k : feed.Ghosts K) (last_old last_new : K) (d : drain.Ghosts D) (old new : D) (choose : Choice) (select : List Decoded → List Decoded) (selection : IsSelection choose select) (area : AreaSpec) (again : LaterPass) (sets : KeptSets) (h : HeaderSpec)
-    (spared : Bool) (r : Result InputReceipt Halt) (wrote : WritesChoice k last_old last_new d old new again sets h spared r) where
+    (spared : Bool) (r : Result InputReceipt Halt) (wrote : WritesChoice (fed k last_old last_new) (drained d old new) again sets h spared r) where
   pub wrote_extract : (passes : Passes) → again.passes ≡ passes → IfOk r (λ receipt. GaveFile k last_old last_new (digest_if passes.hashes receipt.input) (λ e. Took d old new (λ written. (b : List ℕ) → Selects b choose area (taken_by sets) h → b ≡ e → IsExtraction choose select area b receipt.counts written)))
   wrote_extract passes is = if_ok_both r _ _ _ (λ receipt input packed.
       let same : digest_of again ≡ digest_if passes.hashes receipt.input = ap (λ (p : Passes). digest_if p.hashes again.digest) is ∙ ap (λ (l : List ℕ). digest_if passes.hashes l) (sym input.0) in
@@ -60,7 +61,7 @@ module _ {K D : Type 0} (k : feed.Ghosts K) (last_old last_new : K) (d : drain.G
 
 -- of a call without parents, whose second feed gave a file, or maybe not
 module _ {F K D : Type 0} (f : feed.Ghosts F) (first now : F) (k : feed.Ghosts K) (last_old last_new : K) (d : drain.Ghosts D) (old new : D) (area : AreaSpec) (passes : Passes) (again : LaterPass) (is : again.passes ≡ passes) (sets : KeptSets) (h : HeaderSpec)
-    (spared : Bool) (r : Result InputReceipt Halt) (wrote : WritesChoice k last_old last_new d old new again sets h spared r)
+    (spared : Bool) (r : Result InputReceipt Halt) (wrote : WritesChoice (fed k last_old last_new) (drained d old new) again sets h spared r)
     (Second : Bool → Option (List ℕ) → List ℕ → (List ℕ → Type 0) → Type 0)
     (told : (s : Bool) (digest : Option (List ℕ)) (file : List ℕ) (holds : List ℕ → Type 0) (P : Type 0) → ((c : List ℕ) → holds c → P) → Second s digest file holds → P)
     (less : (s : Bool) (digest : Option (List ℕ)) (file : List ℕ) (holds also : List ℕ → Type 0) → ((c : List ℕ) → holds c → also c) → Second s digest file holds → Second s digest file also) where

@@ -16,9 +16,9 @@ use Rattle.pbf_frame.specs.Devices.{IsFront, append, prepend}
 use Rattle.pbf_frame.specs.Transfers.{SuppliedFirst}
 use Rattle.pbf_frame.proofs.Beginnings.{front_longer, front_then, front_whole}
 use Rattle.pbf_frame.specs.Verdict.{Verdict, joined_frames, judged}
-use Rattle.pbf_frame.proofs.BlobLemmas.{least_none}
 use Rattle.pbf_frame.proofs.Longest.{longest_front}
 use Rattle.pbf_frame.proofs.Parting.{next_none}
+use Rattle.pbf_wire.proofs.SoundLemmas.{no_least}
 use Rattle.pbf_pass.specs.Judged.{judged_file}
 use Rattle.pbf_pass.specs.Unjudged.{IsFaulty}
 use Rattle.pbf_pass.proofs.SoundLemmas.{ends_well}
@@ -48,7 +48,7 @@ frames_in_time : (h : Bool) (p : ℕ) (fs : List FrameSpec) → p ≤ FILE_LIMIT
 frames_in_time h p [] low are = omega (arith, low)
 frames_in_time h p (f ∷ fs) low are =
     let one = are.0 in
-    let rest = frames_in_time (h || is_header (frame_kind f)) (frame_end f) fs (ends_in_time h p (frame_kind f) (frame_end f) (least_none _ one.ordered)) are.1 in
+    let rest = frames_in_time (h || is_header (frame_kind f)) (frame_end f) fs (ends_in_time h p (frame_kind f) (frame_end f) (no_least _ one.ordered)) are.1 in
     let offset = one.offset in
     omega (arith, rest, offset, one.prefix_long, length-append (frame_bytes f) (joined_frames fs), length-append (f.prefix ++ f.header) f.blob, length-append f.prefix f.header)
 

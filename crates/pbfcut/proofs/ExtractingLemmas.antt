@@ -37,7 +37,7 @@ use Rattle.osm_ways.specs.InArea.{start_nodes}
 use Rattle.pbf_pass.specs.declared.pass.Pass.{Pass}
 use Rattle.pbf_pass.specs.HeaderLimit.{HasShortTexts, header_limit, judged_writable, held_header}
 use Rattle.pbf_pass.specs.Counting.{counts_of, stored_entities}
-use Rattle.pbfcut.specs.Calls.{GaveOrNot, Differ, ChangedIn, ChangedBefore, RefusedFirst, ExtractStops, ParentsStops}
+use Rattle.pbfcut.specs.Calls.{GaveOrNot, Differ, ChangedIn, ChangedBefore, RefusedFirst, ExtractStops, ParentsStops, fed}
 use Rattle.pbfcut.specs.Theorem.{IsExtraction}
 use Rattle.pbfcut.specs.Extracting.{Choice, complete_ways, all_parents, extraction, extract_bytes, Begins, Chooses, ChoosesParents, AddsParents, IsChoice, IsChoiceWithParents}
 use Rattle.pbfcut.specs.Kept.{verdict_on, extract_of, IsWritable}
@@ -250,7 +250,7 @@ stops_earlier refused also read more wrote changed too stop.Memory f r d h = tt
 stops_earlier refused also read more wrote changed too (stop.Changed n) f r d h = d n h
 
 -- the stops of the first pass, in a call with two before the one that writes
-pub stops_choosing : {F G : Type 0} (f : feed.Ghosts F) (first now : F) (g : feed.Ghosts G) (second later : G) (hashes : Bool) (h : Halt) → StopsFirst f first now hashes h → StopsChoosing f first now g second later hashes h
+pub stops_choosing : {F G : Type 0} (f : feed.Ghosts F) (first now : F) (g : feed.Ghosts G) (second later : G) (hashes : Bool) (h : Halt) → StopsFirst (fed f first now) hashes h → StopsChoosing (fed f first now) (fed g second later) hashes h
 stops_choosing f first now g second later hashes h s = record {
   refused = s.refused;
   stops = stops_earlier (FaultOf (judged_writable (f.remaining first))) (FaultOf (judged_writable (f.remaining first))) (ReadFailed f first now) (ReadFailed f first now ⊎ ReadFailed g second later) ⊥ unchanged (ChangedIn 2 (f.remaining first) (g.remaining second)) (stop_of h) (λ e is. is) (λ r. inl r) (λ pass h. absurd h) s.stops;

@@ -1,13 +1,12 @@
 -- What is written for a file without a fault is read as what was to be written, and for it the same bytes are written again.
-use Rattle.std.proofs.Common.{◌≡◌, ℕ, ◌+◌, ◌≤◌, Bool, true, false, cond, List, [], ◌∷◌, ◌++◌, length, map, Option, Some, None, refl, sym, ap, ◌∙◌, subst, arith}
+use Rattle.std.proofs.Common.{◌≡◌, ℕ, ◌+◌, ◌≤◌, Bool, true, false, List, [], ◌∷◌, ◌++◌, length, map, Option, Some, None, refl, sym, ap, ◌∙◌, subst, arith}
 use Rattle.std.specs.Prelude.{if◌then◌else◌, unwrap_or}
-use Rattle.std.specs.List.{flat_map, last_or, filter, AllByRecursion}
+use Rattle.std.specs.List.{flat_map, last_or, AllByRecursion}
 use Rattle.std.specs.Option.{option_map, IfSome}
 use Rattle.std.proofs.lemmas.Bool.{leb-true}
 use Rattle.pbf_wire.specs.declared.fault.Fault.{Fault}
 use Rattle.pbf_wire.specs.declared.fault.Reason.TheVariants.{EntityLarge}
 use Rattle.pbf_wire.specs.Faults.{fault}
-use Rattle.pbf_wire.proofs.MessageLemmas.{all_append}
 use Rattle.osm_area.specs.Area.{AreaSpec, IsAreaWithin}
 use Rattle.osm_entity.specs.Entity as entity
 use Rattle.osm_entity.specs.Entity.{EntitySpec, Decoded}
@@ -34,6 +33,8 @@ use Rattle.pbf_header.proofs.HeaderLaw.{out_fits}
 use Rattle.pbf_header.proofs.HeaderLemmas.{header_out_twice}
 use Rattle.pbf_header.proofs.ReadHeaderLaw.{header_fits}
 use Rattle.osm_pack.specs.Cuts.{written_entities, written_file}
+use Rattle.pbf_wire.proofs.AllLemmas.{all_append, all_filter}
+use Rattle.pbf_pass.proofs.SoundLemmas.{ends_well}
 use Rattle.pbfcut.specs.Converting.{conversion, answer_bytes}
 use Rattle.pbf_pass.specs.HeaderLimit.{header_limit, has_short_texts, with_limit, limited, judged_writable}
 use Rattle.pbf_pass.specs.Counting.{entities_in, frame_entities, stored_entities}
@@ -189,18 +190,10 @@ same_verdict file frames is = ap (λ (o : Option Verdict). unwrap_or o (frames, 
 
 -- ---- a file of any length that keeps to the limit
 
-first_ends : (o : Option Fault) (f : FrameSpec) (v : Verdict) → (sound_first o f v).1 ≡ None → v.1 ≡ None
-first_ends None f v e = e
-first_ends (Some x) f v e = absurd (cc)
-
-front_ends : (frames : List FrameSpec) (ending : Option Fault) → (sound_front frames ending).1 ≡ None → ending ≡ None
-front_ends [] ending e = e
-front_ends (f ∷ frames) ending e = front_ends frames ending (first_ends (payload_fault f) f (sound_front frames ending) e)
-
 pub same_as_a_file : (bytes : List ℕ) → length bytes ≤ FILE_LIMIT → (verdict_within None bytes).1 ≡ None → verdict_on bytes ≡ verdict_within None bytes
 same_as_a_file bytes low none =
     let v = judged_within None false 0 bytes in
-    ap (λ (v : Verdict). limited (fully v)) (same_within FILE_LIMIT false 0 bytes (omega (arith, low)) (front_ends v.0 v.1 (passes (fully v) none).sound))
+    ap (λ (v : Verdict). limited (fully v)) (same_within FILE_LIMIT false 0 bytes (omega (arith, low)) (ends_well v.0 v.1 (passes (fully v) none).sound))
 
 -- ---- a conversion
 
@@ -304,14 +297,6 @@ module _ (choose : Choice) (select : List Decoded → List Decoded) (selection :
       ∙ extract_of_extract fewer other enough file sound))
 
 -- ---- the complete ways, without and with all parents
-
-kept_or_not : {X : Type 0} (P : X → Type 0) (b : Bool) (x : X) (xs : List X) → P x → AllByRecursion P xs → AllByRecursion P (cond b (x ∷ xs) xs)
-kept_or_not P true x xs h all = (h, all)
-kept_or_not P false x xs h all = all
-
-all_filter : {X : Type 0} (P : X → Type 0) (k : X → Bool) (xs : List X) → AllByRecursion P xs → AllByRecursion P (filter k xs)
-all_filter P k [] all = tt
-all_filter P k (x ∷ xs) all = kept_or_not P (k x) x (filter k xs) all.0 (all_filter P k xs all.1)
 
 pub complete_ways_select : (area : AreaSpec) → IsSelection (complete_ways area) (λ meant. extract (seen_decoded area) meant)
 complete_ways_select area = record {

@@ -7,7 +7,6 @@ use Rattle.std.proofs.lemmas.List.{drop-drop, length-drop}
 use Rattle.std.proofs.lemmas.List.Sums.{sum_by-cons, sum_by-append}
 use Rattle.pbf_wire.specs.declared.span.Span.{Span}
 use Rattle.pbf_wire.specs.Spans.{is_in, AreAlike}
-use Rattle.pbf_wire.proofs.MessageLemmas.{all_append}
 use Rattle.osm_entity.specs.declared.member.MemberKind.TheVariants as kind
 use Rattle.osm_entity.specs.declared.scale.Scale.{Scale}
 use Rattle.osm_entity.specs.Scale.{ScaleFits}
@@ -34,6 +33,7 @@ use Rattle.osm_pack.specs.Packing.{Packing, Pending, IsPacking, UsesPacker, has_
 use Rattle.osm_pack.specs.Cuts.{pending_after, written_after}
 use Rattle.osm_pack.proofs.CutLemmas.{kept_bounds}
 use Rattle.osm_pack.proofs.RunLemmas.{pending_joined, written_joined, pending_more, written_more}
+use Rattle.pbf_wire.proofs.AllLemmas.{all_append, all_drop}
 use Rattle.pbfcut.specs.declared.pick.Picker.{Picker}
 use Rattle.pbfcut.specs.declared.pick.EntityPacker.{EntityPacker}
 use Rattle.pbfcut.specs.Pick.{picks_of, picks_id, HasPacked, PacksEach}
@@ -108,11 +108,6 @@ even_next alike less all ns n is one even =
       kind = λ some. subst (λ (l : List NodeSpec). AreOneKind l) is (even.kind (omega (arith, one, some)));
     }
 
-all_dropped : {X : Type 0} (P : X → Type 0) (k : ℕ) (xs : List X) → AllByRecursion P xs → AllByRecursion P (drop k xs)
-all_dropped P zero xs all = all
-all_dropped P (suc k) [] all = tt
-all_dropped P (suc k) (x ∷ xs) all = all_dropped P k xs all.1
-
 -- some after it are
 pub even_after : (n : NodeSpec) (alike less count : ℕ) (ns left : List NodeSpec) → left ≡ drop count ns → less ≡ alike - count → AreEvenAfter n alike ns → AreEven less left
 even_after n alike less count ns left is fewer even =
@@ -123,7 +118,7 @@ even_after n alike less count ns left is fewer even =
           let one = even.kind (omega (arith, fewer, some)) in
           record {
             likeness = one.likeness;
-            same = subst (λ (l : List NodeSpec). AllByRecursion (λ n. likeness_of (node n) ≡ one.likeness) l) (sym is) (all_dropped _ count ns one.same.1);
+            same = subst (λ (l : List NodeSpec). AllByRecursion (λ n. likeness_of (node n) ≡ one.likeness) l) (sym is) (all_drop _ count ns one.same.1);
             scaled = one.scaled;
           };
     }
@@ -181,12 +176,6 @@ picked_span p k m ids ns span all inside begin picked =
       subst (λ (l : List NodeSpec). ArePicked p l) (sym (take-add k m ns)) (all_append _ (take k ns) (take m (drop k ns)) picked others.0),
       subst (λ (l : List NodeSpec). BeginWithIds (drop m ids) l) (drop-drop m k ns) others.1,
     )
-
-pub fewer_taken : {X : Type 0} (P : X → Type 0) (k m : ℕ) (xs : List X) → k ≤ m → AllByRecursion P (take m xs) → AllByRecursion P (take k xs)
-fewer_taken P zero m xs fewer all = tt
-fewer_taken P (suc k) zero xs fewer all = absurd (omega (arith, fewer))
-fewer_taken P (suc k) (suc m) [] fewer all = tt
-fewer_taken P (suc k) (suc m) (x ∷ xs) fewer all = (all.0, fewer_taken P k m xs (omega (arith, fewer)) all.1)
 
 -- ---- they fit
 

@@ -3,7 +3,6 @@ use Rattle.std.proofs.Common.{◌≡◌, ℕ, ◌≤◌, List, [], ◌∷◌, �
 use Rattle.std.proofs.lemmas.List.Elements.{filter-append}
 use Rattle.std.specs.List.{AllByRecursion, filter}
 use Rattle.pbf_wire.specs.declared.fault.Fault.{Fault}
-use Rattle.pbf_wire.proofs.PackedLemmas.{all_push}
 use Rattle.osm_entity.specs.Entity.{EntitySpec}
 use Rattle.osm_entity.specs.Ranges.{EntityFits}
 use Rattle.pbf_header.specs.Header.{HeaderSpec}
@@ -23,6 +22,7 @@ use Rattle.osm_pack.proofs.CutLemmas.{push_keeps, kept_none}
 use Rattle.osm_pack.proofs.OpenLemmas.{alone}
 use Rattle.osm_pack.proofs.RunLemmas.{run_keeps, run_kept, run_ends, pending_push, written_push}
 use Rattle.std.proofs.lemmas.Grind.{flat_map-append}
+use Rattle.pbf_wire.proofs.AllLemmas.{all_push}
 use Rattle.pbf_pass.specs.Counting.{stored_entities, frame_entities}
 use Rattle.pbf_pass.proofs.CountLemmas.{stored_one}
 use Rattle.pbf_block.specs.declared.kinds.Kinds.{Kinds}

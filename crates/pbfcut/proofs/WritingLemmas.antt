@@ -137,36 +137,36 @@ module _ {D S H : Type 0} (d : drain.Ghosts D) (pick : Pick) (start : D) where
 
 module _ {V D S H : Type 0} (d : drain.Ghosts D) (to : V → Packing D S H) (counts : V → Counts) (pick : V → Pick) (number : V → ℕ) (took : Takes V)
     (is : (old new : V) (f : FrameSpec) → took old f new → PacksNext d (pick old) (to old) (to new) (counts old) (counts new) f × (pick new ≡ pick old) × (number new ≡ number old))
-    (before : V) where
+    (before : V) (chosen : Pick) (picks : pick before ≡ chosen) where
   pub record HasWritten (fs : List FrameSpec) (now : V) : Type 0 where
-    pub frames : PackedFrames d (pick before) (to before).drain fs (counts now) (to now)
-    pub same : pick now ≡ pick before
+    pub frames : PackedFrames d chosen (to before).drain fs (counts now) (to now)
+    pub same : pick now ≡ chosen
     pub number_same : number now ≡ number before
     pub drain_counts : d.failures (to before).drain ≤ d.failures (to now).drain
 
   pub has_written : (fs : List FrameSpec) (now : V) → Visited took before fs now → HasPacked d (to before).drain [] (to before) → counts before ≡ counts_of [] → HasWritten fs now
   has_written fs now visited none zero = visited_to took HasWritten (λ gone f mid last so_far one.
       let h = is mid last f one in record {
-        frames = frames_more d (pick before) (to before).drain gone f (counts mid) (counts last) (to mid) (to last) so_far.frames (subst (λ (p : Pick). PacksUnjudgedFrame d p (to mid) (to last) (counts mid) (counts last) f) so_far.same h.0.packs);
+        frames = frames_more d chosen (to before).drain gone f (counts mid) (counts last) (to mid) (to last) so_far.frames (subst (λ (p : Pick). PacksUnjudgedFrame d p (to mid) (to last) (counts mid) (counts last) f) so_far.same h.0.packs);
         same = h.1 ∙ so_far.same;
         number_same = h.2 ∙ so_far.number_same;
         drain_counts = omega (arith, so_far.drain_counts, h.0.keeps.drain_kept.counts);
-      }) fs [] before now record { frames = record { es = []; are = λ sound. refl; packed = none; counted = zero }; same = refl; number_same = refl; drain_counts = omega arith } visited
+      }) fs [] before now record { frames = record { es = []; are = λ sound. refl; packed = none; counted = zero }; same = picks; number_same = refl; drain_counts = omega arith } visited
 
   module _ (failed : Fails V) (known : Option Verdict) (read : Type 0) (now : V) (stop : Stop) (fails : (mid : V) (f : FrameSpec) (s : Stop) → failed mid f now s → FailsAtNext d (number mid) (pick mid) (to mid) (to now) f s) (stopped : StopsVisit took failed known read before now stop) (none : HasPacked d (to before).drain [] (to before)) (zero : counts before ≡ counts_of []) where
-    pub front_written : (all : List FrameSpec) → fully_known known ≡ Some (all, None) → IsFront (d.taken (to before).drain) (d.taken (to now).drain) (written_entities (filter (pick before) (stored_entities all)))
+    pub front_written : (all : List FrameSpec) → fully_known known ≡ Some (all, None) → IsFront (d.taken (to before).drain) (d.taken (to now).drain) (written_entities (filter chosen (stored_entities all)))
     front_written all known_is = of stopped where
-      of : StopsVisit took failed known read before now stop → IsFront (d.taken (to before).drain) (d.taken (to now).drain) (written_entities (filter (pick before) (stored_entities all)))
+      of : StopsVisit took failed known read before now stop → IsFront (d.taken (to before).drain) (d.taken (to now).drain) (written_entities (filter chosen (stored_entities all)))
       of (inl s) =
           let h = (has_written s.frames now s.visited none zero).frames in
-          front_before d (pick before) (to before).drain known s.rest s.frames all h.es (d.taken (to now).drain) s.gone h.are (λ sound. begins_packed d (to before).drain h.es (to now) h.packed) known_is
+          front_before d chosen (to before).drain known s.rest s.frames all h.es (d.taken (to now).drain) s.gone h.are (λ sound. begins_packed d (to before).drain h.es (to now) h.packed) known_is
       of (inr s) =
           let w = has_written s.frames s.mid s.visited none zero in
           let h = w.frames in
           let f = s.frame in
           let failing = subst (λ (p : Pick). FailsAtFrame d (number s.mid) p (to s.mid) (to now) f stop) w.same (fails s.mid f stop s.failing).fails in
-          front_before d (pick before) (to before).drain known s.rest (s.frames ++ f ∷ []) all (h.es ++ picked_in (pick before) (payload_of f)) (d.taken (to now).drain) (gone_more known (with_first_known f s.rest) s.rest s.frames f s.gone refl)
-          (λ sound. ap (λ (l : List EntitySpec). l ++ picked_in (pick before) (payload_of f)) (h.are (sound_first_ones s.frames (f ∷ []) sound)) ∙ sym (picked_one (pick before) s.frames f))
+          front_before d chosen (to before).drain known s.rest (s.frames ++ f ∷ []) all (h.es ++ picked_in chosen (payload_of f)) (d.taken (to now).drain) (gone_more known (with_first_known f s.rest) s.rest s.frames f s.gone refl)
+          (λ sound. ap (λ (l : List EntitySpec). l ++ picked_in chosen (payload_of f)) (h.are (sound_first_ones s.frames (f ∷ []) sound)) ∙ sym (picked_one chosen s.frames f))
           (λ sound. (failing.begins (sound_last s.frames f sound)).begun (to before).drain h.es h.packed) known_is
 
     pub stops_written : (first : ℕ) → first ≤ d.failures (to before).drain → StopsUnjudged (number before) (fully_known known) read (HasRisen first (d.failures (to now).drain)) stop

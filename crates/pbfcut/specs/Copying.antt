@@ -5,10 +5,9 @@ use Rattle.pbf_frame.specs.declared.device.Drain as drain
 use Rattle.pbf_frame.specs.declared.frame.TheConstants.{FILE_LIMIT}
 use Rattle.pbf_frame.specs.declared.stop.Stop.{Stop}
 use Rattle.pbf_frame.specs.Devices.{IsAtEnd, IsFront}
-use Rattle.pbf_frame.specs.Keeps.{KeepsDrain, KeepsFeed}
 use Rattle.pbf_frame.specs.Transfers.{Added, SuppliedFirst}
-use Rattle.pbf_pass.specs.Given.{GaveFile, Took}
-use Rattle.pbf_pass.specs.Stops.{WriteFailed}
+use Rattle.pbf_pass.specs.Given.{GaveFile}
+use Rattle.pbfcut.specs.Calls.{DrainUse, FailedDrain, FeedUse, KeepsDrained, KeepsFed, TookBy, supply_of, taken_after, taken_before}
 use Rattle.pbfcut.specs.declared.repeat.LaterPass.{LaterPass}
 use Rattle.pbfcut.specs.Repeat.{StopsLater, digest_of}
 
@@ -24,9 +23,9 @@ IsAllOrLong true left bytes = IsAtEnd left
 IsAllOrLong false left bytes = FILE_LIMIT < length bytes
 
 -- what a later pass does that copies
-pub record CopiesAgain {F D X : Type 0} (f : feed.Ghosts F) (old new : F) (d : drain.Ghosts D) (before now : D) (again : LaterPass) (result : Result X Stop) : Type 0 where
-  pub copied : OnOk result (GaveFile f old new (digest_of again) (λ file. Took d before now (λ written. written ≡ file)))
-  pub front : (all : List ℕ) → f.remaining old ≡ Some all → IsFront (d.taken before) (d.taken now) all
-  pub stops : IfErr result (StopsLater f again old new (WriteFailed d before now))
-  pub feed : KeepsFeed f old new
-  pub out : KeepsDrain d before now
+pub record CopiesAgain {F D X : Type 0} (source : FeedUse F) (drain : DrainUse D) (again : LaterPass) (result : Result X Stop) : Type 0 where
+  pub copied : OnOk result (GaveFile source.ghosts source.old source.new (digest_of again) (λ file. TookBy drain (λ written. written ≡ file)))
+  pub front : (all : List ℕ) → supply_of source ≡ Some all → IsFront (taken_before drain) (taken_after drain) all
+  pub stops : IfErr result (StopsLater source.ghosts again source.old source.new (FailedDrain drain))
+  pub feed : KeepsFed source
+  pub out : KeepsDrained drain

@@ -4,7 +4,6 @@ use Rattle.std.specs.List.{flat_map}
 use Rattle.pbf_wire.specs.declared.fault.Fault.{Fault}
 use Rattle.pbf_header.specs.Header.{header_in}
 use Rattle.pbf_block.specs.PrimitiveBlock.{entities}
-use Rattle.pbf_frame.specs.declared.device.Feed as feed
 use Rattle.pbf_frame.specs.declared.device.Drain as drain
 use Rattle.pbf_frame.specs.declared.stop.Stop.{Stop}
 use Rattle.pbf_frame.specs.Devices.{IsFront}
@@ -14,13 +13,14 @@ use Rattle.pbf_frame.specs.Verdict.{Verdict, Says, with_first_known}
 use Rattle.osm_text.specs.EntityText.{entity_line}
 use Rattle.osm_text.specs.HeaderText.{header_text}
 use Rattle.pbfcut.specs.declared.showing.LineWriter.{LineWriter}
-use Rattle.pbf_pass.specs.Given.{GaveFile, Took}
+use Rattle.pbf_pass.specs.Given.{GaveFile}
 use Rattle.pbf_pass.specs.Hashing.{digest_if}
 use Rattle.pbf_pass.specs.Unjudged.{ReadsFaulty}
 use Rattle.pbf_pass.specs.Judged.{fault_in, judged_file, payload_fault}
 use Rattle.pbf_pass.specs.Payload.{Payload, header_block, primitive_block, unknown, payload_of}
-use Rattle.pbf_pass.specs.Stops.{Caused, FaultOf, Only, unchanged, ReadFailed, WriteFailed}
-use Rattle.pbf_frame.specs.Keeps.{KeepsDrain, KeepsFeed}
+use Rattle.pbf_pass.specs.Stops.{Caused, FaultOf, Only, unchanged, WriteFailed}
+use Rattle.pbf_frame.specs.Keeps.{KeepsDrain}
+use Rattle.pbfcut.specs.Calls.{DrainUse, FailedDrain, FailedFeed, FeedUse, KeepsDrained, KeepsFed, TookBy, supply_of, taken_after, taken_before}
 
 -- ---- the text
 
@@ -61,13 +61,13 @@ abbrev pub WritesFront : Bool → Option Verdict → Option (List ℕ) → Optio
 WritesFront dates known old new = (all : Verdict) → known ≡ Some all → IsFront old new (file_text dates all.0)
 
 -- the feed gave a file, of this digest if it is hashed, and the drain took its text; or a prefix of it, if the pass stopped
-pub record ShowsAgain {F D : Type 0} (f : feed.Ghosts F) (old new : F) (d : drain.Ghosts D) (before now : D) (hashes dates : Bool) (result : Result (List ℕ) Stop) : Type 0 where
-  pub shown : IfOk result (λ digest. GaveFile f old new (digest_if hashes digest) (λ file. Took d before now (Shown dates (judged_file (Some file)))))
-  pub beginning : OnErr result (WritesFront dates (judged_file (f.remaining old)) (d.taken before) (d.taken now))
-  pub stops : IfErr result (Caused (FaultOf (judged_file (f.remaining old))) (ReadFailed f old new) (WriteFailed d before now) unchanged)
-  pub faulty : IfErr result (ReadsFaulty f old new)
-  pub keeps : KeepsFeed f old new
-  pub out : KeepsDrain d before now
+pub record ShowsAgain {F D : Type 0} (source : FeedUse F) (drain : DrainUse D) (hashes dates : Bool) (result : Result (List ℕ) Stop) : Type 0 where
+  pub shown : IfOk result (λ digest. GaveFile source.ghosts source.old source.new (digest_if hashes digest) (λ file. TookBy drain (Shown dates (judged_file (Some file)))))
+  pub beginning : OnErr result (WritesFront dates (judged_file (supply_of source)) (taken_before drain) (taken_after drain))
+  pub stops : IfErr result (Caused (FaultOf (judged_file (supply_of source))) (FailedFeed source) (FailedDrain drain) unchanged)
+  pub faulty : IfErr result (ReadsFaulty source.ghosts source.old source.new)
+  pub keeps : KeepsFed source
+  pub out : KeepsDrained drain
 
 -- ---- one frame of it
 

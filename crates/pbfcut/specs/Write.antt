@@ -7,23 +7,22 @@ use Rattle.osm_pack.specs.Cuts.{written_file}
 use Rattle.osm_pack.specs.Packing.{Packing, IsPacking}
 use Rattle.pbf_header.specs.Header.{HeaderSpec, header_of}
 use Rattle.pbf_block.specs.declared.counts.Counts.{Counts}
-use Rattle.pbf_frame.specs.declared.device.Feed as feed
 use Rattle.pbf_frame.specs.declared.device.Drain as drain
 use Rattle.pbf_frame.specs.declared.stop.Stop.{Stop}
 use Rattle.pbf_frame.specs.Devices.{IsFront}
 use Rattle.pbf_frame.specs.Frames.{FrameSpec}
 use Rattle.pbf_frame.specs.Verdict.{Verdict}
-use Rattle.pbf_frame.specs.Keeps.{KeepsDrain, KeepsFeed}
 use Rattle.pbf_pass.specs.declared.receipt.Halt.{Halt}
 use Rattle.pbf_pass.specs.declared.receipt.InputReceipt.{InputReceipt}
 use Rattle.pbf_pass.specs.Unjudged.{ReadsFaulty, StopsAtPayload, StopsUnjudged}
-use Rattle.pbf_pass.specs.Given.{GaveFile, Took}
+use Rattle.pbf_pass.specs.Given.{GaveFile}
 use Rattle.pbf_pass.specs.Hashing.{digest_if}
 use Rattle.pbf_pass.specs.Counting.{counts_of, stored_entities}
 use Rattle.pbf_pass.specs.Judged.{fault_in, judged_file}
 use Rattle.pbf_pass.specs.Payload.{Payload, payload_of}
 use Rattle.pbf_pass.specs.Refused.{stop_of}
-use Rattle.pbf_pass.specs.Stops.{ReadFailed, WriteFailed}
+use Rattle.pbf_pass.specs.Stops.{WriteFailed}
+use Rattle.pbfcut.specs.Calls.{DrainUse, FailedDrain, FailedFeed, FeedUse, KeepsDrained, KeepsFed, TookBy, supply_of, taken_after, taken_before}
 use Rattle.pbfcut.specs.declared.repeat.LaterPass.{LaterPass}
 use Rattle.pbfcut.specs.declared.write.OutputPlan.{OutputPlan}
 use Rattle.pbfcut.specs.declared.pick.EntityPacker.{EntityPacker}
@@ -51,6 +50,7 @@ pub record PacksUnjudged {D S H X : Type 0} (d : drain.Ghosts D) (p : Payload) (
   pub packed : OnOk result (PacksUnjudgedPayload d (picks_of before.picker) p old new before.counts now.counts)
   pub stopped : IfErr result (FailsAtUnjudgedPayload d before.number (picks_of before.picker) p old new)
   pub keeps : KeepsPacker d old new
+  pub same : (now.picker ≡ before.picker) × (now.number ≡ before.number)
 
 -- the same of a frame
 abbrev pub PacksUnjudgedFrame : {D S H : Type 0} → drain.Ghosts D → Pick → (old new : Packing D S H) → (before now : Counts) → FrameSpec → Type 0
@@ -83,34 +83,37 @@ Packed pick h counts known written = (frames : List FrameSpec) → known ≡ Som
 abbrev pub PacksFront : Pick → HeaderSpec → Option Verdict → (old new : Option (List ℕ)) → Type 0
 PacksFront pick h known old new = (frames : List FrameSpec) → known ≡ Some (frames, None) → IsFront old new (written_file h (filter pick (stored_entities frames)))
 
+abbrev pub PacksFrontOf : {F D : Type 0} → FeedUse F → DrainUse D → Pick → HeaderSpec → Type 0
+PacksFrontOf source drain pick h = PacksFront pick h (judged_file (supply_of source)) (taken_before drain) (taken_after drain)
+
 -- ---- the pass that writes, whose bytes aren't compared yet
 
 -- the feed gave a file, and the drain took its header and what is picked of it; or a prefix of that, if the pass stopped: at a fault, since the
 -- bytes changed, or for a device
-pub record WritesUnjudged {F D : Type 0} (f : feed.Ghosts F) (old new : F) (d : drain.Ghosts D) (before now : D) (plan : OutputPlan) (result : Result InputReceipt Stop) : Type 0 where
-  pub packed : IfOk result (λ wrote. GaveFile f old new (digest_if plan.pass.passes.hashes wrote.input) (λ file. Took d before now (Packed (take_of plan.chosen) (header_of plan.header.now) wrote.counts (judged_file (Some file)))))
-  pub beginning : OnErr result (PacksFront (take_of plan.chosen) (header_of plan.header.now) (judged_file (f.remaining old)) (d.taken before) (d.taken now))
-  pub faulty : IfErr result (ReadsFaulty f old new)
-  pub stops : IfErr result (StopsUnjudged plan.pass.number (judged_file (f.remaining old)) (ReadFailed f old new) (WriteFailed d before now))
-  pub keeps : KeepsFeed f old new
-  pub out : KeepsDrain d before now
+pub record WritesUnjudged {F D : Type 0} (source : FeedUse F) (drain : DrainUse D) (plan : OutputPlan) (result : Result InputReceipt Stop) : Type 0 where
+  pub packed : IfOk result (λ wrote. GaveFile source.ghosts source.old source.new (digest_if plan.pass.passes.hashes wrote.input) (λ file. TookBy drain (Packed (take_of plan.chosen) (header_of plan.header.now) wrote.counts (judged_file (Some file)))))
+  pub beginning : OnErr result (PacksFrontOf source drain (take_of plan.chosen) (header_of plan.header.now))
+  pub faulty : IfErr result (ReadsFaulty source.ghosts source.old source.new)
+  pub stops : IfErr result (StopsUnjudged plan.pass.number (judged_file (supply_of source)) (FailedFeed source) (FailedDrain drain))
+  pub keeps : KeepsFed source
+  pub out : KeepsDrained drain
 
 -- the same once they are: it has to be the first pass's file
-pub record WritesAgain {F D : Type 0} (f : feed.Ghosts F) (old new : F) (d : drain.Ghosts D) (before now : D) (plan : OutputPlan) (result : Result Counts Stop) : Type 0 where
-  pub packed : IfOk result (λ counts. GaveFile f old new (digest_of plan.pass) (λ file. Took d before now (Packed (take_of plan.chosen) (header_of plan.header.now) counts (judged_file (Some file)))))
-  pub beginning : OnErr result (PacksFront (take_of plan.chosen) (header_of plan.header.now) (judged_file (f.remaining old)) (d.taken before) (d.taken now))
-  pub stops : IfErr result (StopsLater f plan.pass old new (WriteFailed d before now))
-  pub keeps : KeepsFeed f old new
-  pub out : KeepsDrain d before now
+pub record WritesAgain {F D : Type 0} (source : FeedUse F) (drain : DrainUse D) (plan : OutputPlan) (result : Result Counts Stop) : Type 0 where
+  pub packed : IfOk result (λ counts. GaveFile source.ghosts source.old source.new (digest_of plan.pass) (λ file. TookBy drain (Packed (take_of plan.chosen) (header_of plan.header.now) counts (judged_file (Some file)))))
+  pub beginning : OnErr result (PacksFrontOf source drain (take_of plan.chosen) (header_of plan.header.now))
+  pub stops : IfErr result (StopsLater source.ghosts plan.pass source.old source.new (FailedDrain drain))
+  pub keeps : KeepsFed source
+  pub out : KeepsDrained drain
 
 -- ---- after passes that chose
 
 -- the feed gave a file of the first pass's digest, and the drain took its header and what is picked of it; or a prefix of that, if the pass
 -- stopped, which is no refusal
-pub record WritesChoice {F D : Type 0} (f : feed.Ghosts F) (old new : F) (d : drain.Ghosts D) (before now : D) (again : LaterPass) (sets : KeptSets) (h : HeaderSpec) (spared : Bool) (result : Result InputReceipt Halt) : Type 0 where
+pub record WritesChoice {F D : Type 0} (source : FeedUse F) (drain : DrainUse D) (again : LaterPass) (sets : KeptSets) (h : HeaderSpec) (spared : Bool) (result : Result InputReceipt Halt) : Type 0 where
   pub input : IfOk result (λ receipt. (receipt.input ≡ again.digest) × (receipt.spared ≡ spared))
-  pub packed : IfOk result (λ receipt. GaveFile f old new (digest_of again) (λ file. Took d before now (Packed (taken_by sets) h receipt.counts (judged_file (Some file)))))
-  pub front : OnErr result (PacksFront (taken_by sets) h (judged_file (f.remaining old)) (d.taken before) (d.taken now))
-  pub stops : IfErr result (λ halt. StopsLater f again old new (WriteFailed d before now) (stop_of halt))
-  pub keeps : KeepsFeed f old new
-  pub out : KeepsDrain d before now
+  pub packed : IfOk result (λ receipt. GaveFile source.ghosts source.old source.new (digest_of again) (λ file. TookBy drain (Packed (taken_by sets) h receipt.counts (judged_file (Some file)))))
+  pub front : OnErr result (PacksFrontOf source drain (taken_by sets) h)
+  pub stops : IfErr result (λ halt. StopsLater source.ghosts again source.old source.new (FailedDrain drain) (stop_of halt))
+  pub keeps : KeepsFed source
+  pub out : KeepsDrained drain

@@ -2,7 +2,7 @@
 
 ghost use Rattle.std.specs.Prelude.{◌≡◌, ℕ, List, IfOk, IfErr, OnOk, OnErr};
 ghost use Rattle.pbf_frame.specs.Devices.{IsFront};
-ghost use Rattle.pbfcut.specs.Calls.{BothSupply, StopsTwoPasses};
+ghost use Rattle.pbfcut.specs.Calls.{BothSupply, drained, fed, StopsTwoPasses};
 ghost use Rattle.pbfcut.specs.Theorem.{Converted, IsConverted, Promised, Canonical};
 ghost use Rattle.pbfcut.specs.Converting.{answer_bytes, CanBeWritten};
 ghost use Rattle.pbf_pass.specs.HeaderLimit.{judged_writable};
@@ -52,8 +52,8 @@ pub fn convert<F: Feed, G: Feed, D: Drain, S: BuildHasher + Drop>(
     // `Refused` names the first fault of the first feed's file, or that its header can't be written, and the drain took nothing. `Read`
     // and `Write` come only if a count of failures rose: of a feed, of the drain. `Changed(2)`: the second feed's bytes aren't the
     // first's. No other number comes.
-    ensures stops { IfErr result (StopsTwoPasses judged_writable F.Feed first.old first.new
-        G.Feed second.old second.new D.Drain drain.old drain.new) }
+    ensures stops { IfErr result (StopsTwoPasses judged_writable (fed F.Feed first.old first.new)
+        (fed G.Feed second.old second.new) (drained D.Drain drain.old drain.new)) }
 {
     let passes = Passes {
         alloc,
@@ -80,8 +80,9 @@ pub fn convert_with_receipt<F: Feed, G: Feed, D: Drain, S: BuildHasher + Drop>(
         (λ written. b ≡ c → IsConverted b receipt.counts written)))) }
     // However it ends: `refused` says what is refused, of the bytes that were read, and that the drain took nothing then; `stops` why it
     // stops; `changed` of what bytes it says `Changed`; and `feeds` and `out` that it keeps its devices.
-    ensures ends { EndsTwoPasses judged_writable F.Feed first.old first.new
-        G.Feed second.old second.new D.Drain drain.old drain.new passes.hashes result }
+    ensures ends { EndsTwoPasses judged_writable (fed F.Feed first.old first.new)
+        (fed G.Feed second.old second.new)
+        (drained D.Drain drain.old drain.new) passes.hashes result }
     // Whatever stopped it, if both feeds supply these bytes, a prefix of their conversion went out, and nothing if they have a fault.
     ensures beginning { OnErr result ((b : List ℕ)
         → BothSupply b (F.remaining first.old) (G.remaining second.old)

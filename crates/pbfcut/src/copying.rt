@@ -8,7 +8,7 @@ ghost use Rattle.pbf_pass.specs.Hashing.{digest_if};
 ghost use Rattle.pbf_pass.specs.Judged.{judged_file};
 ghost use Rattle.pbf_pass.specs.Pass.{CountsFile};
 ghost use Rattle.pbf_pass.specs.Stops.{Caused, ReadFailed, WriteFailed, unchanged};
-ghost use Rattle.pbfcut.specs.Calls.{BothSupply};
+ghost use Rattle.pbfcut.specs.Calls.{BothSupply, drained, fed};
 ghost use Rattle.pbfcut.specs.Copying.{Copied, CopiesAgain, IsAllOrLong};
 ghost use Rattle.pbfcut.specs.Ends.{EndsTwoPasses};
 
@@ -45,7 +45,8 @@ fn copy_rest<F: Feed, D: Drain>(feed: &mut F, drain: &mut D) -> Result<bool, Sto
 
 /// Copies what a later feed has, whose bytes have to be those of the first pass.
 fn copy_again<F: Feed, D: Drain>(again: LaterPass, feed: &mut F, drain: &mut D) -> Result<(), Stop>
-    ensures { CopiesAgain F.Feed feed.old feed.new D.Drain drain.old drain.new again result }
+    ensures { CopiesAgain (fed F.Feed feed.old feed.new)
+        (drained D.Drain drain.old drain.new) again result }
 {
     let mut passing = PassFeed::new(&mut *feed, again.passes.hashes);
     let outcome = copy_rest(&mut passing, drain);
@@ -79,8 +80,9 @@ pub fn copy_with_receipt<F: Feed, G: Feed, D: Drain>(
         (λ c. Took D.Drain drain.old drain.new (λ written. written ≡ c)))) }
     // However it ends: `refused` says what is refused, of the bytes that were read, and that the drain took nothing then; `stops` why it
     // stops; `changed` of what bytes it says `Changed`; and `feeds` and `out` that it keeps its devices.
-    ensures ends { EndsTwoPasses judged_file F.Feed first.old first.new
-        G.Feed second.old second.new D.Drain drain.old drain.new passes.hashes result }
+    ensures ends { EndsTwoPasses judged_file (fed F.Feed first.old first.new)
+        (fed G.Feed second.old second.new)
+        (drained D.Drain drain.old drain.new) passes.hashes result }
     // Whatever stopped it, if both feeds supply these bytes, a prefix of them went out.
     ensures beginning { OnErr result ((b : List ℕ)
         → BothSupply b (F.remaining first.old) (G.remaining second.old)

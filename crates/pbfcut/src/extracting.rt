@@ -6,7 +6,7 @@ ghost use Rattle.osm_ways.specs.Parents.{extract_with_parents};
 ghost use Rattle.osm_ways.specs.Seen.{seen_decoded};
 ghost use Rattle.osm_ways.specs.Selection.{extract};
 ghost use Rattle.pbf_header.specs.Header.{header_of};
-ghost use Rattle.pbfcut.specs.Calls.{AllSupply, FourSupply, StopsExtracting, StopsExtractingParents};
+ghost use Rattle.pbfcut.specs.Calls.{AllSupply, drained, fed, FourSupply, StopsExtracting, StopsExtractingParents};
 ghost use Rattle.pbfcut.specs.Choosing.{StopsFirst, EndsChoosing, EndsChoosingParents};
 ghost use Rattle.pbfcut.specs.Theorem.{Extracted, IsExtraction, Promised, Canonical};
 ghost use Rattle.pbfcut.specs.Converting.{CanBeWritten};
@@ -65,7 +65,7 @@ pub(crate) fn begin<A: Area, P: NodeTaker, F: Feed>(
     ensures begun { IfOk result (λ begun. GaveFile F.Feed feed.old feed.new
         (digest_if passes.hashes begun.digest) (λ b. Begins (A.area taking.old.area) P.step b
         taking.old.phase taking.new.phase (header_of begun.header))) }
-    ensures halts { IfErr result (StopsFirst F.Feed feed.old feed.new passes.hashes) }
+    ensures halts { IfErr result (StopsFirst (fed F.Feed feed.old feed.new) passes.hashes) }
     ensures keeps { KeepsFeed F.Feed feed.old feed.new }
 {
     let bounds = taking.area.bounds();
@@ -112,7 +112,7 @@ impl Choice {
         hasher: S,
     ) -> Result<InputReceipt, Halt>
         requires { HasShortTexts (header_of self.header) }
-        ensures { WritesChoice F.Feed feed.old feed.new D.Drain drain.old drain.new
+        ensures { WritesChoice (fed F.Feed feed.old feed.new) (drained D.Drain drain.old drain.new)
             self.next self.chosen (header_of self.header) self.spared result }
     {
         let plan = OutputPlan {
@@ -141,7 +141,7 @@ fn choose<F: Feed, G: Feed>(
         (λ b. GaveFile G.Feed second.old second.new
         (digest_if passes.hashes choice.next.digest)
         (λ c. IsChoice (box_area area) b c choice.chosen (header_of choice.header)))) }
-    ensures ends { EndsChoosing F.Feed first.old first.new G.Feed second.old second.new
+    ensures ends { EndsChoosing (fed F.Feed first.old first.new) (fed G.Feed second.old second.new)
         passes result }
 {
     let mut nodes = NodePhase::new(passes.alloc, area);
@@ -206,8 +206,9 @@ pub fn extract<F: Feed, G: Feed, H: Feed, D: Drain, S: BuildHasher + Drop>(
     // `Refused` names the first fault of the first feed's file, or that its header can't be written, and the drain took nothing. `Read`
     // and `Write` come only if a count of failures rose: of a feed, of the drain. `Changed(2)`: the second feed's bytes aren't the
     // first's, and the drain took nothing. `Changed(3)`: the third's aren't. No other number comes.
-    ensures stops { IfErr result (StopsExtracting F.Feed first.old first.new
-        G.Feed second.old second.new H.Feed third.old third.new D.Drain drain.old drain.new) }
+    ensures stops { IfErr result (StopsExtracting (fed F.Feed first.old first.new)
+        (fed G.Feed second.old second.new) (fed H.Feed third.old third.new)
+        (drained D.Drain drain.old drain.new)) }
 {
     Ok(extract_with_receipt(alloc, first, second, third, area, drain, hasher)?.counts)
 }
@@ -234,9 +235,9 @@ pub fn extract_with_receipt<F: Feed, G: Feed, H: Feed, D: Drain, S: BuildHasher 
         (extract (seen_decoded (box_area area))) (box_area area) b receipt.counts written))))) }
     // However it ends: `refused` says what is refused, of the bytes that were read, and that the drain took nothing then; `stops` why it
     // stops; `changed` of what bytes it says `Changed`; `beginning` what went out by then; and `feeds` and `out` that it keeps its devices.
-    ensures ends { EndsExtracting F.Feed first.old first.new
-        G.Feed second.old second.new H.Feed third.old third.new
-        D.Drain drain.old drain.new true (box_area area) result }
+    ensures ends { EndsExtracting (fed F.Feed first.old first.new)
+        (fed G.Feed second.old second.new) (fed H.Feed third.old third.new)
+        (drained D.Drain drain.old drain.new) true (box_area area) result }
 {
     let passes = Passes {
         alloc,
@@ -261,8 +262,9 @@ fn choose_parents<F: Feed, G: Feed, H: Feed>(
         (λ c. GaveFile H.Feed third.old third.new
         (digest_if passes.hashes choice.next.digest)
         (λ d. IsChoiceWithParents (box_area area) b c d choice.chosen (header_of choice.header))))) }
-    ensures ends { EndsChoosingParents F.Feed first.old first.new G.Feed second.old second.new
-        H.Feed third.old third.new passes result }
+    ensures ends { EndsChoosingParents (fed F.Feed first.old first.new)
+        (fed G.Feed second.old second.new)
+        (fed H.Feed third.old third.new) passes result }
 {
     let choice = choose(passes, area, first, second)?;
     choice.with_parents(third)
@@ -310,9 +312,10 @@ pub fn extract_parents<F: Feed, G: Feed, H: Feed, I: Feed, D: Drain, S: BuildHas
     // `Refused` names the first fault of the first feed's file, or that its header can't be written, and the drain took nothing. `Read`
     // and `Write` come only if a count of failures rose: of a feed, of the drain. `Changed(2)`, `Changed(3)`: the second or
     // third feed's bytes aren't the first's, and the drain took nothing. `Changed(4)`: the fourth's aren't. No other number comes.
-    ensures stops { IfErr result (StopsExtractingParents F.Feed first.old first.new
-        G.Feed second.old second.new H.Feed third.old third.new I.Feed fourth.old fourth.new
-        D.Drain drain.old drain.new) }
+    ensures stops { IfErr result (StopsExtractingParents (fed F.Feed first.old first.new)
+        (fed G.Feed second.old second.new) (fed H.Feed third.old third.new)
+        (fed I.Feed fourth.old fourth.new)
+        (drained D.Drain drain.old drain.new)) }
 {
     Ok(
         extract_parents_with_receipt(
@@ -353,9 +356,10 @@ pub fn extract_parents_with_receipt<
         (box_area area) b receipt.counts written)))))) }
     // However it ends: `refused` says what is refused, of the bytes that were read, and that the drain took nothing then; `stops` why it
     // stops; `changed` of what bytes it says `Changed`; `beginning` what went out by then; and `feeds` and `out` that it keeps its devices.
-    ensures ends { EndsExtractingParents F.Feed first.old first.new
-        G.Feed second.old second.new H.Feed third.old third.new I.Feed fourth.old fourth.new
-        D.Drain drain.old drain.new true (box_area area) result }
+    ensures ends { EndsExtractingParents (fed F.Feed first.old first.new)
+        (fed G.Feed second.old second.new) (fed H.Feed third.old third.new)
+        (fed I.Feed fourth.old fourth.new)
+        (drained D.Drain drain.old drain.new) true (box_area area) result }
 {
     let passes = Passes {
         alloc,

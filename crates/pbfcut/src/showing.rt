@@ -14,7 +14,7 @@ ghost use Rattle.pbf_pass.specs.Pass.{CountsFile};
 ghost use Rattle.pbf_pass.specs.Payload.{header_block, primitive_block, lent_by};
 ghost use Rattle.pbfcut.specs.Repeat.{SameDigest};
 ghost use Rattle.pbfcut.specs.Showing.{Shown, ShowsFirst, ShowsFront, WritesLines, WritesPayload, ShowsNext, FailsToShowNext, ShowsAgain};
-ghost use Rattle.pbfcut.specs.Calls.{StopsTwoPasses};
+ghost use Rattle.pbfcut.specs.Calls.{drained, fed, StopsTwoPasses};
 ghost use Rattle.pbfcut.specs.Ends.{EndsTwoPasses};
 
 use crate::repeat::LaterPass;
@@ -142,7 +142,7 @@ fn write_text<F: Feed, D: Drain>(
     drain: &mut D,
     dates: bool,
 ) -> Result<[u8; 32], Stop>
-    ensures { ShowsAgain F.Feed feed.old feed.new D.Drain drain.old drain.new
+    ensures { ShowsAgain (fed F.Feed feed.old feed.new) (drained D.Drain drain.old drain.new)
         passes.hashes dates result }
 {
     let text = Vec::new(passes.alloc);
@@ -201,8 +201,8 @@ pub fn show<F: Feed, G: Feed, D: Drain>(
     ensures digests { OnOk result (SameDigest (F.remaining first.old) (G.remaining second.old)) }
     // `Refused` names the first fault of the first feed's file, and the drain took nothing. `Read` and `Write` come only if a count of
     // failures rose: of a feed, of the drain. `Changed(2)`: the second feed's bytes aren't the first's. No other number comes.
-    ensures stops { IfErr result (StopsTwoPasses judged_file F.Feed first.old first.new
-        G.Feed second.old second.new D.Drain drain.old drain.new) }
+    ensures stops { IfErr result (StopsTwoPasses judged_file (fed F.Feed first.old first.new)
+        (fed G.Feed second.old second.new) (drained D.Drain drain.old drain.new)) }
     // Whatever stopped it, if both feeds supply one file, a prefix of its text went out, and nothing if it has a fault.
     ensures beginning { OnErr result (F.remaining first.old ≡ G.remaining second.old
         → ShowsFront dates (judged_file (F.remaining first.old))
@@ -233,8 +233,9 @@ pub fn show_with_receipt<F: Feed, G: Feed, D: Drain>(
         (λ c. Took D.Drain drain.old drain.new (Shown dates (judged_file (Some c)))))) }
     // However it ends: `refused` says what is refused, of the bytes that were read, and that the drain took nothing then; `stops` why it
     // stops; `changed` of what bytes it says `Changed`; and `feeds` and `out` that it keeps its devices.
-    ensures ends { EndsTwoPasses judged_file F.Feed first.old first.new
-        G.Feed second.old second.new D.Drain drain.old drain.new passes.hashes result }
+    ensures ends { EndsTwoPasses judged_file (fed F.Feed first.old first.new)
+        (fed G.Feed second.old second.new)
+        (drained D.Drain drain.old drain.new) passes.hashes result }
     // Whatever stopped it, if both feeds supply one file, a prefix of its text went out, and nothing if it has a fault.
     ensures beginning { OnErr result (F.remaining first.old ≡ G.remaining second.old
         → ShowsFront dates (judged_file (F.remaining first.old))

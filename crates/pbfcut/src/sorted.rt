@@ -5,7 +5,7 @@ ghost use Rattle.osm_ways.specs.Parents.{extract_with_parents};
 ghost use Rattle.osm_ways.specs.Seen.{seen_decoded};
 ghost use Rattle.osm_ways.specs.Selection.{extract};
 ghost use Rattle.pbf_header.specs.Header.{header_of};
-ghost use Rattle.pbfcut.specs.Calls.{AllSupply, GaveOrNot, StopsExtracting};
+ghost use Rattle.pbfcut.specs.Calls.{AllSupply, drained, fed, GaveOrNot, StopsExtracting};
 ghost use Rattle.pbfcut.specs.Theorem.{Extracted, IsExtraction, Promised, Canonical};
 ghost use Rattle.pbfcut.specs.Converting.{CanBeWritten};
 ghost use Rattle.pbf_pass.specs.HeaderLimit.{judged_writable};
@@ -40,7 +40,7 @@ pub(crate) fn choose_sorted<A: Area + Copy, F: Feed, G: Feed>(
         (λ b. GaveOrNot G.Feed choice.spared second.old second.new
         (digest_if passes.hashes choice.next.digest) b
         (λ c. IsChoice (A.area area) b c choice.chosen (header_of choice.header)))) }
-    ensures ends { EndsChoosing F.Feed first.old first.new G.Feed second.old second.new
+    ensures ends { EndsChoosing (fed F.Feed first.old first.new) (fed G.Feed second.old second.new)
         passes result }
 {
     let mut taking = InArea {
@@ -102,8 +102,9 @@ pub fn extract_sorted<A: Area + Copy, F: Feed, G: Feed, H: Feed, D: Drain, S: Bu
     // `Refused` names the first fault of the first feed's file, or that its header can't be written, and the drain took nothing. `Read`
     // and `Write` come only if a count of failures rose: of a feed, of the drain. `Changed(2)`: the second feed's bytes aren't the
     // first's, and the drain took nothing. `Changed(3)`: the third's aren't. No other number comes.
-    ensures stops { IfErr result (StopsExtracting F.Feed first.old first.new
-        G.Feed second.old second.new H.Feed third.old third.new D.Drain drain.old drain.new) }
+    ensures stops { IfErr result (StopsExtracting (fed F.Feed first.old first.new)
+        (fed G.Feed second.old second.new) (fed H.Feed third.old third.new)
+        (drained D.Drain drain.old drain.new)) }
 {
     let passes = Passes {
         alloc,
@@ -143,9 +144,9 @@ pub fn extract_sorted_with_receipt<
         (extract (seen_decoded (A.area area))) (A.area area) b receipt.counts written))))) }
     // However it ends: `refused` says what is refused, of the bytes that were read, and that the drain took nothing then; `stops` why it
     // stops; `changed` of what bytes it says `Changed`; `beginning` what went out by then; and `feeds` and `out` that it keeps its devices.
-    ensures ends { EndsExtracting F.Feed first.old first.new
-        G.Feed second.old second.new H.Feed third.old third.new
-        D.Drain drain.old drain.new passes.hashes (A.area area) result }
+    ensures ends { EndsExtracting (fed F.Feed first.old first.new)
+        (fed G.Feed second.old second.new) (fed H.Feed third.old third.new)
+        (drained D.Drain drain.old drain.new) passes.hashes (A.area area) result }
 {
     let choice = choose_sorted(passes, area, first, second)?;
     choice.write(third, drain, hasher)
@@ -166,8 +167,9 @@ fn choose_parents_sorted<A: Area + Copy, F: Feed, G: Feed, H: Feed>(
         (λ c. GaveFile H.Feed third.old third.new
         (digest_if passes.hashes choice.next.digest)
         (λ d. IsChoiceWithParents (A.area area) b c d choice.chosen (header_of choice.header))))) }
-    ensures ends { EndsChoosingParents F.Feed first.old first.new G.Feed second.old second.new
-        H.Feed third.old third.new passes result }
+    ensures ends { EndsChoosingParents (fed F.Feed first.old first.new)
+        (fed G.Feed second.old second.new)
+        (fed H.Feed third.old third.new) passes result }
 {
     let choice = choose_sorted(passes, area, first, second)?;
     choice.with_parents(third)
@@ -208,9 +210,10 @@ pub fn extract_parents_sorted_with_receipt<
         (A.area area) b receipt.counts written)))))) }
     // However it ends: `refused` says what is refused, of the bytes that were read, and that the drain took nothing then; `stops` why it
     // stops; `changed` of what bytes it says `Changed`; `beginning` what went out by then; and `feeds` and `out` that it keeps its devices.
-    ensures ends { EndsExtractingParents F.Feed first.old first.new
-        G.Feed second.old second.new H.Feed third.old third.new I.Feed fourth.old fourth.new
-        D.Drain drain.old drain.new passes.hashes (A.area area) result }
+    ensures ends { EndsExtractingParents (fed F.Feed first.old first.new)
+        (fed G.Feed second.old second.new) (fed H.Feed third.old third.new)
+        (fed I.Feed fourth.old fourth.new)
+        (drained D.Drain drain.old drain.new) passes.hashes (A.area area) result }
 {
     let choice = choose_parents_sorted(passes, area, first, second, third)?;
     choice.write(fourth, drain, hasher)

@@ -5,7 +5,8 @@ ghost use Rattle.std.specs.Prelude.{◌∷◌, ◌≡◌};
 ghost use Rattle.pbf_header.specs.Header.{header_of};
 ghost use Rattle.pbf_pass.specs.HeaderLimit.{HasShortTexts};
 ghost use Rattle.pbf_pass.specs.Payload.{primitive_block, lent_by};
-ghost use Rattle.pbfcut.specs.Pick.{take_of, IsFreshPacker, IsReadyToPack};
+ghost use Rattle.pbfcut.specs.Calls.{fed, drained};
+ghost use Rattle.pbfcut.specs.Pick.{picks_of, IsFreshPacker, IsReadyToPack};
 ghost use Rattle.pbfcut.specs.Write.{PacksUnjudged, PacksNext, FailsAtNext, WritesUnjudged, WritesAgain};
 
 use crate::pick::{EntityPacker, Picker};
@@ -59,31 +60,25 @@ fn pack_payload<D: Drain, S: BuildHasher>(
 #[derive(Drop)]
 struct Writer<'a, D: Drain, S: BuildHasher> {
     packer: &'a mut Packer<D, S>,
-    /// The numbers of the entities that were packed.
-    counts: Counts,
-    chosen: Option<&'a Chosen>,
-    /// The pass.
-    number: u8,
+    /// Lasts from frame to frame, so that its look-ups keep what they learnt.
+    entities: EntityPacker<'a>,
 }
 
 impl<D: Drain, S: BuildHasher> Visit for Writer<'_, D, S> {
-    ghost took = { λ old f new. PacksNext D.Drain (take_of old.chosen)
-        old.packer.now new.packer.now old.counts new.counts f
-        × (take_of new.chosen ≡ take_of old.chosen) × (new.number ≡ old.number) };
+    ghost took = { λ old f new. PacksNext D.Drain (picks_of old.entities.picker)
+        old.packer.now new.packer.now old.entities.counts new.entities.counts f
+        × (new.entities.picker ≡ old.entities.picker)
+        × (new.entities.number ≡ old.entities.number) };
 
-    ghost failed = { λ old f new stop. FailsAtNext D.Drain old.number (take_of old.chosen)
-        old.packer.now new.packer.now f stop };
+    ghost failed = { λ old f new stop. FailsAtNext D.Drain old.entities.number
+        (picks_of old.entities.picker) old.packer.now new.packer.now f stop };
 
     ghost ready = { λ v. IsReadyToPack v.packer.now };
 
     ghost lender = { λ v. v.packer.ghost_name ∷ D.lender v.packer.now.drain };
 
-    fn visit(&mut self, alloc: Global, frame: &Frame<'_>) -> Result<(), Stop> {
-        let picker = Picker::of_taken(self.chosen);
-        let mut entities = EntityPacker::new(alloc, picker, self.counts, self.number);
-        pack_payload(frame, &mut entities, self.packer)?;
-        self.counts = entities.counts;
-        Ok(())
+    fn visit(&mut self, _alloc: Global, frame: &Frame<'_>) -> Result<(), Stop> {
+        pack_payload(frame, &mut self.entities, self.packer)
     }
 }
 
@@ -107,19 +102,18 @@ impl<'a> OutputPlan<'a> {
     ) -> Result<InputReceipt, Stop>
         requires fresh { IsFreshPacker packer.old }
         requires short { HasShortTexts (header_of self.header.now) }
-        ensures { WritesUnjudged F.Feed feed.old feed.new
-            D.Drain packer.old.drain packer.new.drain self.entry result }
+        ensures { WritesUnjudged (fed F.Feed feed.old feed.new)
+            (drained D.Drain packer.old.drain packer.new.drain) self.entry result }
     {
         packer.put_header(self.header)?;
-        let mut writer = Writer {
-            packer,
-            counts: Counts::none(),
-            chosen: self.chosen,
-            number: self.pass.number,
-        };
-        let outcome = pass_over(self.pass.passes, feed, &mut writer);
+        let passes = self.pass.passes;
+        let picker = Picker::of_taken(self.chosen);
+        let entities = EntityPacker::new(passes.alloc, picker, Counts::none(), self.pass.number);
+        let mut writer = Writer { packer, entities };
+        let outcome = pass_over(passes, feed, &mut writer);
         // What is known of the packer comes back with the reference itself.
-        let Writer { packer, counts, .. } = writer;
+        let Writer { packer, entities } = writer;
+        let counts = entities.counts;
         let input = outcome?.digest;
         packer.finish()?;
         Ok(InputReceipt {
@@ -138,8 +132,8 @@ impl<'a> OutputPlan<'a> {
         hasher: S,
     ) -> Result<InputReceipt, Stop>
         requires { HasShortTexts (header_of self.header.now) }
-        ensures { WritesUnjudged F.Feed feed.old feed.new D.Drain drain.old drain.new
-            self.entry result }
+        ensures { WritesUnjudged (fed F.Feed feed.old feed.new)
+            (drained D.Drain drain.old drain.new) self.entry result }
     {
         let mut packer = Packer::new(self.pass.passes.alloc, &mut *drain, hasher);
         let outcome = self.pack_file(feed, &mut packer);
@@ -156,8 +150,8 @@ impl<'a> OutputPlan<'a> {
         hasher: S,
     ) -> Result<Counts, Stop>
         requires { HasShortTexts (header_of self.header.now) }
-        ensures { WritesAgain F.Feed feed.old feed.new D.Drain drain.old drain.new
-            self.entry result }
+        ensures { WritesAgain (fed F.Feed feed.old feed.new)
+            (drained D.Drain drain.old drain.new) self.entry result }
     {
         match self.write_unjudged(feed, drain, hasher) {
             Ok(wrote) => {

@@ -2,19 +2,15 @@
 use Rattle.std.proofs.Common.{◌≡◌, ℕ, suc, ◌+◌, List, [], ◌∷◌, ◌++◌, length, map, Bool, true, false, Option, inl, refl, ap, subst, sym, ◌∙◌, append_assoc}
 use Rattle.osm_area.specs.Area.{AreaSpec}
 use Rattle.pbf_block.specs.declared.counts.Counts.{Counts}
-use Rattle.pbf_frame.specs.Verdict.{Verdict}
-use Rattle.pbf_wire.specs.declared.fault.Fault.{Fault}
-use Rattle.pbfcut_cli.specs.declared.programs.Program.{Program}
-use Rattle.pbfcut_cli.specs.declared.programs.Program.TheVariants.{Pbfcut, Pbfcutz}
 use Rattle.pbf_pass.specs.HeaderLimit.{judged_writable}
 use Rattle.pbfcut_cli.specs.declared.words.Region.{Region}
 use Rattle.pbfcut_cli.specs.declared.words.Region.TheVariants as region
 use Rattle.pbfcut_program.specs.Tasks.{judge_of}
-use Rattle.pbfcut_program.specs.Events.{Event, advised, seeded}
-use Rattle.pbfcut_program.specs.Fails.{Each, IsRefusedBy, IsRefusedOf, Quiet}
+use Rattle.pbfcut_program.specs.Events.{Event, advised, opened, seeded}
+use Rattle.pbfcut_program.specs.Fails.{Each, Opens, Quiet}
 use Rattle.pbfcut_program.specs.Program.{MeansArea, advice, extract_task, is_empty, looks, makes, openings}
-use Rattle.pbfcut_program.proofs.EventLemmas.{each_both, has_after, has_before}
-use Rattle.pbfcut_program.proofs.FailLemmas.{refused_after}
+use Rattle.pbfcut_program.proofs.EventLemmas.{each_both}
+use Rattle.pbfcut_program.proofs.FailLemmas.{opens_after, opens_before}
 
 pub quiet_looks : (is : Bool) (output : List ℕ) → Each Quiet (looks is output)
 quiet_looks true output = tt
@@ -36,12 +32,13 @@ pub quiet_begun : (is : Bool) (input output : List ℕ) (has : List (Option (Lis
 quiet_begun is input output has =
     each_both Quiet (looks is output ++ openings input 1 has) (seeded true ∷ makes is output ∷ []) (each_both Quiet (looks is output) (openings input 1 has) (quiet_looks is output) (quiet_openings input 1 has)) (tt, (quiet_makes is output, tt))
 
--- a refusal of what happened then is one of all that happened
-pub by_begun : (program : Program) (judge : Option (List ℕ) → Option Verdict) (is : Bool) (input output : List ℕ) (has : List (Option (List ℕ))) (e : Fault) (ys : List Event) → IsRefusedOf program judge has e ys → IsRefusedBy program judge e (begun is input output has ++ ys)
-by_begun Pbfcut judge is input output has e ys r = refused_after judge e (begun is input output has) ys (quiet_begun is input output has) r
-by_begun Pbfcutz judge is input output [] e ys r = absurd r
-by_begun Pbfcutz judge is input output (h ∷ hs) e ys r =
-    has_before _ (begun is input output (h ∷ hs)) ys (has_before _ (looks is output ++ openings input 1 (h ∷ hs)) (seeded true ∷ makes is output ∷ []) (has_after _ (looks is output) (openings input 1 (h ∷ hs)) (inl (refl, r))))
+opens_openings : (input : List ℕ) (pass : ℕ) (has : List (Option (List ℕ))) → Opens pass has (openings input pass has)
+opens_openings input pass [] = tt
+opens_openings input pass (h ∷ has) = (inl (refl, refl), opens_after (pass + 1) has (opened input pass h ∷ []) (openings input (pass + 1) has) (opens_openings input (pass + 1) has))
+
+pub opens_begun : (is : Bool) (input output : List ℕ) (has : List (Option (List ℕ))) → Opens 1 has (begun is input output has)
+opens_begun is input output has =
+    opens_before 1 has (looks is output ++ openings input 1 has) (seeded true ∷ makes is output ∷ []) (opens_after 1 has (looks is output) (openings input 1 has) (opens_openings input 1 has))
 
 -- what comes next
 pub all_events : (a rs ps : List Event) (s m w : Event) → ((a ++ s ∷ m ∷ []) ++ (rs ++ w ∷ [])) ++ ps ≡ (a ++ s ∷ m ∷ rs) ++ w ∷ ps

@@ -9,23 +9,21 @@ use Rattle.pbf_frame.specs.declared.stop.Stop.{Stop}
 use Rattle.pbf_frame.specs.declared.stop.Stop.TheVariants as stop
 use Rattle.pbf_frame.specs.Devices.{HasRisen}
 use Rattle.pbf_frame.specs.Verdict.{Verdict}
-use Rattle.pbf_wire.specs.declared.fault.Fault.{Fault}
 use Rattle.pbfcut_cli.specs.declared.endings.Ending.{Ending}
 use Rattle.pbfcut_cli.specs.declared.endings.Ending.TheVariants as ending
 use Rattle.pbfcut_cli.specs.declared.programs.Program.{Program}
 use Rattle.pbfcut_cli.specs.declared.programs.Program.TheVariants.{Pbfcut, Pbfcutz}
 use Rattle.pbfcut_program.specs.declared.engine.Report.{Report}
 use Rattle.pbfcut_program.specs.declared.engine.Halted.{Halted}
-use Rattle.pbfcut_program.specs.Devices.{AnyFailed, AreFresh, CloseAll, Closes, EndsFor, Finishes, GiveAll, GiveLater, GivesOrNot, GivesOtherAt, IsAsked, IsFresh, StopsFor, Works}
+use Rattle.pbfcut_program.specs.Devices.{AnyFailed, AreFresh, ChangeIn, CloseAll, Closes, Finishes, GiveAll, GiveLater, GivesOrNot, GivesOtherAt, IsAsked, IsFresh, StopsFor, Works}
 use Rattle.pbfcut_program.specs.Events.{Event, Reading, Writing, read, wrote, then_all, then_one}
-use Rattle.pbfcut_program.specs.Fails.{Each, Fails, FailsFor, FailsToFinish, FailsToRead, FailsToWrite, FirstFault, Has, IsRefused, IsRefusedOf, TookNothing, readings}
-use Rattle.pbfcut_program.specs.Outcomes.{RefusesAs}
-use Rattle.pbfcut_program.specs.Manner.{AreDigests, Manner, manner, of_input, of_output}
+use Rattle.pbfcut_program.specs.Fails.{Each, Fails, FailsToFinish, FailsToRead, FailsToWrite, Has, Judging, Stops, TookNothing, UnlessPacked, judging, readings}
+use Rattle.pbfcut_program.specs.Manner.{AreDigests, Manner, manner, of_input, of_output, output_form}
 use Rattle.pbfcut_program.specs.Program.{digest_if_asked}
 use Rattle.pbfcut_program.specs.Readings.{IsOther, IsWholeOrSpared, IsWork, ReadAll, ReadLater}
 use Rattle.pbfcut_program.specs.Tasks.{Holds, Task, hashes_in, judge_of, spares}
 use Rattle.pbfcut_program.proofs.EventLemmas.{each_both, has_after, has_before, nothing_read, readings_both, readings_of}
-use Rattle.pbfcut_program.proofs.FailLemmas.{write_stops}
+use Rattle.pbfcut_program.proofs.FailLemmas.{stop_fails, unless_packed, write_stops}
 use Rattle.pbfcut_program.proofs.Logging.{and_then, then_none}
 
 -- what a feed gave
@@ -62,12 +60,7 @@ module _ {F : Type 0} (f : feed.Ghosts F) where
       let one = close_next known may first old now b l c.0 fresh.0 c.1 g.0 in
       let rest = close_later known false first olds news bs c.0 m fresh.1 c.2 g.1 in
       (one.0 ∷ rest.0, and_then l c.0 m (read one.0 ∷ []) (reads rest.0) one.1 rest.1, (one.2, rest.2), ap (λ n. suc n) rest.3)
-  close_later known may first [] [] (b ∷ bs) l m fresh c g = absurd g
-  close_later known may first [] (now ∷ news) [] l m fresh c g = absurd g
-  close_later known may first [] (now ∷ news) (b ∷ bs) l m fresh c g = absurd g
-  close_later known may first (old ∷ olds) [] [] l m fresh c g = absurd g
-  close_later known may first (old ∷ olds) [] (b ∷ bs) l m fresh c g = absurd g
-  close_later known may first (old ∷ olds) (now ∷ news) [] l m fresh c g = absurd g
+  close_later known may first _ _ _ l m fresh c g = absurd g
 
   -- each gave its file
   pub close_given : (known : List ℕ → Type 0) (may : Bool) (olds news : List F) (files : List (List ℕ)) (l m : Option (List Event)) → AreFresh f olds → CloseAll f news l m → GiveAll f known may olds news files
@@ -76,13 +69,7 @@ module _ {F : Type 0} (f : feed.Ghosts F) where
       let one = c.1.1 b g.0.passed in
       let rest = close_later known may b olds news bs c.0 m fresh.1 c.2 g.1 in
       (reading f now b ∷ rest.0, and_then l c.0 m (read (reading f now b) ∷ []) (reads rest.0) one rest.1, (record { are = refl; end = g.0.end; is_known = g.0.is_known }, rest.2), ap (λ n. suc n) rest.3)
-  close_given known may [] [] [] l m fresh c g = absurd g
-  close_given known may [] [] (b ∷ bs) l m fresh c g = absurd g
-  close_given known may [] (now ∷ news) [] l m fresh c g = absurd g
-  close_given known may [] (now ∷ news) (b ∷ bs) l m fresh c g = absurd g
-  close_given known may (old ∷ olds) [] [] l m fresh c g = absurd g
-  close_given known may (old ∷ olds) [] (b ∷ bs) l m fresh c g = absurd g
-  close_given known may (old ∷ olds) (now ∷ news) [] l m fresh c g = absurd g
+  close_given known may _ _ _ l m fresh c g = absurd g
 
   -- one of them failed
   close_failed : (olds news : List F) (l m : Option (List Event)) → AreFresh f olds → CloseAll f news l m → AnyFailed f olds news → (rs : List Reading) × (m ≡ then_all l (reads rs)) × Has FailsToRead (reads rs)
@@ -92,9 +79,7 @@ module _ {F : Type 0} (f : feed.Ghosts F) where
   close_failed (old ∷ olds) (now ∷ news) l m fresh c (inr later) =
       let rest = close_failed olds news c.0 m fresh.1 c.2 later in
       (reading f now c.1.0.0 ∷ rest.0, and_then l c.0 m (read (reading f now c.1.0.0) ∷ []) (reads rest.0) c.1.0.1 rest.1, inr rest.2)
-  close_failed [] [] l m fresh c g = absurd g
-  close_failed [] (now ∷ news) l m fresh c g = absurd g
-  close_failed (old ∷ olds) [] l m fresh c g = absurd g
+  close_failed _ _ l m fresh c g = absurd g
 
   -- one of them gave other bytes than a file: what was read before it, of it, and after it
   abbrev ReadOther : List ℕ → ℕ → ℕ → List Reading → Type 0
@@ -118,12 +103,7 @@ module _ {F : Type 0} (f : feed.Ghosts F) where
         and_then l c.0 m (read (reading f now c.1.0.0) ∷ []) (reads rest.0) c.1.0.1 rest.1,
         (reading f now c.1.0.0 ∷ found.0, found.1, found.2, ap (λ rs. reading f now c.1.0.0 ∷ rs) found.3, ap (λ n. suc n) found.4, found.5, one_more (length news) at found.2 found.6),
       )
-  close_other file zero [] [] l m fresh c g = absurd g
-  close_other file zero [] (now ∷ news) l m fresh c g = absurd g
-  close_other file zero (old ∷ olds) [] l m fresh c g = absurd g
-  close_other file (suc at) [] [] l m fresh c g = absurd g
-  close_other file (suc at) [] (now ∷ news) l m fresh c g = absurd g
-  close_other file (suc at) (old ∷ olds) [] l m fresh c g = absurd g
+  close_other file _ _ _ l m fresh c g = absurd g
 
 -- ---- what comes after the feeds
 
@@ -151,12 +131,50 @@ none_left (r ∷ rs) n at e h = absurd (some_left (length rs) n at e h) where
   some_left : (k n at : ℕ) → n ≡ at + 1 → n ≡ suc k + at + 1 → ⊥
   some_left k n at e h = omega (arith, e, h)
 
-module _ {F : Type 0} (f : feed.Ghosts F) (judge : Option (List ℕ) → Option Verdict) (took : List ℕ → Type 0) (failed : Type 0) (l m n : Option (List Event)) (tail : Ends took failed m n) where
-  abbrev StopFails : Stop → Type 0
-  StopFails s = (events : List Event) × (n ≡ then_all l events) × FailsFor Pbfcut (IsRefused judge) s events
+module _ {F : Type 0} (f : feed.Ghosts F) (packs digests : Bool) (judge : Option (List ℕ) → Option Verdict) (took : List ℕ → Type 0) (failed : Type 0) (l m n : Option (List Event)) (tail : Ends took failed m n) where
+  -- what is said, as events, of how a call of a program stopped, by what its feeds had
+  abbrev StopFails : Program → Stop → List F → Type 0
+  StopFails program s olds = (events : List Event) × (n ≡ then_all l events) × Stops (manner program packs digests) (judging judge) (map f.remaining olds) events s
 
-  pub stop_fails : (s : Stop) (olds news : List F) → AreFresh f olds → CloseAll f news l m → StopsFor f judge olds news (took []) failed s → StopFails s
-  stop_fails (stop.Refused e) (old ∷ olds) (now ∷ news) fresh c stops =
+  -- whatever happened
+  abbrev some : (news : List F) → CloseAll f news l m → List Event
+  some news c = reads (close_rest f news l m c).0 ++ tail.0.0
+
+  some_log : (news : List F) (c : CloseAll f news l m) → n ≡ then_all l (some news c)
+  some_log news c = and_then l m n (reads (close_rest f news l m c).0) tail.0.0 (close_rest f news l m c).1 tail.0.1
+
+  -- the first feed gave other bytes than a later one
+  change_fails : (pass : ℕ) (old now : F) (olds news : List F) → AreFresh f (old ∷ olds) → CloseAll f (now ∷ news) l m → ChangeIn f (took []) pass now olds news → StopFails Pbfcut (stop.Changed pass) (old ∷ olds)
+  change_fails pass old now olds news fresh c stops = by_last stops.last where
+    one : Reading
+    one = reading f now stops.file
+
+    rest : (rs : List Reading) × (m ≡ then_all c.0 (reads rs)) × ReadOther f stops.file stops.at (length news) rs
+    rest = close_other f stops.file stops.at olds news c.0 m fresh.1 c.2 stops.other
+
+    told : (es : List Event) → n ≡ then_all m es → readings es ≡ [] → ((rest.2.2 ≡ []) ⊎ Each TookNothing (reads (one ∷ rest.0) ++ es)) → StopFails Pbfcut (stop.Changed pass) (old ∷ olds)
+    told es log none last = (
+      reads (one ∷ rest.0) ++ es,
+      and_then l m n (reads (one ∷ rest.0)) es (and_then l c.0 m (read one ∷ []) (reads rest.0) (c.1.1 stops.file stops.first.passed) rest.1) log,
+      record {
+        first = one;
+        between = rest.2.0;
+        other = rest.2.1;
+        later = rest.2.2;
+        are = are_readings (one ∷ rest.0) es none ∙ ap (λ rs. one ∷ rs) rest.2.3;
+        pass_is = stops.pass_is ∙ ap (λ k. k + 2) rest.2.4;
+        whole = stops.first.end;
+        differs = rest.2.5;
+        last = last;
+      },
+    )
+
+    by_last : ((length news ≡ stops.at + 1) ⊎ took []) → StopFails Pbfcut (stop.Changed pass) (old ∷ olds)
+    by_last (inl last) = told tail.0.0 tail.0.1 tail.0.2 (inl (none_left rest.2.2 (length news) stops.at last rest.2.6))
+    by_last (inr nothing) = (let end = tail.1 nothing in told end.0 end.1 end.2 (inr (each_both _ (reads (one ∷ rest.0)) end.0 (nothing_read (one ∷ rest.0)) end.3)))
+
+  stop_told : (program : Program) (s : Stop) (olds news : List F) → AreFresh f olds → CloseAll f news l m → StopsFor program f judge olds news (took []) (UnlessPacked (output_form packs program) failed) s → StopFails program s olds
+  stop_told Pbfcut (stop.Refused e) (old ∷ olds) (now ∷ news) fresh c stops =
       let rest = close_rest f news c.0 m c.2 in
       let end = tail.1 stops.1 in
       let bytes = stops.0.bytes in
@@ -166,106 +184,28 @@ module _ {F : Type 0} (f : feed.Ghosts F) (judge : Option (List ℕ) → Option 
         and_then l m n (reads (one ∷ rest.0)) end.0 all end.1,
         record { first = one; later = rest.0; are = are_readings (one ∷ rest.0) end.0 end.2; faulty = stops.0.faulty; nothing = each_both _ (reads (one ∷ rest.0)) end.0 (nothing_read (one ∷ rest.0)) end.3 },
       )
-  stop_fails (stop.Refused e) [] [] fresh c stops = absurd stops.0
-  stop_fails (stop.Refused e) [] (now ∷ news) fresh c stops = absurd stops.0
-  stop_fails (stop.Refused e) (old ∷ olds) [] fresh c stops = absurd stops.0
-  stop_fails stop.Read olds news fresh c stops =
+  stop_told Pbfcut (stop.Refused e) _ _ fresh c stops = absurd stops.0
+  stop_told Pbfcutz (stop.Refused e) olds news fresh c stops =
+      let rest = close_rest f news l m c in
+      let end = tail.1 stops.1 in
+      (reads rest.0 ++ end.0, and_then l m n (reads rest.0) end.0 rest.1 end.1, (stops.0, each_both _ (reads rest.0) end.0 (nothing_read rest.0) end.3))
+  stop_told program stop.Read olds news fresh c stops =
       let rest = close_failed f olds news l m fresh c stops in
       (reads rest.0 ++ tail.0.0, and_then l m n (reads rest.0) tail.0.0 rest.1 tail.0.1, has_before _ (reads rest.0) tail.0.0 rest.2)
-  stop_fails stop.Write olds news fresh c stops =
-      let rest = close_rest f news l m c in
-      (reads rest.0 ++ tail.0.0, and_then l m n (reads rest.0) tail.0.0 rest.1 tail.0.1, has_after _ (reads rest.0) tail.0.0 (tail.0.3 stops))
-  stop_fails stop.Memory olds news fresh c stops =
-      let rest = close_rest f news l m c in
-      (reads rest.0 ++ tail.0.0, and_then l m n (reads rest.0) tail.0.0 rest.1 tail.0.1, tt)
-  stop_fails (stop.Changed pass) (old ∷ olds) (now ∷ news) fresh c stops = by_last stops.last where
-    one : Reading
-    one = reading f now stops.file
-
-    rest : (rs : List Reading) × (m ≡ then_all c.0 (reads rs)) × ReadOther f stops.file stops.at (length news) rs
-    rest = close_other f stops.file stops.at olds news c.0 m fresh.1 c.2 stops.other
-
-    all : m ≡ then_all l (reads (one ∷ rest.0))
-    all = and_then l c.0 m (read one ∷ []) (reads rest.0) (c.1.1 stops.file stops.first.passed) rest.1
-
-    by_last : ((length news ≡ stops.at + 1) ⊎ took []) → StopFails (stop.Changed pass)
-    by_last (inl last) = (
-      reads (one ∷ rest.0) ++ tail.0.0,
-      and_then l m n (reads (one ∷ rest.0)) tail.0.0 all tail.0.1,
-      record {
-        first = one;
-        between = rest.2.0;
-        other = rest.2.1;
-        later = rest.2.2;
-        are = are_readings (one ∷ rest.0) tail.0.0 tail.0.2 ∙ ap (λ rs. one ∷ rs) rest.2.3;
-        pass_is = stops.pass_is ∙ ap (λ k. k + 2) rest.2.4;
-        whole = stops.first.end;
-        differs = rest.2.5;
-        last = inl (none_left rest.2.2 (length news) stops.at last rest.2.6);
-      },
-    )
-    by_last (inr nothing) =
-        let end = tail.1 nothing in (
-          reads (one ∷ rest.0) ++ end.0,
-          and_then l m n (reads (one ∷ rest.0)) end.0 all end.1,
-          record {
-            first = one;
-            between = rest.2.0;
-            other = rest.2.1;
-            later = rest.2.2;
-            are = are_readings (one ∷ rest.0) end.0 end.2 ∙ ap (λ rs. one ∷ rs) rest.2.3;
-            pass_is = stops.pass_is ∙ ap (λ k. k + 2) rest.2.4;
-            whole = stops.first.end;
-            differs = rest.2.5;
-            last = inr (each_both _ (reads (one ∷ rest.0)) end.0 (nothing_read (one ∷ rest.0)) end.3);
-          },
-        )
-  stop_fails (stop.Changed pass) [] [] fresh c stops = absurd stops
-  stop_fails (stop.Changed pass) [] (now ∷ news) fresh c stops = absurd stops
-  stop_fails (stop.Changed pass) (old ∷ olds) [] fresh c stops = absurd stops
-
-  -- whatever happened
-  some_events : (news : List F) → CloseAll f news l m → (events : List Event) × (n ≡ then_all l events)
-  some_events news c =
-      let rest = close_rest f news l m c in
-      (reads rest.0 ++ tail.0.0, and_then l m n (reads rest.0) tail.0.0 rest.1 tail.0.1)
-
-  end_fails : (how : Ending) (olds news : List F) → AreFresh f olds → CloseAll f news l m → EndsFor f judge olds news (took []) failed how → (events : List Event) × (n ≡ then_all l events) × Fails Pbfcut (IsRefused judge) how events
-  end_fails (ending.Stopped s) olds news fresh c e = stop_fails s olds news fresh c e
-  end_fails ending.CannotOpen olds news fresh c e = absurd e
-  end_fails ending.IsPipe olds news fresh c e = absurd e
-  end_fails ending.OutExists olds news fresh c e = absurd e
-  end_fails (ending.Polygon x) olds news fresh c e = absurd e
-  end_fails (ending.Words t) olds news fresh c e = absurd e
-  end_fails ending.NotText olds news fresh c e = absurd e
-  end_fails (ending.Box b) olds news fresh c e = absurd e
-  end_fails (ending.Choice b) olds news fresh c e = absurd e
-  end_fails (ending.RefusedPacked r) olds news fresh c e = absurd e
-
-pub packed_fails : (refused : Fault → Type 0) (by : Fault → List Event → Type 0) (how : Ending) (events : List Event) → ((e : Fault) → refused e → by e events) → RefusesAs refused how → Fails Pbfcutz by how events
-packed_fails refused by (ending.Stopped (stop.Refused e)) events step f = step e f
-packed_fails refused by (ending.Stopped stop.Read) events step f = tt
-packed_fails refused by (ending.Stopped stop.Write) events step f = tt
-packed_fails refused by (ending.Stopped stop.Memory) events step f = tt
-packed_fails refused by (ending.Stopped (stop.Changed p)) events step f = tt
-packed_fails refused by (ending.RefusedPacked r) events step f = (f.0, f.1, step f.0 f.2)
-packed_fails refused by ending.CannotOpen events step f = absurd f
-packed_fails refused by ending.IsPipe events step f = absurd f
-packed_fails refused by ending.OutExists events step f = absurd f
-packed_fails refused by (ending.Polygon x) events step f = absurd f
-packed_fails refused by (ending.Words t) events step f = absurd f
-packed_fails refused by ending.NotText events step f = absurd f
-packed_fails refused by (ending.Box b) events step f = absurd f
-packed_fails refused by (ending.Choice b) events step f = absurd f
+  stop_told program stop.Write olds news fresh c stops =
+      (some news c, some_log news c, unless_packed (output_form packs program) failed _ (λ x. has_after _ (reads (close_rest f news l m c).0) tail.0.0 (tail.0.3 x)) stops)
+  stop_told program stop.Memory olds news fresh c stops = (some news c, some_log news c, tt)
+  stop_told Pbfcut (stop.Changed pass) (old ∷ olds) (now ∷ news) fresh c stops = change_fails pass old now olds news fresh c stops
+  stop_told Pbfcut (stop.Changed pass) _ _ fresh c stops = absurd stops
+  stop_told Pbfcutz (stop.Changed pass) olds news fresh c stops = (some news c, some_log news c, stops)
 
 -- a call stopped, and all devices were returned
 pub work_fails : (program : Program) (packs digests : Bool) {F : Type 0} (f : feed.Ghosts F) (task : Task) (took : List ℕ → Type 0) (failed : Type 0) (l m n : Option (List Event)) (olds news : List F) (halted : Halted)
     → Ends took failed m n → AreFresh f olds → CloseAll f news l m → Works (manner program packs digests) f task olds news took failed (Err halted)
-    → (events : List Event) × (n ≡ then_all l events) × Fails program (IsRefusedOf program (judge_of task) (map f.remaining olds)) halted.ending events
-work_fails Pbfcut packs digests f task took failed l m n olds news halted tail fresh c works = end_fails f (judge_of task) took failed l m n tail halted.ending olds news fresh c works
-work_fails Pbfcutz packs digests f task took failed l m n olds news halted tail fresh c works =
-    let some = some_events f (judge_of task) took failed l m n tail news c in
-    (some.0, some.1, packed_fails (λ e. FirstFault (judge_of task) e (map f.remaining olds)) (IsRefusedOf Pbfcutz (judge_of task) (map f.remaining olds)) halted.ending some.0 (λ e r. r) works)
+    → (events : List Event) × (n ≡ then_all l events) × Fails (manner program packs digests) (judging (judge_of task)) (map f.remaining olds) halted.ending events
+work_fails program packs digests f task took failed l m n olds news halted tail fresh c works =
+    let told = stop_told f packs digests (judge_of task) took failed l m n tail program works.0 olds news fresh c works.2 in
+    (told.0, told.1, stop_fails (manner program packs digests) (judging (judge_of task)) (map f.remaining olds) halted.ending told.0 works.0 works.1 told.2)
 
 -- ---- what it does
 
@@ -329,7 +269,7 @@ if_done f d out went by task took failed l m n olds news (Err halted) fresh c fi
 
 pub if_fails : (program : Program) (packs digests : Bool) {F : Type 0} (f : feed.Ghosts F) (task : Task) (took : List ℕ → Type 0) (failed : Type 0) (l m n : Option (List Event)) (olds news : List F) (outcome : Result Report Halted)
     → Ends took failed m n → AreFresh f olds → CloseAll f news l m → Works (manner program packs digests) f task olds news took failed outcome
-    → IfErr outcome (λ halted. (events : List Event) × (n ≡ then_all l events) × Fails program (IsRefusedOf program (judge_of task) (map f.remaining olds)) halted.ending events)
+    → IfErr outcome (λ halted. (events : List Event) × (n ≡ then_all l events) × Fails (manner program packs digests) (judging (judge_of task)) (map f.remaining olds) halted.ending events)
 if_fails program packs digests f task took failed l m n olds news (Ok report) tail fresh c works = tt
 if_fails program packs digests f task took failed l m n olds news (Err halted) tail fresh c works = work_fails program packs digests f task took failed l m n olds news halted tail fresh c works
 
@@ -341,6 +281,6 @@ hashed_as false (Some known) w is asked = absurd asked
 hashed_as false None w is asked = refl
 
 -- not all went out, or OUT didn't get its name
-pub keep_fails : (program : Program) (refused : Fault → List Event → Type 0) (how : Ending) (events : List Event) → ((how ≡ ending.Stopped stop.Write) ⊎ (how ≡ ending.OutExists)) → Has FailsToWrite events → Has FailsToFinish events → Fails program refused how events
-keep_fails program refused how events (inl e) written finished = subst (λ h. Fails program refused h events) (sym e) (write_stops program refused events written)
-keep_fails program refused how events (inr e) written finished = subst (λ h. Fails program refused h events) (sym e) (inr finished)
+pub keep_fails : (m : Manner) (j : Judging) (has : List (Option (List ℕ))) (how : Ending) (events : List Event) → ((how ≡ ending.Stopped stop.Write) ⊎ (how ≡ ending.OutExists)) → Has FailsToWrite events → Has FailsToFinish events → Fails m j has how events
+keep_fails m j has how events (inl e) written finished = subst (λ h. Fails m j has h events) (sym e) (write_stops m j has events written)
+keep_fails m j has how events (inr e) written finished = subst (λ h. Fails m j has h events) (sym e) (inr finished)

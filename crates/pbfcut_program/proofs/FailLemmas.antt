@@ -1,16 +1,17 @@
 -- Why commands fail, put together.
-use Rattle.std.proofs.Common.{◌≡◌, ◌⊎◌, inl, inr, ℕ, List, ◌∷◌, ◌++◌, Bool, true, false, refl, IfErr, OnOk, Option, Result, Ok, Err, sym, subst, ◌∙◌}
+use Rattle.std.proofs.Common.{◌≡◌, ◌⊎◌, inl, inr, ℕ, ◌+◌, List, [], ◌∷◌, ◌++◌, Bool, true, false, refl, IfErr, OnOk, Option, Result, Ok, Err, sym, subst, ◌∙◌}
 use Rattle.pbf_frame.specs.Verdict.{Verdict}
 use Rattle.pbf_frame.specs.declared.stop.Stop.{Stop}
 use Rattle.pbf_frame.specs.declared.stop.Stop.TheVariants as stop
+use Rattle.pbf_pass.specs.Stops.{Caused}
 use Rattle.pbf_wire.specs.declared.fault.Fault.{Fault}
-use Rattle.pbfcut_cli.specs.declared.packed.PackedRefusal.{PackedRefusal}
 use Rattle.pbfcut_cli.specs.declared.endings.Ending.{Ending}
 use Rattle.pbfcut_cli.specs.declared.endings.Ending.TheVariants as ending
 use Rattle.pbfcut_cli.specs.declared.programs.Program.{Program}
 use Rattle.pbfcut_cli.specs.declared.programs.Program.TheVariants.{Pbfcut, Pbfcutz}
-use Rattle.pbfcut_program.specs.Events.{Event, opened, then_all}
-use Rattle.pbfcut_program.specs.Fails.{CauseOfOpening, Each, Fails, FailsFor, FailsOpening, FailsPacked, FailsPrinting, FailsToWrite, Has, IsRefused, IsRefusedBy, IsRefusedOf, Quiet, TookNothing}
+use Rattle.pbfcut_program.specs.Events.{Event, then_all}
+use Rattle.pbfcut_program.specs.Fails.{CauseOfOpening, Each, EndsAsStop, Fails, FailsFor, FailsOpening, FailsPrinting, FailsToRead, FailsToWrite, Has, IsChangedBy, IsRefusedBy, Judging, Opens, Quiet, Stops, TookNothing, UnlessPacked, glancing, judging, listing, readings}
+use Rattle.pbfcut_program.specs.Manner.{Form, Manner, output_form, packed_file, raw_file}
 use Rattle.pbfcut_program.specs.declared.engine.Halted.{Halted}
 use Rattle.pbfcut_program.specs.Outcomes.{EndsAs}
 use Rattle.pbfcut_program.specs.Telling.{Tells, TellsQuietly}
@@ -25,192 +26,128 @@ cause_after ending.IsPipe xs ys c = has_after _ xs ys c
 cause_after ending.OutExists xs ys c = has_after _ xs ys c
 cause_after (ending.Polygon f) xs ys c = has_after _ xs ys c
 cause_after (ending.Stopped stop.Memory) xs ys c = tt
-cause_after (ending.Stopped stop.Read) xs ys c = absurd c
-cause_after (ending.Stopped stop.Write) xs ys c = absurd c
-cause_after (ending.Stopped (stop.Refused e)) xs ys c = absurd c
-cause_after (ending.Stopped (stop.Changed p)) xs ys c = absurd c
-cause_after (ending.Words t) xs ys c = absurd c
-cause_after ending.NotText xs ys c = absurd c
-cause_after (ending.Box b) xs ys c = absurd c
-cause_after (ending.Choice b) xs ys c = absurd c
-cause_after (ending.RefusedPacked r) xs ys c = absurd c
+cause_after _ xs ys c = absurd c
 
 pub opening_after : (how : Ending) (xs ys : List Event) → Each Quiet xs → FailsOpening how ys → FailsOpening how (xs ++ ys)
 opening_after how xs ys quiet f = (each_both _ xs ys quiet f.0, cause_after how xs ys f.1)
 
-memory_fails : (program : Program) (refused : Fault → List Event → Type 0) (events : List Event) → FailsFor program refused stop.Memory events
-memory_fails Pbfcut refused events = tt
-memory_fails Pbfcutz refused events = tt
+-- ---- causes
 
-write_fails : (program : Program) (refused : Fault → List Event → Type 0) (events : List Event) → Has FailsToWrite events → FailsFor program refused stop.Write events
-write_fails Pbfcut refused events h = h
-write_fails Pbfcutz refused events h = tt
+-- each of them has others, which are weaker
+pub caused_weaker : (refused also : Fault → Type 0) (read more wrote out : Type 0) (changed too : ℕ → Type 0) (s : Stop) → ((e : Fault) → refused e → also e) → (read → more) → (wrote → out) → ((pass : ℕ) → changed pass → too pass) → Caused refused read wrote changed s → Caused also more out too s
+caused_weaker refused also read more wrote out changed too (stop.Refused e) r m o t c = r e c
+caused_weaker refused also read more wrote out changed too stop.Read r m o t c = m c
+caused_weaker refused also read more wrote out changed too stop.Write r m o t c = o c
+caused_weaker refused also read more wrote out changed too stop.Memory r m o t c = tt
+caused_weaker refused also read more wrote out changed too (stop.Changed p) r m o t c = t p c
 
-pub opening_fails : (program : Program) (refused : Fault → List Event → Type 0) (how : Ending) (events : List Event) → FailsOpening how events → Fails program refused how events
-opening_fails program refused ending.CannotOpen events f = (f.1, nothing_in events f.0)
-opening_fails program refused ending.IsPipe events f = (f.1, nothing_in events f.0)
-opening_fails program refused ending.OutExists events f = inl (f.1, nothing_in events f.0)
-opening_fails program refused (ending.Polygon e) events f = (f.1, nothing_in events f.0)
-opening_fails program refused (ending.Stopped stop.Memory) events f = memory_fails program refused events
-opening_fails program refused (ending.Stopped stop.Read) events f = absurd f.1
-opening_fails program refused (ending.Stopped stop.Write) events f = absurd f.1
-opening_fails program refused (ending.Stopped (stop.Refused e)) events f = absurd f.1
-opening_fails program refused (ending.Stopped (stop.Changed p)) events f = absurd f.1
-opening_fails program refused (ending.Words t) events f = absurd f.1
-opening_fails program refused ending.NotText events f = absurd f.1
-opening_fails program refused (ending.Box b) events f = absurd f.1
-opening_fails program refused (ending.Choice b) events f = absurd f.1
-opening_fails program refused (ending.RefusedPacked r) events f = absurd f.1
+pub unless_packed : (form : Form) (said also : Type 0) → (said → also) → UnlessPacked form said → UnlessPacked form also
+unless_packed raw_file said also to x = to x
+unless_packed packed_file said also to x = tt
 
--- ---- after quiet events
+unless_said : (form : Form) (said : Type 0) → said → UnlessPacked form said
+unless_said raw_file said x = x
+unless_said packed_file said x = tt
 
-pub refused_after : (judge : Option (List ℕ) → Option Verdict) (e : Fault) (xs ys : List Event) → Each Quiet xs → IsRefused judge e ys → IsRefused judge e (xs ++ ys)
-refused_after judge e xs ys q r = record {
-  first = r.first;
-  later = r.later;
-  are = readings_after xs ys q ∙ r.are;
-  faulty = r.faulty;
-  nothing = each_both _ xs ys (nothing_in xs q) r.nothing;
-}
+-- a stop is how a command fails
+pub stop_fails : (m : Manner) (j : Judging) (has : List (Option (List ℕ))) (how : Ending) (events : List Event) (s : Stop) → EndsAsStop m.program s how → Stops m j has events s → Fails m j has how events
+stop_fails m j has (ending.Stopped t) events s is c = (s, is, c)
+stop_fails m j has (ending.RefusedPacked r) events s is c = (s, is, c)
+stop_fails m j has _ events s is c = absurd is
 
--- a refusal by a program, after more events
-pub by_after : (program : Program) (judge : Option (List ℕ) → Option Verdict) (e : Fault) (xs ys : List Event) → Each Quiet xs → IsRefusedBy program judge e ys → IsRefusedBy program judge e (xs ++ ys)
-by_after Pbfcut judge e xs ys q r = refused_after judge e xs ys q r
-by_after Pbfcutz judge e xs ys q r = has_after _ xs ys r
+memory_stops : (m : Manner) (j : Judging) (has : List (Option (List ℕ))) (events : List Event) → Stops m j has events stop.Memory
+memory_stops m (judging judge) has events = tt
+memory_stops m listing has events = tt
+memory_stops m glancing has events = tt
 
--- after those in which IN was opened
-pub by_opened : (program : Program) (judge : Option (List ℕ) → Option Verdict) (input : List ℕ) (h : Option (List ℕ)) (hs : List (Option (List ℕ))) (e : Fault) (xs ys : List Event) → Each Quiet xs → IsRefusedOf program judge (h ∷ hs) e ys → IsRefusedBy program judge e ((opened input 1 h ∷ xs) ++ ys)
-by_opened Pbfcut judge input h hs e xs ys q r = refused_after judge e (opened input 1 h ∷ xs) ys (tt, q) r
-by_opened Pbfcutz judge input h hs e xs ys q r = inl (refl, r)
+write_caused : (m : Manner) (j : Judging) (has : List (Option (List ℕ))) (events : List Event) → Has FailsToWrite events → Stops m j has events stop.Write
+write_caused m (judging judge) has events h = unless_said (output_form m.packs m.program) (Has FailsToWrite events) h
+write_caused m listing has events h = h
+write_caused m glancing has events h = tt
 
-last_after : (xs ys : List Event) (X : Type 0) → Each Quiet xs → (X ⊎ Each TookNothing ys) → (X ⊎ Each TookNothing (xs ++ ys))
-last_after xs ys X q (inl x) = inl x
-last_after xs ys X q (inr n) = inr (each_both _ xs ys (nothing_in xs q) n)
+memory_fails : (m : Manner) (j : Judging) (has : List (Option (List ℕ))) (events : List Event) → Fails m j has (ending.Stopped stop.Memory) events
+memory_fails m j has events = (stop.Memory, refl, memory_stops m j has events)
 
--- a refusal of what happened later is one of all that happened
-abbrev pub Leads : (later refused : Fault → List Event → Type 0) → (xs ys : List Event) → Type 0
-Leads later refused xs ys = (e : Fault) → later e ys → refused e (xs ++ ys)
+pub write_stops : (m : Manner) (j : Judging) (has : List (Option (List ℕ))) (events : List Event) → Has FailsToWrite events → Fails m j has (ending.Stopped stop.Write) events
+write_stops m j has events h = (stop.Write, refl, write_caused m j has events h)
 
-stop_after : (program : Program) (later refused : Fault → List Event → Type 0) (s : Stop) (xs ys : List Event) → Leads later refused xs ys → Each Quiet xs → FailsFor program later s ys → FailsFor program refused s (xs ++ ys)
-stop_after Pbfcut later refused (stop.Refused e) xs ys keeps q f = keeps e f
-stop_after Pbfcut later refused stop.Read xs ys keeps q f = has_after _ xs ys f
-stop_after Pbfcut later refused stop.Write xs ys keeps q f = has_after _ xs ys f
-stop_after Pbfcut later refused stop.Memory xs ys keeps q f = tt
-stop_after Pbfcut later refused (stop.Changed p) xs ys keeps q f = record {
-  first = f.first;
-  between = f.between;
-  other = f.other;
-  later = f.later;
-  are = readings_after xs ys q ∙ f.are;
-  pass_is = f.pass_is;
-  whole = f.whole;
-  differs = f.differs;
-  last = last_after xs ys _ q f.last;
-}
-stop_after Pbfcutz later refused (stop.Refused e) xs ys keeps q f = keeps e f
-stop_after Pbfcutz later refused stop.Read xs ys keeps q f = tt
-stop_after Pbfcutz later refused stop.Write xs ys keeps q f = tt
-stop_after Pbfcutz later refused stop.Memory xs ys keeps q f = tt
-stop_after Pbfcutz later refused (stop.Changed p) xs ys keeps q f = tt
+-- before IN was opened
+pub fails_early : (m : Manner) (j : Judging) (how : Ending) (events : List Event) → Fails m j [] how events → FailsFor m j how events
+fails_early m j how events f = record { has = []; opens = tt; why = f }
 
-packed_after : (program : Program) (later refused : Fault → List Event → Type 0) (r : PackedRefusal) (xs ys : List Event) → Leads later refused xs ys → FailsPacked program later r ys → FailsPacked program refused r (xs ++ ys)
-packed_after Pbfcut later refused r xs ys keeps f = absurd f
-packed_after Pbfcutz later refused r xs ys keeps f = (f.0, f.1, keeps f.0 f.2)
+pub opening_fails : (m : Manner) (j : Judging) (how : Ending) (events : List Event) → FailsOpening how events → FailsFor m j how events
+opening_fails m j how events f = fails_early m j how events (of how f) where
+  of : (h : Ending) → FailsOpening h events → Fails m j [] h events
+  of ending.CannotOpen f = (f.1, nothing_in events f.0)
+  of ending.IsPipe f = (f.1, nothing_in events f.0)
+  of ending.OutExists f = inl (f.1, nothing_in events f.0)
+  of (ending.Polygon e) f = (f.1, nothing_in events f.0)
+  of (ending.Stopped stop.Memory) f = memory_fails m j [] events
+  of _ f = absurd f.1
 
-exists_after : (xs ys : List Event) (p q : Event → Type 0) → Each Quiet xs → ((Has p ys × Each TookNothing ys) ⊎ Has q ys) → ((Has p (xs ++ ys) × Each TookNothing (xs ++ ys)) ⊎ Has q (xs ++ ys))
-exists_after xs ys p q quiet (inl f) = inl (has_after _ xs ys f.0, each_both _ xs ys (nothing_in xs quiet) f.1)
-exists_after xs ys p q quiet (inr f) = inr (has_after _ xs ys f)
+-- ---- among quiet events
 
-pub fails_after : (program : Program) (later refused : Fault → List Event → Type 0) (how : Ending) (xs ys : List Event) → Leads later refused xs ys → Each Quiet xs → Fails program later how ys → Fails program refused how (xs ++ ys)
-fails_after program later refused (ending.Stopped s) xs ys keeps q f = stop_after program later refused s xs ys keeps q f
-fails_after program later refused (ending.RefusedPacked r) xs ys keeps q f = packed_after program later refused r xs ys keeps f
-fails_after program later refused ending.CannotOpen xs ys keeps q f = (has_after _ xs ys f.0, each_both _ xs ys (nothing_in xs q) f.1)
-fails_after program later refused ending.IsPipe xs ys keeps q f = (has_after _ xs ys f.0, each_both _ xs ys (nothing_in xs q) f.1)
-fails_after program later refused ending.OutExists xs ys keeps q f = exists_after xs ys _ _ q f
-fails_after program later refused (ending.Polygon e) xs ys keeps q f = (has_after _ xs ys f.0, each_both _ xs ys (nothing_in xs q) f.1)
-fails_after program later refused (ending.Words t) xs ys keeps q f = absurd f
-fails_after program later refused ending.NotText xs ys keeps q f = absurd f
-fails_after program later refused (ending.Box b) xs ys keeps q f = absurd f
-fails_after program later refused (ending.Choice b) xs ys keeps q f = absurd f
+-- what holds of events holds of more that read and write the same
+module _ (xs ys : List Event) (keeps : (p : Event → Type 0) → Has p xs → Has p ys) (nothing : Each TookNothing xs → Each TookNothing ys) (same : readings ys ≡ readings xs) where
+  refused_in : (program : Program) (judge : Option (List ℕ) → Option Verdict) (has : List (Option (List ℕ))) (e : Fault) → IsRefusedBy program judge has e xs → IsRefusedBy program judge has e ys
+  refused_in Pbfcut judge has e r = record { first = r.first; later = r.later; are = same ∙ r.are; faulty = r.faulty; nothing = nothing r.nothing }
+  refused_in Pbfcutz judge has e r = (r.0, nothing r.1)
 
--- ---- before quiet events
+  last_in : (X : Type 0) → (X ⊎ Each TookNothing xs) → (X ⊎ Each TookNothing ys)
+  last_in X (inl x) = inl x
+  last_in X (inr n) = inr (nothing n)
 
-last_before : (xs ys : List Event) (X : Type 0) → Each Quiet ys → (X ⊎ Each TookNothing xs) → (X ⊎ Each TookNothing (xs ++ ys))
-last_before xs ys X q (inl x) = inl x
-last_before xs ys X q (inr n) = inr (each_both _ xs ys n (nothing_in ys q))
+  changed_in : (program : Program) (has : List (Option (List ℕ))) (pass : ℕ) → IsChangedBy program has pass xs → IsChangedBy program has pass ys
+  changed_in Pbfcut has pass c = record { first = c.first; between = c.between; other = c.other; later = c.later; are = same ∙ c.are; pass_is = c.pass_is; whole = c.whole; differs = c.differs; last = last_in _ c.last }
+  changed_in Pbfcutz has pass c = c
 
-pub refused_before : (judge : Option (List ℕ) → Option Verdict) (e : Fault) (xs ys : List Event) → Each Quiet ys → IsRefused judge e xs → IsRefused judge e (xs ++ ys)
-refused_before judge e xs ys q f = record {
-  first = f.first;
-  later = f.later;
-  are = readings_before xs ys (readings_of_quiet ys q) ∙ f.are;
-  faulty = f.faulty;
-  nothing = each_both _ xs ys f.nothing (nothing_in ys q);
-}
+  stops_in : (m : Manner) (j : Judging) (has : List (Option (List ℕ))) (s : Stop) → Stops m j has xs s → Stops m j has ys s
+  stops_in m (judging judge) has s c =
+      caused_weaker _ _ _ _ _ _ _ _ s (refused_in m.program judge has) (keeps FailsToRead) (unless_packed (output_form m.packs m.program) (Has FailsToWrite xs) (Has FailsToWrite ys) (keeps FailsToWrite)) (changed_in m.program has) c
+  stops_in m listing has s c = caused_weaker _ _ _ _ _ _ _ _ s (λ e r. r) (keeps FailsToRead) (keeps FailsToWrite) (λ p n. n) c
+  stops_in m glancing has s c = tt
 
--- a refusal that quiet events after it don't change
-abbrev pub Stays : (Fault → List Event → Type 0) → Type 0
-Stays refused = (e : Fault) (xs ys : List Event) → Each Quiet ys → refused e xs → refused e (xs ++ ys)
+  exists_in : (p q : Event → Type 0) → ((Has p xs × Each TookNothing xs) ⊎ Has q xs) → ((Has p ys × Each TookNothing ys) ⊎ Has q ys)
+  exists_in p q (inl f) = inl (keeps p f.0, nothing f.1)
+  exists_in p q (inr f) = inr (keeps q f)
 
-pub by_stays : (program : Program) (judge : Option (List ℕ) → Option Verdict) → Stays (IsRefusedBy program judge)
-by_stays Pbfcut judge e xs ys q f = refused_before judge e xs ys q f
-by_stays Pbfcutz judge e xs ys q f = has_before _ xs ys f
+  fails_in : (m : Manner) (j : Judging) (has : List (Option (List ℕ))) (how : Ending) → Fails m j has how xs → Fails m j has how ys
+  fails_in m j has ending.CannotOpen f = (keeps _ f.0, nothing f.1)
+  fails_in m j has ending.IsPipe f = (keeps _ f.0, nothing f.1)
+  fails_in m j has ending.OutExists f = exists_in _ _ f
+  fails_in m j has (ending.Polygon e) f = (keeps _ f.0, nothing f.1)
+  fails_in m j has how f = (f.0, f.1, stops_in m j has f.0 f.2)
 
-pub of_stays : (program : Program) (judge : Option (List ℕ) → Option Verdict) (has : List (Option (List ℕ))) → Stays (IsRefusedOf program judge has)
-of_stays Pbfcut judge has e xs ys q f = refused_before judge e xs ys q f
-of_stays Pbfcutz judge has e xs ys q f = f
+pub fails_after : (m : Manner) (j : Judging) (has : List (Option (List ℕ))) (how : Ending) (xs ys : List Event) → Each Quiet xs → Fails m j has how ys → Fails m j has how (xs ++ ys)
+fails_after m j has how xs ys q f = fails_in ys (xs ++ ys) (λ p. has_after p xs ys) (each_both _ xs ys (nothing_in xs q)) (readings_after xs ys q) m j has how f
 
-stop_before : (program : Program) (refused : Fault → List Event → Type 0) → Stays refused → (s : Stop) (xs ys : List Event) → Each Quiet ys → FailsFor program refused s xs → FailsFor program refused s (xs ++ ys)
-stop_before Pbfcut refused stays (stop.Refused e) xs ys q f = stays e xs ys q f
-stop_before Pbfcut refused stays stop.Read xs ys q f = has_before _ xs ys f
-stop_before Pbfcut refused stays stop.Write xs ys q f = has_before _ xs ys f
-stop_before Pbfcut refused stays stop.Memory xs ys q f = tt
-stop_before Pbfcut refused stays (stop.Changed p) xs ys q f = record {
-  first = f.first;
-  between = f.between;
-  other = f.other;
-  later = f.later;
-  are = readings_before xs ys (readings_of_quiet ys q) ∙ f.are;
-  pass_is = f.pass_is;
-  whole = f.whole;
-  differs = f.differs;
-  last = last_before xs ys _ q f.last;
-}
-stop_before Pbfcutz refused stays (stop.Refused e) xs ys q f = stays e xs ys q f
-stop_before Pbfcutz refused stays stop.Read xs ys q f = tt
-stop_before Pbfcutz refused stays stop.Write xs ys q f = tt
-stop_before Pbfcutz refused stays stop.Memory xs ys q f = tt
-stop_before Pbfcutz refused stays (stop.Changed p) xs ys q f = tt
+fails_before : (m : Manner) (j : Judging) (has : List (Option (List ℕ))) (how : Ending) (xs ys : List Event) → Each Quiet ys → Fails m j has how xs → Fails m j has how (xs ++ ys)
+fails_before m j has how xs ys q f = fails_in xs (xs ++ ys) (λ p. has_before p xs ys) (λ n. each_both _ xs ys n (nothing_in ys q)) (readings_before xs ys (readings_of_quiet ys q)) m j has how f
 
-packed_before : (program : Program) (refused : Fault → List Event → Type 0) → Stays refused → (r : PackedRefusal) (xs ys : List Event) → Each Quiet ys → FailsPacked program refused r xs → FailsPacked program refused r (xs ++ ys)
-packed_before Pbfcut refused stays r xs ys q f = absurd f
-packed_before Pbfcutz refused stays r xs ys q f = (f.0, f.1, stays f.0 xs ys q f.2)
+-- ---- after those in which IN was opened
 
-exists_before : (xs ys : List Event) (p q : Event → Type 0) → Each Quiet ys → ((Has p xs × Each TookNothing xs) ⊎ Has q xs) → ((Has p (xs ++ ys) × Each TookNothing (xs ++ ys)) ⊎ Has q (xs ++ ys))
-exists_before xs ys p q quiet (inl f) = inl (has_before _ xs ys f.0, each_both _ xs ys f.1 (nothing_in ys quiet))
-exists_before xs ys p q quiet (inr f) = inr (has_before _ xs ys f)
+pub opens_after : (pass : ℕ) (has : List (Option (List ℕ))) (xs ys : List Event) → Opens pass has ys → Opens pass has (xs ++ ys)
+opens_after pass [] xs ys o = tt
+opens_after pass (h ∷ has) xs ys o = (has_after _ xs ys o.0, opens_after (pass + 1) has xs ys o.1)
 
-fails_before : (program : Program) (refused : Fault → List Event → Type 0) → Stays refused → (how : Ending) (xs ys : List Event) → Each Quiet ys → Fails program refused how xs → Fails program refused how (xs ++ ys)
-fails_before program refused stays (ending.Stopped s) xs ys q f = stop_before program refused stays s xs ys q f
-fails_before program refused stays (ending.RefusedPacked r) xs ys q f = packed_before program refused stays r xs ys q f
-fails_before program refused stays ending.CannotOpen xs ys q f = (has_before _ xs ys f.0, each_both _ xs ys f.1 (nothing_in ys q))
-fails_before program refused stays ending.IsPipe xs ys q f = (has_before _ xs ys f.0, each_both _ xs ys f.1 (nothing_in ys q))
-fails_before program refused stays ending.OutExists xs ys q f = exists_before xs ys _ _ q f
-fails_before program refused stays (ending.Polygon e) xs ys q f = (has_before _ xs ys f.0, each_both _ xs ys f.1 (nothing_in ys q))
-fails_before program refused stays (ending.Words t) xs ys q f = absurd f
-fails_before program refused stays ending.NotText xs ys q f = absurd f
-fails_before program refused stays (ending.Box b) xs ys q f = absurd f
-fails_before program refused stays (ending.Choice b) xs ys q f = absurd f
+pub opens_before : (pass : ℕ) (has : List (Option (List ℕ))) (xs ys : List Event) → Opens pass has xs → Opens pass has (xs ++ ys)
+opens_before pass [] xs ys o = tt
+opens_before pass (h ∷ has) xs ys o = (has_before _ xs ys o.0, opens_before (pass + 1) has xs ys o.1)
 
-shown_fails : (program : Program) (refused : Fault → List Event → Type 0) (how shown : Ending) (events : List Event) → ((shown ≡ how) ⊎ (shown ≡ ending.Stopped stop.Memory)) → Fails program refused how events → Fails program refused shown events
-shown_fails program refused how shown events (inl e) f = subst (λ h. Fails program refused h events) (sym e) f
-shown_fails program refused how shown events (inr e) f = subst (λ h. Fails program refused h events) (sym e) (memory_fails program refused events)
+pub opened_fails : (m : Manner) (j : Judging) (has : List (Option (List ℕ))) (how : Ending) (xs ys : List Event) → Each Quiet xs → Opens 1 has xs → Fails m j has how ys → FailsFor m j how (xs ++ ys)
+opened_fails m j has how xs ys q o f = record { has = has; opens = opens_before 1 has xs ys o; why = fails_after m j has how xs ys q f }
+
+-- the same of a failure of what comes later
+pub failed_after : (m : Manner) (j : Judging) (how : Ending) (xs ys : List Event) → Each Quiet xs → FailsFor m j how ys → FailsFor m j how (xs ++ ys)
+failed_after m j how xs ys q f = record { has = f.has; opens = opens_after 1 f.has xs ys f.opens; why = fails_after m j f.has how xs ys q f.why }
 
 -- how it ended is shown, after more was reported quietly
-pub told_fails : (program : Program) (refused : Fault → List Event → Type 0) → Stays refused → (how shown : Ending) (l m n : Option (List Event)) (xs : List Event) → m ≡ then_all l xs → Fails program refused how xs
-    → TellsQuietly m n how shown → (events : List Event) × (n ≡ then_all l events) × Fails program refused shown events
-told_fails program refused stays how shown l m n xs e f t =
-    (xs ++ t.events, and_then l m n xs t.events e t.log, shown_fails program refused how shown (xs ++ t.events) t.shows (fails_before program refused stays how xs t.events t.quiet f))
+pub told_fails : (m : Manner) (j : Judging) (has : List (Option (List ℕ))) (how shown : Ending) (k l n : Option (List Event)) (xs : List Event) → l ≡ then_all k xs → Fails m j has how xs
+    → TellsQuietly l n how shown → (events : List Event) × (n ≡ then_all k events) × Fails m j has shown events
+told_fails m j has how shown k l n xs e f t = (xs ++ t.events, and_then k l n xs t.events e t.log, of t.shows) where
+  of : ((shown ≡ how) ⊎ (shown ≡ ending.Stopped stop.Memory)) → Fails m j has shown (xs ++ t.events)
+  of (inl same) = subst (λ h. Fails m j has h (xs ++ t.events)) (sym same) (fails_before m j has how xs t.events t.quiet f)
+  of (inr none) = subst (λ h. Fails m j has h (xs ++ t.events)) (sym none) (memory_fails m j has (xs ++ t.events))
 
 -- ---- lines
 
@@ -226,14 +163,14 @@ tells_more l m n xs ys (Err how) e t = (xs ++ t.0, and_then l m n xs t.0 e t.1, 
 pub printing_more : (how : Ending) (l m n : Option (List Event)) (xs : List Event) → m ≡ then_all l xs → ((some : List Event) × (n ≡ then_all m some) × FailsPrinting how some) → (some : List Event) × (n ≡ then_all l some) × FailsPrinting how some
 printing_more how l m n xs e t = (xs ++ t.0, and_then l m n xs t.0 e t.1, printing_after how xs t.0 t.2)
 
-print_stops : (program : Program) (refused : Fault → List Event → Type 0) (how : Ending) (events : List Event) → FailsPrinting how events → Fails program refused how events
-print_stops program refused how events (inl f) = subst (λ h. Fails program refused h events) (sym f.0) (write_fails program refused events f.1)
-print_stops program refused how events (inr e) = subst (λ h. Fails program refused h events) (sym e) (memory_fails program refused events)
+print_stops : (m : Manner) (j : Judging) (how : Ending) (events : List Event) → FailsPrinting how events → Fails m j [] how events
+print_stops m j how events (inl f) = subst (λ h. Fails m j [] h events) (sym f.0) (write_stops m j [] events f.1)
+print_stops m j how events (inr e) = subst (λ h. Fails m j [] h events) (sym e) (memory_fails m j [] events)
 
 -- lines couldn't be printed after what had happened
-pub print_fails : (program : Program) (refused : Fault → List Event → Type 0) (how : Ending) (l m n : Option (List Event)) (xs : List Event) → m ≡ then_all l xs → ((some : List Event) × (n ≡ then_all m some) × FailsPrinting how some)
-    → (events : List Event) × (n ≡ then_all l events) × Fails program refused how events
-print_fails program refused how l m n xs e t = (xs ++ t.0, and_then l m n xs t.0 e t.1, print_stops program refused how (xs ++ t.0) (printing_after how xs t.0 t.2))
+pub print_fails : (m : Manner) (j : Judging) (how : Ending) (k l n : Option (List Event)) (xs : List Event) → l ≡ then_all k xs → ((some : List Event) × (n ≡ then_all l some) × FailsPrinting how some)
+    → (events : List Event) × (n ≡ then_all k events) × FailsFor m j how events
+print_fails m j how k l n xs e t = (xs ++ t.0, and_then k l n xs t.0 e t.1, fails_early m j how (xs ++ t.0) (print_stops m j how (xs ++ t.0) (printing_after how xs t.0 t.2)))
 
 pub tells_ok : {A : Type 0} (l m : Option (List Event)) (xs : List Event) (r : Result A Ending) → Tells l m xs r → OnOk r (m ≡ then_all l xs)
 tells_ok l m xs (Ok a) t = t
@@ -264,6 +201,3 @@ text_err false (Ok t) (Ok a) Q ends q r = tt
 text_err false (Err h) (Ok a) Q ends q r = tt
 text_err false (Ok t) (Err how) Q ends q r = subst Q (sym ends) (q refl)
 text_err false (Err h) (Err how) Q ends q r = subst Q (sym ends) (q refl)
-
-pub write_stops : (program : Program) (refused : Fault → List Event → Type 0) (events : List Event) → Has FailsToWrite events → Fails program refused (ending.Stopped stop.Write) events
-write_stops program refused events h = write_fails program refused events h

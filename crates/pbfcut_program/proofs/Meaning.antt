@@ -12,7 +12,7 @@ use Rattle.pbfcut_cli.specs.declared.words.CliFault.{CliFault}
 use Rattle.pbfcut_cli.specs.declared.words.CliFault.TheVariants as fault
 use Rattle.pbfcut_cli.specs.declared.words.Command.{Command}
 use Rattle.pbfcut_program.specs.Events.{Event}
-use Rattle.pbfcut_program.specs.Program.{FailsIn, IsMeant, IsWhy}
+use Rattle.pbfcut_program.specs.Program.{FailsIn, IsMeant, IsWhy, manner_in}
 
 -- words that are no command
 abbrev pub Unread : CliFault → Result Command CliFault
@@ -32,18 +32,9 @@ pub why_shown : (program : Program) (words : List Text) (how shown : Ending) (ev
 why_shown program words how shown events (inl e) why = subst (λ h. IsWhy program words h events) (sym e) why
 why_shown program words how shown events (inr e) why = subst (λ h. IsWhy program words h events) (sym e) tt
 
-pub fails_why : (program : Program) (words : List Text) (command : Command) (how : Ending) (events : List Event) → IsMeant program words command → FailsIn program command how events → IsWhy program words how events
-fails_why program words command (ending.Words t) events meant f = absurd f
-fails_why program words command (ending.Box b) events meant f = absurd f
-fails_why program words command (ending.Choice b) events meant f = absurd f
-fails_why program words command ending.NotText events meant f = absurd f
-fails_why program words command (ending.Polygon e) events meant f = (command, meant, f)
-fails_why program words command (ending.Stopped (stop.Refused e)) events meant f = (command, meant, f)
-fails_why program words command (ending.Stopped stop.Read) events meant f = (command, meant, f)
-fails_why program words command (ending.Stopped stop.Write) events meant f = (command, meant, f)
+pub fails_why : (program : Program) (words : List Text) (command : Command) (how : Ending) (events : List Event) → IsMeant program words command → FailsIn (manner_in program command) command how events → IsWhy program words how events
+fails_why program words command (ending.Words t) events meant f = absurd f.why.1
+fails_why program words command (ending.Box b) events meant f = absurd f.why.1
+fails_why program words command (ending.Choice b) events meant f = absurd f.why.1
 fails_why program words command (ending.Stopped stop.Memory) events meant f = tt
-fails_why program words command (ending.Stopped (stop.Changed p)) events meant f = (command, meant, f)
-fails_why program words command ending.CannotOpen events meant f = (command, meant, f)
-fails_why program words command ending.IsPipe events meant f = (command, meant, f)
-fails_why program words command ending.OutExists events meant f = (command, meant, f)
-fails_why program words command (ending.RefusedPacked r) events meant f = (command, meant, f)
+fails_why program words command how events meant f = (command, meant, f)

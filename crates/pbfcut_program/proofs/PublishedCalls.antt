@@ -1,5 +1,5 @@
 -- What pbfcutz's calls report of what went through their devices.
-use Rattle.std.proofs.Common.{◌≡◌, inl, inr, ℕ, List, [], ◌∷◌, Bool, true, false, Option, Some, Result, Ok, Err, IfOk, IfErr, refl, subst, sym}
+use Rattle.std.proofs.Common.{◌≡◌, ◌⊎◌, inl, inr, ℕ, List, [], ◌∷◌, Bool, true, false, Option, Some, Result, Ok, Err, IfOk, IfErr, refl, subst, sym}
 use Rattle.osm_area.specs.Area.{AreaSpec}
 use Rattle.osm_ways.specs.Parents.{extract_with_parents}
 use Rattle.osm_ways.specs.Seen.{seen_decoded}
@@ -11,13 +11,7 @@ use Rattle.pbf_pass.specs.Hashing.{IsDigestOf, digest_if}
 use Rattle.pbf_pass.specs.Judged.{judged_file}
 use Rattle.pbf_pass.specs.Pass.{CountsFile}
 use Rattle.pbf_pass.specs.HeaderLimit.{judged_writable}
-use Rattle.pbf_pass.specs.Stops.{Caused, FaultOf, WriteFailed}
-use Rattle.pbf_wire.specs.declared.fault.Fault.{Fault}
-use Rattle.pbf_frame.specs.declared.stop.Stop.{Stop}
-use Rattle.pbf_frame.specs.declared.stop.Stop.TheVariants as stop
-use Rattle.pbfcut.specs.Calls.{RefusedFirst}
-use Rattle.pbfcut_cli.specs.declared.endings.Ending.{Ending}
-use Rattle.pbfcut_cli.specs.declared.endings.Ending.TheVariants as ending
+use Rattle.pbf_pass.specs.Stops.{Caused, FaultOf, ReadFailed, WriteFailed}
 use Rattle.pbf_unpack.specs.Unpacked.{unpacked}
 use Rattle.pbfcut.specs.Extracting.{all_parents, complete_ways}
 use Rattle.pbfcut.specs.Kept.{IsWritable}
@@ -25,15 +19,15 @@ use Rattle.pbfcut.specs.Showing.{Shown}
 use Rattle.pbfcut.specs.Theorem.{IsConverted, IsExtraction}
 use Rattle.pbf_published.specs.declared.input.PublishedHalt.{PublishedHalt}
 use Rattle.pbf_published.specs.declared.input.PublishedInput.{PublishedInput}
-use Rattle.pbf_published.specs.Published.{GaveOrNone, GavePublished, raw_of}
+use Rattle.pbf_published.specs.Published.{ChangedOf, GaveOrNone, GavePublished, RefusedRaw, raw_of}
 use Rattle.pbfcut_cli.specs.declared.programs.Program.TheVariants.{Pbfcutz}
 use Rattle.pbfcut_program.specs.declared.engine.Report.{Report}
 use Rattle.pbfcut_program.specs.declared.engine.Halted.{Halted}
 use Rattle.pbfcut_program.specs.Devices.{AreFresh, Gives, GivesOrNot, Works}
-use Rattle.pbfcut_program.specs.Fails.{FirstFault}
 use Rattle.pbfcut_program.specs.Manner.{AreDigests, manner}
-use Rattle.pbfcut_program.specs.Outcomes.{EndsAsStop, RefusesAs, ReportsPublished}
+use Rattle.pbfcut_program.specs.Outcomes.{ReportsPublished}
 use Rattle.pbfcut_program.specs.Tasks.{Holds, Task, checking, hashes_in, judge_of, showing, converting, copying, extracting, extracting_parents}
+use Rattle.pbfcut_program.proofs.FailLemmas.{caused_weaker}
 use Rattle.pbfcut_program.proofs.RawCalls.{digest_or_not}
 
 -- a feed gave packed bytes, and this holds of the raw file that they mean
@@ -74,40 +68,17 @@ module _ {F : Type 0} (f : feed.Ghosts F) (packs digests hashes : Bool) (input r
   gave_after start (inl g) = (let one = gave_all start g in record { file = one.file; gives = inl one.gives; holding = one.holding })
   gave_after {first = first} start (inr none) = record { file = first; gives = inr (refl, none.0, refl); holding = none.1 }
 
--- ---- how a call ends
-
-pub published_ends : (refused : Fault → Type 0) (s : Stop) (how : Ending) → ((e : Fault) → s ≡ stop.Refused e → refused e) → EndsAsStop s how → RefusesAs refused how
-published_ends refused s (ending.Stopped (stop.Refused e)) has ends = has e (sym ends)
-published_ends refused s (ending.Stopped stop.Read) has ends = tt
-published_ends refused s (ending.Stopped stop.Write) has ends = tt
-published_ends refused s (ending.Stopped stop.Memory) has ends = tt
-published_ends refused s (ending.Stopped (stop.Changed p)) has ends = tt
-published_ends refused s (ending.RefusedPacked r) has ends = (ends.0, ends.2, has ends.0 ends.1)
-published_ends refused s ending.CannotOpen has ends = absurd ends
-published_ends refused s ending.IsPipe has ends = absurd ends
-published_ends refused s ending.OutExists has ends = absurd ends
-published_ends refused s (ending.Polygon x) has ends = absurd ends
-published_ends refused s (ending.Words t) has ends = absurd ends
-published_ends refused s ending.NotText has ends = absurd ends
-published_ends refused s (ending.Box b) has ends = absurd ends
-published_ends refused s (ending.Choice b) has ends = absurd ends
-
--- what is refused has its cause
-pub cause_of : (refused : Fault → Type 0) (read wrote : Type 0) (changed : ℕ → Type 0) (s : Stop) → Caused refused read wrote changed s → (e : Fault) → s ≡ stop.Refused e → refused e
-cause_of refused read wrote changed s caused e is = subst (λ (t : Stop). Caused refused read wrote changed t) is caused
-
 -- ---- one pass
 
 pub check_published : {F : Type 0} (f : feed.Ghosts F) (packs digests : Bool) (one one_now : F) → AreFresh f (one ∷ []) → (outcome : Result PublishedInput PublishedHalt) (result : Result Report Halted)
-    → IfOk outcome (λ receipt. GavePublished f one one_now (digest_if digests receipt.input) (digest_if digests receipt.raw) (λ file. CountsFile (judged_file (Some file)) receipt.counts)) → (read : Type 0) (changed : ℕ → Type 0) → IfErr outcome (λ h. Caused (FaultOf (judged_file (raw_of (f.remaining one)))) read ⊥ changed h.stop) → ReportsPublished outcome result
+    → IfOk outcome (λ receipt. GavePublished f one one_now (digest_if digests receipt.input) (digest_if digests receipt.raw) (λ file. CountsFile (judged_file (Some file)) receipt.counts))
+    → IfErr outcome (λ h. Caused (FaultOf (judged_file (raw_of (f.remaining one)))) (ReadFailed f one one_now) ⊥ (ChangedOf (f.remaining one ∷ [])) h.stop) → ReportsPublished outcome result
     → Works (manner Pbfcutz packs digests) f checking (one ∷ []) (one_now ∷ []) (λ took. took ≡ []) ⊥ result
-check_published f packs digests one one_now fresh (Ok receipt) (Ok report) given read changed stops r =
+check_published f packs digests one one_now fresh (Ok receipt) (Ok report) given stops r =
     let first = gave f packs digests digests receipt.input receipt.raw report.raw r.2 (λ file same. same) fresh.0.0 given in
     rw (r.0, r.1) record { files = first.file ∷ []; written = []; gave = (first.gives, tt); took_them = refl; holds = first.holding }
-check_published f packs digests one one_now fresh (Err halt) (Err halted) given read changed stops r =
-    published_ends (λ e. FirstFault judged_file e (f.remaining one ∷ [])) halt.stop halted.ending (cause_of (FaultOf (judged_file (raw_of (f.remaining one)))) read ⊥ changed halt.stop stops) r
-check_published f packs digests one one_now fresh (Ok receipt) (Err halted) given read changed stops r = absurd r
-check_published f packs digests one one_now fresh (Err halt) (Ok report) given read changed stops r = absurd r
+check_published f packs digests one one_now fresh (Err halt) (Err halted) given stops r = (halt.stop, r, caused_weaker _ _ _ _ _ _ _ _ halt.stop (λ e fault. (fault, refl)) (λ failed. inl failed) (λ none. absurd none) (λ p c. c) stops)
+check_published f packs digests one one_now fresh _ _ given stops r = absurd r
 
 -- ---- more passes
 
@@ -116,9 +87,9 @@ module _ {F D : Type 0} (f : feed.Ghosts F) (d : drain.Ghosts D) (out out_now : 
       → ((receipt : PublishedInput) (b c w : List ℕ) → P receipt b → Q receipt b c w → Holds task (b ∷ c ∷ []) receipt.counts w)
       → (one one_now two two_now : F) (outcome : Result PublishedInput PublishedHalt) (result : Result Report Halted) → AreFresh f (one ∷ two ∷ [])
       → IfOk outcome (λ receipt. GavePublished f one one_now (Some receipt.input) (digest_if digests receipt.raw) (λ b. P receipt b × GavePublished f two two_now (Some receipt.input) (digest_if digests receipt.raw) (λ c. Took d out out_now (λ w. Q receipt b c w))))
-      → (read wrote : Type 0) (changed : ℕ → Type 0) → IfErr outcome (λ h. Caused (RefusedFirst (judge_of task (raw_of (f.remaining one))) (d.taken out) (d.taken out_now)) read wrote changed h.stop) → ReportsPublished outcome result
+      → IfErr outcome (λ h. Caused (RefusedRaw (judge_of task (raw_of (f.remaining one))) d out out_now) (ReadFailed f one one_now ⊎ ReadFailed f two two_now) (WriteFailed d out out_now) (ChangedOf (f.remaining one ∷ f.remaining two ∷ [])) h.stop) → ReportsPublished outcome result
       → Works (manner Pbfcutz false digests) f task (one ∷ two ∷ []) (one_now ∷ two_now ∷ []) (d.has_taken out_now log) (WriteFailed d out out_now) result
-  two_published task P Q meant one one_now two two_now (Ok receipt) (Ok report) fresh given read wrote changed stops r =
+  two_published task P Q meant one one_now two two_now (Ok receipt) (Ok report) fresh given stops r =
       let first = gave_all f false digests (hashes_in task digests) receipt.input receipt.raw report.raw r.2 fresh.0.0 given in
       let again = gave_all f false digests (hashes_in task digests) receipt.input receipt.raw report.raw r.2 fresh.1.0.0 first.holding.1 in
       let took = again.holding in
@@ -129,35 +100,34 @@ module _ {F D : Type 0} (f : feed.Ghosts F) (d : drain.Ghosts D) (out out_now : 
         took_them = took.added.logged log [] start;
         holds = meant receipt (unpacked first.file) (unpacked again.file) took.written first.holding.0 took.holding;
       }
-  two_published task P Q meant one one_now two two_now (Err halt) (Err halted) fresh given read wrote changed stops r =
-      published_ends (λ e. FirstFault (judge_of task) e (f.remaining one ∷ f.remaining two ∷ [])) halt.stop halted.ending (λ e is. (cause_of (RefusedFirst ((judge_of task) (raw_of (f.remaining one))) (d.taken out) (d.taken out_now)) read wrote changed halt.stop stops e is).0) r
-  two_published task P Q meant one one_now two two_now (Ok receipt) (Err halted) fresh given read wrote changed stops r = absurd r
-  two_published task P Q meant one one_now two two_now (Err halt) (Ok report) fresh given read wrote changed stops r = absurd r
+  two_published task P Q meant one one_now two two_now (Err halt) (Err halted) fresh given stops r =
+      (halt.stop, r, caused_weaker _ _ _ _ _ _ _ _ halt.stop (λ e refused. (refused.0, refused.1.logged log [] start)) (λ failed. elim failed [ inl a ↦ inl a | inr b ↦ inr (inl b) ]) (λ failed. failed) (λ p c. c) stops)
+  two_published task P Q meant one one_now two two_now _ _ fresh given stops r = absurd r
 
   pub show_published : (dates : Bool) (one one_now two two_now : F) (outcome : Result PublishedInput PublishedHalt) (result : Result Report Halted) → AreFresh f (one ∷ two ∷ [])
       → IfOk outcome (λ receipt. GavePublished f one one_now (Some receipt.input) (digest_if digests receipt.raw) (λ b. CountsFile (judged_file (Some b)) receipt.counts × GavePublished f two two_now (Some receipt.input) (digest_if digests receipt.raw) (λ c. Took d out out_now (Shown dates (judged_file (Some c))))))
-      → (read wrote : Type 0) (changed : ℕ → Type 0) → IfErr outcome (λ h. Caused (RefusedFirst (judged_file (raw_of (f.remaining one))) (d.taken out) (d.taken out_now)) read wrote changed h.stop) → ReportsPublished outcome result
+      → IfErr outcome (λ h. Caused (RefusedRaw (judged_file (raw_of (f.remaining one))) d out out_now) (ReadFailed f one one_now ⊎ ReadFailed f two two_now) (WriteFailed d out out_now) (ChangedOf (f.remaining one ∷ f.remaining two ∷ [])) h.stop) → ReportsPublished outcome result
       → Works (manner Pbfcutz false digests) f (showing dates) (one ∷ two ∷ []) (one_now ∷ two_now ∷ []) (d.has_taken out_now log) (WriteFailed d out out_now) result
   show_published dates = two_published (showing dates) (λ receipt b. CountsFile (judged_file (Some b)) receipt.counts) (λ receipt b c w. Shown dates (judged_file (Some c)) w) (λ receipt b c w p q. (p, q))
 
   pub convert_published : (one one_now two two_now : F) (outcome : Result PublishedInput PublishedHalt) (result : Result Report Halted) → AreFresh f (one ∷ two ∷ [])
       → IfOk outcome (λ receipt. GavePublished f one one_now (Some receipt.input) (digest_if digests receipt.raw) (λ b. IsWritable b × GavePublished f two two_now (Some receipt.input) (digest_if digests receipt.raw) (λ c. Took d out out_now (λ w. b ≡ c → IsConverted b receipt.counts w))))
-      → (read wrote : Type 0) (changed : ℕ → Type 0) → IfErr outcome (λ h. Caused (RefusedFirst (judged_writable (raw_of (f.remaining one))) (d.taken out) (d.taken out_now)) read wrote changed h.stop) → ReportsPublished outcome result
+      → IfErr outcome (λ h. Caused (RefusedRaw (judged_writable (raw_of (f.remaining one))) d out out_now) (ReadFailed f one one_now ⊎ ReadFailed f two two_now) (WriteFailed d out out_now) (ChangedOf (f.remaining one ∷ f.remaining two ∷ [])) h.stop) → ReportsPublished outcome result
       → Works (manner Pbfcutz false digests) f converting (one ∷ two ∷ []) (one_now ∷ two_now ∷ []) (d.has_taken out_now log) (WriteFailed d out out_now) result
   convert_published = two_published converting (λ receipt b. IsWritable b) (λ receipt b c w. b ≡ c → IsConverted b receipt.counts w) (λ receipt b c w p q. (p, q))
 
   pub copy_published : (one one_now two two_now : F) (outcome : Result PublishedInput PublishedHalt) (result : Result Report Halted) → AreFresh f (one ∷ two ∷ [])
       → IfOk outcome (λ receipt. GavePublished f one one_now (Some receipt.input) (digest_if digests receipt.raw) (λ b. CountsFile (judged_file (Some b)) receipt.counts × GavePublished f two two_now (Some receipt.input) (digest_if digests receipt.raw) (λ c. Took d out out_now (λ w. w ≡ c))))
-      → (read wrote : Type 0) (changed : ℕ → Type 0) → IfErr outcome (λ h. Caused (RefusedFirst (judged_file (raw_of (f.remaining one))) (d.taken out) (d.taken out_now)) read wrote changed h.stop) → ReportsPublished outcome result
+      → IfErr outcome (λ h. Caused (RefusedRaw (judged_file (raw_of (f.remaining one))) d out out_now) (ReadFailed f one one_now ⊎ ReadFailed f two two_now) (WriteFailed d out out_now) (ChangedOf (f.remaining one ∷ f.remaining two ∷ [])) h.stop) → ReportsPublished outcome result
       → Works (manner Pbfcutz false digests) f copying (one ∷ two ∷ []) (one_now ∷ two_now ∷ []) (d.has_taken out_now log) (WriteFailed d out out_now) result
   copy_published = two_published copying (λ receipt b. CountsFile (judged_file (Some b)) receipt.counts) (λ receipt b c w. w ≡ c) (λ receipt b c w p q. (p, q))
 
   -- three passes
   pub extract_published : (area : AreaSpec) (one one_now two two_now three three_now : F) (outcome : Result PublishedInput PublishedHalt) (result : Result Report Halted) → AreFresh f (one ∷ two ∷ three ∷ [])
       → IfOk outcome (λ receipt. GavePublished f one one_now (Some receipt.input) (digest_if digests receipt.raw) (λ b. IsWritable b × GaveOrNone f two two_now receipt.input (digest_if digests receipt.raw) b (λ c. GavePublished f three three_now (Some receipt.input) (digest_if digests receipt.raw) (λ e. Took d out out_now (λ w. b ≡ c → b ≡ e → IsExtraction (complete_ways area) (select.extract (seen_decoded area)) area b receipt.counts w)))))
-      → (read wrote : Type 0) (changed : ℕ → Type 0) → IfErr outcome (λ h. Caused (RefusedFirst (judged_writable (raw_of (f.remaining one))) (d.taken out) (d.taken out_now)) read wrote changed h.stop) → ReportsPublished outcome result
+      → IfErr outcome (λ h. Caused (RefusedRaw (judged_writable (raw_of (f.remaining one))) d out out_now) (ReadFailed f one one_now ⊎ (ReadFailed f two two_now ⊎ ReadFailed f three three_now)) (WriteFailed d out out_now) (ChangedOf (f.remaining one ∷ f.remaining two ∷ f.remaining three ∷ [])) h.stop) → ReportsPublished outcome result
       → Works (manner Pbfcutz false digests) f (extracting area) (one ∷ two ∷ three ∷ []) (one_now ∷ two_now ∷ three_now ∷ []) (d.has_taken out_now log) (WriteFailed d out out_now) result
-  extract_published area one one_now two two_now three three_now (Ok receipt) (Ok report) fresh given read wrote changed stops r =
+  extract_published area one one_now two two_now three three_now (Ok receipt) (Ok report) fresh given stops r =
       let task = extracting area in
       let first = gave_all f false digests (hashes_in task digests) receipt.input receipt.raw report.raw r.2 fresh.0.0 given in
       let again = gave_after f false digests (hashes_in task digests) receipt.input receipt.raw report.raw r.2 fresh.1.0.0 first.holding.1 in
@@ -170,17 +140,16 @@ module _ {F D : Type 0} (f : feed.Ghosts F) (d : drain.Ghosts D) (out out_now : 
         took_them = took.added.logged log [] start;
         holds = (first.holding.0, took.holding);
       }
-  extract_published area one one_now two two_now three three_now (Err halt) (Err halted) fresh given read wrote changed stops r =
-      published_ends (λ e. FirstFault judged_writable e (f.remaining one ∷ f.remaining two ∷ f.remaining three ∷ [])) halt.stop halted.ending (λ e is. (cause_of (RefusedFirst (judged_writable (raw_of (f.remaining one))) (d.taken out) (d.taken out_now)) read wrote changed halt.stop stops e is).0) r
-  extract_published area one one_now two two_now three three_now (Ok receipt) (Err halted) fresh given read wrote changed stops r = absurd r
-  extract_published area one one_now two two_now three three_now (Err halt) (Ok report) fresh given read wrote changed stops r = absurd r
+  extract_published area one one_now two two_now three three_now (Err halt) (Err halted) fresh given stops r =
+      (halt.stop, r, caused_weaker _ _ _ _ _ _ _ _ halt.stop (λ e refused. (refused.0, refused.1.logged log [] start)) (λ failed. elim failed [ inl a ↦ inl a | inr more ↦ elim more [ inl b ↦ inr (inl b) | inr e ↦ inr (inr (inl e)) ] ]) (λ failed. failed) (λ p c. c) stops)
+  extract_published area one one_now two two_now three three_now _ _ fresh given stops r = absurd r
 
   -- four passes
   pub extract_parents_published : (area : AreaSpec) (one one_now two two_now three three_now four four_now : F) (outcome : Result PublishedInput PublishedHalt) (result : Result Report Halted) → AreFresh f (one ∷ two ∷ three ∷ four ∷ [])
       → IfOk outcome (λ receipt. GavePublished f one one_now (Some receipt.input) (digest_if digests receipt.raw) (λ b. IsWritable b × GaveOrNone f two two_now receipt.input (digest_if digests receipt.raw) b (λ c. GavePublished f three three_now (Some receipt.input) (digest_if digests receipt.raw) (λ e. GavePublished f four four_now (Some receipt.input) (digest_if digests receipt.raw) (λ g. Took d out out_now (λ w. b ≡ c → b ≡ e → b ≡ g → IsExtraction (all_parents area) (extract_with_parents (seen_decoded area)) area b receipt.counts w))))))
-      → (read wrote : Type 0) (changed : ℕ → Type 0) → IfErr outcome (λ h. Caused (RefusedFirst (judged_writable (raw_of (f.remaining one))) (d.taken out) (d.taken out_now)) read wrote changed h.stop) → ReportsPublished outcome result
+      → IfErr outcome (λ h. Caused (RefusedRaw (judged_writable (raw_of (f.remaining one))) d out out_now) ((ReadFailed f one one_now ⊎ (ReadFailed f two two_now ⊎ ReadFailed f three three_now)) ⊎ ReadFailed f four four_now) (WriteFailed d out out_now) (ChangedOf (f.remaining one ∷ f.remaining two ∷ f.remaining three ∷ f.remaining four ∷ [])) h.stop) → ReportsPublished outcome result
       → Works (manner Pbfcutz false digests) f (extracting_parents area) (one ∷ two ∷ three ∷ four ∷ []) (one_now ∷ two_now ∷ three_now ∷ four_now ∷ []) (d.has_taken out_now log) (WriteFailed d out out_now) result
-  extract_parents_published area one one_now two two_now three three_now four four_now (Ok receipt) (Ok report) fresh given read wrote changed stops r =
+  extract_parents_published area one one_now two two_now three three_now four four_now (Ok receipt) (Ok report) fresh given stops r =
       let task = extracting_parents area in
       let first = gave_all f false digests (hashes_in task digests) receipt.input receipt.raw report.raw r.2 fresh.0.0 given in
       let again = gave_after f false digests (hashes_in task digests) receipt.input receipt.raw report.raw r.2 fresh.1.0.0 first.holding.1 in
@@ -194,7 +163,12 @@ module _ {F D : Type 0} (f : feed.Ghosts F) (d : drain.Ghosts D) (out out_now : 
         took_them = took.added.logged log [] start;
         holds = (first.holding.0, took.holding);
       }
-  extract_parents_published area one one_now two two_now three three_now four four_now (Err halt) (Err halted) fresh given read wrote changed stops r =
-      published_ends (λ e. FirstFault judged_writable e (f.remaining one ∷ f.remaining two ∷ f.remaining three ∷ f.remaining four ∷ [])) halt.stop halted.ending (λ e is. (cause_of (RefusedFirst (judged_writable (raw_of (f.remaining one))) (d.taken out) (d.taken out_now)) read wrote changed halt.stop stops e is).0) r
-  extract_parents_published area one one_now two two_now three three_now four four_now (Ok receipt) (Err halted) fresh given read wrote changed stops r = absurd r
-  extract_parents_published area one one_now two two_now three three_now four four_now (Err halt) (Ok report) fresh given read wrote changed stops r = absurd r
+  extract_parents_published area one one_now two two_now three three_now four four_now (Err halt) (Err halted) fresh given stops r = (
+    halt.stop,
+    r,
+    caused_weaker _ _ _ _ _ _ _ _ halt.stop (λ e refused. (refused.0, refused.1.logged log [] start)) (λ failed. elim failed [
+      | inl first ↦ elim first [ inl a ↦ inl a | inr more ↦ elim more [ inl b ↦ inr (inl b) | inr e ↦ inr (inr (inl e)) ] ]
+      | inr last ↦ inr (inr (inr (inl last)))
+    ]) (λ failed. failed) (λ p c. c) stops,
+  )
+  extract_parents_published area one one_now two two_now three three_now four four_now _ _ fresh given stops r = absurd r

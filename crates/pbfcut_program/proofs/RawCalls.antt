@@ -18,7 +18,7 @@ use Rattle.pbf_pass.specs.HeaderLimit.{judged_writable}
 use Rattle.pbf_pass.specs.Judged.{judged_file}
 use Rattle.pbf_pass.specs.Pass.{CountsFile}
 use Rattle.pbf_pass.specs.Refused.{EndsJudging, RefusesFile, stop_of}
-use Rattle.pbfcut.specs.Calls.{GaveOrNot}
+use Rattle.pbfcut.specs.Calls.{GaveOrNot, drained, fed}
 use Rattle.pbfcut.specs.Changes.{GaveOther}
 use Rattle.pbfcut.specs.Ends.{EndsExtracting, EndsExtractingParents, EndsTwoPasses}
 use Rattle.pbfcut.specs.Extracting.{all_parents, complete_ways}
@@ -29,8 +29,9 @@ use Rattle.pbfcut_cli.specs.declared.endings.Ending.TheVariants as ending
 use Rattle.pbfcut_cli.specs.declared.programs.Program.TheVariants.{Pbfcut}
 use Rattle.pbfcut_program.specs.declared.engine.Report.{Report}
 use Rattle.pbfcut_program.specs.declared.engine.Halted.{Halted}
-use Rattle.pbfcut_program.specs.Devices.{AreFresh, EndsFor, Gives, GivesFaulty, GivesOrNot, GivesOther, Works}
-use Rattle.pbfcut_program.specs.Manner.{AreDigests, manner}
+use Rattle.pbfcut_program.specs.Devices.{AreFresh, EndsFor, StopsFor, Gives, GivesFaulty, GivesOrNot, GivesOther, Works}
+use Rattle.pbfcut_program.specs.Fails.{EndsAsStop, UnlessPacked}
+use Rattle.pbfcut_program.specs.Manner.{AreDigests, manner, output_form}
 use Rattle.pbfcut_program.specs.Outcomes.{ReportsRaw}
 use Rattle.pbfcut_program.specs.Tasks.{Holds, Task, checking, hashes_in, showing, converting, copying, extracting, extracting_parents, judge_of}
 
@@ -58,19 +59,19 @@ module _ {F : Type 0} (f : feed.Ghosts F) where
   gives_other old now file start x = record { bytes = x.read; passed = x.logged 0 [] start; other = x.faulty }
 
 -- how a call ended is how its halt is reported
-reported_ends : {F : Type 0} (f : feed.Ghosts F) (judge : Option (List ℕ) → Option Verdict) (olds news : List F) (nothing failed : Type 0) (h : Halt) (halted : Halted) → halted.ending ≡ ending.Stopped (stop_of h) → EndsFor f judge olds news nothing failed (ending.Stopped (stop_of h)) → EndsFor f judge olds news nothing failed halted.ending
-reported_ends f judge olds news nothing failed h halted e ends = subst (λ how. EndsFor f judge olds news nothing failed how) (sym e) ends
+reported_ends : {F : Type 0} (f : feed.Ghosts F) (judge : Option (List ℕ) → Option Verdict) (olds news : List F) (nothing failed : Type 0) (h : Halt) (halted : Halted) → halted.ending ≡ ending.Stopped (stop_of h) → StopsFor Pbfcut f judge olds news nothing failed (stop_of h) → EndsFor Pbfcut f judge olds news nothing failed halted.ending
+reported_ends f judge olds news nothing failed h halted e stops = (stop_of h, subst (EndsAsStop Pbfcut (stop_of h)) (sym e) refl, stops)
 
 -- ---- one pass
 
 module _ {F : Type 0} (f : feed.Ghosts F) (packs digests : Bool) (one one_now : F) (fresh : AreFresh f (one ∷ [])) where
-  check_ends : (h : Halt) → EndsJudging f one one_now digests (Stopped InputReceipt h) → EndsFor f judged_file (one ∷ []) (one_now ∷ []) (◌≡◌ {A = List ℕ} [] []) ⊥ (ending.Stopped (stop_of h))
-  check_ends (halt.Refused r) ends = (gives_faulty f judged_file r fresh.0.0 ends.refused, refl)
-  check_ends (halt.Stopped (stop.Refused e)) ends = absurd (ends.refused e refl)
-  check_ends (halt.Stopped stop.Read) ends = inl ends.stops
-  check_ends (halt.Stopped stop.Write) ends = absurd ends.stops
-  check_ends (halt.Stopped stop.Memory) ends = tt
-  check_ends (halt.Stopped (stop.Changed p)) ends = absurd ends.stops
+  check_ends : (failed : Type 0) (h : Halt) → EndsJudging f one one_now digests (Stopped InputReceipt h) → StopsFor Pbfcut f judged_file (one ∷ []) (one_now ∷ []) (◌≡◌ {A = List ℕ} [] []) failed (stop_of h)
+  check_ends failed (halt.Refused r) ends = (gives_faulty f judged_file r fresh.0.0 ends.refused, refl)
+  check_ends failed (halt.Stopped (stop.Refused e)) ends = absurd (ends.refused e refl)
+  check_ends failed (halt.Stopped stop.Read) ends = inl ends.stops
+  check_ends failed (halt.Stopped stop.Write) ends = absurd ends.stops
+  check_ends failed (halt.Stopped stop.Memory) ends = tt
+  check_ends failed (halt.Stopped (stop.Changed p)) ends = absurd ends.stops
 
   pub check_works : (outcome : Result InputReceipt Halt) (result : Result Report Halted)
       → IfOk outcome (λ receipt. GaveFile f one one_now (digest_if digests receipt.input) (λ file. CountsFile (judged_file (Some file)) receipt.counts)) → EndsJudging f one one_now digests outcome → ReportsRaw outcome result
@@ -83,9 +84,8 @@ module _ {F : Type 0} (f : feed.Ghosts F) (packs digests : Bool) (one one_now : 
         took_them = refl;
         holds = given.holding;
       }
-  check_works (Err h) (Err halted) given ends r = reported_ends f judged_file (one ∷ []) (one_now ∷ []) (◌≡◌ {A = List ℕ} [] []) ⊥ h halted r (check_ends h ends)
-  check_works (Ok receipt) (Err halted) given ends r = absurd r
-  check_works (Err h) (Ok report) given ends r = absurd r
+  check_works (Err h) (Err halted) given ends r = reported_ends f judged_file (one ∷ []) (one_now ∷ []) (◌≡◌ {A = List ℕ} [] []) (UnlessPacked (output_form packs Pbfcut) ⊥) h halted r (check_ends _ h ends)
+  check_works _ _ given ends r = absurd r
 
 -- ---- more passes
 
@@ -98,8 +98,8 @@ module _ {F D : Type 0} (f : feed.Ghosts F) (d : drain.Ghosts D) (out out_now : 
   known_of task input raw none file is = (digest_or_not (hashes_in task digests) input file is, none)
 
   -- two passes
-  two_ends : (judge : Option (List ℕ) → Option Verdict) (one one_now two two_now : F) (h : Halt) → AreFresh f (one ∷ two ∷ []) → EndsTwoPasses judge f one one_now f two two_now d out out_now true (Stopped InputReceipt h)
-      → EndsFor f judge (one ∷ two ∷ []) (one_now ∷ two_now ∷ []) (d.has_taken out_now log []) (WriteFailed d out out_now) (ending.Stopped (stop_of h))
+  two_ends : (judge : Option (List ℕ) → Option Verdict) (one one_now two two_now : F) (h : Halt) → AreFresh f (one ∷ two ∷ []) → EndsTwoPasses judge (fed f one one_now) (fed f two two_now) (drained d out out_now) true (Stopped InputReceipt h)
+      → StopsFor Pbfcut f judge (one ∷ two ∷ []) (one_now ∷ two_now ∷ []) (d.has_taken out_now log []) (WriteFailed d out out_now) (stop_of h)
   two_ends judge one one_now two two_now (halt.Refused r) fresh ends = (gives_faulty f judge r fresh.0.0 ends.refused.0, ends.refused.1.logged log [] start)
   two_ends judge one one_now two two_now (halt.Stopped (stop.Refused e)) fresh ends = absurd (ends.refused e refl)
   two_ends judge one one_now two two_now (halt.Stopped stop.Read) fresh ends = elim ends.stops [ inl a ↦ inl a | inr a ↦ inr (inl a) ]
@@ -113,7 +113,7 @@ module _ {F D : Type 0} (f : feed.Ghosts F) (d : drain.Ghosts D) (out out_now : 
       → ((receipt : InputReceipt) (b c w : List ℕ) → P receipt b → Q receipt b c w → Holds task (b ∷ c ∷ []) receipt.counts w)
       → (one one_now two two_now : F) (outcome : Result InputReceipt Halt) (result : Result Report Halted) → AreFresh f (one ∷ two ∷ [])
       → IfOk outcome (λ receipt. GaveFile f one one_now (Some receipt.input) (λ b. P receipt b × GaveFile f two two_now (Some receipt.input) (λ c. Took d out out_now (λ w. Q receipt b c w))))
-      → EndsTwoPasses (judge_of task) f one one_now f two two_now d out out_now true outcome → ReportsRaw outcome result
+      → EndsTwoPasses (judge_of task) (fed f one one_now) (fed f two two_now) (drained d out out_now) true outcome → ReportsRaw outcome result
       → Works (manner Pbfcut false digests) f task (one ∷ two ∷ []) (one_now ∷ two_now ∷ []) (d.has_taken out_now log) (WriteFailed d out out_now) result
   two_works task P Q meant one one_now two two_now (Ok receipt) (Ok report) fresh given ends r =
       let again = given.holding.1 in let took = again.holding in
@@ -127,24 +127,23 @@ module _ {F D : Type 0} (f : feed.Ghosts F) (d : drain.Ghosts D) (out out_now : 
       }
   two_works task P Q meant one one_now two two_now (Err h) (Err halted) fresh given ends r =
       reported_ends f (judge_of task) (one ∷ two ∷ []) (one_now ∷ two_now ∷ []) (d.has_taken out_now log []) (WriteFailed d out out_now) h halted r (two_ends (judge_of task) one one_now two two_now h fresh ends)
-  two_works task P Q meant one one_now two two_now (Ok receipt) (Err halted) fresh given ends r = absurd r
-  two_works task P Q meant one one_now two two_now (Err h) (Ok report) fresh given ends r = absurd r
+  two_works task P Q meant one one_now two two_now _ _ fresh given ends r = absurd r
 
   pub show_works : (dates : Bool) (one one_now two two_now : F) (outcome : Result InputReceipt Halt) (result : Result Report Halted) → AreFresh f (one ∷ two ∷ [])
       → IfOk outcome (λ receipt. GaveFile f one one_now (Some receipt.input) (λ b. CountsFile (judged_file (Some b)) receipt.counts × GaveFile f two two_now (Some receipt.input) (λ c. Took d out out_now (Shown dates (judged_file (Some c))))))
-      → EndsTwoPasses judged_file f one one_now f two two_now d out out_now true outcome → ReportsRaw outcome result
+      → EndsTwoPasses judged_file (fed f one one_now) (fed f two two_now) (drained d out out_now) true outcome → ReportsRaw outcome result
       → Works (manner Pbfcut false digests) f (showing dates) (one ∷ two ∷ []) (one_now ∷ two_now ∷ []) (d.has_taken out_now log) (WriteFailed d out out_now) result
   show_works dates = two_works (showing dates) (λ receipt b. CountsFile (judged_file (Some b)) receipt.counts) (λ receipt b c w. Shown dates (judged_file (Some c)) w) (λ receipt b c w p q. (p, q))
 
   pub convert_works : (one one_now two two_now : F) (outcome : Result InputReceipt Halt) (result : Result Report Halted) → AreFresh f (one ∷ two ∷ [])
       → IfOk outcome (λ receipt. GaveFile f one one_now (Some receipt.input) (λ b. IsWritable b × GaveFile f two two_now (Some receipt.input) (λ c. Took d out out_now (λ w. b ≡ c → IsConverted b receipt.counts w))))
-      → EndsTwoPasses judged_writable f one one_now f two two_now d out out_now true outcome → ReportsRaw outcome result
+      → EndsTwoPasses judged_writable (fed f one one_now) (fed f two two_now) (drained d out out_now) true outcome → ReportsRaw outcome result
       → Works (manner Pbfcut false digests) f converting (one ∷ two ∷ []) (one_now ∷ two_now ∷ []) (d.has_taken out_now log) (WriteFailed d out out_now) result
   convert_works = two_works converting (λ receipt b. IsWritable b) (λ receipt b c w. b ≡ c → IsConverted b receipt.counts w) (λ receipt b c w p q. (p, q))
 
   pub copy_works : (one one_now two two_now : F) (outcome : Result InputReceipt Halt) (result : Result Report Halted) → AreFresh f (one ∷ two ∷ [])
       → IfOk outcome (λ receipt. GaveFile f one one_now (Some receipt.input) (λ b. CountsFile (judged_file (Some b)) receipt.counts × GaveFile f two two_now (Some receipt.input) (λ c. Took d out out_now (λ w. w ≡ c))))
-      → EndsTwoPasses judged_file f one one_now f two two_now d out out_now true outcome → ReportsRaw outcome result
+      → EndsTwoPasses judged_file (fed f one one_now) (fed f two two_now) (drained d out out_now) true outcome → ReportsRaw outcome result
       → Works (manner Pbfcut false digests) f copying (one ∷ two ∷ []) (one_now ∷ two_now ∷ []) (d.has_taken out_now log) (WriteFailed d out out_now) result
   copy_works = two_works copying (λ receipt b. CountsFile (judged_file (Some b)) receipt.counts) (λ receipt b c w. w ≡ c) (λ receipt b c w p q. (p, q))
 
@@ -155,8 +154,8 @@ module _ {F D : Type 0} (f : feed.Ghosts F) (d : drain.Ghosts D) (out out_now : 
   later_of digest known is false old now begun g = (g.file, inl (gives_file f known is begun g), g.holding)
 
   -- three passes
-  three_ends : (area : AreaSpec) (one one_now two two_now three three_now : F) (h : Halt) → AreFresh f (one ∷ two ∷ three ∷ []) → EndsExtracting f one one_now f two two_now f three three_now d out out_now true area (Stopped InputReceipt h)
-      → EndsFor f judged_writable (one ∷ two ∷ three ∷ []) (one_now ∷ two_now ∷ three_now ∷ []) (d.has_taken out_now log []) (WriteFailed d out out_now) (ending.Stopped (stop_of h))
+  three_ends : (area : AreaSpec) (one one_now two two_now three three_now : F) (h : Halt) → AreFresh f (one ∷ two ∷ three ∷ []) → EndsExtracting (fed f one one_now) (fed f two two_now) (fed f three three_now) (drained d out out_now) true area (Stopped InputReceipt h)
+      → StopsFor Pbfcut f judged_writable (one ∷ two ∷ three ∷ []) (one_now ∷ two_now ∷ three_now ∷ []) (d.has_taken out_now log []) (WriteFailed d out out_now) (stop_of h)
   three_ends area one one_now two two_now three three_now (halt.Refused r) fresh ends = (gives_faulty f judged_writable r fresh.0.0 ends.refused.0, ends.refused.1.logged log [] start)
   three_ends area one one_now two two_now three three_now (halt.Stopped (stop.Refused e)) fresh ends = absurd (ends.refused e refl)
   three_ends area one one_now two two_now three three_now (halt.Stopped stop.Read) fresh ends = elim ends.stops [ inl a ↦ inl a | inr b ↦ elim b [ inl a ↦ inr (inl a) | inr a ↦ inr (inr (inl a)) ] ]
@@ -169,7 +168,7 @@ module _ {F D : Type 0} (f : feed.Ghosts F) (d : drain.Ghosts D) (out out_now : 
 
   pub extract_works : (area : AreaSpec) (one one_now two two_now three three_now : F) (outcome : Result InputReceipt Halt) (result : Result Report Halted) → AreFresh f (one ∷ two ∷ three ∷ [])
       → IfOk outcome (λ receipt. GaveFile f one one_now (Some receipt.input) (λ b. IsWritable b × GaveOrNot f receipt.spared two two_now (Some receipt.input) b (λ c. GaveFile f three three_now (Some receipt.input) (λ e. Took d out out_now (λ w. b ≡ c → b ≡ e → IsExtraction (complete_ways area) (select.extract (seen_decoded area)) area b receipt.counts w)))))
-      → EndsExtracting f one one_now f two two_now f three three_now d out out_now true area outcome → ReportsRaw outcome result
+      → EndsExtracting (fed f one one_now) (fed f two two_now) (fed f three three_now) (drained d out out_now) true area outcome → ReportsRaw outcome result
       → Works (manner Pbfcut false digests) f (extracting area) (one ∷ two ∷ three ∷ []) (one_now ∷ two_now ∷ three_now ∷ []) (d.has_taken out_now log) (WriteFailed d out out_now) result
   extract_works area one one_now two two_now three three_now (Ok receipt) (Ok report) fresh given ends r =
       let known = Known (extracting area) receipt.input report.raw in let is = known_of (extracting area) receipt.input report.raw r.2 in
@@ -183,12 +182,11 @@ module _ {F D : Type 0} (f : feed.Ghosts F) (d : drain.Ghosts D) (out out_now : 
       }
   extract_works area one one_now two two_now three three_now (Err h) (Err halted) fresh given ends r =
       reported_ends f judged_writable (one ∷ two ∷ three ∷ []) (one_now ∷ two_now ∷ three_now ∷ []) (d.has_taken out_now log []) (WriteFailed d out out_now) h halted r (three_ends area one one_now two two_now three three_now h fresh ends)
-  extract_works area one one_now two two_now three three_now (Ok receipt) (Err halted) fresh given ends r = absurd r
-  extract_works area one one_now two two_now three three_now (Err h) (Ok report) fresh given ends r = absurd r
+  extract_works area one one_now two two_now three three_now _ _ fresh given ends r = absurd r
 
   -- four passes
-  four_ends : (area : AreaSpec) (one one_now two two_now three three_now four four_now : F) (h : Halt) → AreFresh f (one ∷ two ∷ three ∷ four ∷ []) → EndsExtractingParents f one one_now f two two_now f three three_now f four four_now d out out_now true area (Stopped InputReceipt h)
-      → EndsFor f judged_writable (one ∷ two ∷ three ∷ four ∷ []) (one_now ∷ two_now ∷ three_now ∷ four_now ∷ []) (d.has_taken out_now log []) (WriteFailed d out out_now) (ending.Stopped (stop_of h))
+  four_ends : (area : AreaSpec) (one one_now two two_now three three_now four four_now : F) (h : Halt) → AreFresh f (one ∷ two ∷ three ∷ four ∷ []) → EndsExtractingParents (fed f one one_now) (fed f two two_now) (fed f three three_now) (fed f four four_now) (drained d out out_now) true area (Stopped InputReceipt h)
+      → StopsFor Pbfcut f judged_writable (one ∷ two ∷ three ∷ four ∷ []) (one_now ∷ two_now ∷ three_now ∷ four_now ∷ []) (d.has_taken out_now log []) (WriteFailed d out out_now) (stop_of h)
   four_ends area one one_now two two_now three three_now four four_now (halt.Refused r) fresh ends = (gives_faulty f judged_writable r fresh.0.0 ends.refused.0, ends.refused.1.logged log [] start)
   four_ends area one one_now two two_now three three_now four four_now (halt.Stopped (stop.Refused e)) fresh ends = absurd (ends.refused e refl)
   four_ends area one one_now two two_now three three_now four four_now (halt.Stopped stop.Read) fresh ends = elim ends.stops [
@@ -207,7 +205,7 @@ module _ {F D : Type 0} (f : feed.Ghosts F) (d : drain.Ghosts D) (out out_now : 
 
   pub extract_parents_works : (area : AreaSpec) (one one_now two two_now three three_now four four_now : F) (outcome : Result InputReceipt Halt) (result : Result Report Halted) → AreFresh f (one ∷ two ∷ three ∷ four ∷ [])
       → IfOk outcome (λ receipt. GaveFile f one one_now (Some receipt.input) (λ b. IsWritable b × GaveOrNot f receipt.spared two two_now (Some receipt.input) b (λ c. GaveFile f three three_now (Some receipt.input) (λ e. GaveFile f four four_now (Some receipt.input) (λ g. Took d out out_now (λ w. b ≡ c → b ≡ e → b ≡ g → IsExtraction (all_parents area) (extract_with_parents (seen_decoded area)) area b receipt.counts w))))))
-      → EndsExtractingParents f one one_now f two two_now f three three_now f four four_now d out out_now true area outcome → ReportsRaw outcome result
+      → EndsExtractingParents (fed f one one_now) (fed f two two_now) (fed f three three_now) (fed f four four_now) (drained d out out_now) true area outcome → ReportsRaw outcome result
       → Works (manner Pbfcut false digests) f (extracting_parents area) (one ∷ two ∷ three ∷ four ∷ []) (one_now ∷ two_now ∷ three_now ∷ four_now ∷ []) (d.has_taken out_now log) (WriteFailed d out out_now) result
   extract_parents_works area one one_now two two_now three three_now four four_now (Ok receipt) (Ok report) fresh given ends r =
       let known = Known (extracting_parents area) receipt.input report.raw in let is = known_of (extracting_parents area) receipt.input report.raw r.2 in
@@ -221,5 +219,4 @@ module _ {F D : Type 0} (f : feed.Ghosts F) (d : drain.Ghosts D) (out out_now : 
       }
   extract_parents_works area one one_now two two_now three three_now four four_now (Err h) (Err halted) fresh given ends r =
       reported_ends f judged_writable (one ∷ two ∷ three ∷ four ∷ []) (one_now ∷ two_now ∷ three_now ∷ four_now ∷ []) (d.has_taken out_now log []) (WriteFailed d out out_now) h halted r (four_ends area one one_now two two_now three three_now four four_now h fresh ends)
-  extract_parents_works area one one_now two two_now three three_now four four_now (Ok receipt) (Err halted) fresh given ends r = absurd r
-  extract_parents_works area one one_now two two_now three three_now four four_now (Err h) (Ok report) fresh given ends r = absurd r
+  extract_parents_works area one one_now two two_now three three_now four four_now _ _ fresh given ends r = absurd r

@@ -6,7 +6,8 @@ use Rattle.pbf_frame.specs.declared.stop.Stop.{Stop}
 use Rattle.pbf_frame.specs.declared.stop.Stop.TheVariants as stop
 use Rattle.pbf_frame.specs.Devices.{HasRisen, IsAtEnd}
 use Rattle.pbf_frame.specs.Verdict.{Verdict}
-use Rattle.pbf_pass.specs.Stops.{WriteFailed}
+use Rattle.pbf_pass.specs.Stops.{Caused, WriteFailed}
+use Rattle.pbf_published.specs.Published.{ChangedOf}
 use Rattle.pbf_unpack.specs.declared.drain.PackedDrain.{PackedDrain}
 use Rattle.pbf_unpack.specs.Packing.{GaveAll}
 use Rattle.pbf_wire.specs.declared.fault.Fault.{Fault}
@@ -18,9 +19,8 @@ use Rattle.pbfcut_cli.specs.declared.programs.Program.TheVariants.{Pbfcut, Pbfcu
 use Rattle.pbfcut_program.specs.declared.engine.Report.{Report}
 use Rattle.pbfcut_program.specs.declared.engine.Halted.{Halted}
 use Rattle.pbfcut_program.specs.Events.{Event, read, wrote, then_one}
-use Rattle.pbfcut_program.specs.Fails.{FirstFault}
-use Rattle.pbfcut_program.specs.Manner.{AreDigests, Form, Manner, meant, of_input, of_output}
-use Rattle.pbfcut_program.specs.Outcomes.{RefusesAs}
+use Rattle.pbfcut_program.specs.Fails.{EndsAsStop, FirstFault, UnlessPacked}
+use Rattle.pbfcut_program.specs.Manner.{AreDigests, Form, Manner, meant, of_input, of_output, output_form, packed_file}
 use Rattle.pbfcut_program.specs.Readings.{IsFaulty, IsOther}
 use Rattle.pbfcut_program.specs.Tasks.{Task, Holds, hashes_in, judge_of, spares}
 
@@ -116,21 +116,21 @@ abbrev pub Change : {F : Type 0} → feed.Ghosts F → (nothing : Type 0) → �
 Change f nothing pass (old ∷ olds) (now ∷ news) = ChangeIn f nothing pass now olds news
 Change f nothing pass _ _ = ⊥
 
-abbrev pub StopsFor : {F : Type 0} → feed.Ghosts F → (Option (List ℕ) → Option Verdict) → (olds news : List F) → (nothing failed : Type 0) → Stop → Type 0
-StopsFor f judge olds news nothing failed (stop.Refused e) = FirstGivesFaulty f judge e olds news × nothing
-StopsFor f judge olds news nothing failed stop.Read = AnyFailed f olds news
-StopsFor f judge olds news nothing failed stop.Write = failed
-StopsFor f judge olds news nothing failed stop.Memory = Unit {0}
-StopsFor f judge olds news nothing failed (stop.Changed pass) = Change f nothing pass olds news
+-- what a refusal says by a program: of pbfcut by what was read, of pbfcutz by what its first feed has
+abbrev pub RefusesBy : {F : Type 0} → Program → feed.Ghosts F → (Option (List ℕ) → Option Verdict) → Fault → (olds news : List F) → Type 0
+RefusesBy Pbfcut f judge fault olds news = FirstGivesFaulty f judge fault olds news
+RefusesBy Pbfcutz f judge fault olds news = FirstFault packed_file judge fault (map f.remaining olds)
 
-abbrev pub EndsFor : {F : Type 0} → feed.Ghosts F → (Option (List ℕ) → Option Verdict) → (olds news : List F) → (nothing failed : Type 0) → Ending → Type 0
-EndsFor f judge olds news nothing failed (ending.Stopped s) = StopsFor f judge olds news nothing failed s
-EndsFor f judge olds news nothing failed _ = ⊥
+-- the same of a change
+abbrev pub ChangesBy : {F : Type 0} → Program → feed.Ghosts F → (nothing : Type 0) → ℕ → (olds news : List F) → Type 0
+ChangesBy Pbfcut f nothing pass olds news = Change f nothing pass olds news
+ChangesBy Pbfcutz f nothing pass olds news = ChangedOf (map f.remaining olds) pass
 
--- the same by a program: of pbfcutz only that it ends so, and of a refusal that the fault is that of what its first feed has
-abbrev pub EndsBy : Program → {F : Type 0} → feed.Ghosts F → (Option (List ℕ) → Option Verdict) → (olds news : List F) → (nothing failed : Type 0) → Ending → Type 0
-EndsBy Pbfcut f judge olds news nothing failed how = EndsFor f judge olds news nothing failed how
-EndsBy Pbfcutz f judge olds news nothing failed how = RefusesAs (λ fault. FirstFault judge fault (map f.remaining olds)) how
+abbrev pub StopsFor : {F : Type 0} → Program → feed.Ghosts F → (Option (List ℕ) → Option Verdict) → (olds news : List F) → (nothing failed : Type 0) → Stop → Type 0
+StopsFor program f judge olds news nothing failed s = Caused (λ fault. RefusesBy program f judge fault olds news × nothing) (AnyFailed f olds news) failed (λ pass. ChangesBy program f nothing pass olds news) s
+
+abbrev pub EndsFor : {F : Type 0} → Program → feed.Ghosts F → (Option (List ℕ) → Option Verdict) → (olds news : List F) → (nothing failed : Type 0) → Ending → Type 0
+EndsFor program f judge olds news nothing failed how = (s : Stop) × EndsAsStop program s how × StopsFor program f judge olds news nothing failed s
 
 -- ---- a call of the engine
 
@@ -145,7 +145,7 @@ pub record Reports {F : Type 0} (f : feed.Ghosts F) (m : Manner) (task : Task) (
 
 abbrev pub Works : {F : Type 0} → Manner → feed.Ghosts F → Task → (olds news : List F) → (took : List ℕ → Type 0) → (failed : Type 0) → Result Report Halted → Type 0
 Works m f task olds news took failed (Ok report) = Reports f m task olds news took report
-Works m f task olds news took failed (Err halted) = EndsBy m.program f (judge_of task) olds news (took []) failed halted.ending
+Works m f task olds news took failed (Err halted) = EndsFor m.program f (judge_of task) olds news (took []) (UnlessPacked (output_form m.packs m.program) failed) halted.ending
 
 -- if nothing was read of the feeds: by each log by which the drain had taken nothing
 abbrev pub WorksOn : {F D : Type 0} → Manner → feed.Ghosts F → drain.Ghosts D → Task → (olds news : List F) → (old new : D) → Result Report Halted → Type 0

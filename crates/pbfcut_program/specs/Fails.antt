@@ -4,18 +4,18 @@ use Rattle.osm_polygon.specs.declared.fault.PolyFault.{PolyFault}
 use Rattle.osm_polygon.specs.Texts.{rings_of_text}
 use Rattle.pbf_wire.specs.declared.fault.Fault.{Fault}
 use Rattle.pbf_frame.specs.Devices.{IsAtEnd}
-use Rattle.pbf_frame.specs.Verdict.{Verdict}
+use Rattle.pbf_frame.specs.Verdict.{Verdict, judged_known}
 use Rattle.pbf_frame.specs.declared.stop.Stop.{Stop}
 use Rattle.pbf_frame.specs.declared.stop.Stop.TheVariants as stop
-use Rattle.pbf_pass.specs.Stops.{FaultOf}
-use Rattle.pbfcut_cli.specs.declared.packed.PackedRefusal.{PackedRefusal}
+use Rattle.pbf_pass.specs.Stops.{Caused, FaultOf, unchanged}
+use Rattle.pbf_published.specs.Published.{ChangedOf}
 use Rattle.pbfcut_cli.specs.declared.endings.Ending.{Ending}
 use Rattle.pbfcut_cli.specs.declared.endings.Ending.TheVariants as ending
 use Rattle.pbfcut_cli.specs.declared.programs.Program.{Program}
 use Rattle.pbfcut_cli.specs.declared.programs.Program.TheVariants.{Pbfcut, Pbfcutz}
 use Rattle.pbfcut_program.specs.declared.host.OpenFault.TheVariants.{Failed, Pipe}
 use Rattle.pbfcut_program.specs.Events.{Event, Reading, text_read, text_not_read, looked, opened, not_opened, seeded, not_created, read, wrote, printed}
-use Rattle.pbfcut_program.specs.Manner.{meant_known, packed_file}
+use Rattle.pbfcut_program.specs.Manner.{Form, Manner, input_form, meant_known, output_form, packed_file, raw_file}
 use Rattle.pbfcut_program.specs.Readings.{IsFaulty, IsOther}
 
 -- ---- events
@@ -100,25 +100,20 @@ pub record IsChanged (pass : ℕ) (events : List Event) : Type 0 where
   pub differs : IsOther first.bytes other.bytes other.left
   pub last : (later ≡ []) ⊎ Each TookNothing events
 
--- the raw file that IN means has this fault first, as far as the host reports what IN has when it is opened for the first pass
-abbrev pub HasFault : (Option (List ℕ) → Option Verdict) → Fault → Event → Type 0
-HasFault judge fault (opened path pass has) = (pass ≡ 1) × FaultOf (judge (meant_known packed_file has)) fault
-HasFault judge fault _ = ⊥
+-- the raw file that IN means has this fault first, as far as the host reports what IN has for the first pass
+abbrev pub FirstFault : Form → (Option (List ℕ) → Option Verdict) → Fault → (has : List (Option (List ℕ))) → Type 0
+FirstFault form judge fault [] = ⊥
+FirstFault form judge fault (first ∷ later) = FaultOf (judge (meant_known form first)) fault
 
--- the same by what it has for each pass
-abbrev pub FirstFault : (Option (List ℕ) → Option Verdict) → Fault → List (Option (List ℕ)) → Type 0
-FirstFault judge fault [] = ⊥
-FirstFault judge fault (has ∷ more) = FaultOf (judge (meant_known packed_file has)) fault
+-- what a refusal says: of pbfcut by what was read, of pbfcutz by what IN has; and nothing was written
+abbrev pub IsRefusedBy : Program → (Option (List ℕ) → Option Verdict) → (has : List (Option (List ℕ))) → Fault → List Event → Type 0
+IsRefusedBy Pbfcut judge has fault events = IsRefused judge fault events
+IsRefusedBy Pbfcutz judge has fault events = FirstFault packed_file judge fault has × Each TookNothing events
 
--- what a refusal by a program says: of pbfcut what was read; of pbfcutz what IN has
-abbrev pub IsRefusedBy : Program → (Option (List ℕ) → Option Verdict) → Fault → List Event → Type 0
-IsRefusedBy Pbfcut judge = λ fault events. IsRefused judge fault events
-IsRefusedBy Pbfcutz judge = λ fault events. Has (HasFault judge fault) events
-
--- the same of what happened after IN was opened, by what it has
-abbrev pub IsRefusedOf : Program → (Option (List ℕ) → Option Verdict) → List (Option (List ℕ)) → Fault → List Event → Type 0
-IsRefusedOf Pbfcut judge has = λ fault events. IsRefused judge fault events
-IsRefusedOf Pbfcutz judge has = λ fault events. FirstFault judge fault has
+-- what a change says: of pbfcut by what was read; of pbfcutz by what IN has for the passes, and not what was written
+abbrev pub IsChangedBy : Program → (has : List (Option (List ℕ))) → ℕ → List Event → Type 0
+IsChangedBy Pbfcut has pass events = IsChanged pass events
+IsChangedBy Pbfcutz has pass events = ChangedOf has pass
 
 -- ---- why
 
@@ -138,29 +133,53 @@ FailsOpening how events = Each Quiet events × CauseOfOpening how events
 abbrev pub FailsPrinting : Ending → List Event → Type 0
 FailsPrinting how events = ((how ≡ ending.Stopped stop.Write) × Has FailsToWrite events) ⊎ (how ≡ ending.Stopped stop.Memory)
 
--- what is refused is said by `refused`; of pbfcutz no other stop is said to have its cause
-abbrev pub FailsFor : Program → (refused : Fault → List Event → Type 0) → Stop → List Event → Type 0
-FailsFor Pbfcut refused (stop.Refused fault) events = refused fault events
-FailsFor Pbfcut refused stop.Read events = Has FailsToRead events
-FailsFor Pbfcut refused stop.Write events = Has FailsToWrite events
-FailsFor Pbfcut refused stop.Memory events = Unit {0}
-FailsFor Pbfcut refused (stop.Changed pass) events = IsChanged pass events
-FailsFor Pbfcutz refused (stop.Refused fault) events = refused fault events
-FailsFor Pbfcutz refused stop.Read events = Unit {0}
-FailsFor Pbfcutz refused stop.Write events = Unit {0}
-FailsFor Pbfcutz refused stop.Memory events = Unit {0}
-FailsFor Pbfcutz refused (stop.Changed pass) events = Unit {0}
+-- a drain that packs fails at bytes that are no raw file, too: so why it failed isn't said
+abbrev pub UnlessPacked : Form → Type 0 → Type 0
+UnlessPacked raw_file said = said
+UnlessPacked packed_file said = Unit {0}
 
--- a refusal of pbfcutz has the reason of such a fault
-abbrev pub FailsPacked : Program → (refused : Fault → List Event → Type 0) → PackedRefusal → List Event → Type 0
-FailsPacked Pbfcut refused refusal events = ⊥
-FailsPacked Pbfcutz refused refusal events = (fault : Fault) × (refusal.reason ≡ fault.reason) × refused fault events
+-- what a command does with IN until it is refused
+pub data Judging : Type 0 where
+  -- it judges it so before anything is written
+  judging : (Option (List ℕ) → Option Verdict) → Judging
+  -- it writes the lines of frames until one has a fault
+  listing : Judging
+  -- `info`, of which no stop is said to have its cause
+  glancing : Judging
 
-abbrev pub Fails : Program → (refused : Fault → List Event → Type 0) → Ending → List Event → Type 0
-Fails program refused (ending.Stopped s) events = FailsFor program refused s events
-Fails program refused (ending.RefusedPacked refusal) events = FailsPacked program refused refusal events
-Fails program refused ending.CannotOpen events = Has FailsToOpen events × Each TookNothing events
-Fails program refused ending.IsPipe events = Has FailsAsPipe events × Each TookNothing events
-Fails program refused ending.OutExists events = (Has FailsAsThere events × Each TookNothing events) ⊎ Has FailsToFinish events
-Fails program refused (ending.Polygon fault) events = Has (FailsAsPolygon fault) events × Each TookNothing events
-Fails program refused _ events = ⊥
+-- each stop has its cause
+abbrev pub Stops : Manner → Judging → (has : List (Option (List ℕ))) → List Event → Stop → Type 0
+Stops m (judging judge) has events s =
+    Caused (λ fault. IsRefusedBy m.program judge has fault events) (Has FailsToRead events) (UnlessPacked (output_form m.packs m.program) (Has FailsToWrite events)) (λ pass. IsChangedBy m.program has pass events) s
+Stops m listing has events s = Caused (λ fault. FirstFault (input_form m.program) (judged_known false 0) fault has) (Has FailsToRead events) (Has FailsToWrite events) unchanged s
+Stops m glancing has events s = Unit {0}
+
+-- an ending is that of a stop: the stop, or the refusal of a published file for the reason of its fault
+abbrev pub EndsAsStop : Program → Stop → Ending → Type 0
+EndsAsStop program s (ending.Stopped t) = t ≡ s
+EndsAsStop program s (ending.RefusedPacked refusal) = (program ≡ Pbfcutz) × (fault : Fault) × (s ≡ stop.Refused fault) × (refusal.reason ≡ fault.reason)
+EndsAsStop program s _ = ⊥
+
+-- a command ends so, and IN has this for the passes that it was opened for
+abbrev pub Fails : Manner → Judging → (has : List (Option (List ℕ))) → Ending → List Event → Type 0
+Fails m j has ending.CannotOpen events = Has FailsToOpen events × Each TookNothing events
+Fails m j has ending.IsPipe events = Has FailsAsPipe events × Each TookNothing events
+Fails m j has ending.OutExists events = (Has FailsAsThere events × Each TookNothing events) ⊎ Has FailsToFinish events
+Fails m j has (ending.Polygon fault) events = Has (FailsAsPolygon fault) events × Each TookNothing events
+Fails m j has how events = (s : Stop) × EndsAsStop m.program s how × Stops m j has events s
+
+-- IN is opened for this pass, and has this, if the host reports it
+abbrev pub OpensFor : ℕ → (has : Option (List ℕ)) → Event → Type 0
+OpensFor pass has (opened path number known) = (number ≡ pass) × (known ≡ has)
+OpensFor pass has _ = ⊥
+
+-- the same for each pass from this one on
+abbrev pub Opens : ℕ → (has : List (Option (List ℕ))) → List Event → Type 0
+Opens pass [] events = Unit {0}
+Opens pass (has ∷ later) events = Has (OpensFor pass has) events × Opens (pass + 1) later events
+
+-- a command failed: IN has this for the passes, and by it the ending has its cause
+pub record FailsFor (m : Manner) (j : Judging) (how : Ending) (events : List Event) : Type 0 where
+  pub has : List (Option (List ℕ))
+  pub opens : Opens 1 has events
+  pub why : Fails m j has how events

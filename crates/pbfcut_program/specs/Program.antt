@@ -11,13 +11,11 @@ use Rattle.osm_polygon.specs.Rings.{polygon_of}
 use Rattle.osm_text.specs.Digests.{digest_line, hex_byte}
 use Rattle.sha2.specs.Sha256.{sha256}
 use Rattle.pbf_block.specs.declared.counts.Counts.{Counts}
-use Rattle.pbf_wire.specs.declared.fault.Fault.{Fault}
 use Rattle.pbf_frame.specs.Frames.{FrameSpec}
 use Rattle.pbf_frame.specs.Verdict.{Says, Verdict, judged_known, with_first_known}
 use Rattle.pbf_frame.specs.declared.stop.Stop.TheVariants as stop
 use Rattle.pbf_pass.specs.HeaderLimit.{judged_writable}
 use Rattle.pbf_pass.specs.Judged.{judged_file}
-use Rattle.pbf_pass.specs.Stops.{FaultOf}
 use Rattle.pbf_published.specs.Showing.{storage_line}
 use Rattle.pbfcut.specs.Blobs as blobs
 use Rattle.pbfcut.specs.Showing.{frame_text}
@@ -37,8 +35,8 @@ use Rattle.pbfcut_cli.specs.declared.words.Region.TheVariants as region
 use Rattle.pbfcut_program.specs.declared.host.Screen.{Screen}
 use Rattle.pbfcut_program.specs.declared.host.Screen.TheVariants.{Output, Error}
 use Rattle.pbfcut_program.specs.Events.{Event, text_read, looked, opened, seeded, created, screened, read, wrote, printed, told, advised, Reading, Writing}
-use Rattle.pbfcut_program.specs.Fails.{Fails, Has, IsRefusedBy}
-use Rattle.pbfcut_program.specs.Manner.{Form, Manner, hashes_meaning, input_form, manner, meant_known, of_output, output_form, packed_file, to_raw}
+use Rattle.pbfcut_program.specs.Fails.{FailsFor, Judging, glancing, judging, listing}
+use Rattle.pbfcut_program.specs.Manner.{Manner, hashes_meaning, input_form, manner, meant_known, of_output, output_form, packed_file, to_raw}
 use Rattle.pbfcut_program.specs.Readings.{IsWork}
 use Rattle.pbfcut_program.specs.Tasks.{Task, checking, showing, converting, copying, extracting, extracting_parents, passes_of}
 
@@ -222,32 +220,25 @@ Does m (Extract region parents files) events = Extracts m region parents files e
 
 -- ---- why a command fails
 
--- the first frame fault of the raw file that IN means, as far as the host reports what it has
-abbrev pub HasFrameFault : Form → Fault → Event → Type 0
-HasFrameFault form fault (opened path pass has) = FaultOf (judged_known false 0 (meant_known form has)) fault
-HasFrameFault form fault _ = ⊥
+abbrev pub judging_of : Command → Judging
+judging_of (Help text) = glancing
+judging_of (Blobs input) = listing
+judging_of (Info input) = glancing
+judging_of (Show input dates progress) = judging judged_file
+judging_of (Check input progress digests) = judging judged_file
+judging_of (Convert files) = judging judged_writable
+judging_of (Pack files) = judging judged_file
+judging_of (Unpack files) = judging judged_file
+judging_of (Extract region parents files) = judging judged_writable
 
--- how a listing is refused
-abbrev pub refused_listing : Program → Fault → List Event → Type 0
-refused_listing program = λ fault events. Has (HasFrameFault (input_form program) fault) events
+-- `info` reads as pbfcutz does, and `show` writes a text
+abbrev pub reading_of : Manner → Command → Manner
+reading_of m (Info input) = manner Pbfcutz m.packs m.digests
+reading_of m (Show input dates progress) = to_raw m
+reading_of m _ = m
 
-abbrev pub refused_by : Program → Command → Fault → List Event → Type 0
-refused_by program (Blobs input) = refused_listing program
-refused_by program (Check input progress digests) = IsRefusedBy program judged_file
-refused_by program (Show input dates progress) = IsRefusedBy program judged_file
-refused_by program (Convert files) = IsRefusedBy program judged_writable
-refused_by program (Pack files) = IsRefusedBy program judged_file
-refused_by program (Unpack files) = IsRefusedBy program judged_file
-refused_by program (Extract region parents files) = IsRefusedBy program judged_writable
-refused_by program _ = λ fault events. Unit {0}
-
--- the program whose way of reading a command has
-abbrev pub reader_of : Program → Command → Program
-reader_of program (Info input) = Pbfcutz
-reader_of program _ = program
-
-abbrev pub FailsIn : Program → Command → Ending → List Event → Type 0
-FailsIn program command how events = Fails (reader_of program command) (refused_by program command) how events
+abbrev pub FailsIn : Manner → Command → Ending → List Event → Type 0
+FailsIn m command how events = FailsFor (reading_of m command) (judging_of command) how events
 
 -- ---- the whole run
 
@@ -265,7 +256,7 @@ IsWhy program words (ending.Words text) events = (takes (program_app program) (n
 IsWhy program words (ending.Box f) events = FitsFault (subcommand_of (program_app program) (normalized words)) (fault.Box f) × (events ≡ [])
 IsWhy program words (ending.Choice f) events = FitsFault (subcommand_of (program_app program) (normalized words)) (fault.Choice f) × (events ≡ [])
 IsWhy program words (ending.Stopped stop.Memory) events = Unit {0}
-IsWhy program words how events = (command : Command) × IsMeant program words command × FailsIn program command how events
+IsWhy program words how events = (command : Command) × IsMeant program words command × FailsIn (manner_in program command) command how events
 
 -- it failed, and its line was written: the exit status and the line are those of one ending
 pub record IsFailed (program : Program) (words : List Text) (events : List Event) (status : ℕ) : Type 0 where

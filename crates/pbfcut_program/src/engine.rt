@@ -1,13 +1,14 @@
 //! The calls of both programs: those of pbfcut over raw files, and those of pbfcutz over published ones.
 
-ghost use Rattle.std.specs.Prelude.{◌≡◌, ℕ, [], ◌∷◌, List, IfSome, IfErr, OnOk, false, true};
+ghost use Rattle.std.specs.Prelude.{◌≡◌, [], ◌∷◌, IfSome, IfErr, OnOk, false, true};
 ghost use Rattle.pbf_frame.specs.Verdict.{judged_known};
 ghost use Rattle.pbf_published.specs.Showing.{ShowsHeader};
 ghost use Rattle.pbfcut_cli.specs.declared.endings.Ending.TheVariants as ending;
 ghost use Rattle.pbfcut_cli.specs.declared.programs.Program.TheVariants.{Pbfcutz};
 ghost use Rattle.pbfcut_program.specs.Devices.{AreFresh, Works, WorksOn};
+ghost use Rattle.pbfcut_program.specs.Fails.{EndsAsStop};
 ghost use Rattle.pbfcut_program.specs.Manner.{manner_of, meant_known, output_form, packed_file, raw_file, to_raw};
-ghost use Rattle.pbfcut_program.specs.Outcomes.{EndsAsStop, EndsPacked, ListsBy, ReportsPublished, ReportsRaw};
+ghost use Rattle.pbfcut_program.specs.Outcomes.{EndsPacked, ListsBy, ReportsPublished, ReportsRaw};
 ghost use Rattle.pbfcut_program.specs.Tasks.{checking, showing, converting, copying, extracting, extracting_parents};
 
 use crate::opening::{FourPasses, ThreePasses, TwoPasses};
@@ -83,7 +84,7 @@ fn zlib_fault_of(halt: &PublishedHalt, fault: Fault) -> Option<UnpackFault> {
 /// How pbfcutz ends after such a halt. A blob may have more than one occurrence of zlib data, of which the last counts: that is where a
 /// fault of such data is.
 fn ending_of(halt: &PublishedHalt) -> Ending
-    ensures { EndsAsStop halt.now.stop result }
+    ensures { EndsAsStop Pbfcutz halt.now.stop result }
 {
     match (halt.stop, halt.place) {
         (Stop::Refused(fault), Some(place)) => {
@@ -99,7 +100,7 @@ fn ending_of(halt: &PublishedHalt) -> Ending
 }
 
 impl From<PublishedHalt> for Halted {
-    ghost from_gives = { λ halt e. EndsAsStop halt.stop e.ending };
+    ghost from_gives = { λ halt e. EndsAsStop Pbfcutz halt.stop e.ending };
 
     fn from(halt: PublishedHalt) -> Halted {
         Halted {

@@ -3,7 +3,7 @@
 ghost use Rattle.std.specs.Prelude.{◌≡◌, [], List, IfErr, IfOk, OnOk, map, string_bytes};
 ghost use Rattle.pbfcut_cli.specs.Words.{word_texts};
 ghost use Rattle.pbfcut_program.specs.Events.{Event, then_all};
-ghost use Rattle.pbfcut_program.specs.Fails.{Fails, IsRefusedBy};
+ghost use Rattle.pbfcut_program.specs.Fails.{FailsFor, judging};
 ghost use Rattle.pbfcut_program.specs.Jobs.{plan_of};
 ghost use Rattle.pbfcut_program.specs.Manner.{manner_of};
 ghost use Rattle.pbfcut_program.specs.Tasks.{judge_of};
@@ -63,7 +63,7 @@ fn run_writing<H: Host>(
         × Writes (manner_of engine) (plan_of plan) files.now events) }
     ensures err { IfErr result (λ how. (events : List Event)
         × (H.log host.new ≡ then_all (H.log host.old) events)
-        × Fails engine.program (IsRefusedBy engine.program (judge_of (plan_of plan))) how events) }
+        × FailsFor (manner_of engine) (judging (judge_of (plan_of plan))) how events) }
 {
     let progress = shows_progress(&*host, engine.program, files.progress, files.input);
     write(engine, host, files, plan, progress)?;
@@ -77,7 +77,7 @@ fn run_command<H: Host>(engine: Engine, host: &mut H, command: &Command<'_>) -> 
         × Does (manner_of engine) command.now events) }
     ensures err { IfErr result (λ how. (events : List Event)
         × (H.log host.new ≡ then_all (H.log host.old) events)
-        × FailsIn engine.program command.now how events) }
+        × FailsIn (manner_of engine) command.now how events) }
 {
     match command {
         Command::Help(text) => print_text(host, Screen::Output, text.as_str().as_bytes()),

@@ -5,10 +5,10 @@ ghost use Rattle.pbf_pass.specs.Judged.{judged_file};
 ghost use Rattle.pbfcut_cli.specs.declared.programs.Program.TheVariants as program;
 ghost use Rattle.pbfcut_program.specs.Devices.{Finishes};
 ghost use Rattle.pbfcut_program.specs.Events.{Event, Reading, opened, read, then_all};
-ghost use Rattle.pbfcut_program.specs.Fails.{Fails, IsRefusedBy};
-ghost use Rattle.pbfcut_program.specs.Manner.{manner_of};
+ghost use Rattle.pbfcut_program.specs.Fails.{FailsFor, glancing, judging, listing};
+ghost use Rattle.pbfcut_program.specs.Manner.{manner, manner_of, to_raw};
 ghost use Rattle.pbfcut_program.specs.Outcomes.{EndsAs};
-ghost use Rattle.pbfcut_program.specs.Program.{Checks, IsHeaderText, IsListing, Lists, Shows, refused_listing};
+ghost use Rattle.pbfcut_program.specs.Program.{Checks, IsHeaderText, IsListing, Lists, Shows};
 ghost use Rattle.pbfcut_program.specs.Readings.{IsWork};
 ghost use Rattle.pbfcut_program.specs.Tasks.{checking};
 
@@ -33,7 +33,7 @@ fn read_once<H: Host>(
         report.input report.raw) }
     ensures err { IfErr result (λ how. (events : List Event)
         × (H.log host.new ≡ then_all (H.log host.old) events)
-        × Fails engine.program (IsRefusedBy engine.program judged_file) how events) }
+        × FailsFor (manner_of engine) (judging judged_file) how events) }
 {
     let input = Input {
         path,
@@ -61,7 +61,7 @@ pub(crate) fn run_check<H: Host>(
         × Checks (manner_of engine) path.now events) }
     ensures err { IfErr result (λ how. (events : List Event)
         × (H.log host.new ≡ then_all (H.log host.old) events)
-        × Fails engine.program (IsRefusedBy engine.program judged_file) how events) }
+        × FailsFor (manner_of engine) (judging judged_file) how events) }
 {
     let report = read_once(engine, host, path, progress)?;
     print_checked(engine, host, &report, path)
@@ -99,7 +99,7 @@ pub(crate) fn run_show<H: Host>(
         × Shows (manner_of engine) dates input.now.path.now events) }
     ensures err { IfErr result (λ how. (events : List Event)
         × (H.log host.new ≡ then_all (H.log host.old) events)
-        × Fails engine.program (IsRefusedBy engine.program judged_file) how events) }
+        × FailsFor (to_raw (manner_of engine)) (judging judged_file) how events) }
 {
     let mut passes = open_two(host, input)?;
     let mut out = open_screen(host)?;
@@ -119,7 +119,7 @@ pub(crate) fn run_blobs<H: Host>(
         × Lists (IsListing engine.program) input.now.path.now events) }
     ensures err { IfErr result (λ how. (events : List Event)
         × (H.log host.new ≡ then_all (H.log host.old) events)
-        × Fails engine.program (refused_listing engine.program) how events) }
+        × FailsFor (manner_of engine) listing how events) }
 {
     let mut pass = open_pass(host, input, 1)?;
     let mut out = open_screen(host)?;
@@ -139,7 +139,7 @@ pub(crate) fn run_info<H: Host>(
         × Lists IsHeaderText input.now.path.now events) }
     ensures err { IfErr result (λ how. (events : List Event)
         × (H.log host.new ≡ then_all (H.log host.old) events)
-        × Fails program.Pbfcutz (λ _ _. Unit {0}) how events) }
+        × FailsFor (manner program.Pbfcutz engine.packs engine.digests) glancing how events) }
 {
     let mut pass = open_pass(host, input, 1)?;
     let mut out = open_screen(host)?;

@@ -9,7 +9,7 @@ ghost use Rattle.pbf_pass.specs.Stops.{WriteFailed};
 ghost use Rattle.pbfcut_cli.specs.declared.programs.Program.TheVariants.{Pbfcutz};
 ghost use Rattle.pbfcut_program.specs.Devices.{AreFresh, FinishesPacked, IsAsked, IsFreshOut, MeansBy, TakenBy, Works, WorksOn};
 ghost use Rattle.pbfcut_program.specs.Events.{Event, Reading, Writing, read, seeded, wrote, then_all, then_one};
-ghost use Rattle.pbfcut_program.specs.Fails.{Fails, FailsOpening, IsRefusedBy, IsRefusedOf};
+ghost use Rattle.pbfcut_program.specs.Fails.{Fails, FailsFor, FailsOpening, judging};
 ghost use Rattle.pbfcut_program.specs.Jobs.{area_of, feeds_of, plan_of, task_of};
 ghost use Rattle.pbfcut_program.specs.Program.{Extracts, WritesCounts, advice, digest_if_asked, extract_task, is_empty, is_screen, looks, makes, openings, screen_of};
 ghost use Rattle.pbfcut_program.specs.Manner.{hashes_meaning, manner_of, of_output, output_form, packed_file, to_raw};
@@ -387,8 +387,8 @@ fn run_job<H: Host>(
         done.report.input done.report.raw) }
     ensures err { IfErr result (λ how. (events : List Event)
         × (H.log host.new ≡ then_all (H.log host.old) events)
-        × Fails engine.program (IsRefusedOf engine.program (judge_of (task_of ready.job))
-        (map H.In.remaining (feeds_of ready.job))) how events) }
+        × Fails (manner_of engine) (judging (judge_of (task_of ready.job)))
+        (map H.In.remaining (feeds_of ready.job)) how events) }
 {
     let Ready { job, out, hasher } = ready;
     let mut job = job;
@@ -426,7 +426,7 @@ pub(crate) fn write<H: Host>(
         × WritesCounts (manner_of engine) (plan_of plan) files.now counts events) }
     ensures err { IfErr result (λ how. (events : List Event)
         × (H.log host.new ≡ then_all (H.log host.old) events)
-        × Fails engine.program (IsRefusedBy engine.program (judge_of (plan_of plan))) how events) }
+        × FailsFor (manner_of engine) (judging (judge_of (plan_of plan))) how events) }
 {
     let to_screen = is_screen(engine.program, files.output);
     let ready = prepare(host, to_screen, files, plan, progress)?;
@@ -478,7 +478,7 @@ pub(crate) fn run_extract<H: Host>(
         × Extracts (manner_of engine) region.now parents files.now events) }
     ensures err { IfErr result (λ how. (events : List Event)
         × (H.log host.new ≡ then_all (H.log host.old) events)
-        × Fails engine.program (IsRefusedBy engine.program judged_writable) how events) }
+        × FailsFor (manner_of engine) (judging judged_writable) how events) }
 {
     let cut = read_region(engine.alloc, host, region)?;
     let counts = write(engine, host, files, plan_extract(cut, parents), progress)?;

@@ -1,10 +1,14 @@
-use Rattle.std.proofs.Common.{take, ◌≤◌}
-use Rattle.osm_polygon.specs.Bands.{AreBands, lists_of, held, spans_of}
+use Rattle.std.proofs.Common.{◌≡◌, ◌+◌, ◌*◌, ◌≤◌, length, take}
+use Rattle.osm_polygon.specs.Strips.{held}
+use Rattle.osm_polygon.specs.Bands.{AreBands, held_by, cells_by}
 use Rattle.osm_polygon.proofs.bands.bands_of.Given as goal
 
--- the bands have the edges so far
-abbrev pub invariant-loop-edge : goal.invariant-loop-edge
-invariant-loop-edge l = record {
-  are : AreBands l.cut.shift l.cut.first (take l.edge-index l.edges) (lists_of l.bands.items);
-  few : held l.bands.items ≤ spans_of l.cut.shift (take l.edge-index l.edges);
+-- the bands so far
+abbrev pub invariant-loop-strip : goal.invariant-loop-strip
+invariant-loop-strip l = record {
+  are : AreBands l.cut.shift l.cut.first l.edges l.bands.items;
+  number : l.number ≡ l.cut.first + l.strip-index;
+  equal : length l.bands.items ≡ l.strip-index;
+  cells : cells_by l.bands.items ≤ held (take l.strip-index l.strip-items) + l.strip-index;
+  few : held_by l.bands.items ≤ 2 * held (take l.strip-index l.strip-items);
 }

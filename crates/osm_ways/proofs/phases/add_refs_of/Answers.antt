@@ -1,17 +1,14 @@
-use Rattle.std.proofs.Common.{◌≡◌, ◌∷◌, Bool, true, false, ◌||◌, refl, ap, sym, ◌∙◌, rules, w64}
+use Rattle.std.proofs.Common.{◌≡◌, ◌∷◌, false, ◌||◌, ap, sym, ◌∙◌, rules, w64}
 use mir.Val.{SFits}
 use Rattle.std.specs.List.{fold, list_any}
 use Rattle.std.specs.FinSet as set
 use Rattle.std.proofs.lemmas.Int.{to_z-of_z}
+use Rattle.std.proofs.Math.Bool.{or-true}
 use Rattle.osm_entity.specs.Sources.{refs_left}
 use Rattle.osm_ways.specs.Phases.{Ids}
 use Rattle.osm_ways.proofs.Shown.{insert_known, union-insert}
 use Rattle.osm_ways.proofs.phases.add_refs_of.Goals.{then-not-has_near+else-not-is_kept_by+in_ok-add, else-not-has_near}
 use Rattle.osm_ways.proofs.phases.add_refs_of.Goals as goal
-
-or_true : (b : Bool) → (b || true) ≡ true
-or_true true = refl
-or_true false = refl
 
 pub returns-clause-kept : goal.returns-clause-kept
 returns-clause-kept g c =
@@ -22,7 +19,7 @@ returns-clause-kept g c =
     let fits : SFits w64 first = search rules in
     sym (ap (list_any (set.contains known)) turn ∙ elim c.if-not-has_near.branch [
       | then-not-has_near+else-not-is_kept_by+in_ok-add w ↦
-          ap (λ b. set.contains known first || b) (sym w.is_kept_by.ensures.kept ∙ w.if-not-is_kept_by.false) ∙ or_true (set.contains known first)
+          ap (λ b. set.contains known first || b) (sym w.is_kept_by.ensures.kept ∙ w.if-not-is_kept_by.false) ∙ or-true (set.contains known first)
       | else-not-has_near w ↦ ap (λ b. b || list_any (set.contains known) rest) (ap (set.contains known) (sym (to_z-of_z w64 first fits)) ∙ sym (w.if-not-has_near.ensures {u = tt}).has)
     ])
 

@@ -20,4 +20,4 @@ runs-preserved c =
       | else-left-ge8-via-then-left-ge8+else-pass_zeros w ↦ w.rest-is ∙ w.pass_zeros.ensures.kept w.if-pass_zeros.false
       | else-left-ge8-via-else-left-ge8 w ↦ w.rest-is
     ] in
-    ap (after_runs (c.runs.left - 1)) (c.pass_run.ensures ∙ ap (λ r. after_run (map low_32 (numbers_left r))) same) ∙ one_run c.runs.left before c.runs-test.true ∙ c.runs.invariant
+    ap (after_runs (c.runs.left - 1)) (c.skip_run.ensures ∙ ap (λ r. after_run (map low_32 (numbers_left r))) same) ∙ one_run c.runs.left before c.runs-test.true ∙ c.runs.invariant

@@ -8,9 +8,9 @@ use Rattle.pbf_dense.proofs.steady.weigh_run.Given as goal
 abbrev pub invariant-tags : goal.invariant-tags
 invariant-tags l = record {
   fits : l.weight ≤ 2 ^ 64 - 1;
-  so_far : min (l.weight + tags_weight (run_tags l.table (numbers_left l.numbers))) (2 ^ 64 - 1) ≡ min (tags_weight (run_tags l.table (numbers_left l.initial.numbers))) (2 ^ 64 - 1);
-  rest : after_run (map low_32 (numbers_left l.numbers)) ≡ after_run (map low_32 (numbers_left l.initial.numbers));
+  so_far : min (l.weight + tags_weight (run_tags l.table (numbers_left l.rest))) (2 ^ 64 - 1) ≡ min (tags_weight (run_tags l.table (numbers_left l.fn.numbers))) (2 ^ 64 - 1);
+  rest : after_run (map low_32 (numbers_left l.rest)) ≡ after_run (map low_32 (numbers_left l.fn.numbers));
 }
 
 abbrev pub decreases-tags : goal.decreases-tags
-decreases-tags l = length (numbers_left l.numbers)
+decreases-tags l = length (numbers_left l.rest)

@@ -1,7 +1,7 @@
 use Rattle.std.proofs.Common.{true, inl, inr, refl, rules, sym, ap, ◌∙◌}
 use Rattle.std.proofs.lemmas.Result.{err_from_is_err_and}
 use Rattle.pbf_pass.specs.Judged.{judged_file}
-use Rattle.pbf_published.proofs.PublishedLemmas.{published_of, digest_told, closed_below, outcome_receipt, outcome_stops, outcome_beginning, read_below, either_of, refused_as, none_lacks, packed_differ, changed_stop, first_unknown, later_differ}
+use Rattle.pbf_published.proofs.PublishedLemmas.{published_of, digest_told, closed_below, outcome_receipt, outcome_stops, outcome_beginning, with_nothing, read_below, either_of, fault_as, none_lacks, packed_differ, changed_stop, first_unknown, later_differ}
 use Rattle.pbf_published.proofs.copying.copy_with_receipt.Goals as goal
 
 pub returns-clause-receipt : goal.returns-clause-receipt
@@ -22,12 +22,12 @@ pub returns-in_err-receipt-clause-stops : goal.returns-in_err-receipt-clause-sto
 returns-in_err-receipt-clause-stops g c =
     let p = err_from_is_err_and c.from_residual-in_err-receipt.result c.from_residual-in_err-receipt.ensures.1 in
     rw (p.1, p.2) (outcome_stops _ _ _ c.published_outcome-outcome.ensures _ _ _ _ _ _ _ _ c.in_err-receipt.was
-    (λ e refused. refused_as judged_file _ _ _ _ e c.open-one.ensures.remaining refused)
+    (λ e refused. (fault_as judged_file _ _ e c.open-one.ensures.remaining refused.0.0, refused.1))
     (λ none.
     let two = none_lacks _ _ none in
     either_of (read_below g.F.Feed _ _ _ _ c.open-one.ensures.failures (c.lacks_memory.ensures two.0 ∙ ap (λ r. g.F.Feed.failures r.now) (sym c.close-one.ensures.feed) ∙ ap (λ (x : g.row.F.Denot). g.F.Feed.failures x) (search rules))) (read_below g.G.Feed _ _ _ _ c.open-two.ensures.failures (c.lacks_memory-2.ensures two.1 ∙ ap (λ r. g.G.Feed.failures r.now) (sym c.close-two.ensures.feed) ∙ ap (λ (x : g.row.G.Denot). g.G.Feed.failures x) (search rules))))
-    (λ pass is. inr (is.0, packed_differ _ _ _ _ c.open-one.ensures.remaining c.open-two.ensures.remaining is.1))
-    c.copy_with_receipt-outcome.ensures.ends.stops)
+    (λ pass is. inr (inl (is.0, packed_differ _ _ _ _ c.open-one.ensures.remaining c.open-two.ensures.remaining is.1)))
+    (with_nothing _ _ _ _ _ _ _ c.copy_with_receipt-outcome.ensures.ends.refused c.copy_with_receipt-outcome.ensures.ends.stops))
 
 pub returns-in_err-input-clause-stops : goal.returns-in_err-input-clause-stops
 returns-in_err-input-clause-stops g c =
@@ -39,4 +39,4 @@ pub returns-in_err-compare-clause-stops : goal.returns-in_err-compare-clause-sto
 returns-in_err-compare-clause-stops g c =
     let p = err_from_is_err_and c.from_residual-in_err-compare.result c.from_residual-in_err-compare.ensures.1 in
     let from_first = outcome_receipt _ _ c.copy_with_receipt-outcome.ensures.receipt _ _ c.in_ok-receipt.was _ c.published_outcome-outcome.ensures in
-    rw p.1 (changed_stop _ _ _ _ _ _ 2 p.2 c.in_err-compare.ensures.stops.0 (inr (refl, later_differ _ _ _ _ _ (digest_told g.F.Feed c.args.first.now c.close-one.result.1.now from_first true _ c.open-one.ensures.remaining c.open-one.ensures.opened c.close-one.ensures.closed refl) c.in_ok-input.ensures.there (digest_told g.G.Feed c.args.second.now c.close-two.result.1.now from_first.holding.1 true _ c.open-two.ensures.remaining c.open-two.ensures.opened c.close-two.ensures.closed refl) c.in_err-compare.ensures.stops.1)))
+    rw p.1 (changed_stop _ _ _ _ _ _ 2 p.2 c.in_err-compare.ensures.stops.0 (inr (inl (refl, later_differ _ _ _ _ _ (digest_told g.F.Feed c.args.first.now c.close-one.result.1.now from_first true _ c.open-one.ensures.remaining c.open-one.ensures.opened c.close-one.ensures.closed refl) c.in_ok-input.ensures.there (digest_told g.G.Feed c.args.second.now c.close-two.result.1.now from_first.holding.1 true _ c.open-two.ensures.remaining c.open-two.ensures.opened c.close-two.ensures.closed refl) c.in_err-compare.ensures.stops.1))))

@@ -1,7 +1,7 @@
 use Rattle.std.proofs.Common.{true, inl, inr, refl, rules, sym, ap, ◌∙◌}
 use Rattle.std.proofs.lemmas.Result.{err_from_is_err_and}
 use Rattle.pbf_pass.specs.HeaderLimit.{judged_writable}
-use Rattle.pbf_published.proofs.PublishedLemmas.{published_of, published_or_none, digest_told, closed_below, same_by, outcome_receipt, outcome_stops, outcome_beginning, read_below, either_of, refused_as, none_lacks, nothing_went_out, packed_differ, changed_stop, first_unknown, second_differs, later_differ, rest_of}
+use Rattle.pbf_published.proofs.PublishedLemmas.{published_of, published_or_none, digest_told, closed_below, same_by, outcome_receipt, outcome_stops, outcome_beginning, with_nothing, read_below, either_of, fault_as, none_lacks, nothing_went_out, packed_differ, changed_stop, first_unknown, second_differs, later_differ, rest_of}
 use Rattle.pbf_published.proofs.parents.extract_parents_sorted_with_receipt.Goals as goal
 
 pub returns-clause-receipt : goal.returns-clause-receipt
@@ -34,35 +34,35 @@ pub returns-in_err-receipt-clause-stops : goal.returns-in_err-receipt-clause-sto
 returns-in_err-receipt-clause-stops g c =
     let p = err_from_is_err_and c.from_residual-in_err-receipt.result c.from_residual-in_err-receipt.ensures.1 in
     rw (p.1, p.2) (outcome_stops _ _ _ c.published_outcome-outcome.ensures _ _ _ _ _ _ _ _ c.in_err-receipt.was
-    (λ e refused. refused_as judged_writable _ _ _ _ e c.open-one.ensures.remaining refused)
+    (λ e refused. (fault_as judged_writable _ _ e c.open-one.ensures.remaining refused.0.0, refused.1))
     (λ none.
     let four = none_lacks _ _ none in
     let three = none_lacks _ _ four.0 in
     let two = none_lacks _ _ three.0 in
     either_of (either_of (read_below g.F.Feed _ _ _ _ c.open-one.ensures.failures (c.lacks_memory.ensures two.0 ∙ ap (λ r. g.F.Feed.failures r.now) (sym c.close-one.ensures.feed) ∙ ap (λ (x : g.row.F.Denot). g.F.Feed.failures x) (search rules))) (either_of (read_below g.G.Feed _ _ _ _ c.open-two.ensures.failures (c.lacks_memory-2.ensures two.1 ∙ ap (λ r. g.G.Feed.failures r.now) (sym c.close-two.ensures.feed) ∙ ap (λ (x : g.row.G.Denot). g.G.Feed.failures x) (search rules))) (read_below g.H.Feed _ _ _ _ c.open-three.ensures.failures (c.lacks_memory-3.ensures three.1 ∙ ap (λ r. g.H.Feed.failures r.now) (sym c.close-three.ensures.feed) ∙ ap (λ (x : g.row.H.Denot). g.H.Feed.failures x) (search rules))))) (read_below g.I.Feed _ _ _ _ c.open-four.ensures.failures (c.lacks_memory-4.ensures four.1 ∙ ap (λ r. g.I.Feed.failures r.now) (sym c.close-four.ensures.feed) ∙ ap (λ (x : g.row.I.Denot). g.I.Feed.failures x) (search rules))))
-    (λ pass is. elim is [ inl before ↦ elim before [ inl two ↦ inl (inl (inr (two.0.0, packed_differ _ _ _ _ c.open-one.ensures.remaining c.open-two.ensures.remaining two.0.1))) | inr three ↦ inl (inr (three.0.0, packed_differ _ _ _ _ c.open-one.ensures.remaining c.open-three.ensures.remaining three.0.1)) ] | inr after ↦ inr (after.0, packed_differ _ _ _ _ c.open-one.ensures.remaining c.open-four.ensures.remaining after.1) ])
-    c.extract_parents_sorted_with_receipt-outcome.ensures.ends.stops)
+    (λ pass is. elim is [ inl before ↦ elim before [ inl two ↦ inr (inl (two.0.0, packed_differ _ _ _ _ c.open-one.ensures.remaining c.open-two.ensures.remaining two.0.1)) | inr three ↦ inr (inr (inl (three.0.0, packed_differ _ _ _ _ c.open-one.ensures.remaining c.open-three.ensures.remaining three.0.1))) ] | inr after ↦ inr (inr (inr (inl (after.0, packed_differ _ _ _ _ c.open-one.ensures.remaining c.open-four.ensures.remaining after.1)))) ])
+    (with_nothing _ _ _ _ _ _ _ c.extract_parents_sorted_with_receipt-outcome.ensures.ends.refused c.extract_parents_sorted_with_receipt-outcome.ensures.ends.stops))
 
 pub returns-in_err-input-clause-stops : goal.returns-in_err-input-clause-stops
 returns-in_err-input-clause-stops g c =
     let p = err_from_is_err_and c.from_residual-in_err-input.result c.from_residual-in_err-input.ensures.1 in
     let from_first = outcome_receipt _ _ c.extract_parents_sorted_with_receipt-outcome.ensures.receipt _ _ c.in_ok-receipt.was _ c.published_outcome-outcome.ensures in
-    rw p.1 (changed_stop _ _ _ _ _ _ 1 p.2 c.in_err-input.ensures.stops.0 (inl (inl (inl (refl, first_unknown _ _ (digest_told g.F.Feed c.args.first.now c.close-one.result.1.now from_first true _ c.open-one.ensures.remaining c.open-one.ensures.opened c.close-one.ensures.closed refl) c.in_err-input.ensures.stops.1)))))
+    rw p.1 (changed_stop _ _ _ _ _ _ 1 p.2 c.in_err-input.ensures.stops.0 (inl (refl, first_unknown _ _ (digest_told g.F.Feed c.args.first.now c.close-one.result.1.now from_first true _ c.open-one.ensures.remaining c.open-one.ensures.opened c.close-one.ensures.closed refl) c.in_err-input.ensures.stops.1)))
 
 pub returns-in_err-compare_unless_spared-clause-stops : goal.returns-in_err-compare_unless_spared-clause-stops
 returns-in_err-compare_unless_spared-clause-stops g c =
     let p = err_from_is_err_and c.from_residual-in_err-compare_unless_spared.result c.from_residual-in_err-compare_unless_spared.ensures.1 in
     let from_first = outcome_receipt _ _ c.extract_parents_sorted_with_receipt-outcome.ensures.receipt _ _ c.in_ok-receipt.was _ c.published_outcome-outcome.ensures in
-    rw p.1 (changed_stop _ _ _ _ _ _ 2 p.2 c.in_err-compare_unless_spared.ensures.stops.0 (inl (inl (inr (refl, second_differs _ _ c.in_ok-receipt.receipt.spared from_first.holding.1 c.in_err-compare_unless_spared.ensures.stops.1 (digest_told g.F.Feed c.args.first.now c.close-one.result.1.now from_first true _ c.open-one.ensures.remaining c.open-one.ensures.opened c.close-one.ensures.closed refl) c.in_ok-input.ensures.there (λ given. digest_told g.G.Feed c.args.second.now c.close-two.result.1.now given true _ c.open-two.ensures.remaining c.open-two.ensures.opened c.close-two.ensures.closed refl) c.in_err-compare_unless_spared.ensures.stops.2)))))
+    rw p.1 (changed_stop _ _ _ _ _ _ 2 p.2 c.in_err-compare_unless_spared.ensures.stops.0 (inr (inl (refl, second_differs _ _ c.in_ok-receipt.receipt.spared from_first.holding.1 c.in_err-compare_unless_spared.ensures.stops.1 (digest_told g.F.Feed c.args.first.now c.close-one.result.1.now from_first true _ c.open-one.ensures.remaining c.open-one.ensures.opened c.close-one.ensures.closed refl) c.in_ok-input.ensures.there (λ given. digest_told g.G.Feed c.args.second.now c.close-two.result.1.now given true _ c.open-two.ensures.remaining c.open-two.ensures.opened c.close-two.ensures.closed refl) c.in_err-compare_unless_spared.ensures.stops.2))))
 
 pub returns-in_err-compare-clause-stops : goal.returns-in_err-compare-clause-stops
 returns-in_err-compare-clause-stops g c =
     let p = err_from_is_err_and c.from_residual-in_err-compare.result c.from_residual-in_err-compare.ensures.1 in
     let from_first = outcome_receipt _ _ c.extract_parents_sorted_with_receipt-outcome.ensures.receipt _ _ c.in_ok-receipt.was _ c.published_outcome-outcome.ensures in
-    rw p.1 (changed_stop _ _ _ _ _ _ 3 p.2 c.in_err-compare.ensures.stops.0 (inl (inr (refl, later_differ _ _ _ _ _ (digest_told g.F.Feed c.args.first.now c.close-one.result.1.now from_first true _ c.open-one.ensures.remaining c.open-one.ensures.opened c.close-one.ensures.closed refl) c.in_ok-input.ensures.there (digest_told g.H.Feed c.args.third.now c.close-three.result.1.now (rest_of _ _ _ _ _ _ c.in_ok-receipt.receipt.spared from_first.holding.1).1 true _ c.open-three.ensures.remaining c.open-three.ensures.opened c.close-three.ensures.closed refl) c.in_err-compare.ensures.stops.1))))
+    rw p.1 (changed_stop _ _ _ _ _ _ 3 p.2 c.in_err-compare.ensures.stops.0 (inr (inr (inl (refl, later_differ _ _ _ _ _ (digest_told g.F.Feed c.args.first.now c.close-one.result.1.now from_first true _ c.open-one.ensures.remaining c.open-one.ensures.opened c.close-one.ensures.closed refl) c.in_ok-input.ensures.there (digest_told g.H.Feed c.args.third.now c.close-three.result.1.now (rest_of _ _ _ _ _ _ c.in_ok-receipt.receipt.spared from_first.holding.1).1 true _ c.open-three.ensures.remaining c.open-three.ensures.opened c.close-three.ensures.closed refl) c.in_err-compare.ensures.stops.1)))))
 
 pub returns-in_err-compare-2-clause-stops : goal.returns-in_err-compare-2-clause-stops
 returns-in_err-compare-2-clause-stops g c =
     let p = err_from_is_err_and c.from_residual-in_err-compare-2.result c.from_residual-in_err-compare-2.ensures.1 in
     let from_first = outcome_receipt _ _ c.extract_parents_sorted_with_receipt-outcome.ensures.receipt _ _ c.in_ok-receipt.was _ c.published_outcome-outcome.ensures in
-    rw p.1 (changed_stop _ _ _ _ _ _ 4 p.2 c.in_err-compare-2.ensures.stops.0 (inr (refl, later_differ _ _ _ _ _ (digest_told g.F.Feed c.args.first.now c.close-one.result.1.now from_first true _ c.open-one.ensures.remaining c.open-one.ensures.opened c.close-one.ensures.closed refl) c.in_ok-input.ensures.there (digest_told g.I.Feed c.args.fourth.now c.close-four.result.1.now (rest_of _ _ _ _ _ _ c.in_ok-receipt.receipt.spared from_first.holding.1).1.holding true _ c.open-four.ensures.remaining c.open-four.ensures.opened c.close-four.ensures.closed refl) c.in_err-compare-2.ensures.stops.1)))
+    rw p.1 (changed_stop _ _ _ _ _ _ 4 p.2 c.in_err-compare-2.ensures.stops.0 (inr (inr (inr (inl (refl, later_differ _ _ _ _ _ (digest_told g.F.Feed c.args.first.now c.close-one.result.1.now from_first true _ c.open-one.ensures.remaining c.open-one.ensures.opened c.close-one.ensures.closed refl) c.in_ok-input.ensures.there (digest_told g.I.Feed c.args.fourth.now c.close-four.result.1.now (rest_of _ _ _ _ _ _ c.in_ok-receipt.receipt.spared from_first.holding.1).1.holding true _ c.open-four.ensures.remaining c.open-four.ensures.opened c.close-four.ensures.closed refl) c.in_err-compare-2.ensures.stops.1))))))

@@ -17,6 +17,7 @@ returns-in_err-block g c =
       packed = tt;
       stopped = record { cause = tt; begins = λ sound. begins_none g.D.Drain _ _ _ refl };
       keeps = keeps_same g.D.Drain c.args.packer.now c.requires.0;
+      same = (refl, refl);
     })
 
 pub returns-in_err-pack_runs : goal.returns-in_err-pack_runs
@@ -32,6 +33,7 @@ returns-in_err-pack_runs g c =
       stopped = fails_at_unjudged_payload g.D.Drain c.args.entities.now.number pick (primitive_block frame.payload_at frame.payload.now) (joined_runs (runs_left c.runs_among.result)) _ _ _ (λ sound. c.runs_among.ensures.fits (here ∙ sound))
           (λ sound. picked_runs pick c.all.result (joined_runs (runs_left c.runs_among.result)) frame.payload_at block.at frame.payload.now block.payload.now c.all.ensures is (c.runs_among.ensures.exact (here ∙ sound))) c.in_err-pack_runs.ensures.stopped;
       keeps = c.in_err-pack_runs.ensures.keeps;
+      same = c.in_err-pack_runs.ensures.same;
     })
 
 pub returns : goal.returns
@@ -52,4 +54,5 @@ returns g c =
       };
       stopped = tt;
       keeps = done.keeps;
+      same = done.same;
     }

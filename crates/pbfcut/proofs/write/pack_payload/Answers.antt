@@ -1,3 +1,4 @@
+use Rattle.std.proofs.Common.{refl}
 use Rattle.pbf_pass.specs.Payload.{lent_by}
 use Rattle.pbfcut.specs.Pick.{picks_of}
 use Rattle.pbfcut.proofs.PackingLemmas.{keeps_same}
@@ -12,4 +13,5 @@ returns-in-Header g c =
       packed = packs_none g.D.Drain pick (lent_by frame) c.args.packer.now c.args.entities.now.counts c.requires.1 (none_picked pick frame.kind frame.payload_at frame.payload.now c.in-Header.is);
       stopped = tt;
       keeps = keeps_same g.D.Drain c.args.packer.now c.requires.0;
+      same = (refl, refl);
     }

@@ -12,4 +12,4 @@ returns-in-Pbfcut g c =
 pub returns-in-Pbfcutz : goal.returns-in-Pbfcutz
 returns-in-Pbfcutz g c =
     let receipt = c.check_with_receipt-in-Pbfcutz.ensures.receipt in
-    rw c.in-Pbfcutz.is (λ fresh. check_published g.F.Feed c.args.engine.packs c.args.engine.digests c.args.pass.now c.check_with_receipt-in-Pbfcutz.new.feed fresh c.check_with_receipt-in-Pbfcutz.result c.published.result (rw c.one_pass-how.ensures at receipt) _ _ c.check_with_receipt-in-Pbfcutz.ensures.stops c.published.ensures)
+    rw c.in-Pbfcutz.is (λ fresh. check_published g.F.Feed c.args.engine.packs c.args.engine.digests c.args.pass.now c.check_with_receipt-in-Pbfcutz.new.feed fresh c.check_with_receipt-in-Pbfcutz.result c.published.result (rw c.one_pass-how.ensures at receipt) c.check_with_receipt-in-Pbfcutz.ensures.stops c.published.ensures)

@@ -14,4 +14,4 @@ pub returns-in-Pbfcutz : goal.returns-in-Pbfcutz
 returns-in-Pbfcutz g c =
     let receipt = c.copy_with_receipt-in-Pbfcutz.ensures.receipt in
     rw c.in-Pbfcutz.is (λ fresh log start.
-    copy_published g.F.Feed g.D.Drain c.args.drain.now c.copy_with_receipt-in-Pbfcutz.new.drain c.args.engine.digests log start c.args.passes.now.one c.copy_with_receipt-in-Pbfcutz.new.first c.args.passes.now.two c.copy_with_receipt-in-Pbfcutz.new.second c.copy_with_receipt-in-Pbfcutz.result c.published.result fresh (rw c.packed_passes-how.ensures at receipt) _ _ _ c.copy_with_receipt-in-Pbfcutz.ensures.stops c.published.ensures)
+    copy_published g.F.Feed g.D.Drain c.args.drain.now c.copy_with_receipt-in-Pbfcutz.new.drain c.args.engine.digests log start c.args.passes.now.one c.copy_with_receipt-in-Pbfcutz.new.first c.args.passes.now.two c.copy_with_receipt-in-Pbfcutz.new.second c.copy_with_receipt-in-Pbfcutz.result c.published.result fresh (rw c.packed_passes-how.ensures at receipt) c.copy_with_receipt-in-Pbfcutz.ensures.stops c.published.ensures)

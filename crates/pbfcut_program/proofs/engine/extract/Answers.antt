@@ -14,4 +14,4 @@ pub returns-in-Pbfcutz : goal.returns-in-Pbfcutz
 returns-in-Pbfcutz g c =
     let receipt = c.extract_sorted_with_receipt-in-Pbfcutz.ensures.receipt in
     rw c.in-Pbfcutz.is (λ fresh log start.
-    extract_published g.F.Feed g.D.Drain c.args.drain.now c.extract_sorted_with_receipt-in-Pbfcutz.new.drain c.args.engine.digests log start (g.A.Area.area c.args.area) c.args.passes.now.one c.extract_sorted_with_receipt-in-Pbfcutz.new.first c.args.passes.now.two c.extract_sorted_with_receipt-in-Pbfcutz.new.second c.args.passes.now.three c.extract_sorted_with_receipt-in-Pbfcutz.new.third c.extract_sorted_with_receipt-in-Pbfcutz.result c.published.result fresh (rw c.packed_passes-how.ensures at receipt) _ _ _ c.extract_sorted_with_receipt-in-Pbfcutz.ensures.stops c.published.ensures)
+    extract_published g.F.Feed g.D.Drain c.args.drain.now c.extract_sorted_with_receipt-in-Pbfcutz.new.drain c.args.engine.digests log start (g.A.Area.area c.args.area) c.args.passes.now.one c.extract_sorted_with_receipt-in-Pbfcutz.new.first c.args.passes.now.two c.extract_sorted_with_receipt-in-Pbfcutz.new.second c.args.passes.now.three c.extract_sorted_with_receipt-in-Pbfcutz.new.third c.extract_sorted_with_receipt-in-Pbfcutz.result c.published.result fresh (rw c.packed_passes-how.ensures at receipt) c.extract_sorted_with_receipt-in-Pbfcutz.ensures.stops c.published.ensures)

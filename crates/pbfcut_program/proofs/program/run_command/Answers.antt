@@ -2,6 +2,8 @@ use Rattle.std.proofs.Common.{◌≡◌, [], ◌∷◌, ap, rules, string_bytes,
 use Rattle.std.proofs.lemmas.Result.{IfErr-weaker, on_ok_weaker}
 use Rattle.pbfcut_program.specs.declared.host.Screen.TheVariants.{Output}
 use Rattle.pbfcut_program.specs.Events.{printed}
+use Rattle.pbfcut_program.specs.Fails.{glancing}
+use Rattle.pbfcut_program.specs.Manner.{manner_of}
 use Rattle.pbfcut_program.proofs.FailLemmas.{print_fails, tells_err, tells_ok}
 use Rattle.pbfcut_program.proofs.Logging.{then_none}
 use Rattle.pbfcut_program.proofs.program.run_command.Goals as goal
@@ -13,7 +15,7 @@ returns-in-Help-clause-ok g c =
 
 pub returns-in-Help-clause-err : goal.returns-in-Help-clause-err
 returns-in-Help-clause-err g c =
-    rw c.in-Help.is (IfErr-weaker c.print_text.result _ _ (λ how f. print_fails c.args.engine.program _ how _ _ _ [] (then_none _) f) (tells_err _ _ _ c.print_text.result c.print_text.ensures))
+    rw c.in-Help.is (IfErr-weaker c.print_text.result _ _ (λ how f. print_fails (manner_of c.args.engine) glancing how _ _ _ [] (then_none _) f) (tells_err _ _ _ c.print_text.result c.print_text.ensures))
 
 pub returns-in-Blobs-clause-ok : goal.returns-in-Blobs-clause-ok
 returns-in-Blobs-clause-ok g c = rw c.in-Blobs.is c.run_blobs.ensures.ok

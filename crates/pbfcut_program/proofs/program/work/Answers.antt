@@ -29,5 +29,6 @@ returns-clause-ok g c =
     let meant = is_meant c.args.program words (word_texts c.as_slice.result.now) c.in_ok-command.command is c.in_ok-command.ensures.read in
     let f = c.in-Err.ensures.err in
     let r = c.report_command.ensures in
-    let why = fails_why c.args.program words c.in_ok-command.command c.in-Err.how f.0 meant f.2 in
+    let fails = rw (c.prints_digests.ensures, c.packs.ensures) at f.2 in
+    let why = fails_why c.args.program words c.in_ok-command.command c.in-Err.how f.0 meant fails in
     (_, and_then (g.H.Host.log c.args.host.now) _ _ f.0 _ f.1 r.1, inr (record { how = r.0; before = f.0; happened = refl; status_is = r.2; why = why_shown c.args.program words c.in-Err.how r.0 f.0 r.3 why }))

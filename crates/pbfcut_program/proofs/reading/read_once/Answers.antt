@@ -1,11 +1,11 @@
-use Rattle.std.proofs.Common.{[], ◌∷◌, ◌≡◌, List, refl}
+use Rattle.std.proofs.Common.{[], ◌∷◌, ◌++◌, ◌≡◌, List, inl, refl}
 use Rattle.pbf_pass.specs.Judged.{judged_file}
 use Rattle.pbfcut_program.specs.Events.{Event, opened, read}
-use Rattle.pbfcut_program.specs.Fails.{IsRefusedBy, IsRefusedOf}
+use Rattle.pbfcut_program.specs.Fails.{judging}
 use Rattle.pbfcut_program.specs.Manner.{manner_of}
 use Rattle.pbfcut_program.specs.Tasks.{checking}
 use Rattle.pbfcut_program.proofs.Closing.{ends_with_none, work_fails, work_read_once}
-use Rattle.pbfcut_program.proofs.FailLemmas.{by_opened, by_stays, fails_after, told_fails}
+use Rattle.pbfcut_program.proofs.FailLemmas.{opened_fails, told_fails}
 use Rattle.pbfcut_program.proofs.Logging.{and_then}
 use Rattle.pbfcut_program.proofs.reading.read_once.Goals as goal
 
@@ -16,12 +16,14 @@ returns-in-Err-clause-err g c =
     let now = c.check-outcome.new.pass in
     let fail = work_fails c.args.engine.program c.args.engine.packs c.args.engine.digests g.H.In.Feed checking (λ took. took ≡ []) ⊥ (log c.open_pass.new.host) (log c.close.new.self) (log c.close.new.self)
     (one ∷ []) (now ∷ []) c.in-Err.halted (ends_with_none (log c.close.new.self) (λ took. took ≡ [])) (c.in_ok-pass.ensures.fresh, tt) (log c.close.new.self, (c.close.ensures.some, c.close.ensures.logged), refl) (c.in-Err.ensures (c.in_ok-pass.ensures.fresh, tt)) in
-    let begun : List Event = opened c.args.path.now 1 (g.H.In.Feed.remaining one) ∷ [] in
-    let program = c.args.engine.program in
     let has = g.H.In.Feed.remaining one in
-    told_fails program (IsRefusedBy program judged_file) (by_stays program judged_file) c.in-Err.halted.ending c.tell_refusal.result (log c.args.host.now) (log c.close.new.self) (log c.tell_refusal.new.host) (_)
-    (and_then (log c.args.host.now) (log c.open_pass.new.host) (log c.close.new.self) begun fail.0 c.in_ok-pass.ensures.opened fail.1)
-    (fails_after program (IsRefusedOf program judged_file (has ∷ [])) (IsRefusedBy program judged_file) c.in-Err.halted.ending begun fail.0 (λ e r. by_opened program judged_file c.args.path.now has [] e [] fail.0 tt r) (tt, tt) fail.2) c.tell_refusal.ensures
+    let m = manner_of c.args.engine in
+    let told = told_fails m (judging judged_file) (has ∷ []) c.in-Err.halted.ending c.tell_refusal.result (log c.open_pass.new.host) (log c.close.new.self) (log c.tell_refusal.new.host) fail.0 fail.1 fail.2 c.tell_refusal.ensures in
+    let begun : List Event = opened c.args.path.now 1 has ∷ [] in (
+      begun ++ told.0,
+      and_then (log c.args.host.now) (log c.open_pass.new.host) (log c.tell_refusal.new.host) begun told.0 c.in_ok-pass.ensures.opened told.1,
+      opened_fails m (judging judged_file) (has ∷ []) c.tell_refusal.result begun told.0 (tt, tt) (inl (refl, refl), tt) told.2,
+    )
 
 pub returns-in-Ok-clause-ok : goal.returns-in-Ok-clause-ok
 returns-in-Ok-clause-ok g c =

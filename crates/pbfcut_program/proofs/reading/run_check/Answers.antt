@@ -2,7 +2,8 @@ use Rattle.std.proofs.Common.{[], ◌∷◌, List, refl}
 use Rattle.std.proofs.lemmas.Result.{IfErr-weaker, on_ok_weaker}
 use Rattle.pbf_pass.specs.Judged.{judged_file}
 use Rattle.pbfcut_program.specs.Events.{Event, opened, read}
-use Rattle.pbfcut_program.specs.Fails.{IsRefusedBy}
+use Rattle.pbfcut_program.specs.Fails.{judging}
+use Rattle.pbfcut_program.specs.Manner.{manner_of}
 use Rattle.pbfcut_program.proofs.FailLemmas.{print_fails, tells_err, tells_ok}
 use Rattle.pbfcut_program.proofs.Logging.{and_then}
 use Rattle.pbfcut_program.proofs.reading.run_check.Goals as goal
@@ -24,4 +25,4 @@ returns-clause-err g c =
     let log = g.H.Host.log in
     let d = c.in_ok-report.ensures.ok in
     let first : List Event = opened c.args.path.now 1 d.0 ∷ read d.1 ∷ [] in
-    IfErr-weaker c.print_checked.result _ _ (λ how f. print_fails c.args.engine.program (IsRefusedBy c.args.engine.program judged_file) how (log c.args.host.now) _ _ first d.2 f) (tells_err _ _ _ c.print_checked.result c.print_checked.ensures)
+    IfErr-weaker c.print_checked.result _ _ (λ how f. print_fails (manner_of c.args.engine) (judging judged_file) how (log c.args.host.now) _ _ first d.2 f) (tells_err _ _ _ c.print_checked.result c.print_checked.ensures)

@@ -1,13 +1,13 @@
 use Rattle.std.proofs.Common.{◌∙◌, ◌++◌, ap, refl, subst}
 use Rattle.std.proofs.lemmas.Result.{err_from_is_err_and}
 use Rattle.pbf_pass.specs.HeaderLimit.{judged_writable}
-use Rattle.pbfcut_program.specs.Fails.{Fails, IsRefusedBy}
+use Rattle.pbfcut_program.specs.Fails.{FailsFor, judging}
 use Rattle.pbfcut_program.specs.Jobs.{area_of}
 use Rattle.pbfcut_program.specs.Program.{WritesCounts, advice}
 use Rattle.pbfcut_program.specs.Manner.{manner_of}
 use Rattle.pbfcut_program.specs.Tasks.{judge_of}
 use Rattle.pbfcut_program.proofs.Beginning.{judge_extract, quiet_region}
-use Rattle.pbfcut_program.proofs.FailLemmas.{by_after, fails_after, opening_fails}
+use Rattle.pbfcut_program.proofs.FailLemmas.{failed_after, opening_fails}
 use Rattle.pbfcut_program.proofs.Logging.{and_then}
 use Rattle.pbfcut_program.proofs.writing.run_extract.Goals as goal
 
@@ -15,7 +15,7 @@ pub returns-in_err-cut-clause-err : goal.returns-in_err-cut-clause-err
 returns-in_err-cut-clause-err g c =
     let p = err_from_is_err_and c.from_residual.result c.from_residual.ensures.1 in
     let f = c.in_err-cut.ensures.err in
-    rw (p.1, p.2) (f.0, f.1, opening_fails c.args.engine.program (IsRefusedBy c.args.engine.program judged_writable) c.in_err-cut.field-0.0 f.0 f.2)
+    rw (p.1, p.2) (f.0, f.1, opening_fails (manner_of c.args.engine) (judging judged_writable) c.in_err-cut.field-0.0 f.0 f.2)
 
 pub returns-in_err-counts-clause-err : goal.returns-in_err-counts-clause-err
 returns-in_err-counts-clause-err g c =
@@ -25,9 +25,9 @@ returns-in_err-counts-clause-err g c =
     let area = area_of c.in_ok-cut.cut in
     let f = c.in_err-counts.ensures.err in
     let how = c.in_err-counts.field-0.0 in
-    let program = c.args.engine.program in
-    let fails = subst (λ j. Fails program (IsRefusedBy program j) how f.0) (ap judge_of c.plan_extract.ensures ∙ judge_extract c.args.parents area) f.2 in
-    rw (p.1, p.2) (_, and_then log _ _ d.0 f.0 d.1 f.1, fails_after program (IsRefusedBy program judged_writable) (IsRefusedBy program judged_writable) how d.0 f.0 (λ e r. by_after program judged_writable e d.0 f.0 (quiet_region c.args.region.now d.0 area d.2) r) (quiet_region c.args.region.now d.0 area d.2) fails)
+    let m = manner_of c.args.engine in
+    let fails = subst (λ j. FailsFor m (judging j) how f.0) (ap judge_of c.plan_extract.ensures ∙ judge_extract c.args.parents area) f.2 in
+    rw (p.1, p.2) (_, and_then log _ _ d.0 f.0 d.1 f.1, failed_after m (judging judged_writable) how d.0 f.0 (quiet_region c.args.region.now d.0 area d.2) fails)
 
 pub returns-clause-ok : goal.returns-clause-ok
 returns-clause-ok g c =

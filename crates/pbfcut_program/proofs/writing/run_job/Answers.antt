@@ -2,12 +2,12 @@ use Rattle.std.proofs.Common.{◌∙◌, ◌<◌, map}
 use Rattle.std.proofs.lemmas.Result.{IfErr-weaker, IfOk-weaker}
 use Rattle.std.specs.Result.{is_ok}
 use Rattle.pbfcut_program.specs.Devices.{MeansBy, TakenBy}
-use Rattle.pbfcut_program.specs.Fails.{IsRefusedOf}
+use Rattle.pbfcut_program.specs.Fails.{judging}
 use Rattle.pbfcut_program.specs.Jobs.{feeds_of, task_of}
 use Rattle.pbfcut_program.specs.Manner.{hashes_meaning, manner_of, of_output, output_form}
 use Rattle.pbfcut_program.specs.Tasks.{judge_of}
 use Rattle.pbfcut_program.proofs.Closing.{ends_with_out, finish_fails, hashed_as, keep_fails, work_done, work_fails}
-use Rattle.pbfcut_program.proofs.FailLemmas.{of_stays, told_fails}
+use Rattle.pbfcut_program.proofs.FailLemmas.{told_fails}
 use Rattle.pbfcut_program.proofs.writing.run_job.Goals as goal
 
 pub returns-in-Ok-clause-ok : goal.returns-in-Ok-clause-ok
@@ -32,17 +32,16 @@ returns-in-Ok-clause-err g c =
     IfErr-weaker c.kept.result _ _ (λ how e.
     let f = finish_fails g.H.In.Feed g.H.Out.Drain ran.out (is_ok c.finish-finished.result) (log c.args.host.now) (log c.close_job.new.host) (log c.finish-finished.new.self) (feeds_of c.run_into-result.new.job) c.close_job.ensures
     (c.finish-finished.ensures.some, c.finish-finished.ensures.logged) e.0 in
-    (f.0, f.1, keep_fails c.args.engine.program (IsRefusedOf c.args.engine.program (judge_of (task_of job)) (map g.H.In.Feed.remaining (feeds_of job))) how f.0 e.1 f.2 f.3)) c.kept.ensures.err
+    (f.0, f.1, keep_fails (manner_of c.args.engine) (judging (judge_of (task_of job))) (map g.H.In.Feed.remaining (feeds_of job)) how f.0 e.1 f.2 f.3)) c.kept.ensures.err
 
 pub returns-in-Err-clause-err : goal.returns-in-Err-clause-err
 returns-in-Err-clause-err g c =
     let log = g.H.Host.log in
     let job = c.args.ready.job in
     let ran = c.run_into-result.result in
-    let program = c.args.engine.program in
     let works = rw c.in-Err.is at (c.run_into-result.ensures.works c.requires.fresh.0) in
     let tail = ends_with_out g.H.Out.Drain ran.out (is_ok c.finish-finished.result) (λ w. TakenBy g.H.Out.Drain ran.out ran.output w × MeansBy (output_form c.args.engine.packs c.args.engine.program) ran.meaning w) (0 < g.H.Out.Drain.failures ran.out) (log c.close_job.new.host) (log c.finish-finished.new.self)
     (λ w t. t.0.0) (λ risen. risen) (c.finish-finished.ensures.some, c.finish-finished.ensures.logged) in
-    let fail = work_fails program c.args.engine.packs c.args.engine.digests g.H.In.Feed (task_of job) (λ w. TakenBy g.H.Out.Drain ran.out ran.output w × MeansBy (output_form c.args.engine.packs c.args.engine.program) ran.meaning w) (0 < g.H.Out.Drain.failures ran.out)
+    let fail = work_fails c.args.engine.program c.args.engine.packs c.args.engine.digests g.H.In.Feed (task_of job) (λ w. TakenBy g.H.Out.Drain ran.out ran.output w × MeansBy (output_form c.args.engine.packs c.args.engine.program) ran.meaning w) (0 < g.H.Out.Drain.failures ran.out)
     (log c.args.host.now) (log c.close_job.new.host) (log c.finish-finished.new.self) (feeds_of job) (feeds_of c.run_into-result.new.job) c.in-Err.halted tail c.requires.fresh.0 c.close_job.ensures works in
-    told_fails program (IsRefusedOf program (judge_of (task_of job)) (map g.H.In.Feed.remaining (feeds_of job))) (of_stays program (judge_of (task_of job)) (map g.H.In.Feed.remaining (feeds_of job))) c.in-Err.halted.ending c.tell_refusal.result (log c.args.host.now) (log c.finish-finished.new.self) (log c.tell_refusal.new.host) fail.0 fail.1 fail.2 c.tell_refusal.ensures
+    told_fails (manner_of c.args.engine) (judging (judge_of (task_of job))) (map g.H.In.Feed.remaining (feeds_of job)) c.in-Err.halted.ending c.tell_refusal.result (log c.args.host.now) (log c.finish-finished.new.self) (log c.tell_refusal.new.host) fail.0 fail.1 fail.2 c.tell_refusal.ensures

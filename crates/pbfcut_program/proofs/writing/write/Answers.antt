@@ -2,14 +2,14 @@ use Rattle.std.proofs.Common.{◌≡◌, ◌∙◌, [], ◌∷◌, ◌++◌, Lis
 use Rattle.std.proofs.lemmas.Result.{err_from_is_err_and}
 use Rattle.pbfcut_program.specs.declared.host.Screen.{Screen}
 use Rattle.pbfcut_program.specs.Events.{Event, read, seeded, wrote, then_all}
-use Rattle.pbfcut_program.specs.Fails.{Fails, IsRefusedBy, IsRefusedOf}
+use Rattle.pbfcut_program.specs.Fails.{Fails, judging}
 use Rattle.pbfcut_program.specs.Jobs.{feeds_of, plan_of}
 use Rattle.pbfcut_program.specs.Program.{counts_text, done_lines, is_screen, looks, makes, openings, prints, screen_of}
 use Rattle.pbfcut_program.specs.Manner.{manner_of}
 use Rattle.pbfcut_program.specs.Readings.{IsWork}
 use Rattle.pbfcut_program.specs.Tasks.{judge_of}
-use Rattle.pbfcut_program.proofs.Beginning.{all_events, begun, by_begun, length_has, quiet_begun}
-use Rattle.pbfcut_program.proofs.FailLemmas.{fails_after, opening_fails, print_fails}
+use Rattle.pbfcut_program.proofs.Beginning.{all_events, begun, length_has, opens_begun, quiet_begun}
+use Rattle.pbfcut_program.proofs.FailLemmas.{opened_fails, opening_fails, print_fails}
 use Rattle.pbfcut_program.proofs.Logging.{and_then}
 use Rattle.pbfcut_program.proofs.writing.write.Goals as goal
 
@@ -17,7 +17,7 @@ pub returns-in_err-ready-clause-err : goal.returns-in_err-ready-clause-err
 returns-in_err-ready-clause-err g c =
     let p = err_from_is_err_and c.from_residual.result c.from_residual.ensures.1 in
     let f = c.in_err-ready.ensures.err in
-    rw (p.1, p.2) (f.0, f.1, opening_fails c.args.engine.program _ c.in_err-ready.field-0.0 f.0 f.2)
+    rw (p.1, p.2) (f.0, f.1, opening_fails (manner_of c.args.engine) (judging (judge_of (plan_of c.args.plan))) c.in_err-ready.field-0.0 f.0 f.2)
 
 pub returns-in_err-done-clause-err : goal.returns-in_err-done-clause-err
 returns-in_err-done-clause-err g c =
@@ -28,11 +28,11 @@ returns-in_err-done-clause-err g c =
     let files = c.args.files.now in
     let is = is_screen c.args.engine.program files.output.now in
     let has = map g.H.In.Feed.remaining (feeds_of c.in_ok-ready.ready.job) in
-    let judge = judge_of (plan_of c.args.plan) in
-    let program = c.args.engine.program in
-    let fails = subst (λ t. Fails program (IsRefusedOf program (judge_of t) has) how f.0) c.in_ok-ready.ensures.planned.0 f.2 in
+    let m = manner_of c.args.engine in
+    let fails = subst (λ t. Fails m (judging (judge_of t)) has how f.0) c.in_ok-ready.ensures.planned.0 f.2 in
     let opened = rw c.is_screen-to_screen.ensures at c.in_ok-ready.ensures.ok in
-    rw (p.1, p.2) (_, and_then log _ _ (begun is files.input.now files.output.now has) f.0 opened f.1, fails_after program (IsRefusedOf program judge has) (IsRefusedBy program judge) how (begun is files.input.now files.output.now has) f.0 (λ e r. by_begun program judge is files.input.now files.output.now has e f.0 r) (quiet_begun is files.input.now files.output.now has) fails)
+    let first = begun is files.input.now files.output.now has in
+    rw (p.1, p.2) (_, and_then log _ _ first f.0 opened f.1, opened_fails m (judging (judge_of (plan_of c.args.plan))) has how first f.0 (quiet_begun is files.input.now files.output.now has) (opens_begun is files.input.now files.output.now has) fails)
 
 pub returns-in_err-print_done-clause-err : goal.returns-in_err-print_done-clause-err
 returns-in_err-print_done-clause-err g c =
@@ -44,7 +44,7 @@ returns-in_err-print_done-clause-err g c =
     let has = map g.H.In.Feed.remaining (feeds_of c.in_ok-ready.ready.job) in
     let opened = rw c.is_screen-to_screen.ensures at c.in_ok-ready.ensures.ok in
     let done = and_then log _ _ (begun is files.input.now files.output.now has) (map (λ r. read r) d.0 ++ wrote d.1 ∷ []) opened d.2 in
-    rw (p.1, p.2) (print_fails c.args.engine.program (IsRefusedBy c.args.engine.program (judge_of (plan_of c.args.plan))) c.in_err-print_done.field-0.0 log _ _ _ done c.in_err-print_done.ensures)
+    rw (p.1, p.2) (print_fails (manner_of c.args.engine) (judging (judge_of (plan_of c.args.plan))) c.in_err-print_done.field-0.0 log _ _ _ done c.in_err-print_done.ensures)
 
 pub returns-clause-ok : goal.returns-clause-ok
 returns-clause-ok g c =

@@ -1,8 +1,8 @@
-use Rattle.std.proofs.Common.{◌≡◌, ℤ, List, map, refl, ap, ◌∙◌, rules, w64}
+use Rattle.std.proofs.Common.{ℤ, List, map, refl, ap, ◌∙◌, rules, w64}
 use mir.Val.{SFits}
 use Rattle.std.proofs.lemmas.Int.{to_z-of_z}
 use Rattle.pbf_wire.specs.Cursors.{numbers_left, sums_left}
-use Rattle.osm_entity.specs.Sources.{low_32, run_tags}
+use Rattle.osm_entity.specs.Sources.{low_32}
 use Rattle.pbf_dense.specs.Cursors.{dense_left, info_left}
 use Rattle.pbf_dense.specs.Nodes.{nodes_of_columns}
 use Rattle.pbf_dense.proofs.MovingLemmas.{no_lats, one_node}

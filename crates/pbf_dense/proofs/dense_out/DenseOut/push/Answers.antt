@@ -18,6 +18,6 @@ returns-clause-pushed g c = λ ns h. record {
       parts_pushed c.args.table.now c.push_tags.new.table c.index_if_some.new.self used ns (node_of c.args.node.now) _ _ (columns_held c.args.self.now) c.in_ok-user.user
       (to_z w64 (of_z w64 c.id.result)) (to_z w64 (of_z w64 c.lat.result)) (to_z w64 (of_z w64 c.lon.result)) _ _ _ _ _ _ _ _ _ _ _
       refl refl (to_z-of_z w64 c.id.result (search rules) ∙ c.id.ensures) (to_z-of_z w64 c.lat.result (search rules) ∙ c.lat.ensures) (to_z-of_z w64 c.lon.result (search rules) ∙ c.lon.ensures) c.in_ok-push_tags.ensures.texts c.in_ok-user.ensures.texts
-      h.columns c.in_ok-push_tags.ensures.runs c.in_ok-user.ensures.index c.in_ok-push-2.ensures.ok c.in_ok-push_far.ensures.ok c.in_ok-push_far-2.ensures.ok
+      h.columns c.in_ok-push_tags.ensures.runs c.in_ok-user.ensures.index c.in_ok-push-2.ensures.ok c.in_ok-push-3.ensures.ok c.in_ok-push-4.ensures.ok
       c.in_ok-push.ensures.versions c.in_ok-push.ensures.timestamps c.in_ok-push.ensures.changesets c.in_ok-push.ensures.uids c.in_ok-push.ensures.users c.in_ok-push.ensures.visible (elim c.if-self.branch [ then-self w ↦ search rules | else-self w ↦ search rules ]);
 }

@@ -9,10 +9,3 @@ abs-requires c =
     let limit_fits : SFits w64 sums.limit = search rules in
     let total_fits : SFits w64 sums.total = search rules in
     rw (to_z-of_z w64 sums.total total_fits) (omega (arith, ints, sums.within.above, sums.within.below, limit_fits))
-
-pub abs-requires-2 : goal.abs-requires-2
-abs-requires-2 c =
-    let sums = c.args.self.now in
-    let limit_fits : SFits w64 sums.limit = search rules in
-    let total_fits : SFits w64 sums.total = search rules in
-    rw (to_z-of_z w64 sums.total total_fits) (omega (arith, ints, sums.within.above, sums.within.below, limit_fits))

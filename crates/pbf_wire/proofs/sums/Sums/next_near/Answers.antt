@@ -8,6 +8,6 @@ pub returns : goal.returns
 returns c =
     let old = c.args.self.now in
     let new = c.add_near.new.self in
-    let e = c.in-Some.ensures in
+    let e = c.in-Some.ensures.number in
     let fits : SFits w64 new.total = search rules in
     rw (to_z-of_z w64 new.total fits) (next_is old new _ c.args.narrow c.in-Some.number c.requires e.1 e.0 c.add_near.ensures.total c.add_near.ensures.entries c.add_near.ensures.same.0 c.add_near.ensures.same.1)

@@ -3,14 +3,14 @@ use Rattle.std.proofs.lemmas.List.{length-take-le}
 use Rattle.std.proofs.lemmas.Result.{err_from_is_err_and}
 use Rattle.osm_entity.specs.Entity.{NodeSpec}
 use Rattle.osm_entity.specs.Views.{node_of}
+use Rattle.pbf_wire.proofs.AllLemmas.{all_take, all_fewer}
 use Rattle.pbf_dense.specs.Cursors.{dense_left}
 use Rattle.pbf_dense.proofs.NumberLemmas.{dense_fits}
-use Rattle.osm_pack.proofs.ManyLemmas.{all_taken}
 use Rattle.pbfcut.specs.declared.pick.EntityPacker.{EntityPacker}
 use Rattle.pbfcut.specs.declared.pick.Picker.{Picker}
 use Rattle.pbfcut.specs.Pick.{picks_of}
 use Rattle.pbfcut.proofs.PackingLemmas.{each_left}
-use Rattle.pbfcut.proofs.ManyLemmas.{alike_after, scaled_taken, fewer_taken, each_many, each_refused}
+use Rattle.pbfcut.proofs.ManyLemmas.{alike_after, scaled_taken, each_many, each_refused}
 use Rattle.pbfcut.proofs.pick.EntityPacker.pack_many.Goals as goal
 
 pub returns-then-most-lt-FEW-clause-packs : goal.returns-then-most-lt-FEW-clause-packs
@@ -54,6 +54,6 @@ returns-clause-packs g c =
       others = drop count all;
       split = take-append-drop count all;
       rest = push.rest;
-      each = each_many g.D.Drain ns c.args.self.now now c.args.packer.now c.push_nodes.new.self tt (fewer_taken _ count c.picked_run-most.result all push.few c.picked_run-most.ensures.picked) (all_taken _ count all (dense_fits c.args.left.now.nodes))
+      each = each_many g.D.Drain ns c.args.self.now now c.args.packer.now c.push_nodes.new.self tt (all_fewer _ count c.picked_run-most.result all push.few c.picked_run-most.ensures.picked) (all_take _ count all (dense_fits c.args.left.now.nodes))
           (scaled_taken count one.likeness all one.scaled one.same.1) push.pending push.kept push.header push.packing.1 (omega (arith, long, c.saturating_add-self.ensures)) (refl, refl) (c.picked_run-most.ensures.same, refl);
     }

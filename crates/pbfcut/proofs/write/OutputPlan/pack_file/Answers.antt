@@ -9,7 +9,7 @@ use Rattle.pbf_pass.specs.Counting.{stored_entities}
 use Rattle.pbf_pass.specs.Given.{Took}
 use Rattle.pbf_pass.specs.Judged.{fully_known, judged_file}
 use Rattle.pbf_pass.proofs.GivenLemmas.{gave_file_less, tells_file}
-use Rattle.pbfcut.specs.Pick.{take_of}
+use Rattle.pbfcut.specs.Pick.{picks_of, take_of}
 use Rattle.pbfcut.specs.Write.{Packed, PacksFront}
 use Rattle.pbfcut.proofs.PickingLemmas.{none_packed, behind_header, header_alone, whole_file, ended, end_front}
 use Rattle.pbfcut.proofs.WritingLemmas.{frames_all, last_front, front_told, has_written, front_written, stops_written, faulty_written, faulty_never, counts_written, stops_last}
@@ -34,16 +34,16 @@ returns-in_err-input g c =
     rw (p.1, p.2) (record {
       packed = tt;
       beginning =
-          let front = front_written g.D.Drain (λ v. v.packer.now) (λ v. v.counts) (λ v. take_of v.chosen) (λ v. v.number) _ (λ old new f one. one) _ _ _ _ c.pass_over-outcome.new.visitor _ (λ mid f s failing. failing) c.in_err-input.ensures.stops none c.none.ensures in
+          let front = front_written g.D.Drain (λ v. v.packer.now) (λ v. v.entities.counts) (λ v. picks_of v.entities.picker) (λ v. v.entities.number) _ (λ old new f one. (one.0, ap picks_of one.1, one.2)) _ (take_of c.args.self.chosen) (ap picks_of c.new-entities.ensures.picker ∙ c.of_taken-picker.ensures) _ _ _ c.pass_over-outcome.new.visitor _ (λ mid f s failing. failing) c.in_err-input.ensures.stops none (c.new-entities.ensures.counts ∙ c.none.ensures) in
           let said : PacksFront (take_of c.args.self.chosen) (header_of c.args.self.header.now) (judged_file (g.F.Feed.remaining c.args.feed.now)) (g.D.Drain.taken c.args.packer.now.drain) (g.D.Drain.taken c.pass_over-outcome.new.visitor.packer.now.drain) = λ frames is. behind_header (header_of c.args.self.header.now) (g.D.Drain.taken c.args.packer.now.drain) _ (g.D.Drain.taken c.pass_over-outcome.new.visitor.packer.now.drain) (filter (take_of c.args.self.chosen) (stored_entities frames)) (c.in_ok-put_header.ensures.written c.requires.fresh.packing).told (front frames is) in
           search (rules, said);
-      faulty = faulty_written g.D.Drain (λ v. v.packer.now) (λ v. v.counts) (λ v. take_of v.chosen) (λ v. v.number) _ (λ old new f one. one) _ g.F.Feed _ _ _ c.pass_over-outcome.new.visitor _ (λ mid f s failing. failing) none c.none.ensures c.in_err-input.ensures.given;
+      faulty = faulty_written g.D.Drain (λ v. v.packer.now) (λ v. v.entities.counts) (λ v. picks_of v.entities.picker) (λ v. v.entities.number) _ (λ old new f one. (one.0, ap picks_of one.1, one.2)) _ (take_of c.args.self.chosen) (ap picks_of c.new-entities.ensures.picker ∙ c.of_taken-picker.ensures) g.F.Feed _ _ _ c.pass_over-outcome.new.visitor _ (λ mid f s failing. failing) none (c.new-entities.ensures.counts ∙ c.none.ensures) c.in_err-input.ensures.given;
       stops =
-          let said = stops_written g.D.Drain (λ v. v.packer.now) (λ v. v.counts) (λ v. take_of v.chosen) (λ v. v.number) _ (λ old new f one. one) _ _ _ _ c.pass_over-outcome.new.visitor _ (λ mid f s failing. failing) c.in_err-input.ensures.stops none c.none.ensures (g.D.Drain.failures c.args.packer.now.drain) c.put_header.ensures.uses.keeps.counts in
+          let said = stops_written g.D.Drain (λ v. v.packer.now) (λ v. v.entities.counts) (λ v. picks_of v.entities.picker) (λ v. v.entities.number) _ (λ old new f one. (one.0, ap picks_of one.1, one.2)) _ (take_of c.args.self.chosen) (ap picks_of c.new-entities.ensures.picker ∙ c.of_taken-picker.ensures) _ _ _ c.pass_over-outcome.new.visitor _ (λ mid f s failing. failing) c.in_err-input.ensures.stops none (c.new-entities.ensures.counts ∙ c.none.ensures) (g.D.Drain.failures c.args.packer.now.drain) c.put_header.ensures.uses.keeps.counts in
           search (rules, said);
       keeps = search rules;
       out =
-          let more = counts_written g.D.Drain (λ v. v.packer.now) (λ v. v.counts) (λ v. take_of v.chosen) (λ v. v.number) _ (λ old new f one. one) _ _ _ _ c.pass_over-outcome.new.visitor _ (λ mid f s failing. failing) c.in_err-input.ensures.stops none c.none.ensures in
+          let more = counts_written g.D.Drain (λ v. v.packer.now) (λ v. v.entities.counts) (λ v. picks_of v.entities.picker) (λ v. v.entities.number) _ (λ old new f one. (one.0, ap picks_of one.1, one.2)) _ (take_of c.args.self.chosen) (ap picks_of c.new-entities.ensures.picker ∙ c.of_taken-picker.ensures) _ _ _ c.pass_over-outcome.new.visitor _ (λ mid f s failing. failing) c.in_err-input.ensures.stops none (c.new-entities.ensures.counts ∙ c.none.ensures) in
           let counts : g.D.Drain.failures c.args.packer.now.drain ≤ g.D.Drain.failures c.pass_over-outcome.new.visitor.packer.now.drain = omega (arith, c.put_header.ensures.uses.keeps.counts, more) in
           search (rules, counts);
     })
@@ -54,7 +54,7 @@ returns-in_err-finish g c =
     let none = none_packed g.D.Drain c.put_header.new.self (c.in_ok-put_header.ensures.pending [] c.requires.fresh.none) in
     let given = c.in_ok-input.ensures.visited in
     let all = given.holding.1 in
-    let w = has_written g.D.Drain (λ v. v.packer.now) (λ v. v.counts) (λ v. take_of v.chosen) (λ v. v.number) _ (λ old new f one. one) _ all.frames c.pass_over-outcome.new.visitor all.visited none c.none.ensures in
+    let w = has_written g.D.Drain (λ v. v.packer.now) (λ v. v.entities.counts) (λ v. picks_of v.entities.picker) (λ v. v.entities.number) _ (λ old new f one. (one.0, ap picks_of one.1, one.2)) _ (take_of c.args.self.chosen) (ap picks_of c.new-entities.ensures.picker ∙ c.of_taken-picker.ensures) all.frames c.pass_over-outcome.new.visitor all.visited none (c.new-entities.ensures.counts ∙ c.none.ensures) in
     let pick = take_of c.args.self.chosen in
     let h = header_of c.args.self.header.now in
     rw (p.1, p.2) (record {
@@ -82,14 +82,14 @@ returns g c =
     let pick = take_of c.args.self.chosen in
     let h = header_of c.args.self.header.now in
     let all = c.in_ok-input.ensures.visited.holding.1 in
-    let w = has_written g.D.Drain (λ v. v.packer.now) (λ v. v.counts) (λ v. take_of v.chosen) (λ v. v.number) _ (λ old new f one. one) _ all.frames c.pass_over-outcome.new.visitor all.visited none c.none.ensures in
+    let w = has_written g.D.Drain (λ v. v.packer.now) (λ v. v.entities.counts) (λ v. picks_of v.entities.picker) (λ v. v.entities.number) _ (λ old new f one. (one.0, ap picks_of one.1, one.2)) _ (take_of c.args.self.chosen) (ap picks_of c.new-entities.ensures.picker ∙ c.of_taken-picker.ensures) all.frames c.pass_over-outcome.new.visitor all.visited none (c.new-entities.ensures.counts ∙ c.none.ensures) in
     record {
       packed =
-          let counts = c.pass_over-outcome.new.visitor.counts in
+          let counts = c.pass_over-outcome.new.visitor.entities.counts in
           let said = gave_file_less g.F.Feed _ _ _ _ (λ file. Took g.D.Drain c.args.packer.now.drain c.finish.new.self.drain (Packed pick h counts (judged_file (Some file))))
           (λ file p.
           let all = p.1 in
-          let w = has_written g.D.Drain (λ v. v.packer.now) (λ v. v.counts) (λ v. take_of v.chosen) (λ v. v.number) _ (λ old new f one. one) _ all.frames c.pass_over-outcome.new.visitor all.visited none c.none.ensures in
+          let w = has_written g.D.Drain (λ v. v.packer.now) (λ v. v.entities.counts) (λ v. picks_of v.entities.picker) (λ v. v.entities.number) _ (λ old new f one. (one.0, ap picks_of one.1, one.2)) _ (take_of c.args.self.chosen) (ap picks_of c.new-entities.ensures.picker ∙ c.of_taken-picker.ensures) all.frames c.pass_over-outcome.new.visitor all.visited none (c.new-entities.ensures.counts ∙ c.none.ensures) in
           let es = w.frames.es in
           record {
             written = written_file h es;

@@ -1,7 +1,0 @@
-use Rattle.std.proofs.Common.{◌≡◌, ◌+◌, take}
-use Rattle.osm_polygon.specs.Bands.{spans_of}
-use Rattle.osm_polygon.proofs.bands.are_few.Given as goal
-
--- what is left, and what the edges so far took
-abbrev pub invariant-loop-edge : goal.invariant-loop-edge
-invariant-loop-edge l = spans_of l.shift (take l.edge-index l.edges) + l.left ≡ l.most
