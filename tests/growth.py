@@ -6,7 +6,8 @@ usage: tests/growth.py PROGRAM [--table] [NAME..]
 Each shape is a kind of file that is odd, costly or hostile, made at 1, 2, 4 and 8 times a size. The commands run over it as pbfcut, and over the same
 file compressed as pbfcutz; what counts is the time of a processor and the greatest memory. A run is out of place if
 
-- it takes more than 2.6 times as long as over half the file: a loop that goes over all that is left, for each part that it takes, needs 4 times as long;
+- it takes more than 6 times as long as over a quarter of the file: a loop that goes over all that is left, for each part that it takes, needs 16
+  times as long. (Half the file says less: where memory is first asked of the system by the page, one step is dear and the next one cheap.)
 - it takes more than 25 times as long as the program needs to read and hash as many bytes as it reads, unpacks and writes;
 - it takes more than 2.6 times as long as over the same blobs in their usual form;
 - it holds more than 2.6 times the memory of a run over half the file, and more than every file may need.
@@ -30,7 +31,10 @@ sys.path.insert(0, os.path.dirname(os.path.abspath(__file__)))
 from program import EMPTY_HEADER, deltas, field, scalar, varint, zigzag
 
 SIZES = (1, 2, 4, 8)
-MOST_GROWTH = 2.6
+# over four times the file
+MOST_GROWTH = 6
+# over twice the file, and over another form of it
+MOST_MEMORY, MOST_BESIDE = 2.6, 2.6
 MOST_PASSES = 25
 # so much memory may each run need, in KB, whatever the file is
 ANY_FILE = 70_000
@@ -489,7 +493,7 @@ class Row:
         self.words, self.passes = COMMANDS[command]
         self.has_usual = f"usual.{SIZES[0]}" in read
         self.seconds, self.memory = {}, {}
-        # by size: the time beside that of half the file, of as many bytes hashed, and of the usual form; the memory beside that of half the file
+        # by size: the time beside that of a quarter of the file, of as many bytes hashed, and of the usual form; the memory beside that of half the file
         self.growth, self.share, self.beside, self.memory_growth = {}, {}, {}, {}
 
     def least(self, kept: dict, size: int, found: float):
@@ -498,7 +502,7 @@ class Row:
     def run(self):
         """Runs it once over each size of the file."""
         second_per_byte = run("pbfcut", ["check", "--digests", "in"], "passed.over")[0] / PASSED_OVER
-        last = memory_last = None
+        took, held = {}, {}
         for size in SIZES:
             if "--polygon=ring" in self.words:
                 shutil.copyfile(f"ring.{size}", "ring")
@@ -507,13 +511,14 @@ class Row:
             self.least(self.memory, size, memory)
             most = MOST_PASSES * second_per_byte * (self.read[f"{self.file}.{size}"] * self.passes + written)
             self.least(self.share, size, seconds / (most + LONG_ENOUGH))
-            if last:
-                self.least(self.growth, size, seconds / last if seconds > LONG_ENOUGH else 0)
-                self.least(self.memory_growth, size, memory / memory_last if memory > ANY_FILE else 0)
+            took[size], held[size] = seconds, memory
+            if size // 4 in took:
+                self.least(self.growth, size, seconds / took[size // 4] if seconds > LONG_ENOUGH else 0)
+            if size // 2 in held:
+                self.least(self.memory_growth, size, memory / held[size // 2] if memory > ANY_FILE else 0)
             if self.has_usual:
                 usual = run(self.file, self.words, f"usual.{size}")[0]
                 self.least(self.beside, size, seconds / usual if seconds > LONG_ENOUGH else 0)
-            last, memory_last = seconds, memory
 
     def faults(self):
         for size in SIZES:
@@ -521,10 +526,10 @@ class Row:
             if self.share[size] > 1:
                 yield f"{seconds}, {self.share[size]:.2f} times as long as is right"
             if self.growth.get(size, 0) > MOST_GROWTH:
-                yield f"{seconds}, {self.growth[size]:.2f} times as long as over half of it"
-            if self.beside.get(size, 0) > MOST_GROWTH:
+                yield f"{seconds}, {self.growth[size]:.2f} times as long as over a quarter of it"
+            if self.beside.get(size, 0) > MOST_BESIDE:
                 yield f"{seconds}, {self.beside[size]:.2f} times as long as over its usual form"
-            if self.memory_growth.get(size, 0) > MOST_GROWTH:
+            if self.memory_growth.get(size, 0) > MOST_MEMORY:
                 yield f"{self.memory[size]} KB over {size} times the file, {self.memory_growth[size]:.2f} times as much as over half of it"
 
     def line(self) -> str:
@@ -575,7 +580,7 @@ def main():
         os.chdir("/")
     if wrong:
         sys.exit("\n".join(wrong))
-    print(f"tests/growth.py: {count} commands take at most {MOST_GROWTH} times as long over twice the file")
+    print(f"tests/growth.py: {count} commands take at most {MOST_GROWTH} times as long over four times the file")
 
 
 if __name__ == "__main__":
