@@ -258,6 +258,15 @@ def entities_of_odd_spelling(size: int) -> list:
     return [block(dense(b"\x82\x00" * count, b"\x80\x80\x00" * count, b"\x80\x00" * count))]
 
 
+def columns_of_mixed_spelling(size: int) -> list:
+    """Numbers of one byte, and between them those that are spelled longer, at each distance from 1 to 40; of two nodes that come together one is kept."""
+    short_or_long = [b"\x02" if number % (1 + number // 300 % 40) else b"\x82\x80\x00" for number in range(36_000)]
+    count = 36_000 * size
+    places = [(varint(zigzag(FAR)), varint(zigzag(-FAR)) if number % 7 else b"\xff\x87\xde\xbe\x81\x00") for number in range(18_000)]
+    zeros = b"".join(b"\x80\x80\x00" if number % 33 == 5 else b"\x00" for number in range(36_000))
+    return [block(dense(b"".join(short_or_long) * size, zeros * size, b"".join(map(b"".join, places)) * size)), block(field(2, way(1, deltas([1, count]))))]
+
+
 def nodes_with_metadata_that_differs(size: int) -> list:
     """Of two nodes that come together only one may have a time, so that each is a block of its own."""
     group = field(1, scalar(1, 2) + scalar(8, 0) + scalar(9, 0)) + field(1, scalar(1, 4) + field(4, scalar(2, 1)) + scalar(8, 0) + scalar(9, 0))
