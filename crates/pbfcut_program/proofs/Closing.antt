@@ -1,29 +1,34 @@
 -- What a call of the engine did, as events, once its devices are returned.
 use Rattle.std.proofs.Common.{◌≡◌, ◌⊎◌, inl, inr, ℕ, zero, suc, ◌+◌, ◌<◌, List, [], ◌∷◌, ◌++◌, length, map, Bool, true, false, Option, Some, None, Result, Ok, Err, IfErr, OnOk, refl, ap, sym, subst, ◌∙◌, arith}
 use Rattle.std.proofs.lemmas.List.{append-nil}
+use Rattle.std.specs.Option.{is_some}
 use Rattle.std.specs.Prelude.{IfSome}
 use Rattle.sha2.specs.Sha256.{sha256}
 use Rattle.pbf_frame.specs.declared.device.Feed as feed
 use Rattle.pbf_frame.specs.declared.device.Drain as drain
 use Rattle.pbf_frame.specs.declared.stop.Stop.{Stop}
 use Rattle.pbf_frame.specs.declared.stop.Stop.TheVariants as stop
-use Rattle.pbf_frame.specs.Devices.{HasRisen}
+use Rattle.pbf_frame.specs.Devices.{HasRisen, IsFront}
 use Rattle.pbf_frame.specs.Verdict.{Verdict}
+use Rattle.pbf_pass.specs.Stops.{WriteFailed}
 use Rattle.pbfcut_cli.specs.declared.endings.Ending.{Ending}
 use Rattle.pbfcut_cli.specs.declared.endings.Ending.TheVariants as ending
 use Rattle.pbfcut_cli.specs.declared.programs.Program.{Program}
 use Rattle.pbfcut_cli.specs.declared.programs.Program.TheVariants.{Pbfcut, Pbfcutz}
 use Rattle.pbfcut_program.specs.declared.engine.Report.{Report}
 use Rattle.pbfcut_program.specs.declared.engine.Halted.{Halted}
-use Rattle.pbfcut_program.specs.Devices.{AnyFailed, AreFresh, ChangeIn, CloseAll, Closes, Finishes, GiveAll, GiveLater, GivesOrNot, GivesOtherAt, IsAsked, IsFresh, StopsFor, Works}
+use Rattle.pbfcut_program.specs.Devices.{AnyFailed, AreFresh, ChangeIn, CloseAll, Closes, Finishes, Fronts, GiveAll, GiveLater, GivesOrNot, GivesOtherAt, IsAsked, IsFresh, IsFreshOut, StopsFor, Works}
 use Rattle.pbfcut_program.specs.Events.{Event, Reading, Writing, read, wrote, then_all, then_one}
 use Rattle.pbfcut_program.specs.Fails.{Each, Fails, FailsToFinish, FailsToRead, FailsToWrite, Has, Judging, Stops, TookNothing, UnlessPacked, judging, readings}
-use Rattle.pbfcut_program.specs.Manner.{AreDigests, Manner, manner, of_input, of_output, output_form}
+use Rattle.pbfcut_program.specs.Manner.{AreDigests, Manner, input_form, manner, of_input, of_output, output_form}
+use Rattle.pbfcut_program.specs.Outcomes.{EndsAs}
 use Rattle.pbfcut_program.specs.Program.{digest_if_asked}
-use Rattle.pbfcut_program.specs.Readings.{IsOther, IsWholeOrSpared, IsWork, ReadAll, ReadLater}
-use Rattle.pbfcut_program.specs.Tasks.{Holds, Task, hashes_in, judge_of, spares}
+use Rattle.pbfcut_program.specs.Readings.{AllHave, IsOther, IsWholeOrSpared, IsWork, ReadAll, ReadLater}
+use Rattle.pbfcut_program.specs.Leaving.{Leaves, TookFront}
+use Rattle.pbfcut_program.specs.Tasks.{Holds, Task, answer_of, hashes_in, judge_of, spares}
 use Rattle.pbfcut_program.proofs.EventLemmas.{each_both, has_after, has_before, nothing_read, readings_both, readings_of}
 use Rattle.pbfcut_program.proofs.FailLemmas.{stop_fails, unless_packed, write_stops}
+use Rattle.pbfcut_program.proofs.LeavingLemmas.{TakenFront, front_nothing, front_read, front_taken, taken_front}
 use Rattle.pbfcut_program.proofs.Logging.{and_then, then_none}
 
 -- what a feed gave
@@ -108,17 +113,17 @@ module _ {F : Type 0} (f : feed.Ghosts F) where
 -- ---- what comes after the feeds
 
 -- OUT, or nothing, is returned: whatever it took, and if it took nothing
-abbrev pub Ends : (took : List ℕ → Type 0) → (failed : Type 0) → Option (List Event) → Option (List Event) → Type 0
-Ends took failed m n =
-    ((es : List Event) × (n ≡ then_all m es) × (readings es ≡ []) × (failed → Has FailsToWrite es))
+abbrev pub Ends : (took : List ℕ → Type 0) → (failed : Type 0) → (front : List ℕ → Type 0) → Option (List Event) → Option (List Event) → Type 0
+Ends took failed front m n =
+    ((es : List Event) × (n ≡ then_all m es) × (readings es ≡ []) × (failed → Has FailsToWrite es) × ((answer : List ℕ) → front answer → Each (TookFront answer) es))
     × (took [] → (es : List Event) × (n ≡ then_all m es) × (readings es ≡ []) × Each TookNothing es)
 
-pub ends_with_none : (m : Option (List Event)) (took : List ℕ → Type 0) → Ends took ⊥ m m
-ends_with_none m took = (([], then_none m, refl, λ x. absurd x), λ t. ([], then_none m, refl, tt))
+pub ends_with_none : (m : Option (List Event)) (took : List ℕ → Type 0) → Ends took ⊥ (λ answer. ⊥) m m
+ends_with_none m took = (([], then_none m, refl, (λ x. absurd x), λ answer x. tt), λ t. ([], then_none m, refl, tt))
 
-pub ends_with_out : {D : Type 0} (d : drain.Ghosts D) (out : D) (went : Bool) (took : List ℕ → Type 0) (failed : Type 0) (m n : Option (List Event)) → ((w : List ℕ) → took w → d.has_taken out 0 w) → (failed → 0 < d.failures out) → Finishes d out went m n → Ends took failed m n
+pub ends_with_out : {D : Type 0} (d : drain.Ghosts D) (out : D) (went : Bool) (took : List ℕ → Type 0) (failed : Type 0) (m n : Option (List Event)) → ((w : List ℕ) → took w → d.has_taken out 0 w) → (failed → 0 < d.failures out) → Finishes d out went m n → Ends took failed (TakenFront (d.taken out)) m n
 ends_with_out d out went took failed m n taken risen fin =
-    ((_, fin.0.1, refl, λ x. inl (inl (risen x))), λ t. (_, fin.1 [] (taken [] t), refl, (refl, tt)))
+    ((_, fin.0.2, refl, (λ x. inl (inl (risen x))), λ answer x. (front_taken answer fin.0.0 (d.taken out) fin.0.1 x, tt)), λ t. (_, fin.1 [] (taken [] t), refl, (refl, tt)))
 
 -- ---- why it fails
 
@@ -131,10 +136,20 @@ none_left (r ∷ rs) n at e h = absurd (some_left (length rs) n at e h) where
   some_left : (k n at : ℕ) → n ≡ at + 1 → n ≡ suc k + at + 1 → ⊥
   some_left k n at e h = omega (arith, e, h)
 
-module _ {F : Type 0} (f : feed.Ghosts F) (packs digests : Bool) (judge : Option (List ℕ) → Option Verdict) (took : List ℕ → Type 0) (failed : Type 0) (l m n : Option (List Event)) (tail : Ends took failed m n) where
+module _ {F : Type 0} (f : feed.Ghosts F) (packs digests : Bool) (judge : Option (List ℕ) → Option Verdict) (took : List ℕ → Type 0) (failed : Type 0) (front : List ℕ → Type 0) (l m n : Option (List Event)) (tail : Ends took failed front m n) where
   -- what is said, as events, of how a call of a program stopped, by what its feeds had
   abbrev StopFails : Program → Stop → List F → Type 0
-  StopFails program s olds = (events : List Event) × (n ≡ then_all l events) × Stops (manner program packs digests) (judging judge) (map f.remaining olds) events s
+  StopFails program s olds = (events : List Event) × (n ≡ then_all l events) × Stops (manner program packs digests) (judging judge) (map f.remaining olds) events s × FrontIn events
+
+  -- and what OUT took
+  abbrev FrontIn : List Event → Type 0
+  FrontIn events = (answer : List ℕ) → front answer → Each (TookFront answer) events
+
+  front_after : (rs : List Reading) (es : List Event) → FrontIn es → FrontIn (reads rs ++ es)
+  front_after rs es fronts answer x = each_both (TookFront answer) (reads rs) es (front_read answer rs) (fronts answer x)
+
+  nothing_after : (rs : List Reading) (es : List Event) → Each TookNothing es → FrontIn (reads rs ++ es)
+  nothing_after rs es nothing = front_after rs es (λ answer x. front_nothing answer es nothing)
 
   -- whatever happened
   abbrev some : (news : List F) → CloseAll f news l m → List Event
@@ -142,6 +157,9 @@ module _ {F : Type 0} (f : feed.Ghosts F) (packs digests : Bool) (judge : Option
 
   some_log : (news : List F) (c : CloseAll f news l m) → n ≡ then_all l (some news c)
   some_log news c = and_then l m n (reads (close_rest f news l m c).0) tail.0.0 (close_rest f news l m c).1 tail.0.1
+
+  some_front : (news : List F) (c : CloseAll f news l m) → FrontIn (some news c)
+  some_front news c = front_after (close_rest f news l m c).0 tail.0.0 tail.0.4
 
   -- the first feed gave other bytes than a later one
   change_fails : (pass : ℕ) (old now : F) (olds news : List F) → AreFresh f (old ∷ olds) → CloseAll f (now ∷ news) l m → ChangeIn f (took []) pass now olds news → StopFails Pbfcut (stop.Changed pass) (old ∷ olds)
@@ -152,8 +170,8 @@ module _ {F : Type 0} (f : feed.Ghosts F) (packs digests : Bool) (judge : Option
     rest : (rs : List Reading) × (m ≡ then_all c.0 (reads rs)) × ReadOther f stops.file stops.at (length news) rs
     rest = close_other f stops.file stops.at olds news c.0 m fresh.1 c.2 stops.other
 
-    told : (es : List Event) → n ≡ then_all m es → readings es ≡ [] → ((rest.2.2 ≡ []) ⊎ Each TookNothing (reads (one ∷ rest.0) ++ es)) → StopFails Pbfcut (stop.Changed pass) (old ∷ olds)
-    told es log none last = (
+    told : (es : List Event) → n ≡ then_all m es → readings es ≡ [] → ((rest.2.2 ≡ []) ⊎ Each TookNothing (reads (one ∷ rest.0) ++ es)) → FrontIn (reads (one ∷ rest.0) ++ es) → StopFails Pbfcut (stop.Changed pass) (old ∷ olds)
+    told es log none last fronts = (
       reads (one ∷ rest.0) ++ es,
       and_then l m n (reads (one ∷ rest.0)) es (and_then l c.0 m (read one ∷ []) (reads rest.0) (c.1.1 stops.file stops.first.passed) rest.1) log,
       record {
@@ -167,11 +185,12 @@ module _ {F : Type 0} (f : feed.Ghosts F) (packs digests : Bool) (judge : Option
         differs = rest.2.5;
         last = last;
       },
+      fronts,
     )
 
     by_last : ((length news ≡ stops.at + 1) ⊎ took []) → StopFails Pbfcut (stop.Changed pass) (old ∷ olds)
-    by_last (inl last) = told tail.0.0 tail.0.1 tail.0.2 (inl (none_left rest.2.2 (length news) stops.at last rest.2.6))
-    by_last (inr nothing) = (let end = tail.1 nothing in told end.0 end.1 end.2 (inr (each_both _ (reads (one ∷ rest.0)) end.0 (nothing_read (one ∷ rest.0)) end.3)))
+    by_last (inl last) = told tail.0.0 tail.0.1 tail.0.2 (inl (none_left rest.2.2 (length news) stops.at last rest.2.6)) (front_after (one ∷ rest.0) tail.0.0 tail.0.4)
+    by_last (inr nothing) = (let end = tail.1 nothing in told end.0 end.1 end.2 (inr (each_both _ (reads (one ∷ rest.0)) end.0 (nothing_read (one ∷ rest.0)) end.3)) (nothing_after (one ∷ rest.0) end.0 end.3))
 
   stop_told : (program : Program) (s : Stop) (olds news : List F) → AreFresh f olds → CloseAll f news l m → StopsFor program f judge olds news (took []) (UnlessPacked (output_form packs program) failed) s → StopFails program s olds
   stop_told Pbfcut (stop.Refused e) (old ∷ olds) (now ∷ news) fresh c stops =
@@ -183,29 +202,30 @@ module _ {F : Type 0} (f : feed.Ghosts F) (packs digests : Bool) (judge : Option
         reads (one ∷ rest.0) ++ end.0,
         and_then l m n (reads (one ∷ rest.0)) end.0 all end.1,
         record { first = one; later = rest.0; are = are_readings (one ∷ rest.0) end.0 end.2; faulty = stops.0.faulty; nothing = each_both _ (reads (one ∷ rest.0)) end.0 (nothing_read (one ∷ rest.0)) end.3 },
+        nothing_after (one ∷ rest.0) end.0 end.3,
       )
   stop_told Pbfcut (stop.Refused e) _ _ fresh c stops = absurd stops.0
   stop_told Pbfcutz (stop.Refused e) olds news fresh c stops =
       let rest = close_rest f news l m c in
       let end = tail.1 stops.1 in
-      (reads rest.0 ++ end.0, and_then l m n (reads rest.0) end.0 rest.1 end.1, (stops.0, each_both _ (reads rest.0) end.0 (nothing_read rest.0) end.3))
+      (reads rest.0 ++ end.0, and_then l m n (reads rest.0) end.0 rest.1 end.1, (stops.0, each_both _ (reads rest.0) end.0 (nothing_read rest.0) end.3), nothing_after rest.0 end.0 end.3)
   stop_told program stop.Read olds news fresh c stops =
       let rest = close_failed f olds news l m fresh c stops in
-      (reads rest.0 ++ tail.0.0, and_then l m n (reads rest.0) tail.0.0 rest.1 tail.0.1, has_before _ (reads rest.0) tail.0.0 rest.2)
+      (reads rest.0 ++ tail.0.0, and_then l m n (reads rest.0) tail.0.0 rest.1 tail.0.1, has_before _ (reads rest.0) tail.0.0 rest.2, front_after rest.0 tail.0.0 tail.0.4)
   stop_told program stop.Write olds news fresh c stops =
-      (some news c, some_log news c, unless_packed (output_form packs program) failed _ (λ x. has_after _ (reads (close_rest f news l m c).0) tail.0.0 (tail.0.3 x)) stops)
-  stop_told program stop.Memory olds news fresh c stops = (some news c, some_log news c, tt)
+      (some news c, some_log news c, unless_packed (output_form packs program) failed _ (λ x. has_after _ (reads (close_rest f news l m c).0) tail.0.0 (tail.0.3 x)) stops, some_front news c)
+  stop_told program stop.Memory olds news fresh c stops = (some news c, some_log news c, tt, some_front news c)
   stop_told Pbfcut (stop.Changed pass) (old ∷ olds) (now ∷ news) fresh c stops = change_fails pass old now olds news fresh c stops
   stop_told Pbfcut (stop.Changed pass) _ _ fresh c stops = absurd stops
-  stop_told Pbfcutz (stop.Changed pass) olds news fresh c stops = (some news c, some_log news c, stops)
+  stop_told Pbfcutz (stop.Changed pass) olds news fresh c stops = (some news c, some_log news c, stops, some_front news c)
 
 -- a call stopped, and all devices were returned
-pub work_fails : (program : Program) (packs digests : Bool) {F : Type 0} (f : feed.Ghosts F) (task : Task) (took : List ℕ → Type 0) (failed : Type 0) (l m n : Option (List Event)) (olds news : List F) (halted : Halted)
-    → Ends took failed m n → AreFresh f olds → CloseAll f news l m → Works (manner program packs digests) f task olds news took failed (Err halted)
-    → (events : List Event) × (n ≡ then_all l events) × Fails (manner program packs digests) (judging (judge_of task)) (map f.remaining olds) halted.ending events
-work_fails program packs digests f task took failed l m n olds news halted tail fresh c works =
-    let told = stop_told f packs digests (judge_of task) took failed l m n tail program works.0 olds news fresh c works.2 in
-    (told.0, told.1, stop_fails (manner program packs digests) (judging (judge_of task)) (map f.remaining olds) halted.ending told.0 works.0 works.1 told.2)
+pub work_fails : (program : Program) (packs digests : Bool) {F : Type 0} (f : feed.Ghosts F) (task : Task) (took : List ℕ → Type 0) (failed : Type 0) (front : List ℕ → Type 0) (l m n : Option (List Event)) (olds news : List F) (halted : Halted)
+    → Ends took failed front m n → AreFresh f olds → CloseAll f news l m → Works (manner program packs digests) f task olds news took failed (Err halted)
+    → (events : List Event) × (n ≡ then_all l events) × Fails (manner program packs digests) (judging (judge_of task)) (map f.remaining olds) halted.ending events × ((answer : List ℕ) → front answer → Each (TookFront answer) events)
+work_fails program packs digests f task took failed front l m n olds news halted tail fresh c works =
+    let told = stop_told f packs digests (judge_of task) took failed front l m n tail program works.0 olds news fresh c works.2 in
+    (told.0, told.1, stop_fails (manner program packs digests) (judging (judge_of task)) (map f.remaining olds) halted.ending told.0 works.0 works.1 told.2, told.3)
 
 -- ---- what it does
 
@@ -224,8 +244,8 @@ pub work_done : {F D : Type 0} (f : feed.Ghosts F) (d : drain.Ghosts D) (out : D
 work_done f d out went by task took failed l m n olds news report fresh c fin taken works =
     let given = close_given f (AreDigests by (hashes_in task by.digests) report.input report.raw) (spares task) olds news works.files l m fresh c works.gave in (
       given.0,
-      record { bytes = works.written; failures = d.failures out; out = went },
-      and_then l m n (reads given.0) (wrote (record { bytes = works.written; failures = d.failures out; out = went }) ∷ []) given.1 (fin.1 works.written (taken works.written works.took_them)),
+      record { bytes = works.written; reports = is_some (d.taken out); failures = d.failures out; out = went },
+      and_then l m n (reads given.0) (wrote (record { bytes = works.written; reports = is_some (d.taken out); failures = d.failures out; out = went }) ∷ []) given.1 (fin.1 works.written (taken works.written works.took_them)),
       refl,
       works.took_them,
       record { files = works.files; read = given.2; holds = works.holds },
@@ -233,13 +253,14 @@ work_done f d out went by task took failed l m n olds news report fresh c fin ta
 
 -- a call ended well, but not all went out
 pub finish_fails : {F D : Type 0} (f : feed.Ghosts F) (d : drain.Ghosts D) (out : D) (went : Bool) (l m n : Option (List Event)) (news : List F) → CloseAll f news l m → Finishes d out went m n → went ≡ false
-    → (events : List Event) × (n ≡ then_all l events) × Has FailsToWrite events × Has FailsToFinish events
+    → (events : List Event) × (n ≡ then_all l events) × Has FailsToWrite events × ((answer : List ℕ) → TakenFront (d.taken out) answer → Each (TookFront answer) events)
 finish_fails f d out went l m n news c fin e =
-    let rest = close_rest f news l m c in (
-      reads rest.0 ++ wrote (record { bytes = fin.0.0; failures = d.failures out; out = went }) ∷ [],
-      and_then l m n (reads rest.0) (wrote (record { bytes = fin.0.0; failures = d.failures out; out = went }) ∷ []) rest.1 fin.0.1,
+    let rest = close_rest f news l m c in
+    let w : Writing = record { bytes = fin.0.0; reports = is_some (d.taken out); failures = d.failures out; out = went } in (
+      reads rest.0 ++ wrote w ∷ [],
+      and_then l m n (reads rest.0) (wrote w ∷ []) rest.1 fin.0.2,
       has_after _ (reads rest.0) _ (inl (inr e)),
-      has_after _ (reads rest.0) _ (inl e),
+      λ answer x. each_both _ (reads rest.0) (wrote w ∷ []) (front_read answer rest.0) (front_taken answer fin.0.0 (d.taken out) fin.0.1 x, tt),
     )
 
 -- the same of one pass
@@ -267,11 +288,11 @@ if_done f d out went by task took failed l m n olds news (Ok report) fresh c fin
     let done = work_done f d out went by task took failed l m n olds news report fresh c fin taken works in (report, done.0, done.1, done.2, done.3, done.5)
 if_done f d out went by task took failed l m n olds news (Err halted) fresh c fin taken works = tt
 
-pub if_fails : (program : Program) (packs digests : Bool) {F : Type 0} (f : feed.Ghosts F) (task : Task) (took : List ℕ → Type 0) (failed : Type 0) (l m n : Option (List Event)) (olds news : List F) (outcome : Result Report Halted)
-    → Ends took failed m n → AreFresh f olds → CloseAll f news l m → Works (manner program packs digests) f task olds news took failed outcome
-    → IfErr outcome (λ halted. (events : List Event) × (n ≡ then_all l events) × Fails (manner program packs digests) (judging (judge_of task)) (map f.remaining olds) halted.ending events)
-if_fails program packs digests f task took failed l m n olds news (Ok report) tail fresh c works = tt
-if_fails program packs digests f task took failed l m n olds news (Err halted) tail fresh c works = work_fails program packs digests f task took failed l m n olds news halted tail fresh c works
+-- a call stopped, and it and its devices left this
+pub stops_leaving : (m : Manner) (task : Task) (has : List (Option (List ℕ))) (before after : Option (List ℕ)) (events : List Event) → IfSome before (λ taken. taken ≡ [])
+    → ((answer : List ℕ) → TakenFront after answer → Each (TookFront answer) events)
+    → UnlessPacked (output_form m.packs m.program) ((bytes : List ℕ) → AllHave bytes has → IsFront before after (answer_of task (of_input m bytes))) → Leaves m task has events
+stops_leaving m task has before after events fresh fronts given = inl (unless_packed (output_form m.packs m.program) _ _ (λ front bytes all. fronts _ (taken_front before after _ fresh (front bytes all))) given)
 
 -- the digest that was wanted
 pub hashed_as : (digests : Bool) (known : Option (List ℕ)) (w : List ℕ) → IfSome known (λ digest. digest ≡ sha256 w) → IsAsked digests known → known ≡ digest_if_asked digests w
@@ -284,3 +305,37 @@ hashed_as false None w is asked = refl
 pub keep_fails : (m : Manner) (j : Judging) (has : List (Option (List ℕ))) (how : Ending) (events : List Event) → ((how ≡ ending.Stopped stop.Write) ⊎ (how ≡ ending.OutExists)) → Has FailsToWrite events → Has FailsToFinish events → Fails m j has how events
 keep_fails m j has how events (inl e) written finished = subst (λ h. Fails m j has h events) (sym e) (write_stops m j has events written)
 keep_fails m j has how events (inr e) written finished = subst (λ h. Fails m j has h events) (sym e) (inr finished)
+
+-- ---- a text
+
+-- a call stopped whose text goes to standard output; or the rest of the text didn't go out
+pub text_fails : {F D A : Type 0} (program : Program) (digests : Bool) (f : feed.Ghosts F) (d : drain.Ghosts D) (task : Task) (before out : D) (went : Bool) (l m n : Option (List Event)) (olds news : List F) (outcome : Result Report Halted) (result : Result A Ending)
+    → IsFreshOut d before → AreFresh f olds → CloseAll f news l m → Finishes d out went m n → Works (manner program false digests) f task olds news (d.has_taken out 0) (WriteFailed d before out) outcome
+    → Fronts (input_form program) task (map f.remaining olds) (d.taken before) (d.taken out) outcome → EndsAs went outcome result
+    → IfErr result (λ how. (events : List Event) × (n ≡ then_all l events) × Fails (manner program false digests) (judging (judge_of task)) (map f.remaining olds) how events × Leaves (manner program false digests) task (map f.remaining olds) events)
+text_fails program digests f d task before out true l m n olds news (Ok report) (Ok a) fresh begun c fin works front ends = tt
+text_fails program digests f d task before out true l m n olds news (Ok report) (Err how) fresh begun c fin works front ends = absurd ends
+text_fails program digests f d task before out true l m n olds news (Err halted) (Ok a) fresh begun c fin works front ends = absurd ends
+text_fails program digests f d task before out true l m n olds news (Err halted) (Err how) fresh begun c fin works front ends =
+    let by = manner program false digests in
+    let has = map f.remaining olds in
+    let tail = ends_with_out d out true (d.has_taken out 0) (WriteFailed d before out) m n (λ w t. t) (λ risen. has_failed _ _ fresh.2 risen) fin in
+    let fail = work_fails program false digests f task (d.has_taken out 0) (WriteFailed d before out) (TakenFront (d.taken out)) l m n olds news halted tail begun c works in
+    (fail.0, fail.1, subst (λ h. Fails by (judging (judge_of task)) has h fail.0) (sym ends) fail.2, stops_leaving by task has (d.taken before) (d.taken out) fail.0 fresh.1 fail.3 front)
+text_fails program digests f d task before out false l m n olds news (Ok report) (Ok a) fresh begun c fin works front ends = absurd ends
+text_fails program digests f d task before out false l m n olds news (Err halted) (Ok a) fresh begun c fin works front ends = absurd ends
+text_fails program digests f d task before out false l m n olds news (Ok report) (Err how) fresh begun c fin works front ends =
+    let by = manner program false digests in
+    let has = map f.remaining olds in
+    let done = work_done f d out false by task (d.has_taken out 0) (WriteFailed d before out) l m n olds news report begun c fin (λ w t. t) works in
+    let events : List Event = reads done.0 ++ wrote done.1 ∷ [] in (
+      events,
+      done.2,
+      subst (λ h. Fails by (judging (judge_of task)) has h events) (sym ends) (write_stops by (judging (judge_of task)) has events (has_after _ (reads done.0) (wrote done.1 ∷ []) (inl (inr done.3)))),
+      inr (record { before = []; rs = done.0; out = done.1; after = []; happened = refl; counts = report.counts; digest = report.input; raw = report.raw; work = done.5 }),
+    )
+text_fails program digests f d task before out false l m n olds news (Err halted) (Err how) fresh begun c fin works front ends =
+    let by = manner program false digests in
+    let has = map f.remaining olds in
+    let fail = finish_fails f d out false l m n news c fin refl in
+    (fail.0, fail.1, subst (λ h. Fails by (judging (judge_of task)) has h fail.0) (sym ends) (write_stops by (judging (judge_of task)) has fail.0 fail.2), stops_leaving by task has (d.taken before) (d.taken out) fail.0 fresh.1 fail.3 front)

@@ -17,13 +17,16 @@ pub each_both : (p : Event → Type 0) (xs ys : List Event) → Each p xs → Ea
 each_both p [] ys h k = k
 each_both p (x ∷ xs) ys h k = (h.0, each_both p xs ys h.1 k)
 
+pub each_quiet : (p : Event → Type 0) → ((e : Event) → Quiet e → p e) → (xs : List Event) → Each Quiet xs → Each p xs
+each_quiet p of [] q = tt
+each_quiet p of (x ∷ xs) q = (of x q.0, each_quiet p of xs q.1)
+
 quiet_nothing : (e : Event) → Quiet e → TookNothing e
 quiet_nothing (wrote w) q = absurd q
 quiet_nothing _ q = tt
 
 pub nothing_in : (xs : List Event) → Each Quiet xs → Each TookNothing xs
-nothing_in [] q = tt
-nothing_in (x ∷ xs) q = (quiet_nothing x q.0, nothing_in xs q.1)
+nothing_in xs q = each_quiet TookNothing quiet_nothing xs q
 
 -- ---- readings
 

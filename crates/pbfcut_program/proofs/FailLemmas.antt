@@ -15,7 +15,7 @@ use Rattle.pbfcut_program.specs.Manner.{Form, Manner, output_form, packed_file, 
 use Rattle.pbfcut_program.specs.declared.engine.Halted.{Halted}
 use Rattle.pbfcut_program.specs.Outcomes.{EndsAs}
 use Rattle.pbfcut_program.specs.Telling.{Tells, TellsQuietly}
-use Rattle.pbfcut_program.proofs.EventLemmas.{each_both, has_after, has_before, nothing_in, readings_after, readings_before, readings_of_quiet}
+use Rattle.pbfcut_program.proofs.EventLemmas.{each_both, each_quiet, has_after, has_before, nothing_in, readings_after, readings_before, readings_of_quiet}
 use Rattle.pbfcut_program.proofs.Logging.{and_then}
 
 -- ---- before IN is read
@@ -45,7 +45,7 @@ pub unless_packed : (form : Form) (said also : Type 0) → (said → also) → U
 unless_packed raw_file said also to x = to x
 unless_packed packed_file said also to x = tt
 
-unless_said : (form : Form) (said : Type 0) → said → UnlessPacked form said
+pub unless_said : (form : Form) (said : Type 0) → said → UnlessPacked form said
 unless_said raw_file said x = x
 unless_said packed_file said x = tt
 
@@ -143,15 +143,15 @@ failed_after m j how xs ys q f = record { has = f.has; opens = opens_after 1 f.h
 
 -- how it ended is shown, after more was reported quietly
 pub told_fails : (m : Manner) (j : Judging) (has : List (Option (List ℕ))) (how shown : Ending) (k l n : Option (List Event)) (xs : List Event) → l ≡ then_all k xs → Fails m j has how xs
-    → TellsQuietly l n how shown → (events : List Event) × (n ≡ then_all k events) × Fails m j has shown events
-told_fails m j has how shown k l n xs e f t = (xs ++ t.events, and_then k l n xs t.events e t.log, of t.shows) where
+    → TellsQuietly l n how shown → (events : List Event) × (n ≡ then_all k events) × Fails m j has shown events × ((p : Event → Type 0) → ((e : Event) → Quiet e → p e) → Each p xs → Each p events)
+told_fails m j has how shown k l n xs e f t = (xs ++ t.events, and_then k l n xs t.events e t.log, of t.shows, λ p q each. each_both p xs t.events each (each_quiet p q t.events t.quiet)) where
   of : ((shown ≡ how) ⊎ (shown ≡ ending.Stopped stop.Memory)) → Fails m j has shown (xs ++ t.events)
   of (inl same) = subst (λ h. Fails m j has h (xs ++ t.events)) (sym same) (fails_before m j has how xs t.events t.quiet f)
   of (inr none) = subst (λ h. Fails m j has h (xs ++ t.events)) (sym none) (memory_fails m j has (xs ++ t.events))
 
 -- ---- lines
 
-printing_after : (how : Ending) (xs ys : List Event) → FailsPrinting how ys → FailsPrinting how (xs ++ ys)
+pub printing_after : (how : Ending) (xs ys : List Event) → FailsPrinting how ys → FailsPrinting how (xs ++ ys)
 printing_after how xs ys (inl f) = inl (f.0, has_after _ xs ys f.1)
 printing_after how xs ys (inr f) = inr f
 
@@ -163,7 +163,7 @@ tells_more l m n xs ys (Err how) e t = (xs ++ t.0, and_then l m n xs t.0 e t.1, 
 pub printing_more : (how : Ending) (l m n : Option (List Event)) (xs : List Event) → m ≡ then_all l xs → ((some : List Event) × (n ≡ then_all m some) × FailsPrinting how some) → (some : List Event) × (n ≡ then_all l some) × FailsPrinting how some
 printing_more how l m n xs e t = (xs ++ t.0, and_then l m n xs t.0 e t.1, printing_after how xs t.0 t.2)
 
-print_stops : (m : Manner) (j : Judging) (how : Ending) (events : List Event) → FailsPrinting how events → Fails m j [] how events
+pub print_stops : (m : Manner) (j : Judging) (how : Ending) (events : List Event) → FailsPrinting how events → Fails m j [] how events
 print_stops m j how events (inl f) = subst (λ h. Fails m j [] h events) (sym f.0) (write_stops m j [] events f.1)
 print_stops m j how events (inr e) = subst (λ h. Fails m j [] h events) (sym e) (memory_fails m j [] events)
 

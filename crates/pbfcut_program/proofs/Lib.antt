@@ -2,6 +2,8 @@ pub mod Beginning
 pub mod Closing
 pub mod EventLemmas
 pub mod FailLemmas
+pub mod FrontLemmas
+pub mod LeavingLemmas
 pub mod Listings
 pub mod Logging
 pub mod Meaning

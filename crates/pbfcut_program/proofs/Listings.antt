@@ -1,5 +1,6 @@
 -- What a listing did, as events.
 use Rattle.std.proofs.Common.{◌≡◌, inl, inr, ℕ, List, [], ◌∷◌, Bool, true, false, Option, Result, Ok, Err, IfErr, OnOk, refl}
+use Rattle.std.specs.Option.{is_some}
 use Rattle.pbf_frame.specs.declared.device.Feed as feed
 use Rattle.pbf_frame.specs.declared.device.Drain as drain
 use Rattle.pbf_frame.specs.declared.stop.Stop.TheVariants as stop
@@ -22,17 +23,17 @@ use Rattle.pbfcut_program.proofs.Logging.{and_then}
 
 module _ {F D : Type 0} (f : feed.Ghosts F) (d : drain.Ghosts D) (now : F) (out : D) (went : Bool) (l m n : Option (List Event)) (c : Closes f now l m) (fin : Finishes d out went m n) where
   abbrev lost : Writing
-  lost = record { bytes = fin.0.0; failures = d.failures out; out = went }
+  lost = record { bytes = fin.0.0; reports = is_some (d.taken out); failures = d.failures out; out = went }
 
   -- whatever went through the devices
   pub some_listing : n ≡ then_all l (read (reading f now c.0.0) ∷ wrote lost ∷ [])
-  some_listing = and_then l m n (read (reading f now c.0.0) ∷ []) (wrote lost ∷ []) c.0.1 fin.0.1
+  some_listing = and_then l m n (read (reading f now c.0.0) ∷ []) (wrote lost ∷ []) c.0.1 fin.0.2
 
   pub list_done : (program : Program) (old : F) (before : D) (outcome : Result ℕ Halted) → IsFreshOut d before → ListsBy program f d old now before out outcome
       → OnOk outcome ((r : Reading) × (w : Writing) × (n ≡ then_all l (read r ∷ wrote w ∷ [])) × (w.out ≡ went) × IsListing program (f.remaining old) w.bytes)
   list_done program old before (Ok count) fresh lists =
       let end = fin.1 _ (lists.added.logged 0 [] fresh.0) in
-      (reading f now c.0.0, record { bytes = _; failures = d.failures out; out = went }, and_then l m n (read (reading f now c.0.0) ∷ []) (wrote (record { bytes = _; failures = d.failures out; out = went }) ∷ []) c.0.1 end, refl, (lists.frames, lists.says, refl))
+      (reading f now c.0.0, record { bytes = _; reports = is_some (d.taken out); failures = d.failures out; out = went }, and_then l m n (read (reading f now c.0.0) ∷ []) (wrote (record { bytes = _; reports = is_some (d.taken out); failures = d.failures out; out = went }) ∷ []) c.0.1 end, refl, (lists.frames, lists.says, refl))
   list_done program old before (Err halted) fresh lists = tt
 
   pub header_done : {T : Type 0} (has : Option (List ℕ)) (before : D) (outcome : Result T Halted) → IsFreshOut d before → OnOk outcome (ShowsHeader d before out (judged_known false 0 (meant_known packed_file has)))
@@ -40,8 +41,8 @@ module _ {F D : Type 0} (f : feed.Ghosts F) (d : drain.Ghosts D) (now : F) (out 
   header_done has before (Ok t) fresh shows =
       let end = fin.1 _ (shows.added.logged 0 [] fresh.0) in (
         reading f now c.0.0,
-        record { bytes = _; failures = d.failures out; out = went },
-        and_then l m n (read (reading f now c.0.0) ∷ []) (wrote (record { bytes = _; failures = d.failures out; out = went }) ∷ []) c.0.1 end,
+        record { bytes = _; reports = is_some (d.taken out); failures = d.failures out; out = went },
+        and_then l m n (read (reading f now c.0.0) ∷ []) (wrote (record { bytes = _; reports = is_some (d.taken out); failures = d.failures out; out = went }) ∷ []) c.0.1 end,
         refl,
         (shows.frame, shows.rest, shows.is_packed, shows.begins, refl),
       )

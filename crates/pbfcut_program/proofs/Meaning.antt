@@ -33,8 +33,8 @@ why_shown program words how shown events (inl e) why = subst (λ h. IsWhy progra
 why_shown program words how shown events (inr e) why = subst (λ h. IsWhy program words h events) (sym e) tt
 
 pub fails_why : (program : Program) (words : List Text) (command : Command) (how : Ending) (events : List Event) → IsMeant program words command → FailsIn (manner_in program command) command how events → IsWhy program words how events
-fails_why program words command (ending.Words t) events meant f = absurd f.why.1
-fails_why program words command (ending.Box b) events meant f = absurd f.why.1
-fails_why program words command (ending.Choice b) events meant f = absurd f.why.1
+fails_why program words command (ending.Words t) events meant f = absurd f.0.why.1
+fails_why program words command (ending.Box b) events meant f = absurd f.0.why.1
+fails_why program words command (ending.Choice b) events meant f = absurd f.0.why.1
 fails_why program words command (ending.Stopped stop.Memory) events meant f = tt
 fails_why program words command how events meant f = (command, meant, f)

@@ -1,10 +1,11 @@
 -- What went through the devices of a command, before they are returned to the host.
-use Rattle.std.specs.Prelude.{◌≡◌, ◌⊎◌, ℕ, zero, suc, ◌+◌, List, [], ◌∷◌, length, map, Bool, true, false, Option, Some, None, Result, Ok, Err, IfSome}
+use Rattle.std.specs.Prelude.{◌≡◌, ◌⊎◌, ℕ, zero, suc, ◌+◌, List, [], ◌∷◌, length, map, Bool, true, false, Option, Some, None, Result, Ok, Err, IfSome, OnErr}
+use Rattle.std.specs.Option.{is_some}
 use Rattle.pbf_frame.specs.declared.device.Feed as feed
 use Rattle.pbf_frame.specs.declared.device.Drain as drain
 use Rattle.pbf_frame.specs.declared.stop.Stop.{Stop}
 use Rattle.pbf_frame.specs.declared.stop.Stop.TheVariants as stop
-use Rattle.pbf_frame.specs.Devices.{HasRisen, IsAtEnd}
+use Rattle.pbf_frame.specs.Devices.{HasRisen, IsAtEnd, IsFront}
 use Rattle.pbf_frame.specs.Verdict.{Verdict}
 use Rattle.pbf_pass.specs.Stops.{Caused, WriteFailed}
 use Rattle.pbf_published.specs.Published.{ChangedOf}
@@ -21,8 +22,8 @@ use Rattle.pbfcut_program.specs.declared.engine.Halted.{Halted}
 use Rattle.pbfcut_program.specs.Events.{Event, read, wrote, then_one}
 use Rattle.pbfcut_program.specs.Fails.{EndsAsStop, FirstFault, UnlessPacked}
 use Rattle.pbfcut_program.specs.Manner.{AreDigests, Form, Manner, meant, of_input, of_output, output_form, packed_file}
-use Rattle.pbfcut_program.specs.Readings.{IsFaulty, IsOther}
-use Rattle.pbfcut_program.specs.Tasks.{Task, Holds, hashes_in, judge_of, spares}
+use Rattle.pbfcut_program.specs.Readings.{AllHave, IsFaulty, IsOther}
+use Rattle.pbfcut_program.specs.Tasks.{Task, Holds, answer_of, hashes_in, judge_of, spares}
 
 -- ---- devices of which nothing was read, and that took nothing
 
@@ -46,8 +47,8 @@ Closes f now before after =
 -- OUT, of which all went out, or not
 abbrev pub Finishes : {D : Type 0} → drain.Ghosts D → D → Bool → Option (List Event) → Option (List Event) → Type 0
 Finishes d now out before after =
-    ((bytes : List ℕ) × (after ≡ then_one before (wrote (record { bytes = bytes; failures = d.failures now; out = out }))))
-    × ((bytes : List ℕ) → d.has_taken now 0 bytes → after ≡ then_one before (wrote (record { bytes = bytes; failures = d.failures now; out = out })))
+    ((bytes : List ℕ) × IfSome (d.taken now) (λ taken. bytes ≡ taken) × (after ≡ then_one before (wrote (record { bytes = bytes; reports = is_some (d.taken now); failures = d.failures now; out = out }))))
+    × ((bytes : List ℕ) → d.has_taken now 0 bytes → after ≡ then_one before (wrote (record { bytes = bytes; reports = is_some (d.taken now); failures = d.failures now; out = out })))
 
 -- one feed after the other
 abbrev pub CloseAll : {F : Type 0} → feed.Ghosts F → List F → Option (List Event) → Option (List Event) → Type 0
@@ -150,6 +151,10 @@ Works m f task olds news took failed (Err halted) = EndsFor m.program f (judge_o
 -- if nothing was read of the feeds: by each log by which the drain had taken nothing
 abbrev pub WorksOn : {F D : Type 0} → Manner → feed.Ghosts F → drain.Ghosts D → Task → (olds news : List F) → (old new : D) → Result Report Halted → Type 0
 WorksOn m f d task olds news old new result = AreFresh f olds → (log : ℕ) → d.has_taken old log [] → Works m f task olds news (d.has_taken new log) (WriteFailed d old new) result
+
+-- a call stopped: if its feeds had the same bytes, a prefix of what the task makes of the raw file that they mean went out
+abbrev pub Fronts : Form → Task → (has : List (Option (List ℕ))) → (before after : Option (List ℕ)) → Result Report Halted → Type 0
+Fronts form task has before after result = OnErr result ((bytes : List ℕ) → AllHave bytes has → IsFront before after (answer_of task (meant form bytes)))
 
 -- ---- drains between a call and OUT
 

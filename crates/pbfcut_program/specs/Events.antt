@@ -10,9 +10,10 @@ pub record Reading : Type 0 where
   pub left : Option (List ℕ)
   pub failures : ℕ
 
--- OUT is closed: it took these bytes; how many writes failed; and whether all that it took went out
+-- OUT is closed: it took these bytes; whether it reports of itself that it took them; how many writes failed; and whether all that it took went out
 pub record Writing : Type 0 where
   pub bytes : List ℕ
+  pub reports : Bool
   pub failures : ℕ
   pub out : Bool
 

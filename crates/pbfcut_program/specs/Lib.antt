@@ -2,6 +2,7 @@ pub mod Devices
 pub mod Events
 pub mod Fails
 pub mod Jobs
+pub mod Leaving
 pub mod Manner
 pub mod Outcomes
 pub mod Program

@@ -35,7 +35,8 @@ use Rattle.pbfcut_cli.specs.declared.words.Region.TheVariants as region
 use Rattle.pbfcut_program.specs.declared.host.Screen.{Screen}
 use Rattle.pbfcut_program.specs.declared.host.Screen.TheVariants.{Output, Error}
 use Rattle.pbfcut_program.specs.Events.{Event, text_read, looked, opened, seeded, created, screened, read, wrote, printed, told, advised, Reading, Writing}
-use Rattle.pbfcut_program.specs.Fails.{FailsFor, Judging, glancing, judging, listing}
+use Rattle.pbfcut_program.specs.Fails.{Each, FailsFor, Judging, Quiet, glancing, judging, listing}
+use Rattle.pbfcut_program.specs.Leaving.{LeavesFor}
 use Rattle.pbfcut_program.specs.Manner.{Manner, hashes_meaning, input_form, manner, meant_known, of_output, output_form, packed_file, to_raw}
 use Rattle.pbfcut_program.specs.Readings.{IsWork}
 use Rattle.pbfcut_program.specs.Tasks.{Task, checking, showing, converting, copying, extracting, extracting_parents, passes_of}
@@ -237,8 +238,25 @@ reading_of m (Info input) = manner Pbfcutz m.packs m.digests
 reading_of m (Show input dates progress) = to_raw m
 reading_of m _ = m
 
+-- nothing was written before it was known what is cut out; and then it is an extract of that
+pub record LeavesCut (m : Manner) (cut : Region) (parents : Bool) (events : List Event) : Type 0 where
+  pub area : AreaSpec
+  pub before : List Event
+  pub after : List Event
+  pub happened : events ≡ before ++ after
+  pub means : MeansArea cut before area
+  pub leaves : LeavesFor m (extract_task parents area) after
+
+abbrev pub LeavesIn : Manner → Command → List Event → Type 0
+LeavesIn m (Show input dates progress) events = LeavesFor (to_raw m) (showing dates) events
+LeavesIn m (Convert files) events = LeavesFor m converting events
+LeavesIn m (Pack files) events = LeavesFor m copying events
+LeavesIn m (Unpack files) events = LeavesFor m copying events
+LeavesIn m (Extract region parents files) events = Each Quiet events ⊎ LeavesCut m region parents events
+LeavesIn m _ events = Unit {0}
+
 abbrev pub FailsIn : Manner → Command → Ending → List Event → Type 0
-FailsIn m command how events = FailsFor (reading_of m command) (judging_of command) how events
+FailsIn m command how events = FailsFor (reading_of m command) (judging_of command) how events × LeavesIn m command events
 
 -- ---- the whole run
 

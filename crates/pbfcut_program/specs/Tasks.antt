@@ -5,13 +5,13 @@ use Rattle.osm_ways.specs.Parents.{extract_with_parents}
 use Rattle.osm_ways.specs.Seen.{seen_decoded}
 use Rattle.osm_ways.specs.Selection as select
 use Rattle.pbf_block.specs.declared.counts.Counts.{Counts}
-use Rattle.pbf_frame.specs.Verdict.{Verdict}
+use Rattle.pbf_frame.specs.Verdict.{Verdict, judged}
 use Rattle.pbf_pass.specs.HeaderLimit.{judged_writable}
-use Rattle.pbf_pass.specs.Judged.{judged_file}
+use Rattle.pbf_pass.specs.Judged.{fully, judged_file}
 use Rattle.pbf_pass.specs.Pass.{CountsFile}
 use Rattle.pbfcut.specs.Extracting.{all_parents, complete_ways}
-use Rattle.pbfcut.specs.Kept.{IsWritable}
-use Rattle.pbfcut.specs.Showing.{Shown}
+use Rattle.pbfcut.specs.Kept.{IsWritable, conversion_of, extract_of}
+use Rattle.pbfcut.specs.Showing.{Shown, answer_text}
 use Rattle.pbfcut.specs.Theorem.{IsConverted, IsExtraction}
 
 pub data Task : Type 0 where
@@ -64,3 +64,12 @@ Holds (extracting area) (b ∷ c ∷ d ∷ []) counts written = IsWritable b
 Holds (extracting_parents area) (b ∷ c ∷ d ∷ e ∷ []) counts written = IsWritable b
     × (b ≡ c → b ≡ d → b ≡ e → IsExtraction (all_parents area) (extract_with_parents (seen_decoded area)) area b counts written)
 Holds _ files counts written = ⊥
+
+-- what is to be written for a raw file: nothing if it has a fault
+abbrev pub answer_of : Task → List ℕ → List ℕ
+answer_of checking file = []
+answer_of (showing dates) file = answer_text dates (fully (judged false 0 file))
+answer_of converting file = conversion_of file
+answer_of copying file = file
+answer_of (extracting area) file = extract_of (complete_ways area) area file
+answer_of (extracting_parents area) file = extract_of (all_parents area) area file

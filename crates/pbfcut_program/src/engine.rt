@@ -5,9 +5,9 @@ ghost use Rattle.pbf_frame.specs.Verdict.{judged_known};
 ghost use Rattle.pbf_published.specs.Showing.{ShowsHeader};
 ghost use Rattle.pbfcut_cli.specs.declared.endings.Ending.TheVariants as ending;
 ghost use Rattle.pbfcut_cli.specs.declared.programs.Program.TheVariants.{Pbfcutz};
-ghost use Rattle.pbfcut_program.specs.Devices.{AreFresh, Works, WorksOn};
+ghost use Rattle.pbfcut_program.specs.Devices.{AreFresh, Fronts, Works, WorksOn};
 ghost use Rattle.pbfcut_program.specs.Fails.{EndsAsStop};
-ghost use Rattle.pbfcut_program.specs.Manner.{manner_of, meant_known, output_form, packed_file, raw_file, to_raw};
+ghost use Rattle.pbfcut_program.specs.Manner.{input_form, manner_of, meant_known, output_form, packed_file, raw_file, to_raw};
 ghost use Rattle.pbfcut_program.specs.Outcomes.{EndsPacked, ListsBy, ReportsPublished, ReportsRaw};
 ghost use Rattle.pbfcut_program.specs.Tasks.{checking, showing, converting, copying, extracting, extracting_parents};
 
@@ -194,9 +194,12 @@ pub(crate) fn show<F: Feed, D: Drain>(
     drain: &mut D,
     dates: bool,
 ) -> Result<Report, Halted>
-    ensures { WorksOn (to_raw (manner_of engine)) F.Feed D.Drain (showing dates)
+    ensures works { WorksOn (to_raw (manner_of engine)) F.Feed D.Drain (showing dates)
         (passes.old.one ∷ passes.old.two ∷ []) (passes.new.one ∷ passes.new.two ∷ [])
         drain.old drain.new result }
+    ensures front { Fronts (input_form engine.program) (showing dates)
+        (F.remaining passes.old.one ∷ F.remaining passes.old.two ∷ [])
+        (D.taken drain.old) (D.taken drain.new) result }
 {
     let TwoPasses { one, two } = passes;
     match engine.program {
@@ -219,9 +222,12 @@ pub(crate) fn convert<F: Feed, D: Drain, S: BuildHasher + Drop>(
     hasher: S,
 ) -> Result<Report, Halted>
     requires { IfSome (D.taken drain.old) (λ taken. taken ≡ []) }
-    ensures { WorksOn (to_raw (manner_of engine)) F.Feed D.Drain converting
+    ensures works { WorksOn (to_raw (manner_of engine)) F.Feed D.Drain converting
         (passes.old.one ∷ passes.old.two ∷ []) (passes.new.one ∷ passes.new.two ∷ [])
         drain.old drain.new result }
+    ensures front { Fronts (input_form engine.program) converting
+        (F.remaining passes.old.one ∷ F.remaining passes.old.two ∷ [])
+        (D.taken drain.old) (D.taken drain.new) result }
 {
     let TwoPasses { one, two } = passes;
     match engine.program {
@@ -243,9 +249,12 @@ pub(crate) fn copy<F: Feed, D: Drain>(
     drain: &mut D,
 ) -> Result<Report, Halted>
     requires { IfSome (D.taken drain.old) (λ taken. taken ≡ []) }
-    ensures { WorksOn (to_raw (manner_of engine)) F.Feed D.Drain copying
+    ensures works { WorksOn (to_raw (manner_of engine)) F.Feed D.Drain copying
         (passes.old.one ∷ passes.old.two ∷ []) (passes.new.one ∷ passes.new.two ∷ [])
         drain.old drain.new result }
+    ensures front { Fronts (input_form engine.program) copying
+        (F.remaining passes.old.one ∷ F.remaining passes.old.two ∷ [])
+        (D.taken drain.old) (D.taken drain.new) result }
 {
     let TwoPasses { one, two } = passes;
     match engine.program {
@@ -269,10 +278,13 @@ pub(crate) fn extract<A: Area + Copy, F: Feed, D: Drain, S: BuildHasher + Drop>(
     hasher: S,
 ) -> Result<Report, Halted>
     requires { IfSome (D.taken drain.old) (λ taken. taken ≡ []) }
-    ensures { WorksOn (to_raw (manner_of engine)) F.Feed D.Drain (extracting (A.area area))
+    ensures works { WorksOn (to_raw (manner_of engine)) F.Feed D.Drain (extracting (A.area area))
         (passes.old.one ∷ passes.old.two ∷ passes.old.three ∷ [])
         (passes.new.one ∷ passes.new.two ∷ passes.new.three ∷ [])
         drain.old drain.new result }
+    ensures front { Fronts (input_form engine.program) (extracting (A.area area))
+        (F.remaining passes.old.one ∷ F.remaining passes.old.two ∷ F.remaining passes.old.three ∷ [])
+        (D.taken drain.old) (D.taken drain.new) result }
 {
     let ThreePasses { one, two, three } = passes;
     match engine.program {
@@ -298,10 +310,14 @@ pub(crate) fn extract_parents<A: Area + Copy, F: Feed, D: Drain, S: BuildHasher 
     hasher: S,
 ) -> Result<Report, Halted>
     requires { IfSome (D.taken drain.old) (λ taken. taken ≡ []) }
-    ensures { WorksOn (to_raw (manner_of engine)) F.Feed D.Drain (extracting_parents (A.area area))
+    ensures works { WorksOn (to_raw (manner_of engine)) F.Feed D.Drain
+        (extracting_parents (A.area area))
         (passes.old.one ∷ passes.old.two ∷ passes.old.three ∷ passes.old.four ∷ [])
         (passes.new.one ∷ passes.new.two ∷ passes.new.three ∷ passes.new.four ∷ [])
         drain.old drain.new result }
+    ensures front { Fronts (input_form engine.program) (extracting_parents (A.area area))
+        (F.remaining passes.old.one ∷ F.remaining passes.old.two ∷ F.remaining passes.old.three
+        ∷ F.remaining passes.old.four ∷ []) (D.taken drain.old) (D.taken drain.new) result }
 {
     let FourPasses {
         one,

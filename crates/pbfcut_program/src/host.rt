@@ -1,6 +1,7 @@
 //! The world of a command: files, the standard streams, and a terminal.
 
 ghost use Rattle.std.specs.Prelude.{◌≡◌, ℕ, List, [], Option, IfOk, IfErr, IfSome, OnErr, is_ok, string_bytes};
+ghost use Rattle.std.specs.Option.{is_some};
 ghost use Rattle.pbfcut_program.specs.Events.{Event, Reading, Writing, text_read, text_not_read, looked, opened, not_opened, seeded, created, not_created, screened, read, wrote, printed, told, advised, then_one};
 
 use pbf_frame::{Drain, Feed};
@@ -129,13 +130,17 @@ pub trait Host {
         ensures fresh { IfOk result (λ out. Self.Out.has_taken out 0 []
             × IfSome (Self.Out.taken out) (λ taken. taken ≡ []) × (Self.Out.failures out ≡ 0)) };
 
-    /// Takes OUT back: it took these bytes, which are all if it is whole. On `Ok` all of them went out; and if OUT is whole, it has its name.
+    /// Takes OUT back: it took these bytes, which are all if it is whole, and which it reports if it reports any. On `Ok` all of them went out;
+    /// and if OUT is whole, it has its name.
     fn finish(&mut self, out: Self::Out, whole: bool) -> Result<(), FinishFault>
-        ensures some { (bytes : List ℕ) × (log self.new ≡ then_one (log self.old) (wrote (record
-            { bytes = bytes; failures = Self.Out.failures out; out = is_ok result }))) }
+        ensures some { (bytes : List ℕ) × IfSome (Self.Out.taken out) (λ taken. bytes ≡ taken)
+            × (log self.new ≡ then_one (log self.old) (wrote (record { bytes = bytes;
+            reports = is_some (Self.Out.taken out); failures = Self.Out.failures out;
+            out = is_ok result }))) }
         ensures logged { (bytes : List ℕ) → Self.Out.has_taken out 0 bytes
-            → log self.new ≡ then_one (log self.old) (wrote (record
-            { bytes = bytes; failures = Self.Out.failures out; out = is_ok result })) };
+            → log self.new ≡ then_one (log self.old) (wrote (record { bytes = bytes;
+            reports = is_some (Self.Out.taken out); failures = Self.Out.failures out;
+            out = is_ok result })) };
 
     /// Writes a text at once.
     fn print(&mut self, screen: Screen, text: &[u8]) -> Result<(), NotDone>

@@ -4,11 +4,11 @@ ghost use Rattle.std.specs.Prelude.{◌≡◌, ◌∷◌, ℕ, [], List, length,
 ghost use Rattle.osm_polygon.specs.Polygon.{Point};
 ghost use Rattle.osm_polygon.specs.Texts.{rings_of_text};
 ghost use Rattle.osm_polygon.specs.Rings.{polygon_of};
-ghost use Rattle.pbfcut_program.specs.Devices.{AreFresh, CloseAll, WorksOn};
+ghost use Rattle.pbfcut_program.specs.Devices.{AreFresh, CloseAll, Fronts, WorksOn};
 ghost use Rattle.pbfcut_program.specs.Events.{Event, text_read, then_all};
 ghost use Rattle.pbfcut_program.specs.Fails.{FailsOpening};
 ghost use Rattle.pbfcut_program.specs.Jobs.{area_of, feeds_of, plan_of, task_of};
-ghost use Rattle.pbfcut_program.specs.Manner.{manner_of, to_raw};
+ghost use Rattle.pbfcut_program.specs.Manner.{input_form, manner_of, to_raw};
 ghost use Rattle.pbfcut_program.specs.Program.{MeansArea, openings};
 ghost use Rattle.pbfcut_program.specs.Tasks.{extracting, extracting_parents, passes_of};
 
@@ -139,10 +139,14 @@ fn cut_out<F: Feed, D: Drain, S: BuildHasher + Drop>(
     hasher: S,
 ) -> Result<Report, Halted>
     requires { IfSome (D.taken drain.old) (λ taken. taken ≡ []) }
-    ensures { let old = cutting.old.passes in let now = cutting.new.passes in
+    ensures works { let old = cutting.old.passes in let now = cutting.new.passes in
         WorksOn (to_raw (manner_of engine)) F.Feed D.Drain (extracting (area_of cutting.old.cut))
         (old.one ∷ old.two ∷ old.three ∷ []) (now.one ∷ now.two ∷ now.three ∷ [])
         drain.old drain.new result }
+    ensures front { let old = cutting.old.passes in
+        Fronts (input_form engine.program) (extracting (area_of cutting.old.cut))
+        (F.remaining old.one ∷ F.remaining old.two ∷ F.remaining old.three ∷ [])
+        (D.taken drain.old) (D.taken drain.new) result }
 {
     let Cutting { passes, cut } = cutting;
     match &*cut {
@@ -159,11 +163,15 @@ fn cut_out_parents<F: Feed, D: Drain, S: BuildHasher + Drop>(
     hasher: S,
 ) -> Result<Report, Halted>
     requires { IfSome (D.taken drain.old) (λ taken. taken ≡ []) }
-    ensures { let old = cutting.old.passes in let now = cutting.new.passes in
+    ensures works { let old = cutting.old.passes in let now = cutting.new.passes in
         WorksOn (to_raw (manner_of engine)) F.Feed D.Drain (extracting_parents (area_of cutting.old.cut))
         (old.one ∷ old.two ∷ old.three ∷ old.four ∷ [])
         (now.one ∷ now.two ∷ now.three ∷ now.four ∷ [])
         drain.old drain.new result }
+    ensures front { let old = cutting.old.passes in
+        Fronts (input_form engine.program) (extracting_parents (area_of cutting.old.cut))
+        (F.remaining old.one ∷ F.remaining old.two ∷ F.remaining old.three ∷ F.remaining old.four ∷ [])
+        (D.taken drain.old) (D.taken drain.new) result }
 {
     let Cutting { passes, cut } = cutting;
     match &*cut {
@@ -180,8 +188,10 @@ pub(crate) fn do_job<F: Feed, D: Drain, S: BuildHasher + Drop>(
     hasher: S,
 ) -> Result<Report, Halted>
     requires { IfSome (D.taken drain.old) (λ taken. taken ≡ []) }
-    ensures { WorksOn (to_raw (manner_of engine)) F.Feed D.Drain (task_of job.old) (feeds_of job.old)
-        (feeds_of job.new) drain.old drain.new result }
+    ensures works { WorksOn (to_raw (manner_of engine)) F.Feed D.Drain (task_of job.old)
+        (feeds_of job.old) (feeds_of job.new) drain.old drain.new result }
+    ensures front { Fronts (input_form engine.program) (task_of job.old)
+        (map F.remaining (feeds_of job.old)) (D.taken drain.old) (D.taken drain.new) result }
 {
     match job {
         Job::Convert(passes) => convert(engine, passes, drain, hasher),

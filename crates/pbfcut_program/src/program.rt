@@ -5,6 +5,7 @@ ghost use Rattle.pbfcut_cli.specs.Words.{word_texts};
 ghost use Rattle.pbfcut_program.specs.Events.{Event, then_all};
 ghost use Rattle.pbfcut_program.specs.Fails.{FailsFor, judging};
 ghost use Rattle.pbfcut_program.specs.Jobs.{plan_of};
+ghost use Rattle.pbfcut_program.specs.Leaving.{LeavesFor};
 ghost use Rattle.pbfcut_program.specs.Manner.{manner_of};
 ghost use Rattle.pbfcut_program.specs.Tasks.{judge_of};
 ghost use Rattle.pbfcut_program.specs.Program.{Does, FailsIn, IsRun, IsWhy, Writes, digests_of, packs_of};
@@ -63,7 +64,8 @@ fn run_writing<H: Host>(
         × Writes (manner_of engine) (plan_of plan) files.now events) }
     ensures err { IfErr result (λ how. (events : List Event)
         × (H.log host.new ≡ then_all (H.log host.old) events)
-        × FailsFor (manner_of engine) (judging (judge_of (plan_of plan))) how events) }
+        × FailsFor (manner_of engine) (judging (judge_of (plan_of plan))) how events
+        × LeavesFor (manner_of engine) (plan_of plan) events) }
 {
     let progress = shows_progress(&*host, engine.program, files.progress, files.input);
     write(engine, host, files, plan, progress)?;

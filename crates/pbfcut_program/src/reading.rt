@@ -6,11 +6,12 @@ ghost use Rattle.pbfcut_cli.specs.declared.programs.Program.TheVariants as progr
 ghost use Rattle.pbfcut_program.specs.Devices.{Finishes};
 ghost use Rattle.pbfcut_program.specs.Events.{Event, Reading, opened, read, then_all};
 ghost use Rattle.pbfcut_program.specs.Fails.{FailsFor, glancing, judging, listing};
+ghost use Rattle.pbfcut_program.specs.Leaving.{LeavesFor};
 ghost use Rattle.pbfcut_program.specs.Manner.{manner, manner_of, to_raw};
 ghost use Rattle.pbfcut_program.specs.Outcomes.{EndsAs};
 ghost use Rattle.pbfcut_program.specs.Program.{Checks, IsHeaderText, IsListing, Lists, Shows};
 ghost use Rattle.pbfcut_program.specs.Readings.{IsWork};
-ghost use Rattle.pbfcut_program.specs.Tasks.{checking};
+ghost use Rattle.pbfcut_program.specs.Tasks.{checking, showing};
 
 use crate::engine::{Engine, Halted, Report, check, list_blobs, show, show_header};
 use crate::host::Host;
@@ -99,7 +100,8 @@ pub(crate) fn run_show<H: Host>(
         × Shows (manner_of engine) dates input.now.path.now events) }
     ensures err { IfErr result (λ how. (events : List Event)
         × (H.log host.new ≡ then_all (H.log host.old) events)
-        × FailsFor (to_raw (manner_of engine)) (judging judged_file) how events) }
+        × FailsFor (to_raw (manner_of engine)) (judging judged_file) how events
+        × LeavesFor (to_raw (manner_of engine)) (showing dates) events) }
 {
     let mut passes = open_two(host, input)?;
     let mut out = open_screen(host)?;

@@ -7,12 +7,13 @@ ghost use Rattle.pbfcut_cli.specs.declared.endings.Ending.TheVariants as ending;
 ghost use Rattle.pbf_pass.specs.HeaderLimit.{judged_writable};
 ghost use Rattle.pbf_pass.specs.Stops.{WriteFailed};
 ghost use Rattle.pbfcut_cli.specs.declared.programs.Program.TheVariants.{Pbfcutz};
-ghost use Rattle.pbfcut_program.specs.Devices.{AreFresh, FinishesPacked, IsAsked, IsFreshOut, MeansBy, TakenBy, Works, WorksOn};
+ghost use Rattle.pbfcut_program.specs.Devices.{AreFresh, FinishesPacked, Fronts, IsAsked, IsFreshOut, MeansBy, TakenBy, Works, WorksOn};
 ghost use Rattle.pbfcut_program.specs.Events.{Event, Reading, Writing, read, seeded, wrote, then_all, then_one};
-ghost use Rattle.pbfcut_program.specs.Fails.{Fails, FailsFor, FailsOpening, judging};
+ghost use Rattle.pbfcut_program.specs.Fails.{Each, Fails, FailsFor, FailsOpening, Quiet, UnlessPacked, judging};
 ghost use Rattle.pbfcut_program.specs.Jobs.{area_of, feeds_of, plan_of, task_of};
-ghost use Rattle.pbfcut_program.specs.Program.{Extracts, WritesCounts, advice, digest_if_asked, extract_task, is_empty, is_screen, looks, makes, openings, screen_of};
-ghost use Rattle.pbfcut_program.specs.Manner.{hashes_meaning, manner_of, of_output, output_form, packed_file, to_raw};
+ghost use Rattle.pbfcut_program.specs.Leaving.{Leaves, LeavesFor};
+ghost use Rattle.pbfcut_program.specs.Program.{Extracts, LeavesCut, WritesCounts, advice, digest_if_asked, extract_task, is_empty, is_screen, looks, makes, openings, screen_of};
+ghost use Rattle.pbfcut_program.specs.Manner.{hashes_meaning, input_form, manner_of, of_output, output_form, packed_file, to_raw};
 ghost use Rattle.pbfcut_program.specs.Readings.{IsWork};
 ghost use Rattle.pbfcut_program.specs.Tasks.{judge_of, passes_of};
 
@@ -146,6 +147,8 @@ fn run_raw<F: Feed, D: Drain + Drop, S: BuildHasher + Drop>(
     requires { IfSome (D.taken out) (λ taken. taken ≡ []) }
     ensures works { WorksOn (to_raw (manner_of engine)) F.Feed D.Drain (task_of job.old)
         (feeds_of job.old) (feeds_of job.new) out result.out result.result }
+    ensures front { Fronts (input_form engine.program) (task_of job.old)
+        (map F.remaining (feeds_of job.old)) (D.taken out) (D.taken result.out) result.result }
     ensures unhashed { (result.output ≡ None) × (result.meaning ≡ None) }
 {
     let mut out = out;
@@ -292,6 +295,9 @@ fn run_unhashed<F: Feed, D: Drain + Drop, S: BuildHasher + Drop>(
         (λ w. D.has_taken result.out 0 w
         × MeansBy (output_form engine.packs engine.program) result.meaning w)
         (WriteFailed D.Drain out result.out) result.result }
+    ensures front { UnlessPacked (output_form engine.packs engine.program)
+        (Fronts (input_form engine.program) (task_of job.old) (map F.remaining (feeds_of job.old))
+        (D.taken out) (D.taken result.out) result.result) }
     ensures hashed { IfOk result.result (λ _. IsAsked
         (hashes_meaning (output_form engine.packs engine.program) engine.digests) result.meaning) }
     ensures unhashed { result.output ≡ None }
@@ -316,6 +322,9 @@ fn run_hashed<F: Feed, D: Drain + Drop, S: BuildHasher + Drop>(
         (λ w. TakenBy D.Drain result.out result.output w
         × MeansBy (output_form engine.packs engine.program) result.meaning w)
         (0 < D.failures result.out) result.result }
+    ensures front { UnlessPacked (output_form engine.packs engine.program)
+        (Fronts (input_form engine.program) (task_of job.old) (map F.remaining (feeds_of job.old))
+        (D.taken out) (D.taken result.out) result.result) }
     ensures hashed { IsAsked true result.output }
     ensures meaning { IfOk result.result (λ _. IsAsked
         (hashes_meaning (output_form engine.packs engine.program) engine.digests) result.meaning) }
@@ -345,6 +354,9 @@ fn run_into<F: Feed, D: Drain + Drop, S: BuildHasher + Drop>(
         (λ w. TakenBy D.Drain result.out result.output w
         × MeansBy (output_form engine.packs engine.program) result.meaning w)
         (0 < D.failures result.out) result.result }
+    ensures front { UnlessPacked (output_form engine.packs engine.program)
+        (Fronts (input_form engine.program) (task_of job.old) (map F.remaining (feeds_of job.old))
+        (D.taken out) (D.taken result.out) result.result) }
     ensures hashed { IsAsked engine.digests result.output }
     ensures meaning { IfOk result.result (λ _. IsAsked
         (hashes_meaning (output_form engine.packs engine.program) engine.digests) result.meaning) }
@@ -388,7 +400,9 @@ fn run_job<H: Host>(
     ensures err { IfErr result (λ how. (events : List Event)
         × (H.log host.new ≡ then_all (H.log host.old) events)
         × Fails (manner_of engine) (judging (judge_of (task_of ready.job)))
-        (map H.In.remaining (feeds_of ready.job)) how events) }
+        (map H.In.remaining (feeds_of ready.job)) how events
+        × Leaves (manner_of engine) (task_of ready.job)
+        (map H.In.remaining (feeds_of ready.job)) events) }
 {
     let Ready { job, out, hasher } = ready;
     let mut job = job;
@@ -426,7 +440,8 @@ pub(crate) fn write<H: Host>(
         × WritesCounts (manner_of engine) (plan_of plan) files.now counts events) }
     ensures err { IfErr result (λ how. (events : List Event)
         × (H.log host.new ≡ then_all (H.log host.old) events)
-        × FailsFor (manner_of engine) (judging (judge_of (plan_of plan))) how events) }
+        × FailsFor (manner_of engine) (judging (judge_of (plan_of plan))) how events
+        × LeavesFor (manner_of engine) (plan_of plan) events) }
 {
     let to_screen = is_screen(engine.program, files.output);
     let ready = prepare(host, to_screen, files, plan, progress)?;
@@ -478,7 +493,8 @@ pub(crate) fn run_extract<H: Host>(
         × Extracts (manner_of engine) region.now parents files.now events) }
     ensures err { IfErr result (λ how. (events : List Event)
         × (H.log host.new ≡ then_all (H.log host.old) events)
-        × FailsFor (manner_of engine) (judging judged_writable) how events) }
+        × FailsFor (manner_of engine) (judging judged_writable) how events
+        × (Each Quiet events ⊎ LeavesCut (manner_of engine) region.now parents events)) }
 {
     let cut = read_region(engine.alloc, host, region)?;
     let counts = write(engine, host, files, plan_extract(cut, parents), progress)?;

@@ -1,5 +1,5 @@
 -- What was recorded, as events.
-use Rattle.std.specs.Prelude.{Some}
+use Rattle.std.specs.Prelude.{Some, true}
 use Rattle.pbfcut_program.specs.Events.{Event, text_read, text_not_read, looked, opened, not_opened, seeded, created, not_created, screened, read, wrote, printed, told, advised}
 use Rattle.program_tests.specs.declared.happened.Happened.{Happened}
 use Rattle.program_tests.specs.declared.happened.Happened.TheVariants as happened
@@ -16,7 +16,7 @@ event_of (happened.Created path) = created path.items
 event_of (happened.NotCreated path) = not_created path.items
 event_of (happened.Screened there) = screened there
 event_of (happened.Read bytes left failures) = read (record { bytes = bytes.items; left = Some left.items; failures = failures })
-event_of (happened.Wrote bytes failures out) = wrote (record { bytes = bytes.items; failures = failures; out = out })
+event_of (happened.Wrote bytes failures out) = wrote (record { bytes = bytes.items; reports = true; failures = failures; out = out })
 event_of (happened.Printed screen text whole) = printed screen text.items whole
 event_of (happened.Told text) = told text.items
 event_of happened.Advised = advised

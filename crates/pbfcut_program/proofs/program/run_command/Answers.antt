@@ -15,40 +15,40 @@ returns-in-Help-clause-ok g c =
 
 pub returns-in-Help-clause-err : goal.returns-in-Help-clause-err
 returns-in-Help-clause-err g c =
-    rw c.in-Help.is (IfErr-weaker c.print_text.result _ _ (λ how f. print_fails (manner_of c.args.engine) glancing how _ _ _ [] (then_none _) f) (tells_err _ _ _ c.print_text.result c.print_text.ensures))
+    rw c.in-Help.is (IfErr-weaker c.print_text.result _ _ (λ how f. let p = print_fails (manner_of c.args.engine) glancing how _ _ _ [] (then_none _) f in (p.0, p.1, (p.2, tt))) (tells_err _ _ _ c.print_text.result c.print_text.ensures))
 
 pub returns-in-Blobs-clause-ok : goal.returns-in-Blobs-clause-ok
 returns-in-Blobs-clause-ok g c = rw c.in-Blobs.is c.run_blobs.ensures.ok
 
 pub returns-in-Blobs-clause-err : goal.returns-in-Blobs-clause-err
-returns-in-Blobs-clause-err g c = rw c.in-Blobs.is c.run_blobs.ensures.err
+returns-in-Blobs-clause-err g c = rw c.in-Blobs.is (IfErr-weaker c.run_blobs.result _ _ (λ how f. (f.0, f.1, (f.2, tt))) c.run_blobs.ensures.err)
 
 pub returns-in-Info-clause-ok : goal.returns-in-Info-clause-ok
 returns-in-Info-clause-ok g c = rw c.in-Info.is c.run_info.ensures.ok
 
 pub returns-in-Info-clause-err : goal.returns-in-Info-clause-err
-returns-in-Info-clause-err g c = rw c.in-Info.is c.run_info.ensures.err
+returns-in-Info-clause-err g c = rw c.in-Info.is (IfErr-weaker c.run_info.result _ _ (λ how f. (f.0, f.1, (f.2, tt))) c.run_info.ensures.err)
 
 pub returns-in-Show-clause-ok : goal.returns-in-Show-clause-ok
 returns-in-Show-clause-ok g c = rw c.in-Show.is c.run_show.ensures.ok
 
 pub returns-in-Show-clause-err : goal.returns-in-Show-clause-err
-returns-in-Show-clause-err g c = rw c.in-Show.is c.run_show.ensures.err
+returns-in-Show-clause-err g c = rw c.in-Show.is (IfErr-weaker c.run_show.result _ _ (λ how f. (f.0, f.1, (f.2, f.3))) c.run_show.ensures.err)
 
 pub returns-in-Check-clause-ok : goal.returns-in-Check-clause-ok
 returns-in-Check-clause-ok g c = rw c.in-Check.is c.run_check.ensures.ok
 
 pub returns-in-Check-clause-err : goal.returns-in-Check-clause-err
-returns-in-Check-clause-err g c = rw c.in-Check.is c.run_check.ensures.err
+returns-in-Check-clause-err g c = rw c.in-Check.is (IfErr-weaker c.run_check.result _ _ (λ how f. (f.0, f.1, (f.2, tt))) c.run_check.ensures.err)
 
 pub returns-in-Extract-clause-ok : goal.returns-in-Extract-clause-ok
 returns-in-Extract-clause-ok g c = rw c.in-Extract.is c.run_extract.ensures.ok
 
 pub returns-in-Extract-clause-err : goal.returns-in-Extract-clause-err
-returns-in-Extract-clause-err g c = rw c.in-Extract.is c.run_extract.ensures.err
+returns-in-Extract-clause-err g c = rw c.in-Extract.is (IfErr-weaker c.run_extract.result _ _ (λ how f. (f.0, f.1, (f.2, f.3))) c.run_extract.ensures.err)
 
 pub returns-in-Convert-clause-ok : goal.returns-in-Convert-clause-ok
 returns-in-Convert-clause-ok g c = rw c.in-Convert.is c.run_writing.ensures.ok
 
 pub returns-in-Convert-clause-err : goal.returns-in-Convert-clause-err
-returns-in-Convert-clause-err g c = rw c.in-Convert.is c.run_writing.ensures.err
+returns-in-Convert-clause-err g c = rw c.in-Convert.is (IfErr-weaker c.run_writing.result _ _ (λ how f. (f.0, f.1, (f.2, f.3))) c.run_writing.ensures.err)

@@ -1,8 +1,9 @@
-use Rattle.std.proofs.Common.{◌∙◌, ◌++◌, ap, refl, subst}
+use Rattle.std.proofs.Common.{◌∙◌, ◌++◌, ap, inl, inr, refl, subst}
 use Rattle.std.proofs.lemmas.Result.{err_from_is_err_and}
 use Rattle.pbf_pass.specs.HeaderLimit.{judged_writable}
 use Rattle.pbfcut_program.specs.Fails.{FailsFor, judging}
 use Rattle.pbfcut_program.specs.Jobs.{area_of}
+use Rattle.pbfcut_program.specs.Leaving.{LeavesFor}
 use Rattle.pbfcut_program.specs.Program.{WritesCounts, advice}
 use Rattle.pbfcut_program.specs.Manner.{manner_of}
 use Rattle.pbfcut_program.specs.Tasks.{judge_of}
@@ -15,7 +16,7 @@ pub returns-in_err-cut-clause-err : goal.returns-in_err-cut-clause-err
 returns-in_err-cut-clause-err g c =
     let p = err_from_is_err_and c.from_residual.result c.from_residual.ensures.1 in
     let f = c.in_err-cut.ensures.err in
-    rw (p.1, p.2) (f.0, f.1, opening_fails (manner_of c.args.engine) (judging judged_writable) c.in_err-cut.field-0.0 f.0 f.2)
+    rw (p.1, p.2) (f.0, f.1, opening_fails (manner_of c.args.engine) (judging judged_writable) c.in_err-cut.field-0.0 f.0 f.2, inl f.2.0)
 
 pub returns-in_err-counts-clause-err : goal.returns-in_err-counts-clause-err
 returns-in_err-counts-clause-err g c =
@@ -27,7 +28,13 @@ returns-in_err-counts-clause-err g c =
     let how = c.in_err-counts.field-0.0 in
     let m = manner_of c.args.engine in
     let fails = subst (λ j. FailsFor m (judging j) how f.0) (ap judge_of c.plan_extract.ensures ∙ judge_extract c.args.parents area) f.2 in
-    rw (p.1, p.2) (_, and_then log _ _ d.0 f.0 d.1 f.1, failed_after m (judging judged_writable) how d.0 f.0 (quiet_region c.args.region.now d.0 area d.2) fails)
+    let leaves = subst (λ t. LeavesFor m t f.0) c.plan_extract.ensures f.3 in
+    rw (p.1, p.2) (
+      d.0 ++ f.0,
+      and_then log _ _ d.0 f.0 d.1 f.1,
+      failed_after m (judging judged_writable) how d.0 f.0 (quiet_region c.args.region.now d.0 area d.2) fails,
+      inr (record { area = area; before = d.0; after = f.0; happened = refl; means = d.2; leaves = leaves }),
+    )
 
 pub returns-clause-ok : goal.returns-clause-ok
 returns-clause-ok g c =

@@ -12,3 +12,9 @@ returns-clause-works g c = λ fresh.
     (λ w t. ((rw same t.0.1, c.digest-digest.ensures.digest w (rw c.into_inner-hashed.ensures t.0.0)), t.1))
     (λ risen. rw same (has_failed (g.D.Drain.failures c.new-linked.result.drain.drain) _ (rw (c.new-linked.ensures, c.new.ensures.drain) c.requires.2) risen))
     (c.run_unhashed-ran.ensures.works fresh (rw (c.new-linked.ensures, c.new.ensures.drain) (c.new.ensures.hasher, c.requires.0)))
+
+pub returns-clause-front : goal.returns-clause-front
+returns-clause-front g c =
+    let inner = ap (λ h. h.drain) c.into_inner-hashed.ensures in
+    let same = c.into_inner.ensures.drain ∙ c.digest-digest.ensures.drain ∙ inner in
+    rw same (rw (c.new-linked.ensures, c.new.ensures.drain) at c.run_unhashed-ran.ensures.front)

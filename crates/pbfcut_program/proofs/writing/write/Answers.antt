@@ -1,15 +1,17 @@
-use Rattle.std.proofs.Common.{◌≡◌, ◌∙◌, [], ◌∷◌, ◌++◌, List, map, true, refl, ap, subst}
+use Rattle.std.proofs.Common.{◌≡◌, ◌∙◌, [], ◌∷◌, ◌++◌, List, append_assoc, inr, map, true, refl, ap, subst}
 use Rattle.std.proofs.lemmas.Result.{err_from_is_err_and}
 use Rattle.pbfcut_program.specs.declared.host.Screen.{Screen}
 use Rattle.pbfcut_program.specs.Events.{Event, read, seeded, wrote, then_all}
 use Rattle.pbfcut_program.specs.Fails.{Fails, judging}
 use Rattle.pbfcut_program.specs.Jobs.{feeds_of, plan_of}
+use Rattle.pbfcut_program.specs.Leaving.{Leaves}
 use Rattle.pbfcut_program.specs.Program.{counts_text, done_lines, is_screen, looks, makes, openings, prints, screen_of}
 use Rattle.pbfcut_program.specs.Manner.{manner_of}
 use Rattle.pbfcut_program.specs.Readings.{IsWork}
 use Rattle.pbfcut_program.specs.Tasks.{judge_of}
 use Rattle.pbfcut_program.proofs.Beginning.{all_events, begun, length_has, opens_begun, quiet_begun}
-use Rattle.pbfcut_program.proofs.FailLemmas.{opened_fails, opening_fails, print_fails}
+use Rattle.pbfcut_program.proofs.FailLemmas.{fails_early, opened_fails, opening_fails, opens_before, print_stops, printing_after}
+use Rattle.pbfcut_program.proofs.LeavingLemmas.{leaves_after, opening_leaves}
 use Rattle.pbfcut_program.proofs.Logging.{and_then}
 use Rattle.pbfcut_program.proofs.writing.write.Goals as goal
 
@@ -17,7 +19,9 @@ pub returns-in_err-ready-clause-err : goal.returns-in_err-ready-clause-err
 returns-in_err-ready-clause-err g c =
     let p = err_from_is_err_and c.from_residual.result c.from_residual.ensures.1 in
     let f = c.in_err-ready.ensures.err in
-    rw (p.1, p.2) (f.0, f.1, opening_fails (manner_of c.args.engine) (judging (judge_of (plan_of c.args.plan))) c.in_err-ready.field-0.0 f.0 f.2)
+    let m = manner_of c.args.engine in
+    let how = c.in_err-ready.field-0.0 in
+    rw (p.1, p.2) (f.0, f.1, opening_fails m (judging (judge_of (plan_of c.args.plan))) how f.0 f.2, opening_leaves m (plan_of c.args.plan) how f.0 f.2)
 
 pub returns-in_err-done-clause-err : goal.returns-in_err-done-clause-err
 returns-in_err-done-clause-err g c =
@@ -30,9 +34,17 @@ returns-in_err-done-clause-err g c =
     let has = map g.H.In.Feed.remaining (feeds_of c.in_ok-ready.ready.job) in
     let m = manner_of c.args.engine in
     let fails = subst (λ t. Fails m (judging (judge_of t)) has how f.0) c.in_ok-ready.ensures.planned.0 f.2 in
+    let leaves = subst (λ t. Leaves m t has f.0) c.in_ok-ready.ensures.planned.0 f.3 in
     let opened = rw c.is_screen-to_screen.ensures at c.in_ok-ready.ensures.ok in
     let first = begun is files.input.now files.output.now has in
-    rw (p.1, p.2) (_, and_then log _ _ first f.0 opened f.1, opened_fails m (judging (judge_of (plan_of c.args.plan))) has how first f.0 (quiet_begun is files.input.now files.output.now has) (opens_begun is files.input.now files.output.now has) fails)
+    let quiet = quiet_begun is files.input.now files.output.now has in
+    let opens = opens_begun is files.input.now files.output.now has in
+    rw (p.1, p.2) (
+      first ++ f.0,
+      and_then log _ _ first f.0 opened f.1,
+      opened_fails m (judging (judge_of (plan_of c.args.plan))) has how first f.0 quiet opens fails,
+      record { has = has; opens = opens_before 1 has first f.0 opens; leaves = leaves_after m (plan_of c.args.plan) has first f.0 quiet leaves },
+    )
 
 pub returns-in_err-print_done-clause-err : goal.returns-in_err-print_done-clause-err
 returns-in_err-print_done-clause-err g c =
@@ -43,8 +55,35 @@ returns-in_err-print_done-clause-err g c =
     let is = is_screen c.args.engine.program files.output.now in
     let has = map g.H.In.Feed.remaining (feeds_of c.in_ok-ready.ready.job) in
     let opened = rw c.is_screen-to_screen.ensures at c.in_ok-ready.ensures.ok in
-    let done = and_then log _ _ (begun is files.input.now files.output.now has) (map (λ r. read r) d.0 ++ wrote d.1 ∷ []) opened d.2 in
-    rw (p.1, p.2) (print_fails (manner_of c.args.engine) (judging (judge_of (plan_of c.args.plan))) c.in_err-print_done.field-0.0 log _ _ _ done c.in_err-print_done.ensures)
+    let first = begun is files.input.now files.output.now has in
+    let rs : List Event = map (λ r. read r) d.0 in
+    let done = and_then log _ _ first (rs ++ wrote d.1 ∷ []) opened d.2 in
+    let m = manner_of c.args.engine in
+    let how = c.in_err-print_done.field-0.0 in
+    let j = judging (judge_of (plan_of c.args.plan)) in
+    let lines = c.in_err-print_done.ensures in
+    let before : List Event = first ++ (rs ++ wrote d.1 ∷ []) in
+    let report = c.in_ok-done.done.report in
+    rw (p.1, p.2) (
+      before ++ lines.0,
+      and_then log _ _ before lines.0 done lines.1,
+      fails_early m j how (before ++ lines.0) (print_stops m j how (before ++ lines.0) (printing_after how before lines.0 lines.2)),
+      record {
+        has = [];
+        opens = tt;
+        leaves = inr (record {
+          before = first;
+          rs = d.0;
+          out = d.1;
+          after = lines.0;
+          happened = append_assoc first (rs ++ wrote d.1 ∷ []) lines.0 ∙ ap (λ es. first ++ es) (append_assoc rs (wrote d.1 ∷ []) lines.0);
+          counts = report.counts;
+          digest = report.input;
+          raw = report.raw;
+          work = subst (λ t. IsWork m t d.0 d.1.bytes report.counts report.input report.raw) c.in_ok-ready.ensures.planned.0 d.6;
+        });
+      },
+    )
 
 pub returns-clause-ok : goal.returns-clause-ok
 returns-clause-ok g c =

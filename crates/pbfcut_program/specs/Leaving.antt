@@ -1,0 +1,36 @@
+-- What a command that writes leaves in OUT if it fails.
+use Rattle.std.specs.Prelude.{◌≡◌, ◌⊎◌, ℕ, List, ◌∷◌, ◌++◌, map, take, true, Option}
+use Rattle.pbf_block.specs.declared.counts.Counts.{Counts}
+use Rattle.pbfcut_program.specs.Events.{Event, Reading, Writing, read, wrote}
+use Rattle.pbfcut_program.specs.Fails.{Each, Opens, UnlessPacked}
+use Rattle.pbfcut_program.specs.Manner.{Manner, of_input, output_form}
+use Rattle.pbfcut_program.specs.Readings.{AllHave, IsWork}
+use Rattle.pbfcut_program.specs.Tasks.{Task, answer_of}
+
+-- OUT took a prefix of the answer, if it reports what it took
+abbrev pub TookFront : (answer : List ℕ) → Event → Type 0
+TookFront answer (wrote w) = w.reports ≡ true → (count : ℕ) × (w.bytes ≡ take count answer)
+TookFront answer _ = Unit {0}
+
+-- the work was done, and OUT took all of it; what comes after it failed: a rest that didn't go out, OUT's name, or a line
+pub record IsWorked (m : Manner) (task : Task) (events : List Event) : Type 0 where
+  pub before : List Event
+  pub rs : List Reading
+  pub out : Writing
+  pub after : List Event
+  pub happened : events ≡ before ++ (map read rs ++ wrote out ∷ after)
+  pub counts : Counts
+  pub digest : List ℕ
+  pub raw : Option (List ℕ)
+  pub work : IsWork m task rs out.bytes counts digest raw
+
+-- OUT took a prefix of the answer, if IN has the same bytes for each pass, and raw blobs are written; or all of it
+abbrev pub Leaves : Manner → Task → (has : List (Option (List ℕ))) → List Event → Type 0
+Leaves m task has events =
+    UnlessPacked (output_form m.packs m.program) ((bytes : List ℕ) → AllHave bytes has → Each (TookFront (answer_of task (of_input m bytes))) events) ⊎ IsWorked m task events
+
+-- IN has this for the passes, and by that the command leaves such an OUT
+pub record LeavesFor (m : Manner) (task : Task) (events : List Event) : Type 0 where
+  pub has : List (Option (List ℕ))
+  pub opens : Opens 1 has events
+  pub leaves : Leaves m task has events
