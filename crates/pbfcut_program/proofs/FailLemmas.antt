@@ -10,7 +10,7 @@ use Rattle.pbfcut_cli.specs.declared.endings.Ending.TheVariants as ending
 use Rattle.pbfcut_cli.specs.declared.programs.Program.{Program}
 use Rattle.pbfcut_cli.specs.declared.programs.Program.TheVariants.{Pbfcut, Pbfcutz}
 use Rattle.pbfcut_program.specs.Events.{Event, then_all}
-use Rattle.pbfcut_program.specs.Fails.{CauseOfOpening, Each, EndsAsStop, Fails, FailsFor, FailsOpening, FailsPrinting, FailsToRead, FailsToWrite, Has, IsChangedBy, IsRefusedBy, Judging, Opens, Quiet, Stops, TookNothing, UnlessPacked, glancing, judging, listing, readings}
+use Rattle.pbfcut_program.specs.Fails.{CauseOfOpening, Each, EndsAsStop, Fails, FailsFor, FailsOpening, FailsPrinting, FailsToRead, FailsToWrite, Has, IsChangedBy, IsRefusedBy, Judging, Opens, Quiet, Stops, TookNothing, UnlessPacked, judging, listing, printing, readings}
 use Rattle.pbfcut_program.specs.Manner.{Form, Manner, output_form, packed_file, raw_file}
 use Rattle.pbfcut_program.specs.declared.engine.Halted.{Halted}
 use Rattle.pbfcut_program.specs.Outcomes.{EndsAs}
@@ -58,12 +58,12 @@ stop_fails m j has _ events s is c = absurd is
 memory_stops : (m : Manner) (j : Judging) (has : List (Option (List ℕ))) (events : List Event) → Stops m j has events stop.Memory
 memory_stops m (judging judge) has events = tt
 memory_stops m listing has events = tt
-memory_stops m glancing has events = tt
+memory_stops m printing has events = tt
 
 write_caused : (m : Manner) (j : Judging) (has : List (Option (List ℕ))) (events : List Event) → Has FailsToWrite events → Stops m j has events stop.Write
 write_caused m (judging judge) has events h = unless_said (output_form m.packs m.program) (Has FailsToWrite events) h
 write_caused m listing has events h = h
-write_caused m glancing has events h = tt
+write_caused m printing has events h = h
 
 memory_fails : (m : Manner) (j : Judging) (has : List (Option (List ℕ))) (events : List Event) → Fails m j has (ending.Stopped stop.Memory) events
 memory_fails m j has events = (stop.Memory, refl, memory_stops m j has events)
@@ -105,7 +105,7 @@ module _ (xs ys : List Event) (keeps : (p : Event → Type 0) → Has p xs → H
   stops_in m (judging judge) has s c =
       caused_weaker _ _ _ _ _ _ _ _ s (refused_in m.program judge has) (keeps FailsToRead) (unless_packed (output_form m.packs m.program) (Has FailsToWrite xs) (Has FailsToWrite ys) (keeps FailsToWrite)) (changed_in m.program has) c
   stops_in m listing has s c = caused_weaker _ _ _ _ _ _ _ _ s (λ e r. r) (keeps FailsToRead) (keeps FailsToWrite) (λ p n. n) c
-  stops_in m glancing has s c = tt
+  stops_in m printing has s c = caused_weaker _ _ _ _ _ _ _ _ s (λ e r. r) (λ r. r) (keeps FailsToWrite) (λ p n. n) c
 
   exists_in : (p q : Event → Type 0) → ((Has p xs × Each TookNothing xs) ⊎ Has q xs) → ((Has p ys × Each TookNothing ys) ⊎ Has q ys)
   exists_in p q (inl f) = inl (keeps p f.0, nothing f.1)

@@ -4,22 +4,28 @@ use Rattle.std.specs.Option.{is_some}
 use Rattle.pbf_frame.specs.declared.device.Feed as feed
 use Rattle.pbf_frame.specs.declared.device.Drain as drain
 use Rattle.pbf_frame.specs.declared.stop.Stop.TheVariants as stop
+use Rattle.pbf_frame.specs.Transfers.{Added}
 use Rattle.pbf_frame.specs.Verdict.{judged_known}
+use Rattle.pbf_pass.specs.Judged.{judged_file}
+use Rattle.pbf_pass.specs.Stops.{WriteFailed}
 use Rattle.pbf_published.specs.Showing.{ShowsHeader}
 use Rattle.pbfcut_cli.specs.declared.endings.Ending.{Ending}
 use Rattle.pbfcut_cli.specs.declared.endings.Ending.TheVariants as ending
 use Rattle.pbfcut_cli.specs.declared.programs.Program.{Program}
 use Rattle.pbfcut_cli.specs.declared.programs.Program.TheVariants.{Pbfcutz}
 use Rattle.pbfcut_program.specs.declared.engine.Halted.{Halted}
-use Rattle.pbfcut_program.specs.Devices.{Closes, Finishes, IsFresh, IsFreshOut}
+use Rattle.pbfcut_program.specs.Devices.{Closes, EndsFor, Finishes, IsFresh, IsFreshOut}
 use Rattle.pbfcut_program.specs.Events.{Event, Reading, Writing, opened, screened, read, wrote, then_all}
-use Rattle.pbfcut_program.specs.Fails.{Fails, FailsFor, Judging, glancing, listing}
-use Rattle.pbfcut_program.specs.Outcomes.{EndsPacked, ListsBy}
+use Rattle.pbfcut_program.specs.Fails.{Fails, FailsFor, Judging, judging, listing}
+use Rattle.pbfcut_program.specs.Outcomes.{ListsBy}
 use Rattle.pbfcut_program.specs.Manner.{Manner, manner, meant_known, packed_file}
 use Rattle.pbfcut_program.specs.Program.{IsHeaderText, IsListing}
-use Rattle.pbfcut_program.proofs.Closing.{has_failed, reading}
-use Rattle.pbfcut_program.proofs.FailLemmas.{caused_weaker, stop_fails, write_stops}
+use Rattle.pbfcut_program.specs.Tasks.{checking}
+use Rattle.pbfcut_program.proofs.Closing.{ends_with_out, has_failed, reading, work_fails}
+use Rattle.pbfcut_program.proofs.FailLemmas.{caused_weaker, opened_fails, stop_fails, write_stops}
+use Rattle.pbfcut_program.proofs.LeavingLemmas.{TakenFront}
 use Rattle.pbfcut_program.proofs.Logging.{and_then}
+use Rattle.pbfcut_program.proofs.Weaker.{ends_weaker}
 
 module _ {F D : Type 0} (f : feed.Ghosts F) (d : drain.Ghosts D) (now : F) (out : D) (went : Bool) (l m n : Option (List Event)) (c : Closes f now l m) (fin : Finishes d out went m n) where
   abbrev lost : Writing
@@ -71,8 +77,15 @@ module _ {F D : Type 0} (f : feed.Ghosts F) (d : drain.Ghosts D) (now : F) (out 
       (caused_weaker _ _ _ _ _ _ _ _ ends.0 (λ x fault. fault) (λ risen. inr (inr (inl (has_failed _ _ fresh.1 risen)))) (λ risen. inr (inr (inr (inl (inl (has_failed _ _ start.2 risen)))))) (λ p c. c) ends.2))
   list_fails m old before (Ok count) k input fresh start e ends = tt
 
-  pub header_fails : {T : Type 0} (packs digests : Bool) (outcome : Result T Halted) (k : Option (List Event)) (input : List ℕ) (has : Option (List ℕ)) → l ≡ then_all k (opened input 1 has ∷ screened true ∷ []) → IfErr outcome (λ halted. EndsPacked halted.ending)
-      → IfErr outcome (λ halted. (events : List Event) × (n ≡ then_all k events) × FailsFor (manner Pbfcutz packs digests) glancing halted.ending events)
-  header_fails packs digests (Err halted) k input has e ends =
-      listing_fails (manner Pbfcutz packs digests) glancing halted.ending k input has e (stop_fails (manner Pbfcutz packs digests) glancing (has ∷ []) halted.ending (all input has) ends.0 ends.1 tt)
-  header_fails packs digests (Ok t) k input has e ends = tt
+  pub header_fails : {T : Type 0} (digests : Bool) (old : F) (before : D) (outcome : Result T Halted) (k : Option (List Event)) (input : List ℕ) → IsFresh f old → IsFreshOut d before → l ≡ then_all k (opened input 1 (f.remaining old) ∷ screened true ∷ [])
+      → IfErr outcome (λ halted. EndsFor Pbfcutz f judged_file (old ∷ []) (now ∷ []) (Added d before [] out) (WriteFailed d before out) halted.ending)
+      → IfErr outcome (λ halted. (events : List Event) × (n ≡ then_all k events) × FailsFor (manner Pbfcutz false digests) (judging judged_file) halted.ending events)
+  header_fails digests old before (Err halted) k input fresh start e ends =
+      let took = d.has_taken out 0 in
+      let failed = WriteFailed d before out in
+      let first : List Event = opened input 1 (f.remaining old) ∷ screened true ∷ [] in
+      let works = ends_weaker f (Added d before [] out) (took []) (λ none. none.logged 0 [] start.0) Pbfcutz judged_file failed failed halted.ending (old ∷ []) (now ∷ []) (λ w. w) ends in
+      let tail = ends_with_out d out went took failed m n (λ w t. t) (λ risen. has_failed _ _ start.2 risen) fin in
+      let why = work_fails Pbfcutz false digests f checking took failed (TakenFront (d.taken out)) l m n (old ∷ []) (now ∷ []) halted tail (fresh, tt) (m, c, refl) works in
+      (_, and_then k l n first why.0 e why.1, opened_fails (manner Pbfcutz false digests) (judging judged_file) (f.remaining old ∷ []) halted.ending first why.0 (tt, (tt, tt)) (inl (refl, refl), tt) why.2)
+  header_fails digests old before (Ok t) k input fresh start e ends = tt

@@ -34,7 +34,7 @@ module _ {F : Type 0} (f : feed.Ghosts F) (nothing none : Type 0) (n : nothing �
   change_weaker Pbfcut pass _ _ c = absurd c
   change_weaker Pbfcutz pass olds news c = c
 
-  ends_weaker : (program : Program) (judge : Option (List ℕ) → Option Verdict) (failed risen : Type 0) (how : Ending) (olds news : List F) → (failed → risen) → EndsFor program f judge olds news nothing failed how → EndsFor program f judge olds news none risen how
+  pub ends_weaker : (program : Program) (judge : Option (List ℕ) → Option Verdict) (failed risen : Type 0) (how : Ending) (olds news : List F) → (failed → risen) → EndsFor program f judge olds news nothing failed how → EndsFor program f judge olds news none risen how
   ends_weaker program judge failed risen how olds news r e = (e.0, e.1, caused_weaker _ _ _ _ _ _ _ _ e.0 (λ x c. (c.0, n c.1)) (λ a. a) r (λ p c. change_weaker program p olds news c) e.2)
 
 -- a drain below may have taken other bytes for what a drain took, which mean the same

@@ -144,15 +144,15 @@ pub data Judging : Type 0 where
   judging : (Option (List ℕ) → Option Verdict) → Judging
   -- it writes the lines of frames until one has a fault
   listing : Judging
-  -- `info`, of which no stop is said to have its cause
-  glancing : Judging
+  -- `help`: it prints a text
+  printing : Judging
 
 -- each stop has its cause
 abbrev pub Stops : Manner → Judging → (has : List (Option (List ℕ))) → List Event → Stop → Type 0
 Stops m (judging judge) has events s =
     Caused (λ fault. IsRefusedBy m.program judge has fault events) (Has FailsToRead events) (UnlessPacked (output_form m.packs m.program) (Has FailsToWrite events)) (λ pass. IsChangedBy m.program has pass events) s
 Stops m listing has events s = Caused (λ fault. FirstFault (input_form m.program) (judged_known false 0) fault has) (Has FailsToRead events) (Has FailsToWrite events) unchanged s
-Stops m glancing has events s = Unit {0}
+Stops m printing has events s = Caused (λ fault. ⊥) ⊥ (Has FailsToWrite events) unchanged s
 
 -- an ending is that of a stop: the stop, or the refusal of a published file for the reason of its fault
 abbrev pub EndsAsStop : Program → Stop → Ending → Type 0

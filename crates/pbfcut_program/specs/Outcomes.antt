@@ -26,10 +26,6 @@ ReportsRaw (Ok receipt) (Ok report) = (report.counts ≡ receipt.counts) × (rep
 ReportsRaw (Err halt) (Err halted) = halted.ending ≡ ending.Stopped (stop_of halt)
 ReportsRaw _ _ = ⊥
 
--- pbfcutz ends as a stop
-abbrev pub EndsPacked : Ending → Type 0
-EndsPacked how = (s : Stop) × EndsAsStop Pbfcutz s how
-
 abbrev pub ReportsPublished : Result PublishedInput PublishedHalt → Result Report Halted → Type 0
 ReportsPublished (Ok receipt) (Ok report) = (report.counts ≡ receipt.counts) × (report.input ≡ receipt.input) × (report.raw ≡ Some receipt.raw)
 ReportsPublished (Err halt) (Err halted) = EndsAsStop Pbfcutz halt.stop halted.ending

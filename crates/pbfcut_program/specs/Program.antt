@@ -35,7 +35,7 @@ use Rattle.pbfcut_cli.specs.declared.words.Region.TheVariants as region
 use Rattle.pbfcut_program.specs.declared.host.Screen.{Screen}
 use Rattle.pbfcut_program.specs.declared.host.Screen.TheVariants.{Output, Error}
 use Rattle.pbfcut_program.specs.Events.{Event, text_read, looked, opened, seeded, created, screened, read, wrote, printed, told, advised, Reading, Writing}
-use Rattle.pbfcut_program.specs.Fails.{Each, FailsFor, Judging, Quiet, glancing, judging, listing}
+use Rattle.pbfcut_program.specs.Fails.{Each, FailsFor, Judging, Quiet, judging, listing, printing}
 use Rattle.pbfcut_program.specs.Leaving.{LeavesFor}
 use Rattle.pbfcut_program.specs.Manner.{Manner, hashes_meaning, input_form, manner, meant_known, of_output, output_form, packed_file, to_raw}
 use Rattle.pbfcut_program.specs.Readings.{IsWork}
@@ -222,9 +222,9 @@ Does m (Extract region parents files) events = Extracts m region parents files e
 -- ---- why a command fails
 
 abbrev pub judging_of : Command → Judging
-judging_of (Help text) = glancing
+judging_of (Help text) = printing
 judging_of (Blobs input) = listing
-judging_of (Info input) = glancing
+judging_of (Info input) = judging judged_file
 judging_of (Show input dates progress) = judging judged_file
 judging_of (Check input progress digests) = judging judged_file
 judging_of (Convert files) = judging judged_writable
@@ -232,9 +232,9 @@ judging_of (Pack files) = judging judged_file
 judging_of (Unpack files) = judging judged_file
 judging_of (Extract region parents files) = judging judged_writable
 
--- `info` reads as pbfcutz does, and `show` writes a text
+-- `info` reads as pbfcutz does, and writes a text, as `show` does
 abbrev pub reading_of : Manner → Command → Manner
-reading_of m (Info input) = manner Pbfcutz m.packs m.digests
+reading_of m (Info input) = manner Pbfcutz false m.digests
 reading_of m (Show input dates progress) = to_raw m
 reading_of m _ = m
 

@@ -1,14 +1,17 @@
 //! The calls of both programs: those of pbfcut over raw files, and those of pbfcutz over published ones.
 
 ghost use Rattle.std.specs.Prelude.{◌≡◌, [], ◌∷◌, IfSome, IfErr, OnOk, false, true};
+ghost use Rattle.pbf_frame.specs.Transfers.{Added};
 ghost use Rattle.pbf_frame.specs.Verdict.{judged_known};
+ghost use Rattle.pbf_pass.specs.Judged.{judged_file};
+ghost use Rattle.pbf_pass.specs.Stops.{WriteFailed};
 ghost use Rattle.pbf_published.specs.Showing.{ShowsHeader};
 ghost use Rattle.pbfcut_cli.specs.declared.endings.Ending.TheVariants as ending;
 ghost use Rattle.pbfcut_cli.specs.declared.programs.Program.TheVariants.{Pbfcutz};
-ghost use Rattle.pbfcut_program.specs.Devices.{AreFresh, Fronts, Works, WorksOn};
+ghost use Rattle.pbfcut_program.specs.Devices.{AreFresh, EndsFor, Fronts, Works, WorksOn};
 ghost use Rattle.pbfcut_program.specs.Fails.{EndsAsStop};
 ghost use Rattle.pbfcut_program.specs.Manner.{input_form, manner_of, meant_known, output_form, packed_file, raw_file, to_raw};
-ghost use Rattle.pbfcut_program.specs.Outcomes.{EndsPacked, ListsBy, ReportsPublished, ReportsRaw};
+ghost use Rattle.pbfcut_program.specs.Outcomes.{ListsBy, ReportsPublished, ReportsRaw};
 ghost use Rattle.pbfcut_program.specs.Tasks.{checking, showing, converting, copying, extracting, extracting_parents};
 
 use crate::opening::{FourPasses, ThreePasses, TwoPasses};
@@ -370,7 +373,9 @@ pub(crate) fn show_header<F: Feed, D: Drain>(
 ) -> Result<(), Halted>
     ensures shown { OnOk result (ShowsHeader D.Drain drain.old drain.new
         (judged_known false 0 (meant_known packed_file (F.remaining pass.old)))) }
-    ensures ends { IfErr result (λ halted. EndsPacked halted.ending) }
+    ensures ends { IfErr result (λ halted. EndsFor Pbfcutz F.Feed judged_file
+        (pass.old ∷ []) (pass.new ∷ []) (Added D.Drain drain.old [] drain.new)
+        (WriteFailed D.Drain drain.old drain.new) halted.ending) }
 {
     match pbf_published::show_header(engine.alloc, pass, drain) {
         Ok(()) => Ok(()),

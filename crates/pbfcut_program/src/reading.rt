@@ -1,11 +1,11 @@
 //! The commands that write no file: `blobs`, `info`, `show` and `check`.
 
-ghost use Rattle.std.specs.Prelude.{◌≡◌, ◌∷◌, [], ℕ, Bool, List, Option, IfErr, IfOk, OnOk};
+ghost use Rattle.std.specs.Prelude.{◌≡◌, ◌∷◌, [], ℕ, Bool, false, List, Option, IfErr, IfOk, OnOk};
 ghost use Rattle.pbf_pass.specs.Judged.{judged_file};
 ghost use Rattle.pbfcut_cli.specs.declared.programs.Program.TheVariants as program;
 ghost use Rattle.pbfcut_program.specs.Devices.{Finishes};
 ghost use Rattle.pbfcut_program.specs.Events.{Event, Reading, opened, read, then_all};
-ghost use Rattle.pbfcut_program.specs.Fails.{FailsFor, glancing, judging, listing};
+ghost use Rattle.pbfcut_program.specs.Fails.{FailsFor, judging, listing};
 ghost use Rattle.pbfcut_program.specs.Leaving.{LeavesFor};
 ghost use Rattle.pbfcut_program.specs.Manner.{manner, manner_of, to_raw};
 ghost use Rattle.pbfcut_program.specs.Outcomes.{EndsAs};
@@ -130,7 +130,7 @@ pub(crate) fn run_blobs<H: Host>(
     ended(host, out, outcome)
 }
 
-/// `info IN`: the lines of the header go to standard output.
+/// `info IN`: the lines of the header go to standard output. Nothing is written of a file that is refused.
 pub(crate) fn run_info<H: Host>(
     engine: Engine,
     host: &mut H,
@@ -141,7 +141,8 @@ pub(crate) fn run_info<H: Host>(
         × Lists IsHeaderText input.now.path.now events) }
     ensures err { IfErr result (λ how. (events : List Event)
         × (H.log host.new ≡ then_all (H.log host.old) events)
-        × FailsFor (manner program.Pbfcutz engine.packs engine.digests) glancing how events) }
+        × FailsFor (manner program.Pbfcutz false engine.digests)
+        (judging judged_file) how events) }
 {
     let mut pass = open_pass(host, input, 1)?;
     let mut out = open_screen(host)?;

@@ -2,7 +2,7 @@ use Rattle.std.proofs.Common.{◌≡◌, [], ◌∷◌, ap, rules, string_bytes,
 use Rattle.std.proofs.lemmas.Result.{IfErr-weaker, on_ok_weaker}
 use Rattle.pbfcut_program.specs.declared.host.Screen.TheVariants.{Output}
 use Rattle.pbfcut_program.specs.Events.{printed}
-use Rattle.pbfcut_program.specs.Fails.{glancing}
+use Rattle.pbfcut_program.specs.Fails.{printing}
 use Rattle.pbfcut_program.specs.Manner.{manner_of}
 use Rattle.pbfcut_program.proofs.FailLemmas.{print_fails, tells_err, tells_ok}
 use Rattle.pbfcut_program.proofs.Logging.{then_none}
@@ -15,7 +15,7 @@ returns-in-Help-clause-ok g c =
 
 pub returns-in-Help-clause-err : goal.returns-in-Help-clause-err
 returns-in-Help-clause-err g c =
-    rw c.in-Help.is (IfErr-weaker c.print_text.result _ _ (λ how f. let p = print_fails (manner_of c.args.engine) glancing how _ _ _ [] (then_none _) f in (p.0, p.1, (p.2, tt))) (tells_err _ _ _ c.print_text.result c.print_text.ensures))
+    rw c.in-Help.is (IfErr-weaker c.print_text.result _ _ (λ how f. let p = print_fails (manner_of c.args.engine) printing how _ _ _ [] (then_none _) f in (p.0, p.1, (p.2, tt))) (tells_err _ _ _ c.print_text.result c.print_text.ensures))
 
 pub returns-in-Blobs-clause-ok : goal.returns-in-Blobs-clause-ok
 returns-in-Blobs-clause-ok g c = rw c.in-Blobs.is c.run_blobs.ensures.ok
