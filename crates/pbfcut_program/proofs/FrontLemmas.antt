@@ -1,7 +1,7 @@
 -- What went out when a call of the engine stopped, if its feeds had the same bytes.
 use Rattle.std.proofs.Common.{◌≡◌, ◌⊎◌, inl, inr, ℕ, ◌+◌, List, [], ◌∷◌, Option, Some, Result, Ok, Err, IfErr, OnErr, Bool, false, refl, ap, sym, ◌∙◌}
 use Rattle.pbf_frame.specs.Devices.{IsFront}
-use Rattle.pbf_frame.specs.Verdict.{judged}
+use Rattle.pbf_frame.specs.Verdict.{Verdict, judged, judged_known}
 use Rattle.pbf_frame.specs.declared.stop.Stop.{Stop}
 use Rattle.pbf_frame.specs.declared.stop.Stop.TheVariants as stop
 use Rattle.pbf_pass.specs.declared.receipt.Halt.{Halt}
@@ -14,14 +14,15 @@ use Rattle.pbf_published.specs.declared.input.PublishedHalt.{PublishedHalt}
 use Rattle.pbf_published.specs.declared.input.PublishedInput.{PublishedInput}
 use Rattle.pbf_published.specs.Published.{ChangedFrom, ChangedOf, UnlessChanged, raw_of}
 use Rattle.pbfcut.specs.Calls.{AllSupply, BothSupply, FourSupply}
+use Rattle.pbfcut.specs.Blobs.{lines}
 use Rattle.pbfcut.specs.Showing.{ShowsFront}
 use Rattle.pbfcut_program.specs.declared.engine.Report.{Report}
 use Rattle.pbfcut_program.specs.declared.engine.Halted.{Halted}
 use Rattle.pbfcut_program.specs.Devices.{Fronts}
-use Rattle.pbfcut_program.specs.Manner.{packed_file, raw_file}
+use Rattle.pbfcut_program.specs.Manner.{Form, meant, meant_known, packed_file, raw_file}
 use Rattle.pbfcut_program.specs.Outcomes.{ReportsPublished, ReportsRaw}
 use Rattle.pbfcut_program.specs.Readings.{AllHave}
-use Rattle.pbfcut_program.specs.Tasks.{Task, answer_of, showing}
+use Rattle.pbfcut_program.specs.Tasks.{Task, answer_of, listing_frames, showing}
 
 -- what is known of a stopped call over raw files holds of what is reported of it
 raw_stopped : {X Y : Type 0} (outcome : Result InputReceipt Halt) (result : Result Report Halted) → (X → Y) → OnErr outcome X → ReportsRaw outcome result → OnErr result Y
@@ -60,6 +61,10 @@ module _ (refused : Fault → Type 0) (read wrote : Type 0) (has : List (Option 
 text_front : (dates : Bool) (has before after : Option (List ℕ)) (file : List ℕ) → has ≡ Some file → ShowsFront dates (judged_file has) before after → IsFront before after (answer_of (showing dates) file)
 text_front dates has before after file is shows = shows (fully (judged false 0 file)) (ap judged_file is)
 
+pub meant_is : (form : Form) (known : Option (List ℕ)) (bytes : List ℕ) → known ≡ Some bytes → meant_known form known ≡ Some (meant form bytes)
+meant_is raw_file known bytes e = e
+meant_is packed_file known bytes e = ap raw_of e
+
 raw_is : (known : Option (List ℕ)) (bytes : List ℕ) → known ≡ Some bytes → raw_of known ≡ Some (unpacked bytes)
 raw_is known bytes e = ap raw_of e
 
@@ -92,6 +97,12 @@ module _ (task : Task) (one two three four before after : Option (List ℕ)) (re
         → IfErr outcome (λ h. Caused refused read wrote (ChangedOf (one ∷ two ∷ three ∷ four ∷ [])) h.stop) → Fronts packed_file task (one ∷ two ∷ three ∷ four ∷ []) before after result
     four_published begins stops =
         published_stopped refused read wrote (one ∷ two ∷ three ∷ four ∷ []) _ _ outcome result (λ bytes all front. front (unpacked bytes) (raw_is one bytes all.0, raw_is two bytes all.1.0, raw_is three bytes all.1.1.0, raw_is four bytes all.1.1.1.0)) begins stops r
+
+-- ---- lines of frames
+
+-- a prefix went out of the lines of what a feed has
+pub lines_front : (form : Form) (has before after : Option (List ℕ)) (file : List ℕ) → has ≡ Some file → ((all : Verdict) → judged_known false 0 (meant_known form has) ≡ Some all → IsFront before after (lines all.0)) → IsFront before after (answer_of listing_frames (meant form file))
+lines_front form has before after file is lists = lists (judged false 0 (meant form file)) (ap (judged_known false 0) (meant_is form has file is))
 
 -- ---- texts
 

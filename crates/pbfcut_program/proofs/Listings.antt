@@ -1,29 +1,33 @@
 -- What a listing did, as events.
-use Rattle.std.proofs.Common.{◌≡◌, inl, inr, ℕ, List, [], ◌∷◌, Bool, true, false, Option, Result, Ok, Err, IfErr, OnOk, refl}
+use Rattle.std.proofs.Common.{◌≡◌, inl, inr, ℕ, List, [], ◌∷◌, Bool, true, false, Option, Result, Ok, Err, IfErr, OnOk, refl, subst, sym, None, Some}
 use Rattle.std.specs.Option.{is_some}
 use Rattle.pbf_frame.specs.declared.device.Feed as feed
 use Rattle.pbf_frame.specs.declared.device.Drain as drain
 use Rattle.pbf_frame.specs.declared.stop.Stop.TheVariants as stop
 use Rattle.pbf_frame.specs.Transfers.{Added}
-use Rattle.pbf_frame.specs.Verdict.{judged_known}
+use Rattle.pbf_frame.specs.Verdict.{Says, Verdict, judged_known}
+use Rattle.pbf_frame.proofs.Beginnings.{front_whole}
 use Rattle.pbf_pass.specs.Judged.{judged_file}
 use Rattle.pbf_pass.specs.Stops.{WriteFailed}
 use Rattle.pbf_published.specs.Showing.{ShowsHeader}
+use Rattle.pbfcut.specs.Blobs.{lines}
 use Rattle.pbfcut_cli.specs.declared.endings.Ending.{Ending}
 use Rattle.pbfcut_cli.specs.declared.endings.Ending.TheVariants as ending
 use Rattle.pbfcut_cli.specs.declared.programs.Program.{Program}
 use Rattle.pbfcut_cli.specs.declared.programs.Program.TheVariants.{Pbfcutz}
 use Rattle.pbfcut_program.specs.declared.engine.Halted.{Halted}
-use Rattle.pbfcut_program.specs.Devices.{Closes, EndsFor, Finishes, IsFresh, IsFreshOut}
+use Rattle.pbfcut_program.specs.Devices.{Closes, EndsFor, Finishes, Fronts, IsFresh, IsFreshOut}
 use Rattle.pbfcut_program.specs.Events.{Event, Reading, Writing, opened, screened, read, wrote, then_all}
 use Rattle.pbfcut_program.specs.Fails.{Fails, FailsFor, Judging, judging, listing}
 use Rattle.pbfcut_program.specs.Outcomes.{ListsBy}
-use Rattle.pbfcut_program.specs.Manner.{Manner, manner, meant_known, packed_file}
+use Rattle.pbfcut_program.specs.Manner.{Manner, input_form, manner, meant, meant_known, of_input, packed_file, to_raw}
 use Rattle.pbfcut_program.specs.Program.{IsHeaderText, IsListing}
-use Rattle.pbfcut_program.specs.Tasks.{checking}
+use Rattle.pbfcut_program.specs.Leaving.{LeavesFor}
+use Rattle.pbfcut_program.specs.Tasks.{answer_of, checking, listing_frames}
 use Rattle.pbfcut_program.proofs.Closing.{ends_with_out, has_failed, reading, work_fails}
 use Rattle.pbfcut_program.proofs.FailLemmas.{caused_weaker, opened_fails, stop_fails, write_stops}
-use Rattle.pbfcut_program.proofs.LeavingLemmas.{TakenFront}
+use Rattle.pbfcut_program.proofs.FrontLemmas.{meant_is}
+use Rattle.pbfcut_program.proofs.LeavingLemmas.{TakenFront, front_taken, taken_front}
 use Rattle.pbfcut_program.proofs.Logging.{and_then}
 use Rattle.pbfcut_program.proofs.Weaker.{ends_weaker}
 
@@ -61,17 +65,31 @@ module _ {F D : Type 0} (f : feed.Ghosts F) (d : drain.Ghosts D) (now : F) (out 
   pub all_listing : (k : Option (List Event)) (input : List ℕ) (has : Option (List ℕ)) → l ≡ then_all k (opened input 1 has ∷ screened true ∷ []) → n ≡ then_all k (all input has)
   all_listing k input has e = and_then k l n (opened input 1 has ∷ screened true ∷ []) (read (reading f now c.0.0) ∷ wrote lost ∷ []) e some_listing
 
+  -- a prefix of the lines, if that is what the drain took
+  abbrev LeavesLines : Manner → Option (List ℕ) → List Event → Type 0
+  LeavesLines m has events = ((bytes : List ℕ) → has ≡ Some bytes → TakenFront (d.taken out) (answer_of listing_frames (of_input m bytes))) → LeavesFor (to_raw m) listing_frames events
+
+  lines_left : (m : Manner) (input : List ℕ) (has : Option (List ℕ)) → LeavesLines m has (all input has)
+  lines_left m input has front = record { has = has ∷ []; opens = (inl (refl, refl), tt); leaves = inl (λ bytes same. (tt, (tt, (tt, (front_taken _ fin.0.0 (d.taken out) fin.0.1 (front bytes same.0), tt))))) }
+
+  pub list_front : (program : Program) (old : F) (before : D) (outcome : Result ℕ Halted) → IsFreshOut d before → ListsBy program f d old now before out outcome → Fronts (input_form program) listing_frames (f.remaining old ∷ []) (d.taken before) (d.taken out) outcome
+      → (bytes : List ℕ) → f.remaining old ≡ Some bytes → TakenFront (d.taken out) (answer_of listing_frames (meant (input_form program) bytes))
+  list_front program old before (Err halted) fresh lists front bytes is = taken_front (d.taken before) (d.taken out) _ fresh.1 (front bytes (is, tt))
+  list_front program old before (Ok count) fresh listed front bytes is =
+      let same = subst (λ (k : Option (List ℕ)). Says (judged_known false 0 k) (listed.frames, None)) (meant_is (input_form program) (f.remaining old) bytes is) listed.says in
+      subst (λ (v : Verdict). TakenFront (d.taken out) (lines v.0)) (sym same) (taken_front (d.taken before) (d.taken out) (lines listed.frames) fresh.1 (front_whole _ _ (lines listed.frames) listed.added.told))
+
   -- by what it has
   pub listing_fails : (m : Manner) (j : Judging) (how : Ending) (k : Option (List Event)) (input : List ℕ) (has : Option (List ℕ)) → l ≡ then_all k (opened input 1 has ∷ screened true ∷ []) → Fails m j (has ∷ []) how (all input has)
-      → (events : List Event) × (n ≡ then_all k events) × FailsFor m j how events
-  listing_fails m j how k input has e why = (all input has, all_listing k input has e, record { has = has ∷ []; opens = (inl (refl, refl), tt); why = why })
+      → (events : List Event) × (n ≡ then_all k events) × FailsFor m j how events × LeavesLines m has events
+  listing_fails m j how k input has e why = (all input has, all_listing k input has e, record { has = has ∷ []; opens = (inl (refl, refl), tt); why = why }, lines_left m input has)
 
   pub listing_lost : (m : Manner) (j : Judging) (k : Option (List Event)) (input : List ℕ) (has : Option (List ℕ)) → l ≡ then_all k (opened input 1 has ∷ screened true ∷ []) → went ≡ false
-      → (events : List Event) × (n ≡ then_all k events) × FailsFor m j (ending.Stopped stop.Write) events
+      → (events : List Event) × (n ≡ then_all k events) × FailsFor m j (ending.Stopped stop.Write) events × LeavesLines m has events
   listing_lost m j k input has e gone = listing_fails m j (ending.Stopped stop.Write) k input has e (write_stops m j (has ∷ []) (all input has) (inr (inr (inr (inl (inr gone))))))
 
   pub list_fails : (m : Manner) (old : F) (before : D) (outcome : Result ℕ Halted) (k : Option (List Event)) (input : List ℕ) → IsFresh f old → IsFreshOut d before → l ≡ then_all k (opened input 1 (f.remaining old) ∷ screened true ∷ []) → ListsBy m.program f d old now before out outcome
-      → IfErr outcome (λ halted. (events : List Event) × (n ≡ then_all k events) × FailsFor m listing halted.ending events)
+      → IfErr outcome (λ halted. (events : List Event) × (n ≡ then_all k events) × FailsFor m listing halted.ending events × LeavesLines m (f.remaining old) events)
   list_fails m old before (Err halted) k input fresh start e ends =
       listing_fails m listing halted.ending k input (f.remaining old) e (stop_fails m listing (f.remaining old ∷ []) halted.ending (all input (f.remaining old)) ends.0 ends.1
       (caused_weaker _ _ _ _ _ _ _ _ ends.0 (λ x fault. fault) (λ risen. inr (inr (inl (has_failed _ _ fresh.1 risen)))) (λ risen. inr (inr (inr (inl (inl (has_failed _ _ start.2 risen)))))) (λ p c. c) ends.2))

@@ -153,7 +153,7 @@ abbrev pub WorksOn : {F D : Type 0} → Manner → feed.Ghosts F → drain.Ghost
 WorksOn m f d task olds news old new result = AreFresh f olds → (log : ℕ) → d.has_taken old log [] → Works m f task olds news (d.has_taken new log) (WriteFailed d old new) result
 
 -- a call stopped: if its feeds had the same bytes, a prefix of what the task makes of the raw file that they mean went out
-abbrev pub Fronts : Form → Task → (has : List (Option (List ℕ))) → (before after : Option (List ℕ)) → Result Report Halted → Type 0
+abbrev pub Fronts : {A : Type 0} → Form → Task → (has : List (Option (List ℕ))) → (before after : Option (List ℕ)) → Result A Halted → Type 0
 Fronts form task has before after result = OnErr result ((bytes : List ℕ) → AllHave bytes has → IsFront before after (answer_of task (meant form bytes)))
 
 -- ---- drains between a call and OUT

@@ -39,7 +39,7 @@ use Rattle.pbfcut_program.specs.Fails.{Each, FailsFor, Judging, Quiet, judging, 
 use Rattle.pbfcut_program.specs.Leaving.{LeavesFor}
 use Rattle.pbfcut_program.specs.Manner.{Manner, hashes_meaning, input_form, manner, meant_known, of_output, output_form, packed_file, to_raw}
 use Rattle.pbfcut_program.specs.Readings.{IsWork}
-use Rattle.pbfcut_program.specs.Tasks.{Task, checking, showing, converting, copying, extracting, extracting_parents, passes_of}
+use Rattle.pbfcut_program.specs.Tasks.{Task, checking, listing_frames, showing, converting, copying, extracting, extracting_parents, passes_of}
 
 -- ---- lines
 
@@ -248,6 +248,7 @@ pub record LeavesCut (m : Manner) (cut : Region) (parents : Bool) (events : List
   pub leaves : LeavesFor m (extract_task parents area) after
 
 abbrev pub LeavesIn : Manner → Command → List Event → Type 0
+LeavesIn m (Blobs input) events = LeavesFor (to_raw m) listing_frames events
 LeavesIn m (Show input dates progress) events = LeavesFor (to_raw m) (showing dates) events
 LeavesIn m (Convert files) events = LeavesFor m converting events
 LeavesIn m (Pack files) events = LeavesFor m copying events

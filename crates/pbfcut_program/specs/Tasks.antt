@@ -5,10 +5,11 @@ use Rattle.osm_ways.specs.Parents.{extract_with_parents}
 use Rattle.osm_ways.specs.Seen.{seen_decoded}
 use Rattle.osm_ways.specs.Selection as select
 use Rattle.pbf_block.specs.declared.counts.Counts.{Counts}
-use Rattle.pbf_frame.specs.Verdict.{Verdict, judged}
+use Rattle.pbf_frame.specs.Verdict.{Verdict, judged, judged_known}
 use Rattle.pbf_pass.specs.HeaderLimit.{judged_writable}
 use Rattle.pbf_pass.specs.Judged.{fully, judged_file}
 use Rattle.pbf_pass.specs.Pass.{CountsFile}
+use Rattle.pbfcut.specs.Blobs.{lines}
 use Rattle.pbfcut.specs.Extracting.{all_parents, complete_ways}
 use Rattle.pbfcut.specs.Kept.{IsWritable, conversion_of, extract_of}
 use Rattle.pbfcut.specs.Showing.{Shown, answer_text}
@@ -16,6 +17,8 @@ use Rattle.pbfcut.specs.Theorem.{IsConverted, IsExtraction}
 
 pub data Task : Type 0 where
   checking : Task
+  -- the lines of all frames before the first fault of one, which go out as they are read
+  listing_frames : Task
   showing : (dates : Bool) → Task
   converting : Task
   -- the same bytes in other blobs
@@ -26,6 +29,7 @@ pub data Task : Type 0 where
 -- how often IN is read
 abbrev pub passes_of : Task → ℕ
 passes_of checking = 1
+passes_of listing_frames = 1
 passes_of (showing dates) = 2
 passes_of converting = 2
 passes_of copying = 2
@@ -46,6 +50,7 @@ hashes_in _ digests = true
 -- the verdict by which the first file is refused
 abbrev pub judge_of : Task → Option (List ℕ) → Option Verdict
 judge_of checking = judged_file
+judge_of listing_frames = judged_known false 0
 judge_of (showing dates) = judged_file
 judge_of converting = judged_writable
 judge_of copying = judged_file
@@ -65,9 +70,10 @@ Holds (extracting_parents area) (b ∷ c ∷ d ∷ e ∷ []) counts written = Is
     × (b ≡ c → b ≡ d → b ≡ e → IsExtraction (all_parents area) (extract_with_parents (seen_decoded area)) area b counts written)
 Holds _ files counts written = ⊥
 
--- what is to be written for a raw file: nothing if it has a fault
+-- what is to be written for a raw file: nothing if it has a fault, but for lines of frames
 abbrev pub answer_of : Task → List ℕ → List ℕ
 answer_of checking file = []
+answer_of listing_frames file = lines (judged false 0 file).0
 answer_of (showing dates) file = answer_text dates (fully (judged false 0 file))
 answer_of converting file = conversion_of file
 answer_of copying file = file

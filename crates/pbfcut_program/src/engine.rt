@@ -12,7 +12,7 @@ ghost use Rattle.pbfcut_program.specs.Devices.{AreFresh, EndsFor, Fronts, Works,
 ghost use Rattle.pbfcut_program.specs.Fails.{EndsAsStop};
 ghost use Rattle.pbfcut_program.specs.Manner.{input_form, manner_of, meant_known, output_form, packed_file, raw_file, to_raw};
 ghost use Rattle.pbfcut_program.specs.Outcomes.{ListsBy, ReportsPublished, ReportsRaw};
-ghost use Rattle.pbfcut_program.specs.Tasks.{checking, showing, converting, copying, extracting, extracting_parents};
+ghost use Rattle.pbfcut_program.specs.Tasks.{checking, listing_frames, showing, converting, copying, extracting, extracting_parents};
 
 use crate::opening::{FourPasses, ThreePasses, TwoPasses};
 use osm_area::Area;
@@ -350,7 +350,10 @@ pub(crate) fn list_blobs<F: Feed, D: Drain>(
     pass: &mut F,
     drain: &mut D,
 ) -> Result<u64, Halted>
-    ensures { ListsBy engine.program F.Feed D.Drain pass.old pass.new drain.old drain.new result }
+    ensures lists { ListsBy engine.program F.Feed D.Drain pass.old pass.new
+        drain.old drain.new result }
+    ensures front { Fronts (input_form engine.program) listing_frames (F.remaining pass.old ∷ [])
+        (D.taken drain.old) (D.taken drain.new) result }
 {
     let alloc = engine.alloc;
     match engine.program {

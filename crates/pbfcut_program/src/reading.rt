@@ -11,7 +11,7 @@ ghost use Rattle.pbfcut_program.specs.Manner.{manner, manner_of, to_raw};
 ghost use Rattle.pbfcut_program.specs.Outcomes.{EndsAs};
 ghost use Rattle.pbfcut_program.specs.Program.{Checks, IsHeaderText, IsListing, Lists, Shows};
 ghost use Rattle.pbfcut_program.specs.Readings.{IsWork};
-ghost use Rattle.pbfcut_program.specs.Tasks.{checking, showing};
+ghost use Rattle.pbfcut_program.specs.Tasks.{checking, listing_frames, showing};
 
 use crate::engine::{Engine, Halted, Report, check, list_blobs, show, show_header};
 use crate::host::Host;
@@ -121,7 +121,8 @@ pub(crate) fn run_blobs<H: Host>(
         × Lists (IsListing engine.program) input.now.path.now events) }
     ensures err { IfErr result (λ how. (events : List Event)
         × (H.log host.new ≡ then_all (H.log host.old) events)
-        × FailsFor (manner_of engine) listing how events) }
+        × FailsFor (manner_of engine) listing how events
+        × LeavesFor (to_raw (manner_of engine)) listing_frames events) }
 {
     let mut pass = open_pass(host, input, 1)?;
     let mut out = open_screen(host)?;

@@ -21,7 +21,7 @@ pub returns-in-Blobs-clause-ok : goal.returns-in-Blobs-clause-ok
 returns-in-Blobs-clause-ok g c = rw c.in-Blobs.is c.run_blobs.ensures.ok
 
 pub returns-in-Blobs-clause-err : goal.returns-in-Blobs-clause-err
-returns-in-Blobs-clause-err g c = rw c.in-Blobs.is (IfErr-weaker c.run_blobs.result _ _ (λ how f. (f.0, f.1, (f.2, tt))) c.run_blobs.ensures.err)
+returns-in-Blobs-clause-err g c = rw c.in-Blobs.is (IfErr-weaker c.run_blobs.result _ _ (λ how f. (f.0, f.1, (f.2, f.3))) c.run_blobs.ensures.err)
 
 pub returns-in-Info-clause-ok : goal.returns-in-Info-clause-ok
 returns-in-Info-clause-ok g c = rw c.in-Info.is c.run_info.ensures.ok

@@ -45,5 +45,5 @@ returns-clause-err g c =
     let begun = and_then (log c.args.host.now) _ _ (opened input 1 has ∷ []) (screened true ∷ []) c.in_ok-pass.ensures.opened c.in_ok-out.ensures.opened.0 in
     let e = c.ended.ensures in
     text_err e.0 c.show_header-outcome.result c.ended.result (λ how. (events : List Event) × (log c.ended.new.host ≡ then_all (log c.args.host.now) events) × FailsFor (manner Pbfcutz false c.args.engine.digests) (judging judged_file) how events) e.2
-    (λ gone. listing_lost g.H.In.Feed g.H.Out.Drain c.show_header-outcome.new.pass c.show_header-outcome.new.drain e.0 (log c.open_screen.new.host) (log c.close.new.self) (log c.ended.new.host) (c.close.ensures.some, c.close.ensures.logged) e.1 (manner Pbfcutz false c.args.engine.digests) (judging judged_file) (log c.args.host.now) input has begun gone)
+    (λ gone. let f = listing_lost g.H.In.Feed g.H.Out.Drain c.show_header-outcome.new.pass c.show_header-outcome.new.drain e.0 (log c.open_screen.new.host) (log c.close.new.self) (log c.ended.new.host) (c.close.ensures.some, c.close.ensures.logged) e.1 (manner Pbfcutz false c.args.engine.digests) (judging judged_file) (log c.args.host.now) input has begun gone in (f.0, f.1, f.2))
     (header_fails g.H.In.Feed g.H.Out.Drain c.show_header-outcome.new.pass c.show_header-outcome.new.drain e.0 (log c.open_screen.new.host) (log c.close.new.self) (log c.ended.new.host) (c.close.ensures.some, c.close.ensures.logged) e.1 c.args.engine.digests c.in_ok-pass.pass c.in_ok-out.out c.show_header-outcome.result (log c.args.host.now) input c.in_ok-pass.ensures.fresh c.in_ok-out.ensures.opened.1 begun c.show_header-outcome.ensures.ends)
