@@ -53,7 +53,6 @@ pub(crate) enum EntityView<'a, 'b> {
 
 impl<'a, 'b> EntityView<'a, 'b> {
     /// The same entity.
-    #[inline(always)]
     pub(crate) fn of(entity: &'a EntityRef<'b>) -> EntityView<'a, 'b>
         ensures { entity_shown result ≡ entity_of entity.now }
     {

@@ -104,7 +104,6 @@ pub(crate) struct Likeness {
 
 impl Likeness {
     /// That of an entity.
-    #[inline(always)]
     pub(crate) fn of(entity: EntityView<'_, '_>) -> Likeness
         ensures { result ≡ likeness_of (entity_shown entity.entry) }
     {

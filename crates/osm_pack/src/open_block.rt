@@ -117,7 +117,6 @@ impl<S: BuildHasher> OpenBlock<S> {
     }
 
     /// Whether one more entity may join the block.
-    #[inline(always)]
     pub(crate) fn takes(&self, joining: Joining) -> bool
         ensures { (es : List EntitySpec) (e : EntitySpec) → IsJoining joining e
             → Holds self.now es → result ≡ is_block (es ++ e ∷ []) }
@@ -189,7 +188,6 @@ impl<S: BuildHasher> OpenBlock<S> {
     }
 
     /// Counts an entity that was encoded. All later ones are like the first.
-    #[inline(always)]
     fn count_joined(&mut self, joining: Joining)
         requires few { self.old.count < MOST_ENTITIES }
         requires light { self.old.weight + joining.weight ≤ HIGHEST_WEIGHT }
