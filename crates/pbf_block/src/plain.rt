@@ -157,7 +157,6 @@ fn plain_info(bytes: &[u8]) -> Option<PlainInfo>
 
 impl<'a> PlainWay<'a> {
     /// Its refs.
-    #[inline(always)]
     pub(crate) fn refs(&self) -> Refs<'a>
         ensures { (at : ℕ) (m : List ℕ) → IsPlainWay self.now at m
             → refs_left result ≡ values_in streaming REFS (fields_in at m) }
@@ -166,7 +165,6 @@ impl<'a> PlainWay<'a> {
     }
 
     /// Its tags.
-    #[inline(always)]
     pub(crate) fn tags(&self, table: &'a Table<'a>) -> Tags<'a>
         ensures { (at : ℕ) (m : List ℕ) → IsPlainWay self.now at m
             → tags_left result ≡ tags_in table.now (fields_in at m) }
@@ -177,7 +175,6 @@ impl<'a> PlainWay<'a> {
     }
 
     /// Its metadata, if its Info is plain too.
-    #[inline(always)]
     pub(crate) fn meta(&self, table: &'a Table<'a>) -> Option<MetaRef<'a>>
         ensures { IfSome result (λ meta. (at : ℕ) (m : List ℕ) → IsPlainWay self.now at m
             → meta_of meta ≡ info_in table.now (embedded INFO (fields_in at m))) }
@@ -198,7 +195,6 @@ impl<'a> PlainWay<'a> {
 const MOST_BYTES: usize = 1 << 26;
 
 /// Whether the values of a plain Info are in range, and the table of `limit` texts has one for its user.
-#[inline(always)]
 fn is_info_valued(info: PlainInfo, limit: u64) -> bool
     ensures { IsTrue result → (place at : ℕ) (m : List ℕ) → IsPlainInfo info at m
         → info_values limit place at m ≡ [] }
@@ -231,7 +227,6 @@ fn named_count(packed: &[u8], limit: u64) -> Option<usize>
 }
 
 /// Whether keys and values are whole varints, there are as many of them, and a table of `limit` texts has one for each.
-#[inline(always)]
 fn are_tags(keys: &[u8], vals: &[u8], limit: u64) -> bool
     ensures { IsTrue result → AreTags limit keys.now vals.now }
 {

@@ -29,7 +29,6 @@ pub enum Run<'a> {
 }
 
 /// What a field of a group holds, if it is of these kinds.
-#[inline(always)]
 pub(crate) fn run_in<'a>(
     field: Field<'a>,
     table: &'a Table<'a>,
