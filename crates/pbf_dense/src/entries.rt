@@ -7,7 +7,6 @@ ghost use Rattle.pbf_wire.specs.Cursors.{column_left, numbers_left, sums_left};
 use pbf_wire::{Column, Sums};
 
 /// The next number of a column.
-#[inline(always)]
 pub(crate) fn next_number(numbers: &mut Column<'_>) -> Option<u64>
     ensures steps { YieldsFirst numbers_left numbers.old result numbers.new }
     ensures first { result ≡ slice_get (numbers_left numbers.old) 0 }

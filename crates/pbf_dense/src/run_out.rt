@@ -53,7 +53,6 @@ fn index_of<S: BuildHasher>(
 
 /// Takes the next run over: adds the indexes of its keys and values in turn, and then a 0. Returns whether it has a tag. That is quick if
 /// it has none, as of most nodes; otherwise a copy of the cursor is read on, so that the cursor of a loop stays in registers.
-#[inline(always)]
 pub(crate) fn take_run<S: BuildHasher>(
     runs: &mut ColumnOut,
     numbers: &mut Column<'_>,

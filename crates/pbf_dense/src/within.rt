@@ -69,7 +69,6 @@ impl<'a> IdsWithin<'a> {
     }
 
     /// Whether a node of this stored place lies in the box.
-    #[inline(always)]
     fn has_place(&self, lat: i64, lon: i64) -> bool
         ensures { result ≡ (is_in self.now.lat_span lat && is_in self.now.lon_span lon) }
     {
@@ -77,7 +76,6 @@ impl<'a> IdsWithin<'a> {
     }
 
     /// The longitude of the next node that may lie in the box, if there is one. Its id and latitude are the next ones.
-    #[inline(always)]
     #[tactic(auto, unfolding(crate::specs::Within::ids_within_left))]
     fn next_lon(&mut self) -> Option<i64>
         ensures left { MatchOption result (ids_within_left self.old ≡ [])
@@ -104,7 +102,6 @@ impl<'a> Iterator for IdsWithin<'a> {
 
     ghost remaining = { item_count ids_within_left };
 
-    #[inline(always)]
     fn next(&mut self) -> Option<i64> {
         'nodes: while let Some(lon) = self.next_lon() {
             let id = self.ids.next()?;
