@@ -23,7 +23,6 @@ const FEW_BYTES: usize = 9;
 
 /// Whether a quick test shows that the bytes are whole varints: they are few and the last one ends a varint, as in most columns, or the
 /// numbers are short throughout.
-#[inline(always)]
 #[tactic(auto, using(crate::proofs::ShortLemmas::few_bytes, crate::proofs::ShortLemmas::short_column))]
 fn are_whole(packed: &[u8]) -> bool
     ensures { IsTrue result → entry_fault (entries packed.now) ≡ None }
@@ -50,7 +49,6 @@ fn judge_packed(packed: &[u8]) -> Result<(), Reason>
 }
 
 /// The kind of a field, if it is listed; the first, if it is listed twice. Looks through the list from its start.
-#[inline(always)]
 pub fn kind_of(kinds: &[(u64, Kind)], number: u64) -> Option<Kind>
     ensures { result ≡ kind_of kinds.now number }
 {
@@ -106,7 +104,6 @@ struct NoMessages;
 impl Judge for NoMessages {
     ghost faults = { λ _ o. [] };
 
-    #[inline(always)]
     fn judge(&self, _field: Field<'_>) -> Option<Fault> {
         None
     }
