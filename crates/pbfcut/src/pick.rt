@@ -137,7 +137,6 @@ impl<'a> Picker<'a> {
     }
 
     /// Ids of which all nodes are written, as far as the last look-up showed: none if it showed nothing.
-    #[inline(always)]
     #[tactic(auto, unfolding(crate::specs::Pick::picks_id))]
     fn present(&self) -> Span
         ensures { (id : ℤ) → is_in result id ≡ true → picks_id self.now id ≡ true }
@@ -238,7 +237,6 @@ impl<'a> NodesLeft<'a> {
     }
 
     /// Puts the next node in this place, or `None`, as [`Dense::next_in`] does.
-    #[inline(always)]
     fn next_in(&mut self, place: &mut Option<NodeRef<'a>>)
         ensures next { YieldsFirstBy node_of dense_left self.old.nodes place.new self.new.nodes }
         ensures alike { self.new.alike ≡ self.old.alike - 1 }
@@ -290,7 +288,6 @@ fn picked_run(dense: &Dense<'_>, picker: &mut Picker<'_>, most: usize) -> usize
 
 /// What a node counts for in a block, if it can be written, and otherwise `None`. The columns that it was read from have no number out of
 /// its range, so that none is tested here.
-#[inline(always)]
 fn weight_if_light(view: &NodeRef<'_>) -> Option<u64>
     requires { NumbersFit (node_of view.now) }
     ensures { SomeIff result (NodeFits (node_of view.now)) (node_weight (node_of view.now)) }
@@ -357,7 +354,6 @@ impl<'a> EntityPacker<'a> {
     }
 
     /// Packs a node whose numbers are in their ranges, whether it is picked or not.
-    #[inline(always)]
     fn pack_node<D: Drain, S: BuildHasher>(
         &mut self,
         view: &NodeRef<'_>,
