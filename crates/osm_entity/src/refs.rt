@@ -1,4 +1,4 @@
-//! The refs of a way, wherever they lie.
+//! The refs of a way, wherever they lie. `next` is inlined, so that the cursor of a loop over refs stays in registers.
 
 ghost use Rattle.std.specs.Prelude.{◌≡◌, IfOk};
 ghost use Rattle.osm_entity.specs.Sources.{refs_left};
