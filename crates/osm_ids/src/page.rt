@@ -1,4 +1,4 @@
-//! The ids of one page, as numbers.
+//! The ids of one page, as numbers. A look-up is inlined; to read a page is a call, which few look-ups take.
 
 ghost use Rattle.std.specs.Prelude.{◌≡◌, ◌+◌, ◌<◌, ◌≤◌, ◌++◌, ◌<ℤ◌, ◌≤ℤ◌, int_lt, length, List, [], ◌∷◌, ℤ, IsTrue};
 ghost use Rattle.std.specs.List.{list_any};

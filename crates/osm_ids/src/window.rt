@@ -1,4 +1,4 @@
-//! Look-ups of ids that lie close together.
+//! Look-ups of ids that lie close together. One in the known span is inlined, the others are a call.
 
 ghost use Rattle.std.specs.Prelude.{◌≡◌, ◌<◌};
 ghost use Rattle.std.specs.FinSet as set;
