@@ -71,7 +71,6 @@ impl PresentFields {
 }
 
 /// Whether stored coordinates count from the same place.
-#[inline]
 fn has_same_offsets(scale: Scale, other: Scale) -> bool
     ensures { result ≡ int_eq scale.lat_offset other.lat_offset && int_eq scale.lon_offset other.lon_offset }
 {
