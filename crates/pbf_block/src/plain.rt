@@ -1,5 +1,7 @@
 //! Ways and Infos as most are: each field once, in the order of their numbers, and none that is unknown. They are read straight on,
 //! without a loop over fields. A quick test that says nothing of other messages, which are judged field by field.
+//!
+//! All parts of a way are read in one function, without a call for each.
 
 ghost use Rattle.std.specs.Prelude.{◌≡◌, ◌-◌, ◌/◌, ◌<◌, ◌≤◌, [], ℕ, List, Ok, IfSome, IsTrue, drop, length, slice_index};
 ghost use Rattle.pbf_wire.specs.Varint.{varint_at};
@@ -237,7 +239,8 @@ fn are_tags(keys: &[u8], vals: &[u8], limit: u64) -> bool
 }
 
 /// Whether a way is plain and so is its Info, its columns are whole varints, it has as many keys as values, its values are in range,
-/// and the table of `limit` texts has one for each of its numbers: then no phase before the weights finds a fault.
+/// and the table of `limit` texts has one for each of its numbers: then no phase before the weights finds a fault. It is one call
+/// for each way.
 #[inline(never)]
 pub(crate) fn is_clean(message: Message<'_>, limit: u64) -> bool
     ensures { IsTrue result → (place : ℕ)

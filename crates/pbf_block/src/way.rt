@@ -1,4 +1,6 @@
 //! A Way: its fields, its rules phase by phase, and how it is read. Its rule of wire form is [`WAY_KINDS`].
+//!
+//! To read the id and the refs is inlined into the loop over runs: nothing else is read of most ways.
 
 ghost use Rattle.std.specs.Prelude.{◌≡◌, IfSome, IsTrue};
 ghost use Rattle.pbf_wire.specs.Faults.{found_in, nested_faults};
