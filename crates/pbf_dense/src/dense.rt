@@ -215,7 +215,7 @@ impl<'a> Dense<'a> {
         }
     }
 
-    /// Like [`Dense::pass_to`], if there are some to skip.
+    /// Like [`Dense::pass_to`], if there are some to skip. It is a call, which most nodes need not take.
     #[inline(never)]
     #[tactic(auto, using(crate::proofs::InfoLemmas::still_within), unfolding(crate::specs::Cursors::AreIdsAfter))]
     fn follow(&mut self, ids: &Sums<'a>, count: usize)

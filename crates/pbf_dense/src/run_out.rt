@@ -17,7 +17,8 @@ use pbf_wire::{Column, ColumnOut, low_u32};
 use std::alloc::AllocError;
 use std::hash::BuildHasher;
 
-/// The numbers of the next key of a run and of its value. `None` at the end of the run, which is passed.
+/// The numbers of the next key of a run and of its value. `None` at the end of the run, which is passed. It is inlined, so that the
+/// cursor of a loop stays in registers.
 #[inline(always)]
 #[tactic(auto, using(crate::proofs::MovingLemmas::run_steps, crate::proofs::TextLemmas::pair_steps))]
 pub(crate) fn next_pair(numbers: &mut Column<'_>) -> Option<(u32, u32)>
@@ -38,7 +39,8 @@ pub(crate) fn next_pair(numbers: &mut Column<'_>) -> Option<(u32, u32)>
     Some((key, value))
 }
 
-/// The index in the table that is written of the text that has this number in the one that is read.
+/// The index in the table that is written of the text that has this number in the one that is read. It is inlined:
+/// most texts were used just before.
 #[inline(always)]
 fn index_of<S: BuildHasher>(
     number: u32,

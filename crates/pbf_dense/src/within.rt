@@ -53,6 +53,7 @@ impl<'a> IdsWithin<'a> {
 
     /// Skips a node whose longitude was taken, and those after it that lie outside by their longitude. Returns the longitude of the
     /// node that comes then. If there is none, the ids and latitudes are left where they are.
+    /// It is a call, which the other nodes need not take.
     #[inline(never)]
     #[tactic(auto, unfolding(crate::specs::Within::ids_within_left))]
     fn skip_outside(&mut self) -> Option<i64>
