@@ -1,4 +1,4 @@
-//! A table that is written: its texts in order of first use.
+//! A table that is written: its texts in order of first use. One that is in its slot, as most are, is found without a call.
 
 ghost use Rattle.std.specs.Prelude.{◌≡◌, ◌<◌, ◌≤◌, ◌+◌, ◌-◌, ℕ, List, ◌^◌, ◌↔◌, min, ◌++◌, [], length, map, take, true, IsTrue, IfOk, IfSome, OnOk, OnErr};
 ghost use Rattle.std.specs.List.{sum_by};
@@ -68,8 +68,7 @@ fn same_four(one: &[u8], other: &[u8]) -> bool
     u32::from_le_bytes(*one) == u32::from_le_bytes(*other)
 }
 
-/// Whether two texts of any length are the same. It is a call, which most texts need not take.
-#[inline(never)]
+/// Whether two texts of any length are the same.
 fn is_same_any(one: &[u8], other: &[u8]) -> bool
     ensures { IsTrue result ↔ (one.now ≡ other.now) }
 {
@@ -196,7 +195,6 @@ impl<S: BuildHasher> TableOut<S> {
     }
 
     /// Like [`TableOut::index_of`], of a text that isn't in its slot. A slot that no text was looked up in shows that the text is new.
-    #[inline(never)]
     fn index_elsewhere(&mut self, slot: usize, text: &[u8]) -> Result<u32, AllocError>
         requires room { length self.old < MOST_USED_TEXTS }
         requires slot { slot < SLOTS }
