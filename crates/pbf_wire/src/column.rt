@@ -1,4 +1,6 @@
 //! A column: the numbers of all occurrences of one field, packed or single, joined.
+//!
+//! `next` is inlined, so that the cursor of a loop stays in registers.
 
 ghost use Rattle.std.specs.Prelude.{◌≡◌, ◌<◌, ◌≤◌, ◌^◌, ◌∷◌, ◌++◌, [], MatchOption, ⊤, IsTrue, false, length, take};
 ghost use Rattle.pbf_wire.specs.Signed.{IsNear};

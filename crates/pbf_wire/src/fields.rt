@@ -1,4 +1,4 @@
-//! The fields of a message, one after the other.
+//! The fields of a message, one after the other. To read one is inlined into the loops over fields.
 
 ghost use Rattle.std.specs.Prelude.{◌≡◌, ◌==◌, ◌+◌, ◌≤◌, ◌<◌, Ok, IfOk, if◌then◌else◌, length};
 ghost use Rattle.pbf_wire.specs.Occurrence.{body_at, occurrence_at};

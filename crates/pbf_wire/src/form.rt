@@ -1,4 +1,6 @@
 //! The wire form of messages: the kinds of the fields that are known, and the least fault of a message and of those in it.
+//!
+//! What judges a message is inlined: so the loop over the fields of each message knows their kinds, and takes no call for a field.
 
 ghost use Rattle.std.specs.Prelude.{◌≡◌, ◌+◌, ◌≤◌, [], IsTrue, None, Ok, Err, length};
 ghost use Rattle.pbf_wire.specs.Occurrence.{items};

@@ -1,4 +1,4 @@
-//! The values of a delta column.
+//! The values of a delta column. A quick one is read without a call, so that the cursor of a loop stays in registers.
 
 ghost use Rattle.std.specs.Prelude.{◌≡◌, ◌≤ℤ◌, pos};
 ghost use Rattle.pbf_wire.specs.Signed.{IsWithin};
@@ -305,7 +305,6 @@ impl<'a> Sums<'a> {
 
     /// Skips values that a span has, at most so many, and returns how many. It stops at the first that the span lacks, or before that
     /// at one that isn't read quickly.
-    #[inline(never)]
     pub fn pass_inside(&mut self, span: Span, most: usize) -> usize
         ensures past { ArePassed span true (sums_left self.old) (sums_left self.new) result }
         ensures fewer { result ≤ most }
@@ -315,7 +314,6 @@ impl<'a> Sums<'a> {
 
     /// Skips values that a span lacks, at most so many, and returns how many. It stops at the first that the span has, or before that
     /// at one that isn't read quickly.
-    #[inline(never)]
     pub fn pass_outside(&mut self, span: Span, most: usize) -> usize
         ensures past { ArePassed span false (sums_left self.old) (sums_left self.new) result }
         ensures fewer { result ≤ most }

@@ -1,4 +1,6 @@
 //! Varints: numbers of 64 bits, seven bits a byte, the lowest first. The top bit is set on every byte but the last.
+//!
+//! Short numbers, which most are, are read and written without a call, longer ones by calls.
 
 ghost use Rattle.std.specs.Prelude.{◌≡◌, ◌≤◌, ◌<◌, ◌^◌, ℕ, IfOk, MatchOption, ⊤, Result, Ok, Err, ◌↔◌, length, take, drop, slice_range};
 ghost use Rattle.pbf_wire.specs.Signed.{IsNear};
