@@ -222,7 +222,6 @@ impl<'a> NodesLeft<'a> {
     }
 
     /// Tests whether the nodes are alike, once the next few are picked: in many messages no few are that come one after the other.
-    #[inline(always)]
     fn test_if_picked(&mut self, picker: &mut Picker<'_>)
         requires { AreEven self.old.alike (dense_left self.old.nodes) }
         ensures nodes { self.new.nodes ≡ self.old.nodes }
@@ -246,7 +245,6 @@ impl<'a> NodesLeft<'a> {
     }
 
     /// Skips as many nodes as come before these ids.
-    #[inline(always)]
     fn pass_to(&mut self, ahead: &IdsAhead<'a>)
         requires { AreIdsAfter ahead.now.count self.old.nodes ahead.now.ids }
         ensures passed { dense_left self.new.nodes
@@ -334,7 +332,7 @@ impl<'a> EntityPacker<'a> {
         }
     }
 
-    /// Packs an entity, whether it is picked or not.
+    /// Packs an entity, whether it is picked or not. It is part of its callers, which know the kind.
     #[inline(always)]
     fn pack<D: Drain, S: BuildHasher>(
         &mut self,
@@ -438,7 +436,6 @@ impl<'a> EntityPacker<'a> {
 
     /// Packs nodes that come after one that was packed: as many together as are picked and may wait with it in its block, if all that are
     /// still to come are alike. It looks up no more ids than a block has entities, since it is called again for each block.
-    #[inline(never)]
     fn pack_many<D: Drain, S: BuildHasher>(
         &mut self,
         like: &NodeRef<'_>,
