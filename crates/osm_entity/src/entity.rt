@@ -1,4 +1,4 @@
-//! Entities of any kind.
+//! Entities of any kind. Their weight is inlined, since a caller often knows the kind.
 
 ghost use Rattle.std.specs.Prelude.{◌≡◌, ◌↔◌, ◌-◌, ◌^◌, min, IsTrue, SomeIff};
 ghost use Rattle.std.specs.Option.{option_map};

@@ -1,4 +1,4 @@
-//! Nodes.
+//! Nodes. Their weight is inlined, since most entities are nodes.
 
 ghost use Rattle.std.specs.Prelude.{◌≡◌, ◌↔◌, ◌-◌, ◌^◌, min, [], IsTrue, IfOk, SomeIff};
 ghost use Rattle.std.specs.Option.{option_map};

@@ -1,4 +1,4 @@
-//! The refs of a way, wherever they lie.
+//! The refs of a way, wherever they lie. `next` is inlined, so that the cursor of a loop over refs stays in registers.
 
 ghost use Rattle.std.specs.Prelude.{◌≡◌, IfOk};
 ghost use Rattle.osm_entity.specs.Sources.{refs_left};
@@ -54,7 +54,6 @@ impl<'a> Refs<'a> {
     ghost use Rattle.osm_entity.specs.Ranges.{IsStored};
 
     /// How many refs are still to come, if a quick test shows that each is in its range; `None` says nothing.
-    #[inline(always)]
     pub(crate) fn count_stored(&self) -> Option<usize>
         ensures counted { MatchOption result ⊤ (λ count. count ≡ length (refs_left self.now)) }
         ensures stored { MatchOption result ⊤
@@ -68,7 +67,6 @@ impl<'a> Refs<'a> {
 
     /// Skips refs that a span has, and returns how many. It stops at the first that the span lacks, or before that at one that isn't
     /// read quickly.
-    #[inline(always)]
     pub fn pass_inside(&mut self, span: Span) -> usize
         ensures passed { refs_left self.new ≡ drop result (refs_left self.old) }
         ensures inside { AreAlike span true (take result (refs_left self.old)) }

@@ -140,7 +140,6 @@ impl<'a> RelationRef<'a> {
     }
 
     /// What the relation counts for in a block, if [`RelationRef::fits`] holds of it, and otherwise `None`. The members are read once.
-    #[inline(never)]
     pub fn weight_if_fits(&self) -> Option<u64>
         ensures { SomeIff result (RelationFits (relation_of self.now))
             (relation_weight (relation_of self.now)) }

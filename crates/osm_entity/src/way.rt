@@ -170,7 +170,6 @@ impl<'a> WayRef<'a> {
     }
 
     /// What the way counts for in a block, if [`WayRef::fits`] holds of it, and otherwise `None`. The refs are decoded once at most.
-    #[inline(never)]
     pub fn weight_if_fits(&self) -> Option<u64>
         ensures { SomeIff result (WayFits (way_of self.now)) (way_weight (way_of self.now)) }
     {

@@ -1,4 +1,4 @@
-//! The ids of one page, as numbers.
+//! The ids of one page, as numbers. A look-up is inlined; to read a page is a call, which few look-ups take.
 
 ghost use Rattle.std.specs.Prelude.{◌≡◌, ◌+◌, ◌<◌, ◌≤◌, ◌++◌, ◌<ℤ◌, ◌≤ℤ◌, int_lt, length, List, [], ◌∷◌, ℤ, IsTrue};
 ghost use Rattle.std.specs.List.{list_any};
@@ -51,7 +51,6 @@ impl PageIds {
     }
 
     /// Whether these are all ids of the set that are near this one.
-    #[inline(always)]
     pub(crate) fn covers(&self, id: i64) -> bool
         ensures { IsTrue result → (first_held self.now ≤ℤ id) × (id <ℤ self.now.below) }
     {
@@ -99,7 +98,6 @@ impl PageIds {
     }
 
     /// Adds ids that are so far above one another.
-    #[inline(always)]
     fn rise(&mut self, gaps: &[u8])
         requires some { 0 < self.old.count }
         requires within { self.old.count + length gaps.now ≤ 128 }

@@ -115,6 +115,7 @@ impl SealedIds {
     }
 
     /// What the index says of an id and those round it. If it says nothing, the page that the id is in is read.
+    /// It is a call, which few look-ups take.
     #[inline(never)]
     pub(crate) fn look(&self, id: i64, page: &mut PageIds) -> Option<Known>
         ensures some { IfSome result (λ known. Tells self.now id known × (page.new ≡ page.old)) }

@@ -67,7 +67,7 @@ impl IdSet {
         self.add_late(id)
     }
 
-    /// Adds an id that is no greater than all others.
+    /// Adds an id that is no greater than all others. It is a call, since few ids are.
     #[inline(never)]
     fn add_late(&mut self, id: i64) -> Result<bool, AllocError>
         requires { IsReached self.old id }
@@ -127,7 +127,8 @@ impl IdSet {
 impl IdLookup for IdSet {
     ghost ids = { λ a. a };
 
-    /// The window serves only a set of which no id came out of order since it was settled.
+    /// The window serves only a set of which no id came out of order since it was settled. It is inlined
+    /// where each node is looked up.
     #[inline(always)]
     fn has_near(&self, window: &mut Window, id: i64) -> bool {
         if self.late.is_empty() {

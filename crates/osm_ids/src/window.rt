@@ -1,4 +1,4 @@
-//! Look-ups of ids that lie close together.
+//! Look-ups of ids that lie close together. One in the known span is inlined, the others are a call.
 
 ghost use Rattle.std.specs.Prelude.{◌≡◌, ◌<◌};
 ghost use Rattle.std.specs.FinSet as set;
@@ -24,7 +24,6 @@ pub trait IdLookup {
 impl IdLookup for SealedIds {
     ghost ids = { λ a. a };
 
-    #[inline(always)]
     fn has_near(&self, window: &mut Window, id: i64) -> bool {
         window.has(self, id)
     }
@@ -73,7 +72,6 @@ impl Window {
     }
 
     /// Ids that the set lacks, as far as the last look-up showed: none if it showed nothing.
-    #[inline(always)]
     pub fn absent(&self) -> Span
         ensures { (ids : set.FinSet int_cmp) → IsOf ids self.now → Lacks ids result }
     {
@@ -82,7 +80,6 @@ impl Window {
     }
 
     /// Ids that the set has, all of them, as far as the last look-up showed: none if it showed nothing.
-    #[inline(always)]
     pub fn present(&self) -> Span
         ensures { (ids : set.FinSet int_cmp) → IsOf ids self.now → HasAll ids result }
     {

@@ -53,7 +53,6 @@ pub(crate) enum EntityView<'a, 'b> {
 
 impl<'a, 'b> EntityView<'a, 'b> {
     /// The same entity.
-    #[inline(always)]
     pub(crate) fn of(entity: &'a EntityRef<'b>) -> EntityView<'a, 'b>
         ensures { entity_shown result ≡ entity_of entity.now }
     {
@@ -72,7 +71,7 @@ pub(crate) struct Weighed<'a, 'b> {
     pub(crate) weight: u64,
 }
 
-/// Makes room for an entity: the open block is written if the entity may not join it.
+/// Makes room for an entity: the open block is written if the entity may not join it. It is part of [`push_into`].
 #[inline(always)]
 fn make_room<D: Drain, S: BuildHasher>(
     alloc: Global,

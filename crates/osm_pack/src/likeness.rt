@@ -71,7 +71,6 @@ impl PresentFields {
 }
 
 /// Whether stored coordinates count from the same place.
-#[inline]
 fn has_same_offsets(scale: Scale, other: Scale) -> bool
     ensures { result ≡ int_eq scale.lat_offset other.lat_offset && int_eq scale.lon_offset other.lon_offset }
 {
@@ -104,7 +103,6 @@ pub(crate) struct Likeness {
 
 impl Likeness {
     /// That of an entity.
-    #[inline(always)]
     pub(crate) fn of(entity: EntityView<'_, '_>) -> Likeness
         ensures { result ≡ likeness_of (entity_shown entity.entry) }
     {

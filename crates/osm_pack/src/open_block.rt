@@ -1,4 +1,4 @@
-//! The block that is open.
+//! The block that is open. An entity is added without a call, except that a way or a relation is made by one.
 
 ghost use Rattle.std.specs.Prelude.{ℕ, ◌≡◌, ◌↔◌, ◌+◌, ◌-◌, ◌≤◌, ◌<◌, ◌^◌, min, ◌&&◌, ◌++◌, ◌∷◌, [], List, true, nat_le, length, IsTrue, IfOk, OnOk, map, take, drop};
 ghost use Rattle.std.specs.List.{AllByRecursion};
@@ -117,7 +117,6 @@ impl<S: BuildHasher> OpenBlock<S> {
     }
 
     /// Whether one more entity may join the block.
-    #[inline(always)]
     pub(crate) fn takes(&self, joining: Joining) -> bool
         ensures { (es : List EntitySpec) (e : EntitySpec) → IsJoining joining e
             → Holds self.now es → result ≡ is_block (es ++ e ∷ []) }
@@ -156,7 +155,7 @@ impl<S: BuildHasher> OpenBlock<S> {
         Ok(())
     }
 
-    /// Encodes a node after the others.
+    /// Encodes a node after the others. It is part of [`OpenBlock::put`].
     #[inline(always)]
     fn put_node(&mut self, view: &NodeRef<'_>) -> Result<(), AllocError>
         requires { MayAdd self.old (node (node_of view.now)) }
@@ -167,7 +166,7 @@ impl<S: BuildHasher> OpenBlock<S> {
         Ok(())
     }
 
-    /// Encodes an entity after the others.
+    /// Encodes an entity after the others. It is part of [`OpenBlock::add`].
     #[inline(always)]
     fn put(&mut self, entity: EntityView<'_, '_>) -> Result<(), AllocError>
         requires { MayAdd self.old (entity_shown entity) }
@@ -189,7 +188,6 @@ impl<S: BuildHasher> OpenBlock<S> {
     }
 
     /// Counts an entity that was encoded. All later ones are like the first.
-    #[inline(always)]
     fn count_joined(&mut self, joining: Joining)
         requires few { self.old.count < MOST_ENTITIES }
         requires light { self.old.weight + joining.weight ≤ HIGHEST_WEIGHT }
@@ -202,7 +200,7 @@ impl<S: BuildHasher> OpenBlock<S> {
         self.weight += joining.weight;
     }
 
-    /// Adds an entity after the others. After an `Err` the block is unspecified.
+    /// Adds an entity after the others. After an `Err` the block is unspecified. It is part of its callers, which know the entity's kind.
     #[inline(always)]
     pub(crate) fn add(
         &mut self,
@@ -219,7 +217,8 @@ impl<S: BuildHasher> OpenBlock<S> {
     }
 
     /// Adds some of the next nodes of a dense message after the others: as many as may join them, but at most so many, and says how many.
-    /// All of them are like those that are there. After an `Err` the block is unspecified.
+    /// All of them are like those that are there. After an `Err` the block is unspecified. It is one call
+    /// for many nodes.
     #[inline(never)]
     pub(crate) fn add_nodes(
         &mut self,

@@ -49,7 +49,6 @@ impl<'a> Near<'a> {
     }
 
     /// Whether the set has the id.
-    #[inline(always)]
     fn has(&mut self, id: i64) -> bool
         ensures { LooksUp (set.contains self.old id) self.old self.new result }
     {
@@ -65,7 +64,6 @@ impl<'a> Near<'a> {
     }
 
     /// Ids that the set lacks, as far as the last look-up showed.
-    #[inline(always)]
     fn absent(&self) -> Span
         ensures { Lacks self.now result }
     {
@@ -73,7 +71,6 @@ impl<'a> Near<'a> {
     }
 
     /// Ids that the set has, all of them, as far as the last look-up showed.
-    #[inline(always)]
     fn present(&self) -> Span
         ensures { HasAll self.now result }
     {
@@ -122,7 +119,6 @@ fn has(ids: &mut Option<Near<'_>>, id: i64) -> bool
 
 impl<'a> Chooser<'a> {
     /// Whether nodes of this id are kept: it is that of a node in the box, or a ref of a kept way. The choice stays the same.
-    #[inline(always)]
     pub fn keeps_node(&mut self, id: i64) -> bool
         ensures { LooksUp (set.contains self.old.ways.node_ids id) self.old self.new result }
     {
@@ -130,7 +126,6 @@ impl<'a> Chooser<'a> {
     }
 
     /// Ids of which no node is kept, as far as the last look-ups showed: none if they showed nothing.
-    #[inline(always)]
     pub fn absent(&self) -> Span
         ensures { Lacks self.now.ways.node_ids result }
     {
@@ -138,7 +133,6 @@ impl<'a> Chooser<'a> {
     }
 
     /// Ids of which all nodes are kept, as far as the last look-up of the ids in the box showed: none if it showed nothing.
-    #[inline(always)]
     pub fn present(&self) -> Span
         ensures { HasAll self.now.ways.node_ids result }
     {
@@ -163,7 +157,6 @@ impl<'a> Chooser<'a> {
 
     /// Whether the way is kept, in the file that the choice was made from: by its id first, so that of a way whose id was not chosen
     /// no ref is looked up. Of two ways of one id each is judged by itself.
-    #[inline(always)]
     pub fn takes_way(&mut self, way: SeenWay<'_>) -> bool
         ensures { LooksUp (is_taken self.old (seen_refs way.entry)) self.old self.new result }
     {

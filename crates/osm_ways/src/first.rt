@@ -1,4 +1,4 @@
-//! The phase of nodes that takes ways too, as long as no node comes after one.
+//! The phase of nodes that takes ways too, as long as no node comes after one. What it does for a node is inlined into the loop over nodes.
 
 ghost use Rattle.std.specs.Prelude.{◌≡◌, IfOk};
 ghost use Rattle.osm_ways.specs.First.{start_first, before_node, first_step};

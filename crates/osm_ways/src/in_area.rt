@@ -1,4 +1,4 @@
-//! Phases that take nodes, and the area in which these have to lie.
+//! Phases that take nodes, and the area in which these have to lie. To take a place is inlined into the loop over nodes.
 
 ghost use Rattle.std.specs.Prelude.{◌≡◌, ℤ, false, true, IfOk, OnOk};
 ghost use Rattle.osm_entity.specs.Views.{node_of};

@@ -66,13 +66,11 @@ impl NodeIds {
 impl NodeTaker for NodeIds {
     ghost step = { node_step };
 
-    #[inline(always)]
     fn take_inside(&mut self, id: i64) -> Result<(), AllocError> {
         self.box_ids.add(id)?;
         Ok(())
     }
 
-    #[inline(always)]
     fn take_outside(&mut self) {}
 
     fn takes_ways() -> bool {

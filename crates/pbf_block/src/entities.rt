@@ -36,7 +36,6 @@ impl<'a> Iterator for Entities<'a> {
 
     ghost remaining = { item_count entities_left };
 
-    #[inline(always)]
     fn next(&mut self) -> Option<EntityRef<'a>> {
         'runs: loop {
             if let Some(dense) = &mut self.dense {

@@ -164,7 +164,6 @@ impl Judge for GroupFieldValues {
 // Wire form, structure and values in one walk.
 
 /// Whether a field holds a way in which no phase before the weights finds a fault, if the table has `limit` texts.
-#[inline(always)]
 fn is_clean_way(field: Field<'_>, limit: u64) -> bool
     ensures { IsTrue result → IsCleanMember limit (Ok (occurrence field.entry)) }
 {

@@ -38,7 +38,6 @@ pub(crate) struct InfoRanges {
 impl JudgeMessage for InfoRanges {
     ghost faults = { λ info. info_values info.limit };
 
-    #[inline(always)]
     #[tactic(auto, using(crate::proofs::Parts::lesser_parts))]
     fn judge_message(&self, message: Message<'_>, _place: u64) -> Option<Fault> {
         let last = |number| last_value_left(message.fields(), number);

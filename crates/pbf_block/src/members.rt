@@ -40,6 +40,7 @@ impl<'a> Iterator for GroupFields<'a> {
 
     ghost remaining = { item_count group_fields_left };
 
+    /// It is inlined, so that the cursor of a loop stays in registers.
     #[inline(always)]
     fn next(&mut self) -> Option<Field<'a>> {
         'groups: loop {

@@ -27,7 +27,7 @@ pub(crate) const NODE_KINDS: [(u64, Kind); 6] = [
     (NODE_LON, Kind::Number),
 ];
 
-/// The least fault of structure: what all entities have, and a place.
+/// The least fault of structure: what all entities have, and a place. It is a call, since few nodes have a message of their own.
 #[inline(never)]
 #[tactic(auto, using(crate::proofs::Parts::lesser_parts))]
 pub(crate) fn judge_structure(message: Message<'_>, place: u64) -> Option<Fault>
@@ -38,7 +38,7 @@ pub(crate) fn judge_structure(message: Message<'_>, place: u64) -> Option<Fault>
     lesser(lat, judge_missing(message, place, NODE_LON))
 }
 
-/// The least fault of values, if the table has `limit` texts.
+/// The least fault of values, if the table has `limit` texts. It is a call for the same reason.
 #[inline(never)]
 #[tactic(auto, using(crate::proofs::Parts::lesser_parts))]
 pub(crate) fn judge_values(message: Message<'_>, limit: u64) -> Option<Fault>

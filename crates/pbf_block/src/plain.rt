@@ -1,5 +1,7 @@
 //! Ways and Infos as most are: each field once, in the order of their numbers, and none that is unknown. They are read straight on,
 //! without a loop over fields. A quick test that says nothing of other messages, which are judged field by field.
+//!
+//! All parts of a way are read in one function, without a call for each.
 
 ghost use Rattle.std.specs.Prelude.{◌≡◌, ◌-◌, ◌/◌, ◌<◌, ◌≤◌, [], ℕ, List, Ok, IfSome, IsTrue, drop, length, slice_index};
 ghost use Rattle.pbf_wire.specs.Varint.{varint_at};
@@ -157,7 +159,6 @@ fn plain_info(bytes: &[u8]) -> Option<PlainInfo>
 
 impl<'a> PlainWay<'a> {
     /// Its refs.
-    #[inline(always)]
     pub(crate) fn refs(&self) -> Refs<'a>
         ensures { (at : ℕ) (m : List ℕ) → IsPlainWay self.now at m
             → refs_left result ≡ values_in streaming REFS (fields_in at m) }
@@ -166,7 +167,6 @@ impl<'a> PlainWay<'a> {
     }
 
     /// Its tags.
-    #[inline(always)]
     pub(crate) fn tags(&self, table: &'a Table<'a>) -> Tags<'a>
         ensures { (at : ℕ) (m : List ℕ) → IsPlainWay self.now at m
             → tags_left result ≡ tags_in table.now (fields_in at m) }
@@ -177,7 +177,6 @@ impl<'a> PlainWay<'a> {
     }
 
     /// Its metadata, if its Info is plain too.
-    #[inline(always)]
     pub(crate) fn meta(&self, table: &'a Table<'a>) -> Option<MetaRef<'a>>
         ensures { IfSome result (λ meta. (at : ℕ) (m : List ℕ) → IsPlainWay self.now at m
             → meta_of meta ≡ info_in table.now (embedded INFO (fields_in at m))) }
@@ -198,7 +197,6 @@ impl<'a> PlainWay<'a> {
 const MOST_BYTES: usize = 1 << 26;
 
 /// Whether the values of a plain Info are in range, and the table of `limit` texts has one for its user.
-#[inline(always)]
 fn is_info_valued(info: PlainInfo, limit: u64) -> bool
     ensures { IsTrue result → (place at : ℕ) (m : List ℕ) → IsPlainInfo info at m
         → info_values limit place at m ≡ [] }
@@ -231,7 +229,6 @@ fn named_count(packed: &[u8], limit: u64) -> Option<usize>
 }
 
 /// Whether keys and values are whole varints, there are as many of them, and a table of `limit` texts has one for each.
-#[inline(always)]
 fn are_tags(keys: &[u8], vals: &[u8], limit: u64) -> bool
     ensures { IsTrue result → AreTags limit keys.now vals.now }
 {
@@ -242,7 +239,8 @@ fn are_tags(keys: &[u8], vals: &[u8], limit: u64) -> bool
 }
 
 /// Whether a way is plain and so is its Info, its columns are whole varints, it has as many keys as values, its values are in range,
-/// and the table of `limit` texts has one for each of its numbers: then no phase before the weights finds a fault.
+/// and the table of `limit` texts has one for each of its numbers: then no phase before the weights finds a fault. It is one call
+/// for each way.
 #[inline(never)]
 pub(crate) fn is_clean(message: Message<'_>, limit: u64) -> bool
     ensures { IsTrue result → (place : ℕ)

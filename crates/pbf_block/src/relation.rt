@@ -43,7 +43,7 @@ fn are_members(message: Message<'_>) -> bool
     column_count(message, ROLES_SID) == ids && column_count(message, TYPES) == ids
 }
 
-/// The least fault of structure: what all entities have, and the columns of members.
+/// The least fault of structure: what all entities have, and the columns of members. It is a call, since few entities are relations.
 #[inline(never)]
 #[tactic(auto, using(crate::proofs::Parts::lesser_parts))]
 pub(crate) fn judge_structure(message: Message<'_>, place: u64) -> Option<Fault>
@@ -54,7 +54,7 @@ pub(crate) fn judge_structure(message: Message<'_>, place: u64) -> Option<Fault>
     lesser(alike, fault_where(!are_alike, place, Reason::MemberColumns))
 }
 
-/// The least fault of values, if the table has `limit` texts.
+/// The least fault of values, if the table has `limit` texts. It is a call for the same reason.
 #[inline(never)]
 #[tactic(auto, using(crate::proofs::Parts::lesser_parts))]
 pub(crate) fn judge_values(message: Message<'_>, limit: u64) -> Option<Fault>

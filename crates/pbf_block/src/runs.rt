@@ -29,7 +29,6 @@ pub enum Run<'a> {
 }
 
 /// What a field of a group holds, if it is of these kinds.
-#[inline(always)]
 pub(crate) fn run_in<'a>(
     field: Field<'a>,
     table: &'a Table<'a>,
@@ -117,6 +116,7 @@ impl<'a> Iterator for Runs<'a> {
 
     ghost remaining = { item_count runs_left };
 
+    /// It is inlined, so that a run stays in registers.
     #[inline(always)]
     #[tactic(auto, unfolding(crate::specs::Runs::runs_left))]
     fn next(&mut self) -> Option<Run<'a>> {

@@ -24,7 +24,6 @@ pub struct UnmadeEntity<'a> {
 
 impl<'a> UnmadeEntity<'a> {
     /// The entity. Reads the message's fields once and does not allocate.
-    #[inline(never)]
     pub fn make(&self) -> EntityRef<'a>
         ensures { entity_of result ≡ entity_from self.now }
     {

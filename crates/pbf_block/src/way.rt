@@ -1,4 +1,6 @@
 //! A Way: its fields, its rules phase by phase, and how it is read. Its rule of wire form is [`WAY_KINDS`].
+//!
+//! To read the id and the refs is inlined into the loop over runs: nothing else is read of most ways.
 
 ghost use Rattle.std.specs.Prelude.{◌≡◌, IfSome, IsTrue};
 ghost use Rattle.pbf_wire.specs.Faults.{found_in, nested_faults};
@@ -61,7 +63,6 @@ pub(crate) fn judge_wire(message: Message<'_>) -> Option<Fault>
 }
 
 /// The least fault of structure: what all entities have, and locations.
-#[inline(never)]
 #[tactic(auto, using(crate::proofs::Parts::lesser_parts))]
 pub(crate) fn judge_structure(message: Message<'_>, place: u64) -> Option<Fault>
     ensures { result ≡ least (way_structure place message.entry.at message.entry.bytes.now) }
@@ -75,7 +76,6 @@ pub(crate) fn judge_structure(message: Message<'_>, place: u64) -> Option<Fault>
 }
 
 /// The least fault of values, if the table has `limit` texts.
-#[inline(never)]
 #[tactic(auto, using(crate::proofs::Parts::lesser_parts))]
 pub(crate) fn judge_values(message: Message<'_>, limit: u64) -> Option<Fault>
     ensures { result ≡ least (way_values limit 0 message.entry.at message.entry.bytes.now) }
@@ -126,7 +126,6 @@ pub struct UnmadeWay<'a> {
 
 impl<'a> UnmadeWay<'a> {
     /// Its refs. Nothing else of the message is read.
-    #[inline(always)]
     #[tactic(auto, unfolding(crate::specs::Way::way_in))]
     pub fn refs(&self) -> Refs<'a>
         ensures { refs_left result ≡ (way_from self.now).refs }
@@ -154,7 +153,6 @@ impl<'a> UnmadeWay<'a> {
     }
 
     /// The way, if it is plain and so is its Info.
-    #[inline(always)]
     #[tactic(auto, unfolding(crate::specs::Way::way_in))]
     fn make_plain(&self) -> Option<WayRef<'a>>
         ensures { IfSome result (λ way. way_of way ≡ way_from self.now) }

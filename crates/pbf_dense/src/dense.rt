@@ -70,7 +70,6 @@ fn take_run<'a>(numbers: &mut Column<'a>, table: &'a Table<'a>, tags: &mut Tags<
 }
 
 /// Like [`take_run`], and quick if there is no tag, as of most nodes, and there was none in the place before.
-#[inline(always)]
 fn take_tags<'a>(numbers: &mut Column<'a>, table: &'a Table<'a>, tags: &mut Tags<'a>)
     ensures { TakesTags table.now numbers.old numbers.new tags.new }
 {
@@ -99,7 +98,6 @@ fn fill(place: &mut Option<NodeRef<'_>>, scale: Scale)
 }
 
 /// Like [`fill`], of a place that may have one.
-#[inline(always)]
 fn fill_if_empty(place: &mut Option<NodeRef<'_>>, scale: Scale)
     ensures { IsSome place.new }
 {
@@ -208,7 +206,6 @@ impl<'a> Dense<'a> {
 
     /// Skips as many nodes, or all if there are fewer, by a cursor that has read the ids up to there, as the caller must prove. None is
     /// made, and no id is read again: each other column is moved on by itself.
-    #[inline(always)]
     pub fn pass_to(&mut self, ids: &Sums<'a>, count: usize)
         requires { AreIdsAfter count self.old ids.now }
         ensures { dense_left self.new ≡ drop count (dense_left self.old) }
@@ -218,7 +215,7 @@ impl<'a> Dense<'a> {
         }
     }
 
-    /// Like [`Dense::pass_to`], if there are some to skip.
+    /// Like [`Dense::pass_to`], if there are some to skip. It is a call, which most nodes need not take.
     #[inline(never)]
     #[tactic(auto, using(crate::proofs::InfoLemmas::still_within), unfolding(crate::specs::Cursors::AreIdsAfter))]
     fn follow(&mut self, ids: &Sums<'a>, count: usize)

@@ -7,7 +7,6 @@ ghost use Rattle.pbf_wire.specs.Cursors.{column_left, numbers_left, sums_left};
 use pbf_wire::{Column, Sums};
 
 /// The next number of a column.
-#[inline(always)]
 pub(crate) fn next_number(numbers: &mut Column<'_>) -> Option<u64>
     ensures steps { YieldsFirst numbers_left numbers.old result numbers.new }
     ensures first { result ≡ slice_get (numbers_left numbers.old) 0 }
@@ -16,7 +15,8 @@ pub(crate) fn next_number(numbers: &mut Column<'_>) -> Option<u64>
     numbers.next()
 }
 
-/// The next value of a column of differences, of which many are the same as the one before.
+/// The next value of a column of differences, of which many are the same as the one before. It is inlined, so that the
+/// cursor of a loop stays in registers.
 #[inline(always)]
 pub(crate) fn next_sum(sums: &mut Sums<'_>) -> Option<i64>
     ensures first { result ≡ slice_get (sums_left sums.old) 0 }

@@ -17,7 +17,6 @@ use pbf_strings::Table;
 use pbf_wire::{Column, Field, Message, Payload, Sums, last_field, low_i32};
 
 /// The next value of a column of uids.
-#[inline(always)]
 #[tactic(auto, using(crate::proofs::InfoLemmas::later_within))]
 fn next_uid(uids: &mut Sums<'_>) -> Option<i32>
     requires { list_all (is_within (pos (2 ^ 30))) (sums_left uids.old) ≡ true }
@@ -88,7 +87,6 @@ impl<'a> InfoColumns<'a> {
     }
 
     /// Puts the metadata of the next node in this place.
-    #[inline(always)]
     #[tactic(auto, using(crate::proofs::InfoLemmas::still_within))]
     pub(crate) fn take_in(&mut self, table: &'a Table<'a>, meta: &mut MetaRef<'a>)
         ensures meta { meta_of meta.new ≡ meta_at table.now (info_left self.old) 0 }

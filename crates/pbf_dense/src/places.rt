@@ -31,6 +31,7 @@ impl<'a> Iterator for Places<'a> {
 
     ghost remaining = { item_count places_left };
 
+    /// It is inlined, so that the three cursors of a loop stay in registers.
     #[inline(always)]
     #[tactic(auto, using(crate::proofs::PlaceLemmas::no_lats, crate::proofs::PlaceLemmas::no_lons), unfolding(crate::specs::Places::places_left))]
     fn next(&mut self) -> Option<Place> {

@@ -17,7 +17,8 @@ use pbf_wire::{Column, ColumnOut, low_u32};
 use std::alloc::AllocError;
 use std::hash::BuildHasher;
 
-/// The numbers of the next key of a run and of its value. `None` at the end of the run, which is passed.
+/// The numbers of the next key of a run and of its value. `None` at the end of the run, which is passed. It is inlined, so that the
+/// cursor of a loop stays in registers.
 #[inline(always)]
 #[tactic(auto, using(crate::proofs::MovingLemmas::run_steps, crate::proofs::TextLemmas::pair_steps))]
 pub(crate) fn next_pair(numbers: &mut Column<'_>) -> Option<(u32, u32)>
@@ -38,7 +39,8 @@ pub(crate) fn next_pair(numbers: &mut Column<'_>) -> Option<(u32, u32)>
     Some((key, value))
 }
 
-/// The index in the table that is written of the text that has this number in the one that is read.
+/// The index in the table that is written of the text that has this number in the one that is read. It is inlined:
+/// most texts were used just before.
 #[inline(always)]
 fn index_of<S: BuildHasher>(
     number: u32,
@@ -53,7 +55,6 @@ fn index_of<S: BuildHasher>(
 
 /// Takes the next run over: adds the indexes of its keys and values in turn, and then a 0. Returns whether it has a tag. That is quick if
 /// it has none, as of most nodes; otherwise a copy of the cursor is read on, so that the cursor of a loop stays in registers.
-#[inline(always)]
 pub(crate) fn take_run<S: BuildHasher>(
     runs: &mut ColumnOut,
     numbers: &mut Column<'_>,

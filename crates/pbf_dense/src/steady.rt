@@ -60,7 +60,6 @@ fn length_of(table: &Table<'_>, number: u32) -> u64
 
 /// Moves past the next 0 in key place, and returns what the tags before it weigh. If it is more than a `u64` holds, the greatest. That is
 /// quick if there is no tag, as of most nodes; otherwise a copy is read on, so that the cursor of a loop stays in registers.
-#[inline(always)]
 fn weigh_run(numbers: &mut Column<'_>, table: &Table<'_>) -> u64
     ensures weight { result ≡ min
         (tags_weight (run_tags table.now (numbers_left numbers.old))) (2 ^ 64 - 1) }
@@ -97,7 +96,6 @@ impl<'a> Weights<'a> {
     ghost use Rattle.pbf_dense.specs.Runs.{after_run};
 
     /// What the text of the next node's user weighs.
-    #[inline(always)]
     fn next_user(&mut self) -> u64
         ensures weight { result ≡ user_weight self.old.table.now (sums_left self.old.users) }
         ensures users { sums_left self.new.users ≡ drop 1 (sums_left self.old.users) }
@@ -111,7 +109,6 @@ impl<'a> Weights<'a> {
     }
 
     /// What the next node weighs. If it is more than a `u64` holds, the greatest.
-    #[inline(always)]
     fn next(&mut self) -> u64
         ensures weight { result ≡ min (first_weight self.old.table.now
             (sums_left self.old.users) (map low_32 (numbers_left self.old.keys_vals))) (2 ^ 64 - 1) }
@@ -127,7 +124,6 @@ impl<'a> Weights<'a> {
 
     /// What the next eight nodes weigh together, if it is seen at once that they have no tags and the user of the node before, and if they
     /// are no more than `most` and weigh no more than `room`. They are skipped then.
-    #[inline(always)]
     fn next_eight(&mut self, most: usize, room: u64) -> Option<u64>
         requires { room < 2 ^ 64 - 1 }
         ensures few { MatchOption result ⊤ (λ weight. (8 ≤ most) × (weight ≤ room)) }

@@ -40,7 +40,6 @@ impl<'a> UserIndexes<'a> {
     }
 
     /// The index of a user, which is kept.
-    #[inline(always)]
     #[tactic(auto, using(crate::proofs::TextLemmas::known_now))]
     fn index_of<S: BuildHasher>(
         &mut self,
@@ -64,7 +63,6 @@ impl<'a> UserIndexes<'a> {
     }
 
     /// Takes the user of the next node over, if it has one: adds the index.
-    #[inline(always)]
     pub(crate) fn take_next<S: BuildHasher>(
         &mut self,
         column: &mut DeltaOut,

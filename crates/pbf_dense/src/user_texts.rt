@@ -17,7 +17,6 @@ pub(crate) fn text_of<'a>(table: &'a Table<'a>, index: i64) -> &'a [u8]
 }
 
 /// The text of an index, if there is one.
-#[inline(always)]
 pub(crate) fn text_if_some<'a>(table: &'a Table<'a>, index: Option<i64>) -> Option<&'a [u8]>
     ensures { option_map (λ text. text.now) result ≡ option_map (user_text table.now) index }
 {

@@ -53,6 +53,7 @@ impl<'a> IdsWithin<'a> {
 
     /// Skips a node whose longitude was taken, and those after it that lie outside by their longitude. Returns the longitude of the
     /// node that comes then. If there is none, the ids and latitudes are left where they are.
+    /// It is a call, which the other nodes need not take.
     #[inline(never)]
     #[tactic(auto, unfolding(crate::specs::Within::ids_within_left))]
     fn skip_outside(&mut self) -> Option<i64>
@@ -69,7 +70,6 @@ impl<'a> IdsWithin<'a> {
     }
 
     /// Whether a node of this stored place lies in the box.
-    #[inline(always)]
     fn has_place(&self, lat: i64, lon: i64) -> bool
         ensures { result ≡ (is_in self.now.lat_span lat && is_in self.now.lon_span lon) }
     {
@@ -77,7 +77,6 @@ impl<'a> IdsWithin<'a> {
     }
 
     /// The longitude of the next node that may lie in the box, if there is one. Its id and latitude are the next ones.
-    #[inline(always)]
     #[tactic(auto, unfolding(crate::specs::Within::ids_within_left))]
     fn next_lon(&mut self) -> Option<i64>
         ensures left { MatchOption result (ids_within_left self.old ≡ [])
@@ -104,7 +103,6 @@ impl<'a> Iterator for IdsWithin<'a> {
 
     ghost remaining = { item_count ids_within_left };
 
-    #[inline(always)]
     fn next(&mut self) -> Option<i64> {
         'nodes: while let Some(lon) = self.next_lon() {
             let id = self.ids.next()?;

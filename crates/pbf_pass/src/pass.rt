@@ -165,7 +165,6 @@ fn gather_nodes<G: Gather>(unmade: &UnmadeDense<'_>, gathering: &mut G) -> Resul
 }
 
 /// Gathers the entities of a run.
-#[inline(always)]
 fn gather_run<G: Gather>(run: &Run<'_>, gathering: &mut G) -> Result<(), AllocError>
     ensures { OnOk result (gathering.new ≡ fold G.gathered gathering.old (run_entities run.now)) }
 {

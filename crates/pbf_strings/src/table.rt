@@ -26,7 +26,7 @@ pub const MOST_TEXTS: usize = 1_048_576;
 /// The most texts that a table is written of: the empty one comes before them.
 pub const MOST_USED_TEXTS: usize = 1_048_575;
 
-/// The text that the first field holds.
+/// The text that the first field holds. It is a call, which short texts need not take.
 #[inline(never)]
 fn first_text(fields: &[u8], at: u64) -> &[u8]
     requires { at + length fields.now ≤ OFFSET_LIMIT }

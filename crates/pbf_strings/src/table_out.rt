@@ -1,4 +1,4 @@
-//! A table that is written: its texts in order of first use.
+//! A table that is written: its texts in order of first use. One that is in its slot, as most are, is found without a call.
 
 ghost use Rattle.std.specs.Prelude.{◌≡◌, ◌<◌, ◌≤◌, ◌+◌, ◌-◌, ℕ, List, ◌^◌, ◌↔◌, min, ◌++◌, [], length, map, take, true, IsTrue, IfOk, IfSome, OnOk, OnErr};
 ghost use Rattle.std.specs.List.{sum_by};
@@ -47,7 +47,6 @@ fn slot_of(text: &[u8]) -> usize
 }
 
 /// Whether two texts begin with the same eight bytes.
-#[inline(always)]
 fn same_eight(one: &[u8], other: &[u8]) -> bool
     requires { (8 ≤ length one.now) × (8 ≤ length other.now) }
     ensures { IsTrue result ↔ (take 8 one.now ≡ take 8 other.now) }
@@ -59,7 +58,6 @@ fn same_eight(one: &[u8], other: &[u8]) -> bool
 }
 
 /// Whether two texts begin with the same four bytes.
-#[inline(always)]
 fn same_four(one: &[u8], other: &[u8]) -> bool
     requires { (4 ≤ length one.now) × (4 ≤ length other.now) }
     ensures { IsTrue result ↔ (take 4 one.now ≡ take 4 other.now) }
@@ -70,8 +68,7 @@ fn same_four(one: &[u8], other: &[u8]) -> bool
     u32::from_le_bytes(*one) == u32::from_le_bytes(*other)
 }
 
-/// Whether two texts of any length are the same. It is a call, which most texts need not take.
-#[inline(never)]
+/// Whether two texts of any length are the same.
 fn is_same_any(one: &[u8], other: &[u8]) -> bool
     ensures { IsTrue result ↔ (one.now ≡ other.now) }
 {
@@ -79,7 +76,6 @@ fn is_same_any(one: &[u8], other: &[u8]) -> bool
 }
 
 /// Whether two texts are the same. Of 4 to 16 bytes, which most have, the first and the last four or eight are compared: they meet.
-#[inline(always)]
 fn is_same(one: &[u8], other: &[u8]) -> bool
     ensures { IsTrue result ↔ (one.now ≡ other.now) }
 {
@@ -152,7 +148,6 @@ impl<S: BuildHasher> TableOut<S> {
     }
 
     /// The index of a text by its slot, `None` if another text is there.
-    #[inline(always)]
     fn recent_index(&self, slot: usize, text: &[u8]) -> Option<u32>
         requires room { length self.now < MOST_USED_TEXTS }
         requires slot { slot < SLOTS }
@@ -200,7 +195,6 @@ impl<S: BuildHasher> TableOut<S> {
     }
 
     /// Like [`TableOut::index_of`], of a text that isn't in its slot. A slot that no text was looked up in shows that the text is new.
-    #[inline(never)]
     fn index_elsewhere(&mut self, slot: usize, text: &[u8]) -> Result<u32, AllocError>
         requires room { length self.old < MOST_USED_TEXTS }
         requires slot { slot < SLOTS }

@@ -1,4 +1,6 @@
 //! A column: the numbers of all occurrences of one field, packed or single, joined.
+//!
+//! `next` is inlined, so that the cursor of a loop stays in registers.
 
 ghost use Rattle.std.specs.Prelude.{◌≡◌, ◌<◌, ◌≤◌, ◌^◌, ◌∷◌, ◌++◌, [], MatchOption, ⊤, IsTrue, false, length, take};
 ghost use Rattle.pbf_wire.specs.Signed.{IsNear};
@@ -25,7 +27,6 @@ pub fn first_number(packed: &[u8]) -> Option<(u64, &[u8])>
 }
 
 /// Like [`first_number`], if it takes at most five bytes, or three if it is narrow.
-#[inline(always)]
 fn first_near(packed: &[u8], narrow: bool) -> Option<(u64, &[u8])>
     ensures number { MatchOption result ⊤ (λ found. (read_entries (entries packed.now)
         ≡ found.0 ∷ read_entries (entries found.1.now)) × IsNear narrow found.0) }
@@ -36,7 +37,6 @@ fn first_near(packed: &[u8], narrow: bool) -> Option<(u64, &[u8])>
 }
 
 /// Whether the first eight bytes are there and are all 0.
-#[inline(always)]
 fn begins_with_zeros(bytes: &[u8]) -> bool
     ensures zeros { IsTrue result
         → take 8 bytes.now ≡ 0 ∷ 0 ∷ 0 ∷ 0 ∷ 0 ∷ 0 ∷ 0 ∷ 0 ∷ [] }
@@ -102,7 +102,6 @@ impl<'a> Column<'a> {
     }
 
     /// The column whose only occurrence is packed and has these bytes.
-    #[inline(always)]
     #[tactic(auto, unfolding(crate::specs::Cursors::column_left))]
     pub fn packed(bytes: &'a [u8]) -> Self
         ensures { numbers_left result ≡ read_entries (entries bytes.now) }
@@ -118,7 +117,6 @@ impl<'a> Column<'a> {
 
     /// The same column, of which no occurrence was begun: its first one is, if that is the next field and packed. Each copy of the
     /// column goes on from there.
-    #[inline(always)]
     #[tactic(auto, unfolding(crate::specs::Cursors::column_left))]
     fn begun(self) -> Self
         requires { read_entries (entries self.packed.now) ≡ [] }
@@ -153,7 +151,6 @@ impl<'a> Column<'a> {
 
     /// There are so few numbers that they can be counted, since each takes a byte at least. This does nothing: it is a law, called where
     /// a proof needs it.
-    #[inline(always)]
     #[tactic(auto, using(crate::proofs::ShortLemmas::numbers_fit))]
     pub(crate) fn numbers_are_few(&self)
         ensures { length (column_left self.now) < 2 ^ 64 }
@@ -162,7 +159,6 @@ impl<'a> Column<'a> {
     }
 
     /// Whether no byte is left: then no number is.
-    #[inline(always)]
     #[tactic(auto, unfolding(crate::specs::Cursors::column_left))]
     pub(crate) fn is_done(&self) -> bool
         ensures { IsTrue result → column_left self.now ≡ [] }
@@ -188,7 +184,6 @@ impl<'a> Column<'a> {
     }
 
     /// The next number of the packed occurrence that was begun. If it has none nothing changes.
-    #[inline(always)]
     #[tactic(auto, unfolding(crate::specs::Cursors::column_left))]
     fn advance_packed(&mut self) -> Option<u64>
         ensures { MatchOption result
@@ -203,7 +198,6 @@ impl<'a> Column<'a> {
 
     /// The next number, if it takes at most five bytes of the packed occurrence that was begun, or three if it is narrow. The place is left
     /// as it is.
-    #[inline(always)]
     #[tactic(auto, unfolding(crate::specs::Cursors::column_left))]
     pub(crate) fn next_near(&mut self, narrow: bool) -> Option<u64>
         ensures number { MatchOption result (self.new ≡ self.old)
@@ -218,7 +212,6 @@ impl<'a> Column<'a> {
     }
 
     /// The bytes of the packed occurrence that was begun, up to where a copy of the cursor is.
-    #[inline(always)]
     pub(crate) fn bytes_until(&self, copy: &Column<'_>) -> &'a [u8]
         requires { length copy.now.packed.now ≤ length self.now.packed.now }
         ensures { result.now
@@ -228,7 +221,6 @@ impl<'a> Column<'a> {
     }
 
     /// Like [`Column::pass_zero`]. The place is left as it is.
-    #[inline(always)]
     #[tactic(auto, unfolding(crate::specs::Cursors::column_left))]
     pub(crate) fn pass_short_zero(&mut self) -> bool
         ensures passed { IsTrue result
@@ -248,7 +240,6 @@ impl<'a> Column<'a> {
 
     /// Skips the next number, if it is a 0 of one byte in the packed occurrence that was begun, as most of many columns are. Otherwise
     /// nothing changes, and `false` says nothing of the number.
-    #[inline(always)]
     #[tactic(auto, unfolding(crate::specs::Cursors::column_left))]
     pub fn pass_zero(&mut self) -> bool
         ensures passed { IsTrue result
@@ -264,7 +255,6 @@ impl<'a> Column<'a> {
 
     /// Skips the next eight numbers, if each is a 0 of one byte in the packed occurrence that was begun. Otherwise nothing changes. The
     /// place is left as it is.
-    #[inline(always)]
     #[tactic(auto, unfolding(crate::specs::Cursors::column_left))]
     pub fn pass_zeros(&mut self) -> bool
         ensures passed { IsTrue result → numbers_left self.old
@@ -282,7 +272,6 @@ impl<'a> Column<'a> {
 
     /// Skips the next sixteen numbers, if each takes one byte of the packed occurrence that was begun and is even, and returns half their
     /// sum. Otherwise nothing changes. The place is left as it is.
-    #[inline(always)]
     #[tactic(auto, unfolding(crate::specs::Cursors::column_left))]
     pub(crate) fn pass_rising(&mut self) -> Option<u16>
         ensures rising { MatchOption result ⊤
@@ -299,7 +288,6 @@ impl<'a> Column<'a> {
 
     /// Skips the next numbers, at most so many, as long as each takes one byte of the packed occurrence that was begun, and returns those
     /// bytes, which are the numbers. The place is left as it is.
-    #[inline(always)]
     pub fn pass_singles(&mut self, most: usize) -> &'a [u8]
         ensures few { length result.now ≤ most }
         ensures single { AllByRecursion (λ b. b < 128) result.now }

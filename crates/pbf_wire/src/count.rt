@@ -6,7 +6,6 @@ ghost use Rattle.std.specs.Simd.Lanes.{mask_l};
 use std::simd::prelude::*;
 
 /// The lanes below 128 as a mask, lane 0 in the lowest bit.
-#[inline(always)]
 fn ends(lanes: u8x32) -> u64
     requires { length lanes ≡ 32 }
     ensures mask { result ≡ mask_l (map (λ b. nat_lt b 128) lanes) }

@@ -1,4 +1,4 @@
-//! The fields of a message, one after the other.
+//! The fields of a message, one after the other. To read one is inlined into the loops over fields.
 
 ghost use Rattle.std.specs.Prelude.{◌≡◌, ◌==◌, ◌+◌, ◌≤◌, ◌<◌, Ok, IfOk, if◌then◌else◌, length};
 ghost use Rattle.pbf_wire.specs.Occurrence.{body_at, occurrence_at};
@@ -112,7 +112,6 @@ impl<'a> Fields<'a> {
     }
 
     /// The fields before the first fault.
-    #[inline(always)]
     pub fn found(self) -> FoundFields<'a>
         ensures { found_left result ≡ found (fields_left self.entry) }
     {
@@ -120,7 +119,6 @@ impl<'a> Fields<'a> {
     }
 
     /// Whether no byte is left.
-    #[inline(always)]
     #[tactic(auto, using(crate::proofs::Items::items_none), unfolding(crate::specs::Cursors::fields_left))]
     pub(crate) fn is_done(&self) -> bool
         ensures { IsTrue result → fields_left self.now ≡ [] }
@@ -129,7 +127,6 @@ impl<'a> Fields<'a> {
     }
 
     /// How many bytes are left.
-    #[inline(always)]
     pub(crate) fn len(&self) -> usize
         ensures { result ≡ length self.now.rest.now }
     {

@@ -1,4 +1,6 @@
 //! The wire form of messages: the kinds of the fields that are known, and the least fault of a message and of those in it.
+//!
+//! What judges a message is inlined: so the loop over the fields of each message knows their kinds, and takes no call for a field.
 
 ghost use Rattle.std.specs.Prelude.{◌≡◌, ◌+◌, ◌≤◌, [], IsTrue, None, Ok, Err, length};
 ghost use Rattle.pbf_wire.specs.Occurrence.{items};
@@ -23,7 +25,6 @@ const FEW_BYTES: usize = 9;
 
 /// Whether a quick test shows that the bytes are whole varints: they are few and the last one ends a varint, as in most columns, or the
 /// numbers are short throughout.
-#[inline(always)]
 #[tactic(auto, using(crate::proofs::ShortLemmas::few_bytes, crate::proofs::ShortLemmas::short_column))]
 fn are_whole(packed: &[u8]) -> bool
     ensures { IsTrue result → entry_fault (entries packed.now) ≡ None }
@@ -50,7 +51,6 @@ fn judge_packed(packed: &[u8]) -> Result<(), Reason>
 }
 
 /// The kind of a field, if it is listed; the first, if it is listed twice. Looks through the list from its start.
-#[inline(always)]
 pub fn kind_of(kinds: &[(u64, Kind)], number: u64) -> Option<Kind>
     ensures { result ≡ kind_of kinds.now number }
 {
@@ -106,7 +106,6 @@ struct NoMessages;
 impl Judge for NoMessages {
     ghost faults = { λ _ o. [] };
 
-    #[inline(always)]
     fn judge(&self, _field: Field<'_>) -> Option<Fault> {
         None
     }

@@ -1,4 +1,4 @@
-//! The lesser of two faults.
+//! The lesser of two faults. It is inlined, so that a fault that there is not takes no room.
 
 ghost use Rattle.std.specs.Prelude.{◌≡◌};
 ghost use Rattle.pbf_wire.specs.Least.{rank, is_less, lesser};

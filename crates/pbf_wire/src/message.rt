@@ -24,7 +24,6 @@ impl<'a> Message<'a> {
     ghost use Rattle.pbf_wire.specs.Occurrence.{items};
 
     /// Its fields, and the fault that ends them.
-    #[inline(always)]
     pub fn fields(self) -> Fields<'a>
         ensures { fields_left result ≡ items self.entry.at self.entry.bytes.now }
     {
@@ -32,7 +31,6 @@ impl<'a> Message<'a> {
     }
 
     /// Its fields before the first fault.
-    #[inline(always)]
     pub fn found(self) -> FoundFields<'a>
         ensures { found_left result ≡ found_in self.entry }
     {
@@ -40,7 +38,6 @@ impl<'a> Message<'a> {
     }
 
     /// The column that its field of this number is.
-    #[inline(always)]
     pub fn column(self, number: u64) -> Column<'a>
         ensures left { column_left result ≡ joined number (found_in self.entry) }
         ensures place { place_of_number result ≡ self.entry.at }
@@ -57,7 +54,6 @@ impl<'a> Field<'a> {
     ghost use Rattle.pbf_wire.specs.Payload.{content};
 
     /// The message that it holds, if it holds bytes.
-    #[inline(always)]
     pub fn message(self) -> Option<Message<'a>>
         ensures { MatchOption result
             ((f : ℕ → List ℕ → List Fault) → inside f (content self.entry.payload) ≡ [])

@@ -7,7 +7,6 @@ ghost use Rattle.pbf_wire.specs.Rising.{AreRising, AreSingle, IsHalved};
 use std::simd::prelude::*;
 
 /// Whether all lanes are below a number.
-#[inline(always)]
 fn are_below(lanes: u8x16, bound: u8) -> bool
     requires { length lanes ≡ 16 }
     ensures { IsTrue result → AllByRecursion (λ lane. lane < bound) lanes }
@@ -16,7 +15,6 @@ fn are_below(lanes: u8x16, bound: u8) -> bool
 }
 
 /// Whether all bytes are below 128 and even.
-#[inline(always)]
 fn are_halved(block: &[u8; 16]) -> bool
     ensures { IsTrue result → AllByRecursion IsHalved block.now }
 {
@@ -25,7 +23,6 @@ fn are_halved(block: &[u8; 16]) -> bool
 }
 
 /// The sum of such bytes.
-#[inline(always)]
 fn sum_of(block: &[u8; 16]) -> u16
     requires { AllByRecursion IsHalved block.now }
     ensures { result ≡ sum block.now }
@@ -34,7 +31,6 @@ fn sum_of(block: &[u8; 16]) -> u16
 }
 
 /// Half the sum of the bytes, if each is below 128 and even: so each is a number of one byte, which means an entry that isn't negative.
-#[inline(always)]
 pub(crate) fn rise_of(block: &[u8; 16]) -> Option<u16>
     ensures { MatchOption result ⊤ (λ rise. AreRising block.now rise) }
 {
@@ -45,7 +41,6 @@ pub(crate) fn rise_of(block: &[u8; 16]) -> Option<u16>
 }
 
 /// What is left of some bytes after blocks of bytes below 128.
-#[inline(always)]
 fn after_single_blocks(bytes: &[u8]) -> &[u8]
     ensures { AreSingle bytes.now result.now }
 {
@@ -60,7 +55,6 @@ fn after_single_blocks(bytes: &[u8]) -> &[u8]
 }
 
 /// What is left of some bytes after the first bytes below 128.
-#[inline(always)]
 pub(crate) fn after_singles(bytes: &[u8]) -> &[u8]
     ensures { AreSingle bytes.now result.now }
 {

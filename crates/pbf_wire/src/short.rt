@@ -110,7 +110,6 @@ pub(crate) fn count_short(bytes: &[u8]) -> Option<usize>
 }
 
 /// How many numbers an occurrence of a column has, if a quick test shows that they are below 2^35.
-#[inline(always)]
 fn count_if_small(payload: Payload<'_>) -> Option<usize>
     ensures counted { MatchOption result ⊤
         (λ count. count ≡ length (numbers_in (content payload.entry))) }

@@ -21,7 +21,6 @@ pub(crate) const WHOLE_SPAN: Span = Span {
 
 impl Span {
     /// Whether a number is one of these.
-    #[inline(always)]
     pub fn has(self, number: i64) -> bool
         ensures { result ≡ is_in self number }
     {

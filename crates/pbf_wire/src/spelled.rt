@@ -6,7 +6,6 @@ ghost use Rattle.pbf_wire.specs.Varint.{AreNeeded};
 use std::simd::prelude::*;
 
 /// Whether no byte of a block is 0 after one that goes on, 32 at once.
-#[inline(always)]
 fn are_needed_here(block: &[u8; 33]) -> bool
     ensures { IsTrue result → AreNeeded 0 block.now }
 {

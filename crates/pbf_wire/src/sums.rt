@@ -1,4 +1,4 @@
-//! The values of a delta column.
+//! The values of a delta column. A quick one is read without a call, so that the cursor of a loop stays in registers.
 
 ghost use Rattle.std.specs.Prelude.{◌≡◌, ◌≤ℤ◌, pos};
 ghost use Rattle.pbf_wire.specs.Signed.{IsWithin};
@@ -74,7 +74,6 @@ impl<'a> Sums<'a> {
     }
 
     /// Whether the sum stays within its limit by one more entry, of at most five bytes, or three if it is narrow.
-    #[inline(always)]
     pub(crate) fn is_near(&self, narrow: bool) -> bool
         ensures { IsTrue result → (number : ℕ) → IsNear narrow number
             → IsWithin self.now.limit (self.now.total +ℤ unzigzag number) }
@@ -85,7 +84,6 @@ impl<'a> Sums<'a> {
     }
 
     /// Adds the entry of a number to the sum, which stays within its limit.
-    #[inline(always)]
     pub(crate) fn add_near(&mut self, number: u64)
         requires { IsWithin self.old.limit (self.old.total +ℤ unzigzag number) }
         ensures total { self.new.total ≡ self.old.total +ℤ unzigzag number }
@@ -116,7 +114,6 @@ impl<'a> Sums<'a> {
     }
 
     /// The next value, whatever its entry takes.
-    #[inline(never)]
     #[tactic(auto, unfolding(crate::specs::Occurrence::items_past))]
     fn next_any(&mut self) -> Option<i64>
         ensures { YieldsFirst sums_left self.old result self.new }
@@ -135,7 +132,6 @@ impl<'a> Sums<'a> {
 
     /// Skips the next value, if its entry takes at most five bytes of the packed occurrence that was begun, or three if it is narrow, and
     /// the sum is near.
-    #[inline(always)]
     fn pass_one(&mut self) -> bool
         ensures passed { IsTrue result → PassesSpelled (left_of self.old) (left_of self.new) 1 }
         ensures kept { result ≡ false → left_of self.new ≡ left_of self.old }
@@ -151,7 +147,6 @@ impl<'a> Sums<'a> {
     }
 
     /// Skips the next value, if it is the last one again, by a 0 of one byte in the packed occurrence that was begun.
-    #[inline(always)]
     fn pass_same(&mut self) -> bool
         ensures same { IsTrue result → sums_left self.old ≡ self.new.total ∷ sums_left self.new }
         ensures passed { IsTrue result → PassesSpelled (left_of self.old) (left_of self.new) 1 }
@@ -161,7 +156,6 @@ impl<'a> Sums<'a> {
     }
 
     /// The last value given, 0 before the first.
-    #[inline(always)]
     pub fn last_value(&self) -> i64
         ensures { result ≡ last_given self.now }
     {
@@ -171,7 +165,6 @@ impl<'a> Sums<'a> {
 
     /// Skips the next eight values, if each is the last one again by a 0 of one byte of the packed occurrence that was begun. Otherwise
     /// the values that are left stay the same.
-    #[inline(always)]
     pub fn pass_eight(&mut self) -> bool
         ensures same { IsTrue result
             → sums_left self.old ≡ eight_of (last_given self.old) ++ sums_left self.new }
@@ -183,7 +176,6 @@ impl<'a> Sums<'a> {
     }
 
     /// Skips values, eight at a time, as long as they are the last one again, and returns how many of `count` are still to be skipped.
-    #[inline(always)]
     fn pass_equal(&mut self, count: usize) -> usize
         ensures passed { PassesSpelled (left_of self.old) (left_of self.new) (count - result) }
         ensures fewer { result ≤ count }
@@ -200,7 +192,6 @@ impl<'a> Sums<'a> {
 
     /// Skips the next sixteen values, if they rise by entries of one byte and a span has them all. Of these only the sum is needed: all
     /// values are between the one before them and their last.
-    #[inline(always)]
     fn pass_rising(&mut self, span: Span) -> bool
         ensures passed { IsTrue result → (values : List ℤ) (n : ℕ)
             → ArePassed span true values (sums_left self.old) n
@@ -225,7 +216,6 @@ impl<'a> Sums<'a> {
 
     /// Skips values that a span has, sixteen at a time, as long as they rise by entries of one byte, and returns how many of `most` are
     /// left. If the values to be skipped are those that it lacks, none is.
-    #[inline(always)]
     fn pass_runs(&mut self, span: Span, is_there: bool, most: usize) -> usize
         ensures past { ArePassed span is_there (sums_left self.old) (sums_left self.new)
             (most - result) }
@@ -315,7 +305,6 @@ impl<'a> Sums<'a> {
 
     /// Skips values that a span has, at most so many, and returns how many. It stops at the first that the span lacks, or before that
     /// at one that isn't read quickly.
-    #[inline(never)]
     pub fn pass_inside(&mut self, span: Span, most: usize) -> usize
         ensures past { ArePassed span true (sums_left self.old) (sums_left self.new) result }
         ensures fewer { result ≤ most }
@@ -325,7 +314,6 @@ impl<'a> Sums<'a> {
 
     /// Skips values that a span lacks, at most so many, and returns how many. It stops at the first that the span has, or before that
     /// at one that isn't read quickly.
-    #[inline(never)]
     pub fn pass_outside(&mut self, span: Span, most: usize) -> usize
         ensures past { ArePassed span false (sums_left self.old) (sums_left self.new) result }
         ensures fewer { result ≤ most }
@@ -377,7 +365,6 @@ impl<'a> Iterator for Sums<'a> {
 
     ghost remaining = { item_count sums_left };
 
-    #[inline(always)]
     fn next(&mut self) -> Option<i64> {
         if let Some(value) = self.next_near(true) {
             return Some(value);

@@ -132,7 +132,6 @@ fn judge_sums_of(fields: Fields<'_>, number: u64, limit: u64, narrow: bool) -> O
 /// The least fault of the values of a column of differences in the fields that are still to come: `OutOfRange` if one isn't
 /// strictly between `-limit` and `limit`. Of `narrow` columns the low 32 bits of each entry count. Reads up to the first such
 /// value.
-#[inline(always)]
 pub fn judge_sums_left(fields: Fields<'_>, number: u64, limit: u64, narrow: bool) -> Option<Fault>
     requires { (1 ≤ limit) × (limit ≤ SUM_LIMIT) }
     ensures { result

@@ -1,4 +1,6 @@
 //! Varints: numbers of 64 bits, seven bits a byte, the lowest first. The top bit is set on every byte but the last.
+//!
+//! Short numbers, which most are, are read and written without a call, longer ones by calls.
 
 ghost use Rattle.std.specs.Prelude.{◌≡◌, ◌≤◌, ◌<◌, ◌^◌, ℕ, IfOk, MatchOption, ⊤, Result, Ok, Err, ◌↔◌, length, take, drop, slice_range};
 ghost use Rattle.pbf_wire.specs.Signed.{IsNear};
@@ -27,8 +29,7 @@ fn any_varint(bytes: &[u8]) -> (u64, usize)
 }
 
 /// The number that the bytes begin with, and how many bytes it takes, if they are four or five: most numbers that take more than three
-/// take so many. It is inlined.
-#[inline(always)]
+/// take so many.
 fn far_varint(bytes: &[u8]) -> Option<(u64, usize)>
     ensures { MatchOption result ⊤ (λ found. (varint_at bytes.now ≡ Ok found) × (0 < found.1)
         × (found.1 ≤ length bytes.now) × (found.0 < 2 ^ 35)) }
@@ -100,9 +101,7 @@ fn short_varint(bytes: &[u8]) -> Option<(u64, usize)>
     None
 }
 
-/// The number that the bytes begin with, and how many bytes it takes, if they are at most five, or three if it is narrow. It is
-/// inlined.
-#[inline(always)]
+/// The number that the bytes begin with, and how many bytes it takes, if they are at most five, or three if it is narrow.
 #[tactic(auto, using(crate::proofs::NextLemmas::short_near, crate::proofs::NextLemmas::far_near))]
 pub(crate) fn near_varint(bytes: &[u8], narrow: bool) -> Option<(u64, usize)>
     ensures { MatchOption result ⊤ (λ found. (varint_at bytes.now ≡ Ok found) × (0 < found.1)

@@ -137,7 +137,6 @@ impl<'a> Picker<'a> {
     }
 
     /// Ids of which all nodes are written, as far as the last look-up showed: none if it showed nothing.
-    #[inline(always)]
     #[tactic(auto, unfolding(crate::specs::Pick::picks_id))]
     fn present(&self) -> Span
         ensures { (id : ℤ) → is_in result id ≡ true → picks_id self.now id ≡ true }
@@ -223,7 +222,6 @@ impl<'a> NodesLeft<'a> {
     }
 
     /// Tests whether the nodes are alike, once the next few are picked: in many messages no few are that come one after the other.
-    #[inline(always)]
     fn test_if_picked(&mut self, picker: &mut Picker<'_>)
         requires { AreEven self.old.alike (dense_left self.old.nodes) }
         ensures nodes { self.new.nodes ≡ self.old.nodes }
@@ -238,7 +236,6 @@ impl<'a> NodesLeft<'a> {
     }
 
     /// Puts the next node in this place, or `None`, as [`Dense::next_in`] does.
-    #[inline(always)]
     fn next_in(&mut self, place: &mut Option<NodeRef<'a>>)
         ensures next { YieldsFirstBy node_of dense_left self.old.nodes place.new self.new.nodes }
         ensures alike { self.new.alike ≡ self.old.alike - 1 }
@@ -248,7 +245,6 @@ impl<'a> NodesLeft<'a> {
     }
 
     /// Skips as many nodes as come before these ids.
-    #[inline(always)]
     fn pass_to(&mut self, ahead: &IdsAhead<'a>)
         requires { AreIdsAfter ahead.now.count self.old.nodes ahead.now.ids }
         ensures passed { dense_left self.new.nodes
@@ -290,7 +286,6 @@ fn picked_run(dense: &Dense<'_>, picker: &mut Picker<'_>, most: usize) -> usize
 
 /// What a node counts for in a block, if it can be written, and otherwise `None`. The columns that it was read from have no number out of
 /// its range, so that none is tested here.
-#[inline(always)]
 fn weight_if_light(view: &NodeRef<'_>) -> Option<u64>
     requires { NumbersFit (node_of view.now) }
     ensures { SomeIff result (NodeFits (node_of view.now)) (node_weight (node_of view.now)) }
@@ -337,7 +332,7 @@ impl<'a> EntityPacker<'a> {
         }
     }
 
-    /// Packs an entity, whether it is picked or not.
+    /// Packs an entity, whether it is picked or not. It is part of its callers, which know the kind.
     #[inline(always)]
     fn pack<D: Drain, S: BuildHasher>(
         &mut self,
@@ -357,7 +352,6 @@ impl<'a> EntityPacker<'a> {
     }
 
     /// Packs a node whose numbers are in their ranges, whether it is picked or not.
-    #[inline(always)]
     fn pack_node<D: Drain, S: BuildHasher>(
         &mut self,
         view: &NodeRef<'_>,
@@ -442,7 +436,6 @@ impl<'a> EntityPacker<'a> {
 
     /// Packs nodes that come after one that was packed: as many together as are picked and may wait with it in its block, if all that are
     /// still to come are alike. It looks up no more ids than a block has entities, since it is called again for each block.
-    #[inline(never)]
     fn pack_many<D: Drain, S: BuildHasher>(
         &mut self,
         like: &NodeRef<'_>,
