@@ -137,13 +137,13 @@ none_left (r ∷ rs) n at e h = absurd (some_left (length rs) n at e h) where
   some_left k n at e h = omega (arith, e, h)
 
 module _ {F : Type 0} (f : feed.Ghosts F) (packs digests : Bool) (judge : Option (List ℕ) → Option Verdict) (took : List ℕ → Type 0) (failed : Type 0) (front : List ℕ → Type 0) (l m n : Option (List Event)) (tail : Ends took failed front m n) where
+  -- what OUT took
+  abbrev FrontIn : List Event → Type 0
+  FrontIn events = (answer : List ℕ) → front answer → Each (TookFront answer) events
+
   -- what is said, as events, of how a call of a program stopped, by what its feeds had
   abbrev StopFails : Program → Stop → List F → Type 0
   StopFails program s olds = (events : List Event) × (n ≡ then_all l events) × Stops (manner program packs digests) (judging judge) (map f.remaining olds) events s × FrontIn events
-
-  -- and what OUT took
-  abbrev FrontIn : List Event → Type 0
-  FrontIn events = (answer : List ℕ) → front answer → Each (TookFront answer) events
 
   front_after : (rs : List Reading) (es : List Event) → FrontIn es → FrontIn (reads rs ++ es)
   front_after rs es fronts answer x = each_both (TookFront answer) (reads rs) es (front_read answer rs) (fronts answer x)

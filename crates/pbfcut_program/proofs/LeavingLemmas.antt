@@ -1,5 +1,6 @@
 -- What OUT took of an answer.
 use Rattle.std.proofs.Common.{◌≡◌, inl, inr, ℕ, List, [], ◌∷◌, ◌++◌, map, take, Bool, true, Option, Some, None, ap, sym, subst, ◌∙◌, append_assoc}
+use Rattle.std.proofs.lemmas.Bool.{false≢true}
 use Rattle.std.specs.Option.{is_some}
 use Rattle.std.specs.Prelude.{IfSome}
 use Rattle.pbf_frame.specs.Devices.{IsFront}
@@ -24,7 +25,7 @@ taken_front None after answer fresh front = subst (λ (k : Option (List ℕ)). T
 taken_front (Some taken) after answer fresh front = subst (λ (k : Option (List ℕ)). TakenFront k answer) (sym front.taken) (front.count, ap (λ (x : List ℕ). x ++ take front.count answer) fresh)
 
 pub front_taken : (answer bytes : List ℕ) (known : Option (List ℕ)) → IfSome known (λ taken. bytes ≡ taken) → TakenFront known answer → is_some known ≡ true → (count : ℕ) × (bytes ≡ take count answer)
-front_taken answer bytes None is front e = absurd e
+front_taken answer bytes None is front e = absurd (false≢true e)
 front_taken answer bytes (Some taken) is front e = (front.0, is ∙ front.1)
 
 -- ---- by events

@@ -3,6 +3,7 @@ use Rattle.std.proofs.lemmas.Result.{err_from_is_err_and, IfErr-weaker, on_ok_we
 use Rattle.pbf_pass.specs.Judged.{judged_file}
 use Rattle.pbf_pass.specs.Stops.{WriteFailed}
 use Rattle.pbfcut_program.specs.declared.engine.Report.{Report}
+use Rattle.pbfcut_program.specs.Devices.{AreFresh}
 use Rattle.pbfcut_program.specs.Events.{Event, Reading, Writing, opened, read, screened, wrote, then_all}
 use Rattle.pbfcut_program.specs.Fails.{Each, Opens, Quiet, judging}
 use Rattle.pbfcut_program.specs.Manner.{manner_of, to_raw}
@@ -71,7 +72,7 @@ returns-clause-err g c =
     let hs = has ps.one ∷ has ps.two ∷ [] in
     let quiet : Each Quiet first = (tt, (tt, (tt, tt))) in
     let opens : Opens 1 hs first = (inl (refl, refl), (inr (inl (refl, refl)), tt)) in
-    let feeds = (c.in_ok-passes.ensures.fresh.0, (c.in_ok-passes.ensures.fresh.1, tt)) in
+    let feeds : AreFresh g.H.In.Feed (ps.one ∷ ps.two ∷ []) = (c.in_ok-passes.ensures.fresh.0, (c.in_ok-passes.ensures.fresh.1, tt)) in
     IfErr-weaker c.ended.result _ _ (λ how f. (
       _,
       and_then (log c.args.host.now) _ _ first f.0 begun f.1,
