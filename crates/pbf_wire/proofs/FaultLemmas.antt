@@ -1,5 +1,5 @@
 -- Lists of faults, step by step.
-use Rattle.std.proofs.Common.{◌≡◌, ◌==◌, ℕ, zero, suc, ◌+◌, ◌-◌, ◌≤◌, Bool, true, false, List, [], ◌∷◌, ◌++◌, length, map, drop, refl, ap, sym, ◌∙◌, arith}
+use Rattle.std.proofs.Common.{◌≡◌, ◌==◌, ℕ, zero, suc, ◌+◌, ◌-◌, ◌≤◌, Bool, true, false, List, [], ◌∷◌, length, map, drop, refl, ap, sym, ◌∙◌, arith}
 use Rattle.std.specs.Prelude.{Option, Some, None, Result, Ok, Err, filter, nat_lt, if◌then◌else◌}
 use Rattle.std.specs.List.{flat_map, count_by, AllByRecursion}
 use Rattle.std.proofs.lemmas.List.{length-append, length-map}
@@ -14,7 +14,7 @@ use Rattle.pbf_wire.specs.Columns.{Entry, entries_from, entries_past, read_entri
 use Rattle.pbf_wire.specs.Wire.{kind_of, reason_in, or_at, wire}
 use Rattle.pbf_wire.specs.Reading.{bytes_held}
 use Rattle.pbf_wire.specs.Least.{lesser, least, rank}
-use Rattle.pbf_wire.specs.Faults.{fault, fault_where, or_more, message_faults, ends_in, ends_of, column_count, fields_in}
+use Rattle.pbf_wire.specs.Faults.{fault, or_more, message_faults, ends_in, ends_of, column_count, fields_in}
 use Rattle.pbf_wire.proofs.Cutting.{is_cutting}
 use Rattle.pbf_wire.proofs.LeastLemmas.{lesser_joined}
 
@@ -27,15 +27,6 @@ pub leaf_is_wire : (kinds : List (ℕ × Kind)) (its : List Item) → least (mes
 leaf_is_wire kinds [] = refl
 leaf_is_wire kinds (Ok o ∷ rest) = elim (reason_in (kind_of kinds o.number) o.content) as (λ r. least (or_more o.place r (message_faults kinds (λ o. []) rest)) ≡ or_at o.place r (wire kinds rest)) [ Some reason ↦ refl | None ↦ leaf_is_wire kinds rest ]
 leaf_is_wire kinds (Err e ∷ rest) = refl
-
--- a fault at each occurrence for which a test holds
-pub fault_at_each : (test : Occurrence → Bool) (reason : Reason) (os : List Occurrence) → flat_map (λ o. fault_where (test o) o.place reason) os ≡ map (λ o. fault o.place reason) (filter test os)
-fault_at_each test reason [] = refl
-fault_at_each test reason (o ∷ os) =
-    elim (test o) as (λ b. fault_where b o.place reason ++ flat_map (λ o. fault_where (test o) o.place reason) os ≡ map (λ o. fault o.place reason) (if b then o ∷ filter test os else filter test os)) [
-      | true ↦ ap (λ w. fault o.place reason ∷ w) (fault_at_each test reason os)
-      | false ↦ fault_at_each test reason os
-    ]
 
 -- ---- each occurrence after the first
 

@@ -175,21 +175,6 @@ impl<'a> Sums<'a> {
         self.entries.pass_zeros()
     }
 
-    /// Skips values, eight at a time, as long as they are the last one again, and returns how many of `count` are still to be skipped.
-    fn pass_equal(&mut self, count: usize) -> usize
-        ensures passed { PassesSpelled (left_of self.old) (left_of self.new) (count - result) }
-        ensures fewer { result ≤ count }
-    {
-        let mut left = count;
-        'values: while left >= 8 {
-            if !self.pass_eight() {
-                break;
-            }
-            left -= 8;
-        }
-        left
-    }
-
     /// Skips the next sixteen values, if they rise by entries of one byte and a span has them all. Of these only the sum is needed: all
     /// values are between the one before them and their last.
     fn pass_rising(&mut self, span: Span) -> bool
@@ -243,7 +228,7 @@ impl<'a> Sums<'a> {
         let mut left = rest.pass_runs(WHOLE_SPAN, true, count);
         'entries: while left > 0 {
             if rest.pass_same() {
-                left = rest.pass_equal(left - 1);
+                left = rest.pass_runs(WHOLE_SPAN, true, left - 1);
             } else if rest.pass_one() {
                 left -= 1;
             } else {

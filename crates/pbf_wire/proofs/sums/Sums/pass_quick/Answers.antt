@@ -8,11 +8,11 @@ entries-preserved-then-pass_same c =
     let all = left_of c.args.self.now in
     let inv = c.entries.invariant in
     let some = c.entries-test.true in
-    let e = c.pass_equal-left.ensures in
+    let e = c.pass_runs-left-then-pass_same.ensures in
     let same = left_of c.pass_same.new.self in
     let one = more_taken all (left_of c.entries.rest) same c.args.count c.entries.left 1 inv.fewer (omega (arith, some)) inv.passed (c.pass_same.ensures.passed c.if-pass_same.true) in
     record {
-      passed = joined_taken all same (left_of c.pass_equal-left.new.self) c.args.count (c.entries.left - 1) c.pass_equal-left.result (omega (arith, inv.fewer)) e.fewer one e.passed;
+      passed = joined_taken all same (left_of c.pass_runs-left-then-pass_same.new.self) c.args.count (c.entries.left - 1) c.pass_runs-left-then-pass_same.result (omega (arith, inv.fewer)) e.fewer one e.spelled;
       fewer = omega (arith, inv.fewer, e.fewer);
     }
 
