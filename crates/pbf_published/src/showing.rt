@@ -7,7 +7,7 @@ ghost use Rattle.pbf_pass.specs.Judged.{judged_file};
 ghost use Rattle.pbf_pass.specs.Pass.{CountsFile};
 ghost use Rattle.pbf_pass.specs.Hashing.{digest_if};
 ghost use Rattle.pbfcut.specs.Listing.{Lists, ListsFront, ListsToFault};
-ghost use Rattle.pbfcut.specs.Showing.{Shown, ShowsFront};
+ghost use Rattle.pbfcut.specs.Showing.{RefusedAtOnce, Shown, ShowsFront};
 ghost use Rattle.pbf_pass.specs.Stops.{Caused, ReadFailed, WriteFailed, unchanged};
 ghost use Rattle.pbf_published.specs.Showing.{ShowsHeader, storage_line};
 ghost use Rattle.pbf_published.specs.Published.{ChangedOf, GavePublished, RefusedRaw, UnlessChanged, raw_of};
@@ -98,6 +98,12 @@ pub fn show_header<F: Feed, D: Drain>(
     // The drain took the lines of the first frame of the raw file that the feed's bytes mean, and how it is stored.
     ensures shown { OnOk result (ShowsHeader D.Drain drain.old drain.new
         (judged_known false 0 (raw_of (F.remaining feed.old)))) }
+    // Each stop has its cause. What is refused is that frame, for the first fault of the raw file, of any phase, and the drain took
+    // nothing. `Read` and `Write` come only if a count of failures rose: of the feed, of the drain; `Changed` never comes.
+    ensures stops { IfErr result (λ h. Caused (RefusedAtOnce
+        (judged_file (raw_of (F.remaining feed.old))) D.Drain drain.old drain.new)
+        (ReadFailed F.Feed feed.old feed.new) (WriteFailed D.Drain drain.old drain.new)
+        unchanged h.stop) }
 {
     let mut input = open(alloc, Inflater::new(alloc)?, &mut *feed, false);
     let outcome = pbfcut::show_first(alloc, &mut input, drain);
