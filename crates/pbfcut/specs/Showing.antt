@@ -79,7 +79,7 @@ pub record ShowsText {D : Type 0} (d : drain.Ghosts D) (fault : Option Fault) (t
 -- a call stopped: for the fault, then nothing went out; otherwise a prefix of the text did
 pub record StopsShowing {D : Type 0} (d : drain.Ghosts D) (fault : Option Fault) (text : List ℕ) (old new : D) (stop : Stop) : Type 0 where
   pub cause : Caused (Only fault) ⊥ (WriteFailed d old new) unchanged stop
-  pub front : (d.taken new ≡ d.taken old) ⊎ ((fault ≡ None) × IsFront (d.taken old) (d.taken new) text)
+  pub front : Added d old [] new ⊎ ((fault ≡ None) × IsFront (d.taken old) (d.taken new) text)
 
 -- what a call does that writes these lines
 pub record WritesLines {D X : Type 0} (d : drain.Ghosts D) (text : List ℕ) (before now : LineWriter) (old new : D) (result : Result X Stop) : Type 0 where
@@ -113,3 +113,7 @@ pub record ShowsFirst {D : Type 0} (d : drain.Ghosts D) (old new : D) (known : O
   pub rest : Option Verdict
   pub begins : known ≡ with_first_known frame rest
   pub shows : ShowsText d (payload_fault frame) (frame_text false frame) old new
+
+-- what is refused is the first frame, by the first fault of the file, and then the drain took nothing
+abbrev pub RefusedAtOnce : {D : Type 0} → Option Verdict → drain.Ghosts D → (old new : D) → Fault → Type 0
+RefusedAtOnce known d old new e = Says known ([], Some e) × Added d old [] new

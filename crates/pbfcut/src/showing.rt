@@ -12,8 +12,9 @@ ghost use Rattle.pbf_pass.specs.Hashing.{digest_if};
 ghost use Rattle.pbf_pass.specs.Judged.{judged_file};
 ghost use Rattle.pbf_pass.specs.Pass.{CountsFile};
 ghost use Rattle.pbf_pass.specs.Payload.{header_block, primitive_block, lent_by};
+ghost use Rattle.pbf_pass.specs.Stops.{Caused, ReadFailed, WriteFailed, unchanged};
 ghost use Rattle.pbfcut.specs.Repeat.{SameDigest};
-ghost use Rattle.pbfcut.specs.Showing.{Shown, ShowsFirst, ShowsFront, WritesLines, WritesPayload, ShowsNext, FailsToShowNext, ShowsAgain};
+ghost use Rattle.pbfcut.specs.Showing.{RefusedAtOnce, Shown, ShowsFirst, ShowsFront, WritesLines, WritesPayload, ShowsNext, FailsToShowNext, ShowsAgain};
 ghost use Rattle.pbfcut.specs.Calls.{drained, fed, StopsTwoPasses};
 ghost use Rattle.pbfcut.specs.Ends.{EndsTwoPasses};
 
@@ -159,6 +160,11 @@ pub fn show_first<F: Feed, D: Drain>(alloc: Global, feed: &mut F, drain: &mut D)
     // The drain took exactly the lines of the first frame, which has no fault.
     ensures shown { OnOk result (ShowsFirst D.Drain drain.old drain.new
         (judged_known false 0 (F.remaining feed.old))) }
+    // Each stop has its cause. What is refused is the first frame, for the first fault of the file, of any phase, and the drain took
+    // nothing. `Read` and `Write` come only if the count of failures of the feed, of the drain, rose; `Changed` never comes.
+    ensures stops { IfErr result (Caused
+        (RefusedAtOnce (judged_file (F.remaining feed.old)) D.Drain drain.old drain.new)
+        (ReadFailed F.Feed feed.old feed.new) (WriteFailed D.Drain drain.old drain.new) unchanged) }
     // The devices keep their references, and their counts of failures don't fall.
     ensures keeps { KeepsFeed F.Feed feed.old feed.new × KeepsDrain D.Drain drain.old drain.new }
 {
