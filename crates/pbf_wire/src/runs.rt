@@ -24,15 +24,6 @@ fn are_halved(block: &[u8; 16]) -> bool
     are_below(lanes, 128) && are_below(lanes & u8x16::splat(1), 1)
 }
 
-/// The sum of such bytes.
-#[inline(always)]
-fn sum_of(block: &[u8; 16]) -> u16
-    requires { AllByRecursion IsHalved block.now }
-    ensures { result ≡ sum block.now }
-{
-    u8x16::from_array(*block).cast::<u16>().strict_reduce_sum()
-}
-
 /// Half the sum of the bytes, if each is below 128 and even: so each is a number of one byte, which means an entry that isn't negative.
 #[inline(always)]
 pub(crate) fn rise_of(block: &[u8; 16]) -> Option<u16>
@@ -41,7 +32,8 @@ pub(crate) fn rise_of(block: &[u8; 16]) -> Option<u16>
     if !are_halved(block) {
         return None;
     }
-    Some(sum_of(block) / 2)
+    let sum = u8x16::from_array(*block).cast::<u16>().strict_reduce_sum();
+    Some(sum / 2)
 }
 
 /// What is left of some bytes after blocks of bytes below 128.
