@@ -1,6 +1,6 @@
 //! Numbers of one byte, sixteen at once.
 
-ghost use Rattle.std.specs.Prelude.{◌≡◌, ◌<◌, ◌≤◌, ⊤, IsTrue, MatchOption, length, take};
+ghost use Rattle.std.specs.Prelude.{◌≡◌, ◌<◌, ◌≤◌, ⊤, IsTrue, MatchOption, length, replicate, take};
 ghost use Rattle.std.specs.List.{AllByRecursion, sum};
 ghost use Rattle.pbf_wire.specs.Rising.{AreRising, AreSingle, IsHalved};
 
@@ -34,6 +34,21 @@ pub(crate) fn rise_of(block: &[u8; 16]) -> Option<u16>
     }
     let sum = u8x16::from_array(*block).cast::<u16>().strict_reduce_sum();
     Some(sum / 2)
+}
+
+/// How many of some bytes are 0 before the first that isn't.
+#[inline(always)]
+pub(crate) fn zeros_of(block: &[u8; 16]) -> usize
+    ensures zeros { take result block.now ≡ replicate result 0 }
+    ensures few { result ≤ 16 }
+{
+    let others = u8x16::from_array(*block)
+        .simd_ge(u8x16::splat(1))
+        .to_bitmask();
+    if others == 0 {
+        return 16;
+    }
+    others.trailing_zeros() as usize
 }
 
 /// What is left of some bytes after blocks of bytes below 128.
