@@ -1,7 +1,7 @@
-use Rattle.std.proofs.Common.{◌≡◌, ◌-◌, map, ap, ◌∙◌, arith}
+use Rattle.std.proofs.Common.{◌-◌, map, ap, ◌∙◌, arith}
 use Rattle.pbf_wire.specs.Cursors.{numbers_left}
 use Rattle.osm_entity.specs.Sources.{low_32}
-use Rattle.pbf_dense.specs.Runs.{after_run, after_runs}
+use Rattle.pbf_dense.specs.Runs.{after_runs}
 use Rattle.pbf_dense.proofs.MovingLemmas.{one_run, bare_runs, low_zeros}
 use Rattle.pbf_dense.proofs.dense.skip_runs.Goals as goal
 
