@@ -250,7 +250,7 @@ impl<'a> Column<'a> {
     }
 
     /// Skips the next numbers, at most so many, as long as each is a 0 of one byte of the packed occurrence that was begun, and returns how
-    /// many. It looks at sixteen bytes; if there are fewer, it skips none. The place is left as it is.
+    /// many. It reads sixteen bytes; if there are fewer, it skips none. The place is left as it is.
     #[inline(always)]
     #[tactic(auto, unfolding(crate::specs::Cursors::column_left))]
     pub fn pass_zeros(&mut self, most: usize) -> usize

@@ -159,7 +159,7 @@ impl<'a> Sums<'a> {
         total
     }
 
-    /// Skips the next values, at most so many, as long as each is the last one again by a 0 of one byte, and returns how many. It looks at
+    /// Skips the next values, at most so many, as long as each is the last one again by a 0 of one byte, and returns how many. It reads
     /// sixteen bytes of the packed occurrence that was begun; if there are fewer, it skips none.
     #[inline(always)]
     pub fn pass_same(&mut self, most: usize) -> usize
