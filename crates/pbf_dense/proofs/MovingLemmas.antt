@@ -2,7 +2,7 @@
 use Rattle.std.proofs.Common.{◌≡◌, ◌+◌, ◌-◌, ◌<◌, ◌≤◌, ℕ, zero, suc, ℤ, List, [], ◌∷◌, ◌++◌, replicate, drop, map, refl, sym, ap, ◌∙◌, arith}
 use Rattle.osm_entity.specs.declared.scale.Scale.{Scale}
 use Rattle.osm_entity.specs.Entity.{TagSpec, MetaSpec, NodeSpec}
-use Rattle.osm_entity.specs.Sources.{tag_of, run}
+use Rattle.osm_entity.specs.Sources.{low_32, tag_of, run}
 use Rattle.pbf_dense.specs.Info.{InfoSpec, meta_at, info_rest, info_past}
 use Rattle.pbf_dense.specs.Runs.{after_run, after_runs}
 use Rattle.pbf_dense.specs.Nodes.{nodes_of_columns}
@@ -58,10 +58,15 @@ zero_runs (suc n) left rest =
     let count : left + suc n ≡ suc (left + n) = omega arith in
     ap (λ k. after_runs k (0 ∷ replicate n 0 ++ rest)) count ∙ run_first (left + n) (0 ∷ replicate n 0 ++ rest) ∙ zero_runs n left rest
 
-pub eight_runs : (left : ℕ) (keys_vals rest : List ℕ) → 8 ≤ left → keys_vals ≡ replicate 8 0 ++ rest → after_runs (left - 8) rest ≡ after_runs left keys_vals
-eight_runs left keys_vals rest enough e =
-    let count : left - 8 + 8 ≡ left = omega (arith, enough) in
-    sym (ap (after_runs left) e ∙ ap (λ k. after_runs k (replicate 8 0 ++ rest)) (sym count) ∙ zero_runs 8 (left - 8) rest)
+pub bare_runs : (left n : ℕ) (keys_vals rest : List ℕ) → n ≤ left → keys_vals ≡ replicate n 0 ++ rest → after_runs (left - n) rest ≡ after_runs left keys_vals
+bare_runs left n keys_vals rest enough e =
+    let count : left - n + n ≡ left = omega (arith, enough) in
+    sym (ap (after_runs left) e ∙ ap (λ k. after_runs k (replicate n 0 ++ rest)) (sym count) ∙ zero_runs n (left - n) rest)
+
+-- the same of what their low 32 bits are
+pub low_zeros : (n : ℕ) (numbers : List ℕ) → map low_32 (replicate n 0 ++ numbers) ≡ replicate n 0 ++ map low_32 numbers
+low_zeros zero numbers = refl
+low_zeros (suc n) numbers = ap (λ (xs : List ℕ). 0 ∷ xs) (low_zeros n numbers)
 
 -- ---- runs, step by step
 

@@ -1,9 +1,9 @@
 -- What nodes weigh together, by the columns of users and of tags.
-use Rattle.std.proofs.Common.{◌≡◌, ◌+◌, ◌*◌, ◌≤◌, ℕ, zero, suc, ℤ, List, [], ◌∷◌, ◌++◌, replicate, length, take, drop, map, refl, sym, ap, subst, ◌∙◌, arith, add-one}
+use Rattle.std.proofs.Common.{◌≡◌, ◌+◌, ◌-◌, ◌*◌, ◌^◌, ◌<◌, ◌≤◌, min, ℕ, zero, suc, ℤ, List, [], ◌∷◌, ◌++◌, replicate, length, take, drop, map, refl, sym, ap, subst, ◌∙◌, arith, add-one}
+use Rattle.std.proofs.Math.Nat.{le-mul_of_pos_right, mul_comm}
 use Rattle.std.specs.List.{sum_by}
 use Rattle.std.proofs.lemmas.List.Sums.{sum_by-cons}
 use Rattle.pbf_wire.specs.Cursors.{numbers_left, sums_left}
-use Rattle.pbf_wire.specs.Passing.{eight_of}
 use Rattle.osm_entity.specs.declared.scale.Scale.{Scale}
 use Rattle.osm_entity.specs.Sources.{low_32, tag_of, run}
 use Rattle.osm_entity.specs.Weight.{node_weight}
@@ -11,7 +11,7 @@ use Rattle.pbf_dense.specs.Cursors.{dense_left, info_left}
 use Rattle.pbf_dense.specs.Info.{InfoSpec, meta_at, info_rest, user_text}
 use Rattle.pbf_dense.specs.Nodes.{nodes_of_columns}
 use Rattle.pbf_dense.specs.Runs.{after_run, after_runs}
-use Rattle.pbf_dense.specs.Steady.{AreEight, first_weight}
+use Rattle.pbf_dense.specs.Steady.{AreSame, first_weight}
 use Rattle.pbf_dense.specs.declared.dense.Dense.{Dense}
 use Rattle.pbf_dense.proofs.EntryLemmas.{passed_one}
 use Rattle.pbf_dense.proofs.MovingLemmas.{drop_one, run_first, node_made}
@@ -58,7 +58,7 @@ module _ (table : List (List ℕ)) where
         runs = rw add-one (run ∙ ap after_run h.runs);
       }
 
-  -- eight nodes more, which have no tags and the same user
+  -- nodes more, which have no tags and the same user
   module _ (user : ℤ) where
     abbrev bare : ℕ
     bare = 160 + length (user_text table user)
@@ -78,10 +78,17 @@ module _ (table : List (List ℕ)) where
           subst (λ k. AreWeighed users keys_vals later rest k (weight + suc n * bare)) all (subst (AreWeighed users keys_vals later rest (count + 1 + n)) sum
           (bare_run n later rest (count + 1) (weight + bare) (one_bare (replicate n user ++ later) (replicate n 0 ++ rest) count weight h)))
 
-  pub eight_weighed : (users later next : List ℤ) (keys_vals rest after : List ℕ) (count weight eight : ℕ) → AreWeighed users keys_vals later rest count weight → AreEight table later next rest after eight → AreWeighed users keys_vals next after (count + 8) (weight + eight)
-  eight_weighed users later next keys_vals rest after count weight eight h e =
-      let here = subst (λ us. AreWeighed users keys_vals us (eight_of 0 ++ after) count weight) e.users_are (subst (λ ks. AreWeighed users keys_vals later ks count weight) e.runs_are h) in
-      subst (λ w. AreWeighed users keys_vals next after (count + 8) (weight + w)) (sym e.weight_is) (bare_run e.user users keys_vals 8 next after count weight here)
+  pub same_weighed : (users later next : List ℤ) (keys_vals rest after : List ℕ) (count weight n more : ℕ) → AreWeighed users keys_vals later rest count weight → AreSame table later next rest after n more → AreWeighed users keys_vals next after (count + n) (weight + more)
+  same_weighed users later next keys_vals rest after count weight n more h e =
+      let here = subst (λ us. AreWeighed users keys_vals us (replicate n 0 ++ after) count weight) e.users_are (subst (λ ks. AreWeighed users keys_vals later ks count weight) e.runs_are h) in
+      subst (λ w. AreWeighed users keys_vals next after (count + n) (weight + w)) (sym e.weight_is) (bare_run e.user users keys_vals n next after count weight here)
+
+-- what they weigh, if that is no more than there is room for
+pub bare_weight : (size count one weight room : ℕ) → 0 < count → one ≡ min (size + 160) (2 ^ 64 - 1) → weight ≡ min (one * count) (2 ^ 64 - 1) → weight ≤ room → room < 2 ^ 64 - 1 → weight ≡ count * (160 + size)
+bare_weight size count one weight room some one_is weight_is light few =
+    let whole : weight ≡ one * count = omega (arith, weight_is, light, few) in
+    let exact : one ≡ 160 + size = omega (arith, one_is, whole, light, few, le-mul_of_pos_right one some) in
+    whole ∙ ap (λ n. n * count) exact ∙ mul_comm (160 + size) count
 
 -- the columns of a dense message
 pub nodes_weighed : (dense : Dense) (later : List ℤ) (rest : List ℕ) (count weight : ℕ) → count ≤ length (dense_left dense) → AreWeighed dense.table.now (sums_left dense.info.users) (map low_32 (numbers_left dense.keys_vals)) later rest count weight

@@ -1,7 +1,6 @@
 -- Nodes that are written many at a time.
-use Rattle.std.specs.Prelude.{◌≡◌, ◌⊎◌, ◌≤◌, ◌+◌, ◌*◌, ℕ, ℤ, List, [], ◌++◌, length, map, slice_get}
+use Rattle.std.specs.Prelude.{◌≡◌, ◌⊎◌, ◌≤◌, ◌+◌, ◌*◌, ℕ, ℤ, List, [], ◌++◌, length, map, replicate, slice_get}
 use Rattle.std.specs.Option.{option_map}
-use Rattle.pbf_wire.specs.Passing.{eight_of}
 use Rattle.osm_entity.specs.Entity.{NodeSpec}
 use Rattle.osm_entity.specs.Sources.{tag_of, run}
 use Rattle.osm_entity.specs.declared.weight.TheConstants.{ENTITY_WEIGHT}
@@ -40,12 +39,12 @@ user_weight table users = text_weight (option_map (user_text table) (slice_get u
 abbrev pub first_weight : List (List ℕ) → List ℤ → List ℕ → ℕ
 first_weight table users keys_vals = ENTITY_WEIGHT + user_weight table users + tags_weight (map (tag_of table) (run keys_vals))
 
--- eight nodes without tags that have the same user
-pub record AreEight (table : List (List ℕ)) (users later : List ℤ) (runs rest : List ℕ) (weight : ℕ) : Type 0 where
+-- nodes without tags that have the same user
+pub record AreSame (table : List (List ℕ)) (users later : List ℤ) (runs rest : List ℕ) (count weight : ℕ) : Type 0 where
   pub user : ℤ
-  pub users_are : users ≡ eight_of user ++ later
-  pub runs_are : runs ≡ eight_of 0 ++ rest
-  pub weight_is : weight ≡ 8 * (ENTITY_WEIGHT + length (user_text table user))
+  pub users_are : users ≡ replicate count user ++ later
+  pub runs_are : runs ≡ replicate count 0 ++ rest
+  pub weight_is : weight ≡ count * (ENTITY_WEIGHT + length (user_text table user))
 
 -- ---- what is written
 

@@ -29,7 +29,7 @@ fn skip_run(numbers: &mut Column<'_>)
     *numbers = rest;
 }
 
-/// Moves past as many zeros in key place: past eight at once, if eight come in a row.
+/// Moves past as many zeros in key place: past some at once, if they come in a row.
 fn skip_runs(numbers: &mut Column<'_>, count: usize)
     ensures { map low_32 (numbers_left numbers.new)
         ≡ after_runs count (map low_32 (numbers_left numbers.old)) }
@@ -37,12 +37,12 @@ fn skip_runs(numbers: &mut Column<'_>, count: usize)
     let mut rest = *numbers;
     let mut left = count;
     'runs: while left > 0 {
-        if left >= 8 && rest.pass_zeros() {
-            left -= 8;
-            continue;
+        let bare = rest.pass_zeros(left);
+        left -= bare;
+        if bare == 0 {
+            skip_run(&mut rest);
+            left -= 1;
         }
-        skip_run(&mut rest);
-        left -= 1;
     }
     *numbers = rest;
 }

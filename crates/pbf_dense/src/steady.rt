@@ -92,7 +92,7 @@ impl<'a> Weights<'a> {
     ghost use Rattle.std.specs.Prelude.{◌≡◌, ◌-◌, ◌^◌, ◌<◌, ◌≤◌, ⊤, MatchOption, None, drop, map, min};
     ghost use Rattle.pbf_wire.specs.Cursors.{numbers_left, sums_left};
     ghost use Rattle.osm_entity.specs.Sources.{low_32};
-    ghost use Rattle.pbf_dense.specs.Steady.{AreEight, first_weight, user_weight};
+    ghost use Rattle.pbf_dense.specs.Steady.{AreSame, first_weight, user_weight};
     ghost use Rattle.pbf_dense.specs.Runs.{after_run};
 
     /// What the text of the next node's user weighs.
@@ -122,35 +122,34 @@ impl<'a> Weights<'a> {
         user.saturating_add(ENTITY_WEIGHT).saturating_add(tags)
     }
 
-    /// What the next eight nodes weigh together, if it is seen at once that they have no tags and the user of the node before, and if they
-    /// are no more than `most` and weigh no more than `room`. They are skipped then.
-    fn next_eight(&mut self, most: usize, room: u64) -> Option<u64>
+    /// Some of the next nodes, at most `most`, and what they weigh together, if it is seen at once that they have no tags and the user of the
+    /// node before, and if they weigh no more than `room`. They are skipped then.
+    fn next_same(&mut self, most: usize, room: u64) -> Option<NodesWeight>
         requires { room < 2 ^ 64 - 1 }
-        ensures few { MatchOption result ⊤ (λ weight. (8 ≤ most) × (weight ≤ room)) }
-        ensures eight { MatchOption result ⊤ (λ weight. AreEight self.old.table.now
+        ensures few { MatchOption result ⊤ (λ same.
+            (0 < same.count) × (same.count ≤ most) × (same.weight ≤ room)) }
+        ensures same { MatchOption result ⊤ (λ same. AreSame self.old.table.now
             (sums_left self.old.users) (sums_left self.new.users)
             (map low_32 (numbers_left self.old.keys_vals))
-            (map low_32 (numbers_left self.new.keys_vals)) weight) }
+            (map low_32 (numbers_left self.new.keys_vals)) same.count same.weight) }
         ensures table { self.new.table ≡ self.old.table }
         ensures kept { result ≡ None → self.new ≡ self.old }
     {
         let mut next = *self;
-        if most < 8 || !next.keys_vals.pass_zeros() {
-            return None;
-        }
-        if !next.users.pass_eight() {
+        let count = next.users.pass_same(most);
+        if count == 0 || next.keys_vals.pass_zeros(count) < count {
             return None;
         }
         let user = next.users.last_value();
         let text = text_of(next.table, user);
         let weight = (text.len() as u64)
             .saturating_add(ENTITY_WEIGHT)
-            .saturating_mul(8);
+            .saturating_mul(count as u64);
         if weight > room {
             return None;
         }
         *self = next;
-        Some(weight)
+        Some(NodesWeight { count, weight })
     }
 }
 
@@ -197,9 +196,9 @@ impl<'a> Dense<'a> {
         let mut count = 0;
         let mut weight = 0;
         'nodes: while count < most {
-            if let Some(eight) = weights.next_eight(most - count, most_weight - weight) {
-                count += 8;
-                weight += eight;
+            if let Some(same) = weights.next_same(most - count, most_weight - weight) {
+                count += same.count;
+                weight += same.weight;
                 continue;
             }
             let next = weights.next();

@@ -1,13 +1,15 @@
 -- Entries of one byte that aren't negative, sixteen at once.
-use Rattle.std.proofs.Common.{◌≡◌, ◌<◌, ◌≤◌, ◌+◌, ◌-◌, ◌*◌, ◌/◌, ◌%◌, ◌^◌, ℕ, zero, suc, Bool, true, false, cond, leb, List, [], ◌∷◌, ◌++◌, length, map, take, drop, replicate, bit_and, ℤ, pos, negsuc, ◌+ℤ◌, ◌<ℤ◌, refl, sym, ap, subst, ◌∙◌, arith, w8, take-append-drop}
-use Rattle.std.specs.List.{AllByRecursion, fold, sum}
+use Rattle.std.proofs.Common.{◌≡◌, ◌<◌, ◌≤◌, ◌+◌, ◌-◌, ◌*◌, ◌/◌, ◌%◌, ◌^◌, ℕ, zero, suc, Bool, true, false, not, cond, leb, ◌≢◌, List, [], ◌∷◌, ◌++◌, length, map, take, drop, replicate, bit_and, ℤ, pos, negsuc, ◌+ℤ◌, ◌<ℤ◌, refl, sym, ap, subst, ◌∙◌, arith, w8, take-append-drop}
+use Rattle.std.specs.List.{AllByRecursion, fold, prefix_len, sum}
 use Rattle.std.specs.Simd.Lanes.{mask_l, sum_l, fold_l, zip2, top}
-use Rattle.std.proofs.lemmas.Bool.{eq-eqb}
+use Rattle.std.proofs.lemmas.Bool.{eq-eqb, le-leb}
 use Rattle.std.proofs.lemmas.Bool.Decides.{nat_tests}
 use Rattle.std.proofs.lemmas.Int.{ints}
-use Rattle.std.proofs.lemmas.List.{length-map, map-id}
+use Rattle.std.proofs.lemmas.List.{length-map, map-id, take-replicate, take-take}
 use Rattle.std.proofs.lemmas.Nat.{and_mask}
-use Rattle.std.proofs.lemmas.Simd.{fold-sum, mask_l-mod, tops_compared, zip2_splat_left}
+use Rattle.std.proofs.lemmas.List.Sums.{prefix_len-le-length}
+use Rattle.std.proofs.lemmas.Simd.{fold-sum, mask_l-mod, tops_compared, trailing_mask_l, zip2_splat_left}
+use Rattle.std.specs.Int.Count.{count_trailing_zeros}
 use mir.Val.{bits, hbits}
 use Rattle.pbf_wire.specs.Columns.{entries, read_entries, placed}
 use Rattle.pbf_wire.specs.Cursors.{numbers_left, sums_left}
@@ -135,3 +137,31 @@ run_is old new entries rise span vs n h numbers above below is entries_are limit
     let after = run_past front (numbers_left entries) span vs old.limit old.total n old.narrow h.each old.within (subst (IsWithin old.limit) end within) above (subst (λ z. z <ℤ span.below) end below) before in
     let counted = subst (λ m. ArePassed span true vs (values old.limit (old.total +ℤ pos (sum front / 2)) old.narrow (numbers_left entries)) (n + m)) h.many after in
     rw (end, entries_are, limit_is, narrow_is) counted
+
+-- ---- zeros before the first byte that isn't
+
+zeros_first : (xs : List ℕ) → take (prefix_len (λ b. not (leb 1 b)) xs) xs ≡ replicate (prefix_len (λ b. not (leb 1 b)) xs) 0
+zeros_first [] = refl
+zeros_first (zero ∷ xs) =
+    let one : suc (prefix_len (λ b. not (leb 1 b)) xs) ≡ 1 + prefix_len (λ b. not (leb 1 b)) xs = omega arith in
+    subst (λ n. take n (0 ∷ xs) ≡ replicate n 0) one (ap (λ (w : List ℕ). 0 ∷ w) (zeros_first xs))
+zeros_first (suc b ∷ xs) =
+    let n = 1 + prefix_len (λ b. not (leb 1 b)) xs in
+    subst (λ (t : Bool). take (cond (not t) n 0) (suc b ∷ xs) ≡ replicate (cond (not t) n 0) 0) (sym (le-leb 1 (suc b) (omega arith))) refl
+
+module _ (xs : List ℕ) (long : length xs ≡ 16) (some : mask_l (map (top (hbits w8)) (zip2 (λ a b. cond (leb a b) (2 ^ bits w8 - 1) 0) (replicate 16 1) xs)) % 2 ^ 64 ≢ 0) where
+  zeros_counted : count_trailing_zeros 64 (mask_l (map (top (hbits w8)) (zip2 (λ a b. cond (leb a b) (2 ^ bits w8 - 1) 0) (replicate 16 1) xs)) % 2 ^ 64) ≡ prefix_len (λ b. not (leb 1 b)) xs
+  zeros_counted = rw (mask_is 1 xs long) (trailing_mask_l (λ b. leb 1 b) 64 xs (omega (arith, long)) (omega (arith, mask_is 1 xs long, some)))
+
+  pub zeros_are : take (count_trailing_zeros 64 (mask_l (map (top (hbits w8)) (zip2 (λ a b. cond (leb a b) (2 ^ bits w8 - 1) 0) (replicate 16 1) xs)) % 2 ^ 64)) xs ≡ replicate (count_trailing_zeros 64 (mask_l (map (top (hbits w8)) (zip2 (λ a b. cond (leb a b) (2 ^ bits w8 - 1) 0) (replicate 16 1) xs)) % 2 ^ 64)) 0
+  zeros_are = rw zeros_counted (zeros_first xs)
+
+  pub zeros_few : count_trailing_zeros 64 (mask_l (map (top (hbits w8)) (zip2 (λ a b. cond (leb a b) (2 ^ bits w8 - 1) 0) (replicate 16 1) xs)) % 2 ^ 64) ≤ 16
+  zeros_few = omega (arith, zeros_counted, long, prefix_len-le-length (λ b. not (leb 1 b)) xs)
+
+-- at most so many of them, and what is left
+pub zeros_front : (bytes : List ℕ) (zeros n : ℕ) → take zeros (take 16 bytes) ≡ replicate zeros 0 → zeros ≤ 16 → n ≤ zeros → bytes ≡ replicate n 0 ++ drop n bytes
+zeros_front bytes zeros n are few fewer =
+    let front : take n bytes ≡ replicate n 0 =
+    sym (take-take n 16 bytes (omega (arith, few, fewer))) ∙ sym (take-take n zeros (take 16 bytes) fewer) ∙ ap (take n) are ∙ take-replicate n zeros 0 fewer in
+    sym (take-append-drop n bytes) ∙ ap (λ (w : List ℕ). w ++ drop n bytes) front

@@ -172,11 +172,6 @@ more_taken a b c count left n fewer enough h k = let all : count - left + n ≡ 
 pub start_taken : (left : Left) (count : ℕ) → PassesSpelled left left (count - count)
 start_taken left count = let none : 0 ≡ count - count = omega arith in subst (PassesSpelled left left) none (none_taken left)
 
-pub joined_taken : (a b c : Left) (count left after : ℕ) → left ≤ count → after ≤ left → PassesSpelled a b (count - left) → PassesSpelled b c (left - after) → PassesSpelled a c (count - after)
-joined_taken a b c count left after fewer enough h k =
-    let all : count - left + (left - after) ≡ count - after = omega (arith, fewer, enough) in
-    subst (PassesSpelled a c) all (then_taken a b c (count - left) (left - after) h k)
-
 module _ (a b : Left) (n : ℕ) (h : PassesSpelled a b n) where
   taken_are : h.taken ≡ take n a.values
   taken_are = sym (ap (take n) h.given ∙ take_at h.taken b.values n h.counted)

@@ -1,5 +1,5 @@
 -- Values that are skipped without being given.
-use Rattle.std.specs.Prelude.{◌≡◌, ◌+◌, ◌≤◌, ℕ, List, [], ◌∷◌, drop, length}
+use Rattle.std.specs.Prelude.{◌≡◌, ◌+◌, ◌≤◌, ℕ, drop, length}
 use Rattle.pbf_wire.specs.declared.sums.Sums.{Sums}
 use Rattle.pbf_wire.specs.Cursors.{sums_left}
 
@@ -8,7 +8,3 @@ pub record PassesSome (old new : Sums) (count left : ℕ) : Type 0 where
   pub passed : drop left (sums_left new) ≡ drop count (sums_left old)
   pub there : length (sums_left old) + left ≡ length (sums_left new) + count
   pub fewer : left ≤ count
-
--- eight times the same
-abbrev pub eight_of : {X : Type 0} → X → List X
-eight_of x = x ∷ x ∷ x ∷ x ∷ x ∷ x ∷ x ∷ x ∷ []

@@ -10,7 +10,7 @@ ghost use Rattle.pbf_wire.specs.declared.limits.TheConstants.{OFFSET_LIMIT};
 
 use crate::field::Payload;
 use crate::fields::{Fields, FoundFields};
-use crate::runs::{after_singles, rise_of};
+use crate::runs::{after_singles, rise_of, zeros_of};
 use crate::short::{MOST_BYTES, count_left_if_small, count_short};
 use crate::varint::{first_varint, near_varint};
 
@@ -36,18 +36,6 @@ fn first_near(packed: &[u8], narrow: bool) -> Option<(u64, &[u8])>
     Some((value, &packed[length..]))
 }
 
-/// Whether the first eight bytes are there and are all 0.
-fn begins_with_zeros(bytes: &[u8]) -> bool
-    ensures zeros { IsTrue result
-        → take 8 bytes.now ≡ 0 ∷ 0 ∷ 0 ∷ 0 ∷ 0 ∷ 0 ∷ 0 ∷ 0 ∷ [] }
-    ensures there { IsTrue result → 8 ≤ length bytes.now }
-{
-    let Some(front) = bytes.first_chunk::<8>() else {
-        return false;
-    };
-    u64::from_le_bytes(*front) == 0
-}
-
 /// A cursor over a column: it returns the numbers of all occurrences of one field in order, and says where the occurrence
 /// of the last one is. It does not allocate, and a copy of it continues by itself.
 #[derive(Clone, Copy)]
@@ -61,7 +49,7 @@ pub struct Column<'a> {
 }
 
 impl<'a> Column<'a> {
-    ghost use Rattle.std.specs.Prelude.{◌+◌, ◌-◌, drop};
+    ghost use Rattle.std.specs.Prelude.{◌+◌, ◌-◌, drop, replicate};
     ghost use Rattle.std.specs.List.{AllByRecursion};
     ghost use Rattle.pbf_wire.specs.Rising.{AreRising};
     ghost use Rattle.pbf_wire.specs.Occurrence.{items, found};
@@ -253,21 +241,20 @@ impl<'a> Column<'a> {
         true
     }
 
-    /// Skips the next eight numbers, if each is a 0 of one byte in the packed occurrence that was begun. Otherwise nothing changes. The
-    /// place is left as it is.
+    /// Skips the next numbers, at most so many, as long as each is a 0 of one byte of the packed occurrence that was begun, and returns how
+    /// many. It reads sixteen bytes; if there are fewer, it skips none. The place is left as it is.
     #[tactic(auto, unfolding(crate::specs::Cursors::column_left))]
-    pub fn pass_zeros(&mut self) -> bool
-        ensures passed { IsTrue result → numbers_left self.old
-            ≡ 0 ∷ 0 ∷ 0 ∷ 0 ∷ 0 ∷ 0 ∷ 0 ∷ 0 ∷ numbers_left self.new }
-        ensures kept { result ≡ false → self.new ≡ self.old }
-        ensures spelled { IsTrue result → self.old.packed.now
-            ≡ 0 ∷ 0 ∷ 0 ∷ 0 ∷ 0 ∷ 0 ∷ 0 ∷ 0 ∷ self.new.packed.now }
+    pub fn pass_zeros(&mut self, most: usize) -> usize
+        ensures passed { numbers_left self.old ≡ replicate result 0 ++ numbers_left self.new }
+        ensures spelled { self.old.packed.now ≡ replicate result 0 ++ self.new.packed.now }
+        ensures few { result ≤ most }
     {
-        if !begins_with_zeros(self.packed) {
-            return false;
-        }
-        self.packed = &self.packed[8..];
-        true
+        let Some(front) = self.packed.first_chunk::<16>() else {
+            return 0;
+        };
+        let zeros = zeros_of(front).min(most);
+        self.packed = &self.packed[zeros..];
+        zeros
     }
 
     /// Skips the next sixteen numbers, if each takes one byte of the packed occurrence that was begun and is even, and returns half their

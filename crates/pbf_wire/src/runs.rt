@@ -1,6 +1,6 @@
 //! Numbers of one byte, sixteen at once.
 
-ghost use Rattle.std.specs.Prelude.{◌≡◌, ◌<◌, ◌≤◌, ⊤, IsTrue, MatchOption, length, take};
+ghost use Rattle.std.specs.Prelude.{◌≡◌, ◌<◌, ◌≤◌, ⊤, IsTrue, MatchOption, length, replicate, take};
 ghost use Rattle.std.specs.List.{AllByRecursion, sum};
 ghost use Rattle.pbf_wire.specs.Rising.{AreRising, AreSingle, IsHalved};
 
@@ -22,14 +22,6 @@ fn are_halved(block: &[u8; 16]) -> bool
     are_below(lanes, 128) && are_below(lanes & u8x16::splat(1), 1)
 }
 
-/// The sum of such bytes.
-fn sum_of(block: &[u8; 16]) -> u16
-    requires { AllByRecursion IsHalved block.now }
-    ensures { result ≡ sum block.now }
-{
-    u8x16::from_array(*block).cast::<u16>().strict_reduce_sum()
-}
-
 /// Half the sum of the bytes, if each is below 128 and even: so each is a number of one byte, which means an entry that isn't negative.
 pub(crate) fn rise_of(block: &[u8; 16]) -> Option<u16>
     ensures { MatchOption result ⊤ (λ rise. AreRising block.now rise) }
@@ -37,7 +29,23 @@ pub(crate) fn rise_of(block: &[u8; 16]) -> Option<u16>
     if !are_halved(block) {
         return None;
     }
-    Some(sum_of(block) / 2)
+    let sum = u8x16::from_array(*block).cast::<u16>().strict_reduce_sum();
+    Some(sum / 2)
+}
+
+/// How many of some bytes are 0 before the first that isn't.
+#[inline(always)]
+pub(crate) fn zeros_of(block: &[u8; 16]) -> usize
+    ensures zeros { take result block.now ≡ replicate result 0 }
+    ensures few { result ≤ 16 }
+{
+    let others = u8x16::from_array(*block)
+        .simd_ge(u8x16::splat(1))
+        .to_bitmask();
+    if others == 0 {
+        return 16;
+    }
+    others.trailing_zeros() as usize
 }
 
 /// What is left of some bytes after blocks of bytes below 128.

@@ -35,13 +35,13 @@ pub struct Sums<'a> {
 }
 
 impl<'a> Sums<'a> {
-    ghost use Rattle.std.specs.Prelude.{◌+◌, ◌-◌, ◌≤◌, ◌+ℤ◌, ◌∷◌, ◌++◌, List, ℕ, ℤ, ⊤, true, false, IsTrue, MatchOption, drop, length, map};
+    ghost use Rattle.std.specs.Prelude.{◌+◌, ◌-◌, ◌≤◌, ◌+ℤ◌, ◌∷◌, ◌++◌, List, ℕ, ℤ, ⊤, true, false, IsTrue, MatchOption, drop, length, map, replicate};
     ghost use Rattle.std.specs.Iterator.{YieldsFirst};
     ghost use Rattle.std.specs.List.{AllByRecursion};
     ghost use Rattle.pbf_wire.specs.Signed.{unzigzag, low_sint32, IsNear};
     ghost use Rattle.pbf_wire.specs.Sums.{sums_within};
     ghost use Rattle.pbf_wire.specs.Cursors.{numbers_left, sums_left, last_given};
-    ghost use Rattle.pbf_wire.specs.Passing.{PassesSome, eight_of};
+    ghost use Rattle.pbf_wire.specs.Passing.{PassesSome};
     ghost use Rattle.pbf_wire.specs.Spans.{ArePassed};
     ghost use Rattle.pbf_wire.specs.Taking.{PassesSpelled, left_of};
 
@@ -146,15 +146,6 @@ impl<'a> Sums<'a> {
         true
     }
 
-    /// Skips the next value, if it is the last one again, by a 0 of one byte in the packed occurrence that was begun.
-    fn pass_same(&mut self) -> bool
-        ensures same { IsTrue result → sums_left self.old ≡ self.new.total ∷ sums_left self.new }
-        ensures passed { IsTrue result → PassesSpelled (left_of self.old) (left_of self.new) 1 }
-        ensures kept { result ≡ false → left_of self.new ≡ left_of self.old }
-    {
-        self.entries.pass_short_zero()
-    }
-
     /// The last value given, 0 before the first.
     pub fn last_value(&self) -> i64
         ensures { result ≡ last_given self.now }
@@ -163,16 +154,16 @@ impl<'a> Sums<'a> {
         total
     }
 
-    /// Skips the next eight values, if each is the last one again by a 0 of one byte of the packed occurrence that was begun. Otherwise
-    /// the values that are left stay the same.
-    pub fn pass_eight(&mut self) -> bool
-        ensures same { IsTrue result
-            → sums_left self.old ≡ eight_of (last_given self.old) ++ sums_left self.new }
+    /// Skips the next values, at most so many, as long as each is the last one again by a 0 of one byte, and returns how many. It reads
+    /// sixteen bytes of the packed occurrence that was begun; if there are fewer, it skips none.
+    pub fn pass_same(&mut self, most: usize) -> usize
+        ensures same { sums_left self.old
+            ≡ replicate result (last_given self.old) ++ sums_left self.new }
         ensures last { last_given self.new ≡ last_given self.old }
-        ensures passed { IsTrue result → PassesSpelled (left_of self.old) (left_of self.new) 8 }
-        ensures kept { result ≡ false → left_of self.new ≡ left_of self.old }
+        ensures passed { PassesSpelled (left_of self.old) (left_of self.new) result }
+        ensures few { result ≤ most }
     {
-        self.entries.pass_zeros()
+        self.entries.pass_zeros(most)
     }
 
     /// Skips the next sixteen values, if they rise by entries of one byte and a span has them all. Of these only the sum is needed: all
@@ -227,12 +218,13 @@ impl<'a> Sums<'a> {
         let mut rest = *self;
         let mut left = rest.pass_runs(WHOLE_SPAN, true, count);
         'entries: while left > 0 {
-            if rest.pass_same() {
-                left = rest.pass_runs(WHOLE_SPAN, true, left - 1);
-            } else if rest.pass_one() {
-                left -= 1;
-            } else {
+            let last = rest.total;
+            if !rest.pass_one() {
                 break;
+            }
+            left -= 1;
+            if rest.total == last {
+                left -= rest.pass_same(left);
             }
         }
         *self = rest;
@@ -311,7 +303,7 @@ impl<'a> Sums<'a> {
     pub fn next_steady(&mut self) -> Option<i64>
         ensures { YieldsFirst sums_left self.old result self.new }
     {
-        if self.pass_same() {
+        if self.entries.pass_short_zero() {
             return Some(self.total);
         }
         self.next()

@@ -1,9 +1,9 @@
 use Rattle.std.proofs.Common.{◌≡◌, map, refl, sym, ap, subst, ◌∙◌, arith}
 use Rattle.pbf_wire.specs.Cursors.{numbers_left, sums_left}
 use Rattle.osm_entity.specs.Sources.{low_32}
-use Rattle.pbf_dense.specs.Steady.{AreEight, first_weight}
+use Rattle.pbf_dense.specs.Steady.{AreSame, first_weight}
 use Rattle.pbf_dense.specs.declared.steady.Weights.{Weights}
-use Rattle.pbf_dense.proofs.SteadyWeights.{AreWeighed, one_weighed, eight_weighed, nodes_weighed}
+use Rattle.pbf_dense.proofs.SteadyWeights.{AreWeighed, one_weighed, same_weighed, nodes_weighed}
 use Rattle.pbf_dense.proofs.dense.Dense.weigh.Goals as goal
 
 pub nodes-preserved-in-Some : goal.nodes-preserved-in-Some
@@ -11,22 +11,23 @@ nodes-preserved-in-Some c =
     let dense = c.args.self.now in
     let table = dense.table.now in
     let old = c.nodes.weights in
-    let new = c.next_eight.new.self in
+    let new = c.next_same.new.self in
     let inv = c.nodes.invariant in
     let e = c.in-Some.ensures in
-    let eight = subst (λ t. AreEight t.now (sums_left old.users) (sums_left new.users) (map low_32 (numbers_left old.keys_vals)) (map low_32 (numbers_left new.keys_vals)) c.in-Some.eight) inv.table e.eight in
+    let same = c.in-Some.same in
+    let alike = subst (λ t. AreSame t.now (sums_left old.users) (sums_left new.users) (map low_32 (numbers_left old.keys_vals)) (map low_32 (numbers_left new.keys_vals)) same.count same.weight) inv.table e.same in
     record {
-      few = omega (arith, e.few.0);
-      light = omega (arith, e.few.1, inv.light);
+      few = omega (arith, e.few.1);
+      light = omega (arith, e.few.2, inv.light);
       table = e.table ∙ inv.table;
-      weighed = eight_weighed table (sums_left dense.info.users) (sums_left old.users) (sums_left new.users) (map low_32 (numbers_left dense.keys_vals)) (map low_32 (numbers_left old.keys_vals)) (map low_32 (numbers_left new.keys_vals)) c.nodes.count c.nodes.weight c.in-Some.eight inv.weighed eight;
+      weighed = same_weighed table (sums_left dense.info.users) (sums_left old.users) (sums_left new.users) (map low_32 (numbers_left dense.keys_vals)) (map low_32 (numbers_left old.keys_vals)) (map low_32 (numbers_left new.keys_vals)) c.nodes.count c.nodes.weight same.count same.weight inv.weighed alike;
     }
 
 pub nodes-preserved : goal.nodes-preserved
 nodes-preserved c =
     let dense = c.args.self.now in
     let table = dense.table.now in
-    let old = c.next_eight.new.self in
+    let old = c.next_same.new.self in
     let new = c.next-next.new.self in
     let inv = c.nodes.invariant in
     let same : old ≡ c.nodes.weights = c.in_default.ensures.kept refl in

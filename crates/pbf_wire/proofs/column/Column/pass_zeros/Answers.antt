@@ -1,17 +1,24 @@
-use Rattle.std.proofs.Common.{◌++◌, ℕ, List, map, drop, replicate, ap, sym, ◌∙◌, take-append-drop}
+use Rattle.std.proofs.Common.{◌≡◌, ◌++◌, ℕ, List, map, take, drop, replicate, ap, subst, ◌∙◌, arith}
 use Rattle.std.proofs.lemmas.List.{take_rest}
 use Rattle.pbf_wire.specs.Columns.{entries, read_entries, placed, joined}
 use Rattle.pbf_wire.specs.Cursors.{column_left, found_left}
-use Rattle.pbf_wire.proofs.RisingRuns.{all_read, single, zeros_halved}
+use Rattle.pbf_wire.proofs.RisingRuns.{all_read, placed_run, single, zeros_front, zeros_halved}
 use Rattle.pbf_wire.proofs.column.Column.pass_zeros.Goals as goal
+
+pub returns-clause-spelled : goal.returns-clause-spelled
+returns-clause-spelled c =
+    let bytes = c.args.self.now.packed.now in
+    let are = subst (λ xs. take c.zeros_of.result xs ≡ replicate c.zeros_of.result 0) c.in-Some.ensures.cases.same c.zeros_of.ensures.zeros in
+    rw take_rest (zeros_front bytes c.zeros_of.result c.min-zeros.result are c.zeros_of.ensures.few (omega (arith, c.min-zeros.ensures)))
 
 pub returns-clause-passed : goal.returns-clause-passed
 unfolding column_left
-returns-clause-passed c = λ _.
+returns-clause-passed c =
     let s = c.args.self.now in
+    let n = c.min-zeros.result in
     let bytes = s.packed.now in
     let more = joined s.number (found_left s.fields) in
-    let zeros = c.begins_with_zeros.ensures.zeros c.if-not-begins_with_zeros.false in
-    let whole = sym (take-append-drop 8 bytes) ∙ ap (λ (w : List ℕ). w ++ drop 8 bytes) zeros in
-    let read = ap (λ (w : List ℕ). read_entries (entries w)) whole ∙ all_read (replicate 8 0) (drop 8 bytes) (single (replicate 8 0) (zeros_halved 8)) in
-    rw take_rest (ap (λ ns. map (λ p. p.0) (placed s.packed_place ns ++ more)) read)
+    let are = subst (λ xs. take c.zeros_of.result xs ≡ replicate c.zeros_of.result 0) c.in-Some.ensures.cases.same c.zeros_of.ensures.zeros in
+    let whole = zeros_front bytes c.zeros_of.result n are c.zeros_of.ensures.few (omega (arith, c.min-zeros.ensures)) in
+    let read = ap (λ (w : List ℕ). read_entries (entries w)) whole ∙ all_read (replicate n 0) (drop n bytes) (single (replicate n 0) (zeros_halved n)) in
+    rw take_rest (ap (λ ns. map (λ p. p.0) (placed s.packed_place ns ++ more)) read ∙ placed_run (replicate n 0) (read_entries (entries (drop n bytes))) s.packed_place more)
