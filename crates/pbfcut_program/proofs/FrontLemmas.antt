@@ -1,5 +1,5 @@
 -- What went out when a call of the engine stopped, if its feeds had the same bytes.
-use Rattle.std.proofs.Common.{◌≡◌, ◌⊎◌, inl, inr, ℕ, ◌+◌, List, [], ◌∷◌, Option, Some, Result, Ok, Err, IfErr, OnErr, Bool, false, refl, ap, sym, ◌∙◌}
+use Rattle.std.proofs.Common.{◌≡◌, inl, inr, ℕ, ◌+◌, List, [], ◌∷◌, Option, Some, Result, Ok, Err, IfErr, OnErr, Bool, false, refl, ap, sym, ◌∙◌}
 use Rattle.pbf_frame.specs.Devices.{IsFront}
 use Rattle.pbf_frame.specs.Verdict.{Verdict, judged, judged_known}
 use Rattle.pbf_frame.specs.declared.stop.Stop.{Stop}

@@ -134,13 +134,19 @@ pub trait Host {
     /// and if OUT is whole, it has its name.
     fn finish(&mut self, out: Self::Out, whole: bool) -> Result<(), FinishFault>
         ensures some { (bytes : List ℕ) × IfSome (Self.Out.taken out) (λ taken. bytes ≡ taken)
-            × (log self.new ≡ then_one (log self.old) (wrote (record { bytes = bytes;
-            reports = is_some (Self.Out.taken out); failures = Self.Out.failures out;
-            out = is_ok result }))) }
+            × (log self.new ≡ then_one (log self.old) (wrote (record {
+              bytes = bytes;
+              reports = is_some (Self.Out.taken out);
+              failures = Self.Out.failures out;
+              out = is_ok result;
+            }))) }
         ensures logged { (bytes : List ℕ) → Self.Out.has_taken out 0 bytes
-            → log self.new ≡ then_one (log self.old) (wrote (record { bytes = bytes;
-            reports = is_some (Self.Out.taken out); failures = Self.Out.failures out;
-            out = is_ok result })) };
+            → log self.new ≡ then_one (log self.old) (wrote (record {
+              bytes = bytes;
+              reports = is_some (Self.Out.taken out);
+              failures = Self.Out.failures out;
+              out = is_ok result;
+            })) };
 
     /// Writes a text at once.
     fn print(&mut self, screen: Screen, text: &[u8]) -> Result<(), NotDone>
