@@ -267,6 +267,19 @@ def columns_of_mixed_spelling(size: int) -> list:
     return [block(dense(b"".join(short_or_long) * size, zeros * size, b"".join(map(b"".join, places)) * size)), block(field(2, way(1, deltas([1, count]))))]
 
 
+def users_and_tags_that_change(size: int) -> list:
+    """Nodes of one user without tags, in rows of each length from 1 to 40, between those of another user and those with a tag."""
+    count = 40_000
+    rows = [1 + number // 200 % 40 for number in range(count)]
+    # the last node has the first user again, so that the column may be repeated
+    users = [1 if number % (1 + row) == 0 and number + 1 < count else 0 for number, row in enumerate(rows)]
+    steps = b"".join(varint(zigzag(user - before)) for before, user in zip([0] + users, users))
+    tags = b"".join(b"\x02\x02\x00" if number % (2 + row) == 0 else b"\x00" for number, row in enumerate(rows))
+    zeros = bytes(count * size)
+    info = field(5, b"".join(field(number, column) for number, column in enumerate([zeros] * 4 + [steps * size], 1)))
+    return [block(nodes(count * size, info, field(10, tags * size)), table=texts(b"user", b"tag"))]
+
+
 def nodes_with_metadata_that_differs(size: int) -> list:
     """Of two nodes that come together only one may have a time, so that each is a block of its own."""
     group = field(1, scalar(1, 2) + scalar(8, 0) + scalar(9, 0)) + field(1, scalar(1, 4) + field(4, scalar(2, 1)) + scalar(8, 0) + scalar(9, 0))
