@@ -14,16 +14,6 @@ box_ids-way sets (a_node id inside) = refl
 box_ids-way sets (a_way id refs) = elim (is_kept_way (set.contains sets.box_ids) refs) as (λ b. (cond b (record sets { node_ids = fold set.insert sets.node_ids refs; way_ids = set.insert sets.way_ids id }) sets).box_ids ≡ sets.box_ids) [ true ↦ refl | false ↦ refl ]
 box_ids-way sets (a_relation id members) = refl
 
-box_ids-if : (b : Bool) (sets : WaySets) (s : Seen) → (cond b (way_step sets s) sets).box_ids ≡ sets.box_ids
-box_ids-if true sets s = box_ids-way sets s
-box_ids-if false sets s = refl
-
-pub nodes_in_first : (sets : FirstSets) (seen : List Seen) → (fold first_step sets seen).ways.box_ids ≡ fold node_step sets.ways.box_ids seen
-nodes_in_first sets [] = refl
-nodes_in_first sets (a_node id inside ∷ seen) = nodes_in_first (first_step sets (a_node id inside)) seen
-nodes_in_first sets (a_way id refs ∷ seen) = nodes_in_first (first_step sets (a_way id refs)) seen ∙ ap (λ (ids : Ids). fold node_step ids seen) (box_ids-if sets.in_order sets.ways (a_way id refs))
-nodes_in_first sets (a_relation id members ∷ seen) = nodes_in_first sets seen
-
 -- ---- the ways
 
 -- a node came after a way
@@ -79,11 +69,6 @@ pub first_broken : (seen : List Seen) → (first_pass seen).in_order ≡ false �
 first_broken seen e = fresh_broken set.empty seen e
 
 -- ---- what the phase's fields show
-
-pub wayless : (h o : Bool) → (h && (o && not h)) ≡ false
-wayless true true = refl
-wayless true false = refl
-wayless false o = refl
 
 abbrev first_of : Bool → Bool → WaySets → FirstSets
 first_of h o ways = record { has_ways = h; in_order = o; ways = ways }

@@ -10,7 +10,7 @@ use Rattle.osm_ids.specs.Links.{link_cmp, IsLeast}
 use Rattle.osm_ids.proofs.LinkOrder.{link_cmp_total}
 use Rattle.osm_ways.specs.Selection.{MemberSeen, node_member, way_member, relation_member, Seen, a_node, a_way, a_relation, no_ids, box_ids, node_ids, way_ids, is_box_node, is_kept_way, is_kept_ref, is_kept_id, is_kept, keeps}
 use Rattle.osm_ways.specs.Parents.{is_selected, is_relation_member, links_in, start_in, keeps_with_parents}
-use Rattle.osm_ways.specs.Phases.{Ids, LinkSet, PassesOver, WaySets, RelationSets, sets_with_way, with_link, sets_with_relation, is_start, node_step, way_step, relation_step, start_ways, start_relations, node_pass, way_pass, relation_pass, without_parents, is_chosen}
+use Rattle.osm_ways.specs.Phases.{Ids, LinkSet, WaySets, RelationSets, sets_with_way, with_link, sets_with_relation, is_start, node_step, way_step, relation_step, start_ways, start_relations, node_pass, way_pass, relation_pass, without_parents, is_chosen}
 use Rattle.osm_ways.proofs.ParentLaws.{links_are_parents}
 
 -- what came first may go last
@@ -47,13 +47,6 @@ contains-node_pass ids (a_node own inside ∷ seen) id =
     ]
 contains-node_pass ids (a_way own refs ∷ seen) id = contains-node_pass ids seen id
 contains-node_pass ids (a_relation own members ∷ seen) id = contains-node_pass ids seen id
-
--- nodes that lie outside change nothing
-pub node_step-passes_over : PassesOver node_step
-node_step-passes_over = record {
-  before = λ ids id other inside. refl;
-  after = λ ids id other inside. refl;
-}
 
 -- ---- ways
 

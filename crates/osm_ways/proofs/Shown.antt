@@ -1,5 +1,5 @@
 -- What the phases' fields show: of the nodes that are kept, those of the box and the other refs apart.
-use Rattle.std.proofs.Common.{if◌then◌else◌, ◌≡◌, ℕ, zero, suc, ℤ, Bool, true, false, ◌||◌, List, [], ◌∷◌, map, drop, take, refl, sym, ap, ◌∙◌}
+use Rattle.std.proofs.Common.{◌≡◌, ℕ, zero, suc, ℤ, Bool, true, false, ◌||◌, List, [], ◌∷◌, map, drop, take, refl, sym, ap, ◌∙◌}
 use Rattle.std.specs.List.{list_any}
 use Rattle.std.specs.Ordering.{int_eq, int_cmp}
 use Rattle.std.specs.Cmp.{int_cmp_total}
@@ -10,8 +10,7 @@ use Rattle.pbf_wire.specs.Spans.{AreAlike}
 use Rattle.osm_ids.specs.Windows.{Lacks}
 use Rattle.osm_ids.proofs.Closing.{insert_same}
 use Rattle.osm_ids.proofs.Sets.{or_swap}
-use Rattle.osm_ways.specs.Phases.{Ids, sets_of, start_ways, sets_with_way, refs_if}
-use Rattle.osm_ways.specs.Selection.{is_kept_way}
+use Rattle.osm_ways.specs.Phases.{Ids, sets_of, start_ways}
 
 union-empty : (s : Ids) → set.union s set.empty ≡ s
 union-empty s =
@@ -58,11 +57,6 @@ list_any-map test view [] = refl
 list_any-map test view (x ∷ xs) = ap (λ b. test (view x) || b) (list_any-map test view xs)
 
 -- ---- a way that is kept
-
-pub way_taken : (known refs ways more_refs more_ways : Ids) (kept : Bool) (id : ℤ) (all : List ℤ) → kept ≡ is_kept_way (set.contains known) all → set.union known more_refs ≡ refs_if kept (set.union known refs) all → more_ways ≡ if kept then set.insert ways id else ways
-    → sets_of known more_refs more_ways ≡ sets_with_way (sets_of known refs ways) id all
-way_taken known refs ways more_refs more_ways true id all any added kept = rw (← any) (λ i. record { box_ids = known; node_ids = added i; way_ids = kept i })
-way_taken known refs ways more_refs more_ways false id all any added kept = rw (← any) (λ i. record { box_ids = known; node_ids = added i; way_ids = kept i })
 
 -- ---- refs that are skipped
 

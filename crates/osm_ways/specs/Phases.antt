@@ -1,5 +1,5 @@
 -- What the passes do with each entity of a list, and the sets that they gather.
-use Rattle.std.specs.Prelude.{◌≡◌, ℤ, Bool, false, ◌&&◌, if◌then◌else◌, List, refl, Option, Some, None, Result, OnOk, OnErr}
+use Rattle.std.specs.Prelude.{◌≡◌, ℤ, Bool, true, false, ◌&&◌, if◌then◌else◌, List, refl, Option, Some, None, Result, OnOk, OnErr}
 use Rattle.std.specs.Coded.{Coded, code_by, coded×, coded_ℤ}
 use Rattle.std.specs.List.{fold}
 use Rattle.std.specs.Ordering.{int_cmp}
@@ -125,6 +125,13 @@ way_pass seen = fold way_step (start_ways (node_pass seen)) seen
 
 abbrev pub relation_pass : List Seen → RelationSets
 relation_pass seen = fold relation_step (start_relations (way_pass seen)) seen
+
+-- what the first phase is to the others: with all ways it ends as the two passes over nodes and over ways do, and without them as that over nodes;
+-- relations change nothing
+pub record TakesFirst {S : Type 0} (start : S) (step : S → Seen → S) (has_ways : S → Bool) (ended : S → WaySets) : Type 0 where
+  pub all : (seen : List Seen) → has_ways (fold step start seen) ≡ true → ended (fold step start seen) ≡ way_pass seen
+  pub nodes : (seen : List Seen) → has_ways (fold step start seen) ≡ false → ended (fold step start seen) ≡ start_ways (node_pass seen)
+  pub relations : (s : S) (id : ℤ) (members : List MemberSeen) → step s (a_relation id members) ≡ s
 
 -- ---- what they keep
 

@@ -1,6 +1,6 @@
 //! The phase of nodes that takes ways too, as long as no node comes after one. What it does for a node is inlined into the loop over nodes.
 
-ghost use Rattle.std.specs.Prelude.{◌≡◌, IfOk};
+ghost use Rattle.std.specs.Prelude.{◌≡◌};
 ghost use Rattle.osm_ways.specs.First.{start_first, before_node, first_step};
 
 use crate::in_area::NodeTaker;
@@ -48,21 +48,6 @@ impl Model for FirstPhase {
 }
 
 impl FirstPhase {
-    /// No nodes and no ways yet. It allocates nothing yet.
-    pub fn new(alloc: Global) -> FirstPhase
-        ensures { result ≡ start_first }
-    {
-        FirstPhase {
-            box_ids: IdSet::new(alloc),
-            window: Window::new(),
-            refs: IdSet::new(alloc),
-            way_ids: IdSet::new(alloc),
-            has_ways: false,
-            in_order: true,
-            alloc,
-        }
-    }
-
     /// A node comes, wherever it lies: the ways that were taken before it are dropped.
     #[inline(always)]
     fn begin_node(&mut self)
@@ -78,41 +63,28 @@ impl FirstPhase {
         self.way_ids = IdSet::new(self.alloc);
         self.in_order = false;
     }
-
-    /// Whether no node came after a way, so that all ways were taken too.
-    pub fn is_in_order(&self) -> bool
-        ensures { result ≡ self.now.in_order }
-    {
-        self.in_order
-    }
-
-    /// All nodes are taken, and all ways too if they came in order. Otherwise the phase of ways has none yet.
-    ///
-    /// # Errors
-    ///
-    /// If memory is refused, the phase is gone.
-    pub fn end(self) -> Result<WayPhase, AllocError>
-        ensures { IfOk result (λ phase. phase ≡ self.ways) }
-    {
-        let FirstPhase {
-            box_ids,
-            refs,
-            way_ids,
-            alloc,
-            ..
-        } = self;
-        Ok(WayPhase {
-            box_ids: sealed(box_ids)?,
-            window: Window::new(),
-            refs,
-            way_ids,
-            alloc,
-        })
-    }
 }
 
 impl NodeTaker for FirstPhase {
+    ghost start = { start_first };
+
     ghost step = { first_step };
+
+    ghost has_ways = { λ sets. sets.in_order };
+
+    ghost ended = { λ sets. sets.ways };
+
+    fn new(alloc: Global) -> FirstPhase {
+        FirstPhase {
+            box_ids: IdSet::new(alloc),
+            window: Window::new(),
+            refs: IdSet::new(alloc),
+            way_ids: IdSet::new(alloc),
+            has_ways: false,
+            in_order: true,
+            alloc,
+        }
+    }
 
     #[inline(always)]
     fn take_inside(&mut self, id: i64) -> Result<(), AllocError> {
@@ -150,5 +122,26 @@ impl NodeTaker for FirstPhase {
             self.way_ids.add(way.id)?;
         }
         Ok(())
+    }
+
+    fn has_all_ways(&self) -> bool {
+        self.in_order
+    }
+
+    fn end(self) -> Result<WayPhase, AllocError> {
+        let FirstPhase {
+            box_ids,
+            refs,
+            way_ids,
+            alloc,
+            ..
+        } = self;
+        Ok(WayPhase {
+            box_ids: sealed(box_ids)?,
+            window: Window::new(),
+            refs,
+            way_ids,
+            alloc,
+        })
     }
 }

@@ -1,9 +1,9 @@
 //! Phases that take nodes, and the area in which these have to lie. To take a place is inlined into the loop over nodes.
 
-ghost use Rattle.std.specs.Prelude.{◌≡◌, ℤ, false, true, IfOk, OnOk};
+ghost use Rattle.std.specs.Prelude.{◌≡◌, Bool, ℤ, false, true, IfOk, OnOk};
 ghost use Rattle.osm_entity.specs.Views.{node_of};
-ghost use Rattle.osm_ways.specs.InArea.{start_nodes, stepped};
-ghost use Rattle.osm_ways.specs.Phases.{PassesOver, TakesNode, TakesWays, start_ways};
+ghost use Rattle.osm_ways.specs.InArea.{stepped};
+ghost use Rattle.osm_ways.specs.Phases.{PassesOver, TakesFirst, TakesNode, TakesWays, WaySets};
 ghost use Rattle.osm_ways.specs.Seen.{seen_node, seen_refs};
 ghost use Rattle.osm_ways.specs.Selection.{Seen, a_node};
 
@@ -12,10 +12,24 @@ use osm_area::Area;
 use osm_entity::{BoundingBox, NodeRef};
 use std::alloc::{AllocError, Global};
 
-/// A phase that takes nodes, and maybe ways. It takes ids, and knows of no area.
+/// The first phase, which takes nodes, and maybe ways. It takes ids, and knows of no area.
 pub trait NodeTaker {
+    /// What it is before any entity.
+    ghost start: { Self };
+
     /// What it is after an entity, by what the selection sees of that.
     ghost step: { Self → Seen → Self };
+
+    /// Whether it has all ways too.
+    ghost has_ways: { Self → Bool };
+
+    /// What the phase of ways begins with.
+    ghost ended: { Self → WaySets };
+
+    /// No entities yet. It allocates nothing yet.
+    fn new(alloc: Global) -> Self
+        ensures new { result ≡ start }
+        ensures takes { TakesFirst start step has_ways ended };
 
     /// Takes a node that lies in the area.
     ///
@@ -41,6 +55,18 @@ pub trait NodeTaker {
     /// If memory is refused, the phase may only be dropped.
     fn take_refs(&mut self, way: SeenWay<'_>) -> Result<(), AllocError>
         ensures { OnOk result (self.new ≡ step self.old (seen_refs way.entry)) };
+
+    /// Whether all ways were taken too. Otherwise the phase of ways takes them.
+    fn has_all_ways(&self) -> bool
+        ensures { result ≡ has_ways self.now };
+
+    /// All entities are taken, and the phase of ways follows.
+    ///
+    /// # Errors
+    ///
+    /// If memory is refused, the phase is gone.
+    fn end(self) -> Result<WayPhase, AllocError>
+        ensures { IfOk result (λ phase. phase ≡ ended self) };
 }
 
 /// A phase, and the area in which the nodes that it takes have to lie.
@@ -53,30 +79,32 @@ pub struct InArea<A, P> {
 /// The first phase, which takes nodes: the box, and the ids of its nodes.
 pub type NodePhase = InArea<BoundingBox, NodeIds>;
 
-impl InArea<BoundingBox, NodeIds> {
-    /// The phase of a box, with no nodes yet. It allocates nothing yet.
-    pub fn new(alloc: Global, area: BoundingBox) -> NodePhase
-        ensures { result ≡ start_nodes area }
+impl<A: Area, P: NodeTaker> InArea<A, P> {
+    /// The phase of an area, with no entities yet. It allocates nothing yet.
+    pub fn new(alloc: Global, area: A) -> InArea<A, P>
+        ensures area { result.area ≡ area }
+        ensures start { result.phase ≡ P.start }
+        ensures takes { TakesFirst P.start P.step P.has_ways P.ended }
     {
         InArea {
             area,
-            phase: NodeIds::new(alloc),
+            phase: P::new(alloc),
         }
     }
 
-    /// All nodes are taken: those in the box are kept, and the ways follow.
+    /// All nodes are taken: those in the area are kept, and the ways follow.
     ///
     /// # Errors
     ///
     /// If memory is refused, the phase is gone.
     pub fn end_nodes(self) -> Result<WayPhase, AllocError>
-        ensures { IfOk result (λ phase. phase ≡ start_ways self.phase) }
+    where
+        A: Drop,
+        ensures { IfOk result (λ phase. phase ≡ P.ended self.phase) }
     {
         self.phase.end()
     }
-}
 
-impl<A: Area, P: NodeTaker> InArea<A, P> {
     /// Takes a node. Of those that do not lie in the area the phase learns only that there are some.
     ///
     /// # Errors

@@ -1,6 +1,6 @@
 //! The phases of a selection, each of its own type: first all nodes are taken, then all ways, then the entities are chosen.
 
-ghost use Rattle.std.specs.Prelude.{◌≡◌, true, IfOk, OnOk};
+ghost use Rattle.std.specs.Prelude.{◌≡◌, false, true, IfOk, OnOk};
 ghost use Rattle.std.specs.List.{fold};
 ghost use Rattle.std.specs.FinSet as set;
 ghost use Rattle.osm_entity.specs.Sources.{refs_left};
@@ -33,38 +33,21 @@ impl Model for NodeIds {
     ghost view = { λ a. a.box_ids };
 }
 
-impl NodeIds {
-    /// No ids yet. It allocates nothing yet.
-    pub fn new(alloc: Global) -> NodeIds
-        ensures { result ≡ set.empty }
-    {
+impl NodeTaker for NodeIds {
+    ghost start = { set.empty };
+
+    ghost step = { node_step };
+
+    ghost has_ways = { λ _. false };
+
+    ghost ended = { start_ways };
+
+    fn new(alloc: Global) -> NodeIds {
         NodeIds {
             box_ids: IdSet::new(alloc),
             alloc,
         }
     }
-
-    /// All nodes are taken: those in the area are kept, and the ways follow.
-    ///
-    /// # Errors
-    ///
-    /// If memory is refused, the phase is gone.
-    pub fn end(self) -> Result<WayPhase, AllocError>
-        ensures { IfOk result (λ phase. phase ≡ start_ways self) }
-    {
-        let NodeIds { box_ids, alloc } = self;
-        Ok(WayPhase {
-            box_ids: sealed(box_ids)?,
-            window: Window::new(),
-            refs: IdSet::new(alloc),
-            way_ids: IdSet::new(alloc),
-            alloc,
-        })
-    }
-}
-
-impl NodeTaker for NodeIds {
-    ghost step = { node_step };
 
     fn take_inside(&mut self, id: i64) -> Result<(), AllocError> {
         self.box_ids.add(id)?;
@@ -79,6 +62,21 @@ impl NodeTaker for NodeIds {
 
     fn take_refs(&mut self, _way: SeenWay<'_>) -> Result<(), AllocError> {
         Ok(())
+    }
+
+    fn has_all_ways(&self) -> bool {
+        false
+    }
+
+    fn end(self) -> Result<WayPhase, AllocError> {
+        let NodeIds { box_ids, alloc } = self;
+        Ok(WayPhase {
+            box_ids: sealed(box_ids)?,
+            window: Window::new(),
+            refs: IdSet::new(alloc),
+            way_ids: IdSet::new(alloc),
+            alloc,
+        })
     }
 }
 

@@ -1,4 +1,4 @@
-use Rattle.std.proofs.Common.{◌≡◌, ◌∷◌, false, ◌||◌, ap, sym, ◌∙◌, rules, w64}
+use Rattle.std.proofs.Common.{◌≡◌, ◌∷◌, ◌||◌, ap, sym, ◌∙◌, rules, w64}
 use mir.Val.{SFits}
 use Rattle.std.specs.List.{fold, list_any}
 use Rattle.std.specs.FinSet as set

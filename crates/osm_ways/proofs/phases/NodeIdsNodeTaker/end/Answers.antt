@@ -1,6 +1,6 @@
 use Rattle.std.proofs.Common.{◌∙◌}
 use Rattle.osm_ways.proofs.Shown.{shown_start}
-use Rattle.osm_ways.proofs.phases.NodeIds.end.Goals as goal
+use Rattle.osm_ways.proofs.phases.NodeIdsNodeTaker.end.Goals as goal
 
 pub invariant_of-result : goal.invariant_of-result
 invariant_of-result c = c.new.ensures c.in_ok-sealed.field-0
