@@ -1,23 +1,19 @@
 -- A later pass that stopped for a change: what its feed gave isn't the first feed's file.
-use Rattle.std.proofs.Common.{◌≡◌, ℕ, inr, Bool, true, List, Option, Some, None, subst, refl, sym, ap, ◌∙◌}
+use Rattle.std.proofs.Common.{◌≡◌, ℕ, inr, Bool, true, List, Option, subst, refl, sym, ◌∙◌}
 use Rattle.sha2.specs.Sha256.{sha256}
 use Rattle.pbf_wire.specs.declared.fault.Fault.{Fault}
 use Rattle.pbf_frame.specs.declared.device.Feed as feed
 use Rattle.pbf_frame.specs.declared.stop.Stop.{Stop}
 use Rattle.pbf_frame.specs.declared.stop.Stop.TheVariants as stop
-use Rattle.pbf_frame.specs.Frames.{FrameSpec}
-use Rattle.pbf_frame.specs.Verdict.{Verdict, Says}
+use Rattle.pbf_frame.specs.Verdict.{Verdict}
 use Rattle.pbf_pass.specs.Unjudged.{StopsUnjudged, ReadsFaulty}
 use Rattle.pbf_pass.specs.Given.{GaveFile}
 use Rattle.pbf_pass.specs.Hashing.{IsDigestOf, digest_if}
-use Rattle.pbf_pass.specs.Judged.{judged_file}
 use Rattle.pbf_pass.specs.Stops.{Caused, unchanged, ReadFailed}
 use Rattle.pbf_pass.proofs.UnjudgedLemmas.{refuses_less}
 use Rattle.pbfcut.specs.declared.repeat.LaterPass.{LaterPass}
-use Rattle.pbfcut.specs.Calls.{fed}
-use Rattle.pbfcut.specs.Changes.{ChangedAt, IfChanged}
+use Rattle.pbfcut.specs.Changes.{IfChanged}
 use Rattle.pbfcut.specs.Repeat.{IsUnlike, StopsLater, as_change, digest_of}
-use Rattle.pbfcut.proofs.ConvertingLemmas.{known_says}
 
 -- ---- of one later pass
 
@@ -75,21 +71,3 @@ changed_before changed also stop.Read step stops = tt
 changed_before changed also stop.Write step stops = tt
 changed_before changed also stop.Memory step stops = tt
 changed_before changed also (stop.Changed pass) step stops = step pass stops
-
--- in a later one
-pub changed_later : {F G : Type 0} (f : feed.Ghosts F) (first now : F) (g : feed.Ghosts G) (old new : G) (repeat : LaterPass) (digest : Option (List ℕ)) (holds : List ℕ → Type 0) (wrote : Type 0) (changed : ℕ → Type 0) (s : Stop)
-    → (given : GaveFile f first now digest holds) → (frames : List FrameSpec) → Says (judged_file (Some given.file)) (frames, None) → digest_of repeat ≡ digest → ((pass : ℕ) → ChangedAt repeat.number (fed f first now) (fed g old new) pass → changed pass) → StopsLater g repeat old new wrote s → IfChanged changed s
-changed_later f first now g old new repeat digest holds wrote changed (stop.Refused e) given frames says is step stops = tt
-changed_later f first now g old new repeat digest holds wrote changed stop.Read given frames says is step stops = tt
-changed_later f first now g old new repeat digest holds wrote changed stop.Write given frames says is step stops = tt
-changed_later f first now g old new repeat digest holds wrote changed stop.Memory given frames says is step stops = tt
-changed_later f first now g old new repeat digest holds wrote changed (stop.Changed pass) given frames says is step stops = step pass (
-  stops.0,
-  record {
-    file = given.file;
-    supplied = given.supplied;
-    digest_is = tt;
-    holding = refuses_less g old new (IsUnlike (digest_of repeat)) _ (λ b unlike same. unlike (subst (λ (d : Option (List ℕ)). IsDigestOf d b) (sym is) (subst (λ (l : List ℕ). IsDigestOf digest l) same given.digest_is)) frames
-        (ap (λ (l : List ℕ). judged_file (Some l)) (sym same) ∙ known_says given.file (frames, None) says)) stops.1;
-  },
-)

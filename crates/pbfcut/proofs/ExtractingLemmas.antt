@@ -1,20 +1,17 @@
 -- A file's extract, from what its passes say.
-use Rattle.std.proofs.Common.{◌≡◌, ◌⊎◌, inl, inr, ℕ, ℤ, ◌<◌, ◌^◌, rules, List, [], ◌∷◌, map, Bool, true, false, Option, Some, None, subst, refl, sym, ap, ◌∙◌}
+use Rattle.std.proofs.Common.{◌≡◌, ℕ, ℤ, ◌<◌, ◌^◌, rules, List, [], ◌∷◌, map, Bool, true, false, Option, Some, None, subst, refl, sym, ap, ◌∙◌}
 use Rattle.std.specs.FinSet as set
 use Rattle.std.specs.List.{fold, filter}
 use Rattle.std.specs.Option.{option_map}
 use Rattle.std.proofs.lemmas.List.Elements.{filter_agree}
-use Rattle.pbf_wire.specs.declared.fault.Fault.{Fault}
-use Rattle.osm_area.specs.Area.{AreaSpec, box_area}
+use Rattle.osm_area.specs.Area.{AreaSpec}
 use Rattle.osm_box.specs.declared.bounding_box.BoundingBox.{BoundingBox}
 use Rattle.osm_entity.specs.Ranges.{IsInt64}
 use Rattle.std.specs.Int.Signed.{mag}
 use Rattle.osm_entity.specs.Entity.{EntitySpec, Decoded, node, way, relation}
 use Rattle.osm_ids.specs.Links.{IsLeast}
 use Rattle.osm_ways.specs.Parents.{keeps_with_parents}
-use Rattle.osm_ways.specs.Phases.{Ids, WaySets, RelationSets, KeptSets, node_step, way_step, relation_step, start_ways, start_relations, node_pass, without_parents, way_pass, relation_pass, is_chosen, is_taken}
-use Rattle.osm_ways.specs.First.{FirstSets, start_first, first_step, first_pass}
-use Rattle.osm_ways.proofs.FirstLemmas.{first_in_order, first_broken}
+use Rattle.osm_ways.specs.Phases.{TakesFirst, WaySets, RelationSets, KeptSets, way_step, relation_step, start_ways, start_relations, node_pass, without_parents, way_pass, relation_pass, is_chosen, is_taken}
 use Rattle.osm_ways.specs.Seen.{seen_entity, seen_member}
 use Rattle.osm_ways.specs.Selection.{MemberSeen, Seen, a_relation, keeps}
 use Rattle.osm_ways.proofs.Passes.{chosen_is_kept, chosen_with_parents, ways_stay}
@@ -22,37 +19,23 @@ use Rattle.osm_ways.proofs.Taken.{taken_are_chosen}
 use Rattle.osm_pack.specs.Cuts.{written_file}
 use Rattle.pbf_header.specs.Header.{HeaderSpec}
 use Rattle.pbf_header.specs.WrittenHeader.{header_out_for_box, edges_of, EdgesTyped}
-use Rattle.pbf_frame.specs.declared.device.Feed as feed
-use Rattle.pbf_frame.specs.declared.stop.Stop.{Stop}
-use Rattle.pbf_frame.specs.declared.stop.Stop.TheVariants as stop
 use Rattle.pbf_frame.specs.Devices.{IsFront}
 use Rattle.pbf_frame.specs.Frames.{FrameSpec}
 use Rattle.pbf_frame.specs.Verdict.{Verdict, Says}
-use Rattle.pbf_frame.specs.Refusals.{Refuses}
 use Rattle.pbf_frame.proofs.Parting.{none_some}
-use Rattle.pbf_frame.proofs.Refusing.{refused_told}
 use Rattle.pbf_block.specs.declared.counts.Counts.{Counts}
 use Rattle.osm_ways.specs.declared.in_area.InArea.{InArea}
-use Rattle.osm_ways.specs.InArea.{start_nodes}
 use Rattle.pbf_pass.specs.declared.pass.Pass.{Pass}
 use Rattle.pbf_pass.specs.HeaderLimit.{HasShortTexts, header_limit, judged_writable, held_header}
 use Rattle.pbf_pass.specs.Counting.{counts_of, stored_entities}
-use Rattle.pbfcut.specs.Calls.{GaveOrNot, Differ, ChangedIn, ChangedBefore, RefusedFirst, ExtractStops, ParentsStops, fed}
+use Rattle.pbfcut.specs.Calls.{FeedUse, GaveOrNot}
 use Rattle.pbfcut.specs.Theorem.{IsExtraction}
 use Rattle.pbfcut.specs.Extracting.{Choice, complete_ways, all_parents, extraction, extract_bytes, Begins, Chooses, ChoosesParents, AddsParents, IsChoice, IsChoiceWithParents}
 use Rattle.pbfcut.specs.Kept.{verdict_on, extract_of, IsWritable}
-use Rattle.pbf_pass.proofs.GivenLemmas.{IsDigest, gave_file_less}
+use Rattle.pbf_pass.proofs.GivenLemmas.{gave_file_less}
 use Rattle.pbfcut.proofs.KeptLaw.{IsSelection, IsKeptExtract, same_verdict, extract_kept}
 use Rattle.pbf_pass.specs.Pass.{with_seen, with_seen_in, with_way, with_relation, TakesFile, file_header}
-use Rattle.pbf_pass.specs.declared.receipt.Passes.{Passes}
-use Rattle.pbfcut.specs.declared.repeat.LaterPass.{LaterPass}
-use Rattle.pbfcut.specs.Repeat.{IsPass, IsUnlike, GathersRest, StopsLater, digest_of}
-use Rattle.pbf_pass.specs.Hashing.{IsDigestOf, digest_if}
-use Rattle.pbf_pass.specs.Stops.{Caused, FaultOf, ReadFailed, unchanged}
-use Rattle.pbf_pass.specs.declared.receipt.Halt.{Halt}
-use Rattle.pbf_pass.specs.Refused.{stop_of}
-use Rattle.pbfcut.specs.Choosing.{StopsFirst, StopsChoosing}
-use Rattle.pbfcut.proofs.ChangedLemmas.{never_changed}
+use Rattle.pbfcut.specs.Repeat.{GathersRest}
 use Rattle.pbf_pass.specs.Unjudged.{GathersFile}
 use Rattle.pbf_pass.specs.Judged.{judged_file}
 use Rattle.pbfcut.specs.Pick.{Pick, taken_by}
@@ -184,78 +167,9 @@ begins {A} {S} area step b pass header h before now p held within is short typed
       taken = ap (λ (of : InArea A S). of.phase) p.gathered_all ∙ beside area step before (stored_entities p.frames);
     }
 
-pub chooses : (area : BoundingBox) (b : List ℕ) (second : Option Verdict) (h : HeaderSpec) (begun : InArea BoundingBox Ids) (nodes : Ids) (started ways : WaySets) → Begins (box_area begun.area) node_step b begun.phase nodes h → begun ≡ start_nodes area → started ≡ start_ways nodes → GathersFile with_way second started ways
-    → Chooses (box_area area) (judged_file (Some b)) second ways h
-chooses area b second h begun nodes started ways before new starts more =
-    let p = subst (λ (of : InArea BoundingBox Ids). Begins (box_area of.area) node_step b of.phase nodes h) new before in
-    record {
-      frames = p.frames;
-      judged = p.judged;
-      within = p.within;
-      header = p.header;
-      typed = p.typed;
-      chosen = λ frames known. more frames known ∙ ap (λ (s : WaySets). fold with_way s (stored_entities frames)) (starts ∙ ap start_ways (p.taken ∙ seen_folded (box_area area) node_step (λ ids id members. refl) set.empty (stored_entities p.frames)));
-    }
-
 -- the first file can be written
 pub chosen_sound : (area : AreaSpec) (b : List ℕ) (second : Option Verdict) (sets : WaySets) (h : HeaderSpec) → Chooses area (judged_file (Some b)) second sets h → IsWritable b
 chosen_sound area b second sets h c = ap (λ (v : Verdict). v.1) (same_verdict b c.frames (judged_sound b c.frames (known_says b (c.frames, None) c.judged) c.within))
-
--- ---- why a call stops
-
--- bytes that aren't those of the first pass's digest are not the first pass's bytes
-later_differs : {F : Type 0} (f : feed.Ghosts F) (old new : F) (first digest : Option (List ℕ)) (frames : List FrameSpec) → IsDigest first digest → Says (judged_file first) (frames, None) → Refuses (IsUnlike digest) (f.has_passed old) (f.has_passed new) (f.remaining old) (f.remaining new) → Differ first (f.remaining old)
-later_differs f old new first digest frames same says unlike b c is too e =
-    let judged = known_says b (frames, None) (subst (λ (o : Option (List ℕ)). Says (judged_file o) (frames, None)) is says) in
-    refused_told (IsUnlike digest) _ _ _ (f.remaining new) c unlike too (subst (λ (l : List ℕ). IsDigestOf digest l) e (same b is)) frames (ap (λ (l : List ℕ). judged_file (Some l)) (sym e) ∙ judged)
-
--- the stops of a later pass, as those of the call
-module _ {F : Type 0} (f : feed.Ghosts F) (old new : F) (first : Option (List ℕ)) (frames : List FrameSpec) (says : Says (judged_file first) (frames, None)) where
-  pub stops_later : (again : LaterPass) (digest : Option (List ℕ)) (refused : Fault → Type 0) (read wrote : Type 0) (changed : ℕ → Type 0) (s : Stop) → IsDigest first digest → digest_of again ≡ digest
-      → (ReadFailed f old new → read) → ((pass : ℕ) → ChangedIn again.number first (f.remaining old) pass → changed pass) → StopsLater f again old new wrote s → Caused refused read wrote changed s
-  stops_later again digest refused read wrote changed (stop.Refused e) same is r d h = absurd h
-  stops_later again digest refused read wrote changed stop.Read same is r d h = r h
-  stops_later again digest refused read wrote changed stop.Write same is r d h = h
-  stops_later again digest refused read wrote changed stop.Memory same is r d h = tt
-  stops_later again digest refused read wrote changed (stop.Changed n) same is r d h = d n (h.0, later_differs f old new first (digest_of again) frames (subst (λ (d : Option (List ℕ)). IsDigest first d) (sym is) same) says h.1)
-
-  -- those of the pass that writes
-  module _ (passes : Passes) (digest : List ℕ) (before now : Option (List ℕ)) (read wrote : Type 0) (s : Stop) (same : IsDigest first (digest_if passes.hashes digest)) (failed : ReadFailed f old new → read) where
-    pub convert_stops : StopsLater f (record { number = 2; digest = digest; passes = passes }) old new wrote s → Caused (RefusedFirst (judged_writable first) before now) read wrote (ChangedIn 2 first (f.remaining old)) s
-    convert_stops h = stops_later (record { number = 2; digest = digest; passes = passes }) (digest_if passes.hashes digest) (RefusedFirst (judged_writable first) before now) read wrote (ChangedIn 2 first (f.remaining old)) s same refl failed (λ pass is. is) h
-
-  module _ (passes : Passes) (again : LaterPass) (read wrote : Type 0) (s : Stop) (same : IsDigest first (digest_if passes.hashes again.digest)) (failed : ReadFailed f old new → read) where
-    hashed : again.passes ≡ passes → digest_of again ≡ digest_if passes.hashes again.digest
-    hashed is = ap (λ (p : Passes). digest_if p.hashes again.digest) is
-
-    pub extract_stops : (before now second : Option (List ℕ)) → IsPass 3 passes again → StopsLater f again old new wrote s → ExtractStops first second (f.remaining old) before now read wrote s
-    extract_stops before now second is h = stops_later again (digest_if passes.hashes again.digest) (RefusedFirst (judged_writable first) before now) read wrote (λ pass. ChangedBefore 2 first second before now pass ⊎ ChangedIn 3 first (f.remaining old) pass) s same (hashed is.1) failed (λ pass at. inr (at.0 ∙ is.0, at.1)) h
-
-    pub parents_stops : (before now second third : Option (List ℕ)) → IsPass 4 passes again → StopsLater f again old new wrote s → ParentsStops first second third (f.remaining old) before now read wrote s
-    parents_stops before now second third is h =
-        stops_later again (digest_if passes.hashes again.digest) (RefusedFirst (judged_writable first) before now) read wrote
-        (λ pass. (ChangedBefore 2 first second before now pass ⊎ ChangedBefore 3 first third before now pass) ⊎ ChangedIn 4 first (f.remaining old) pass) s same (hashed is.1) failed (λ pass at. inr (at.0 ∙ is.0, at.1)) h
-
-    -- that of the pass that takes relations
-    pub relations_stop : (second : Option (List ℕ)) → IsPass 3 passes again → StopsLater f again old new wrote s
-        → Caused (FaultOf (judged_writable first)) read wrote (λ pass. ChangedIn 2 first second pass ⊎ ChangedIn 3 first (f.remaining old) pass) s
-    relations_stop second is h = stops_later again (digest_if passes.hashes again.digest) (FaultOf (judged_writable first)) read wrote (λ pass. ChangedIn 2 first second pass ⊎ ChangedIn 3 first (f.remaining old) pass) s same (hashed is.1) failed (λ pass at. inr (at.0 ∙ is.0, at.1)) h
-
--- the stops of earlier passes, in a call with more of them
-pub stops_earlier : (refused also : Fault → Type 0) (read more wrote : Type 0) (changed too : ℕ → Type 0) (s : Stop) → ((e : Fault) → refused e → also e) → (read → more) → ((pass : ℕ) → changed pass → too pass) → Caused refused read ⊥ changed s → Caused also more wrote too s
-stops_earlier refused also read more wrote changed too (stop.Refused e) f r d h = f e h
-stops_earlier refused also read more wrote changed too stop.Read f r d h = r h
-stops_earlier refused also read more wrote changed too stop.Write f r d h = absurd h
-stops_earlier refused also read more wrote changed too stop.Memory f r d h = tt
-stops_earlier refused also read more wrote changed too (stop.Changed n) f r d h = d n h
-
--- the stops of the first pass, in a call with two before the one that writes
-pub stops_choosing : {F G : Type 0} (f : feed.Ghosts F) (first now : F) (g : feed.Ghosts G) (second later : G) (hashes : Bool) (h : Halt) → StopsFirst (fed f first now) hashes h → StopsChoosing (fed f first now) (fed g second later) hashes h
-stops_choosing f first now g second later hashes h s = record {
-  refused = s.refused;
-  stops = stops_earlier (FaultOf (judged_writable (f.remaining first))) (FaultOf (judged_writable (f.remaining first))) (ReadFailed f first now) (ReadFailed f first now ⊎ ReadFailed g second later) ⊥ unchanged (ChangedIn 2 (f.remaining first) (g.remaining second)) (stop_of h) (λ e is. is) (λ r. inl r) (λ pass h. absurd h) s.stops;
-  changed = never_changed _ _ _ _ (stop_of h) s.stops;
-}
 
 -- a selection by what was chosen
 pub selects_chosen : (sets : KeptSets) (area : AreaSpec) (b first second : List ℕ) (h : HeaderSpec) → first ≡ b → second ≡ b → IsChoice area first second sets h → Selects b (complete_ways area) area (taken_by sets) h
@@ -330,43 +244,29 @@ same_frames b one two e f = let same : ◌≡◌ {A = Option Verdict} (Some (one
   parted : ◌≡◌ {A = Option Verdict} (Some (one, None)) (Some (two, None)) → one ≡ two
   parted same = let pair : ◌≡◌ {A = Verdict} (one, None) (two, None) = cc in ap (λ (v : Verdict). v.0) pair
 
--- what the first pass took, and a second one if the order was broken
-module _ {G : Type 0} (f : feed.Ghosts G) (old new : G) (digest : Option (List ℕ)) (area : AreaSpec) (b : List ℕ) (h : HeaderSpec) (begun phase : FirstSets) (started ways : WaySets) (sets : KeptSets) where
-  pub chooses_first : (in_order : Bool) → Begins area first_step b begun phase h → begun ≡ start_first → in_order ≡ phase.in_order → started ≡ phase.ways → GathersRest f with_way in_order old new digest started ways → sets ≡ without_parents ways → GaveOrNot f in_order old new digest b (λ c. IsChoice area b c sets h)
-  chooses_first true p fresh order starts rest ends =
-      let es = stored_entities p.frames in
-      let seen = map (seen_entity area) es in
-      let taken : phase ≡ first_pass seen = p.taken ∙ seen_folded area first_step (λ sets id members. refl) begun (stored_entities p.frames) ∙ ap (λ (s : FirstSets). fold first_step s seen) fresh in
-      let came = first_in_order seen (ap (λ (s : FirstSets). s.in_order) (sym taken) ∙ sym order) ∙ sym (sets_are area es) in (
-        rest.0,
-        record {
-          ways = ways;
-          kept = ends;
-          chosen = record {
-            frames = p.frames;
-            judged = p.judged;
-            within = p.within;
-            header = p.header;
-            typed = p.typed;
-            chosen = λ frames known. rest.1 ∙ starts ∙ ap (λ (s : FirstSets). s.ways) taken ∙ came ∙ ap (λ (l : List FrameSpec). fold with_way (nodes_of area es) (stored_entities l)) (same_frames b p.frames frames (known_says b (p.frames, None) p.judged) known);
-          };
-          short = p.short;
-        },
-      )
-  chooses_first false p fresh order starts rest ends =
-      let seen = map (seen_entity area) (stored_entities p.frames) in
-      let taken : phase ≡ first_pass seen = p.taken ∙ seen_folded area first_step (λ sets id members. refl) begun (stored_entities p.frames) ∙ ap (λ (s : FirstSets). fold first_step s seen) fresh in
-      let wait = first_broken seen (ap (λ (s : FirstSets). s.in_order) (sym taken) ∙ sym order) in
-      gave_file_less f old new digest (λ file. GathersFile with_way (judged_file (Some file)) started ways) (λ c. IsChoice area b c sets h) (λ c more. record {
-        ways = ways;
-        kept = ends;
-        chosen = record {
-          frames = p.frames;
-          judged = p.judged;
-          within = p.within;
-          header = p.header;
-          typed = p.typed;
-          chosen = λ frames known. more frames known ∙ ap (λ (s : WaySets). fold with_way s (stored_entities frames)) (starts ∙ ap (λ (s : FirstSets). s.ways) taken ∙ wait);
-        };
-        short = p.short;
-      }) rest
+-- what the first pass took, and a second one if it hadn't all ways
+module _ {S : Type 0} (start : S) (step : S → Seen → S) (has_ways : S → Bool) (ended : S → WaySets) (takes : TakesFirst start step has_ways ended) (second : FeedUse) (digest : Option (List ℕ)) (area : AreaSpec) (b : List ℕ) (h : HeaderSpec) (begun phase : S) (started ways : WaySets) (sets : KeptSets) where
+  pub chooses : (taken_in : AreaSpec) (spared : Bool) → taken_in ≡ area → Begins taken_in step b begun phase h → begun ≡ start → spared ≡ has_ways phase → started ≡ ended phase → GathersRest second.ghosts with_way spared second.old second.new digest started ways → sets ≡ without_parents ways → GaveOrNot second spared digest b (λ c. IsChoice area b c sets h)
+  chooses taken_in spared same begins fresh all starts rest kept = of spared all rest where
+    p : Begins area step b begun phase h
+    p = subst (λ (a : AreaSpec). Begins a step b begun phase h) same begins
+
+    es : List EntitySpec
+    es = stored_entities p.frames
+
+    seen : List Seen
+    seen = map (seen_entity area) es
+
+    taken : phase ≡ fold step start seen
+    taken = p.taken ∙ seen_folded area step takes.relations begun es ∙ ap (λ (s : S). fold step s seen) fresh
+
+    chosen : (c : List ℕ) → GathersFile with_way (judged_file (Some c)) (nodes_of area es) ways → IsChoice area b c sets h
+    chosen c more = record { ways = ways; kept = kept; chosen = record { frames = p.frames; judged = p.judged; within = p.within; header = p.header; typed = p.typed; chosen = more }; short = p.short }
+
+    of : (spared : Bool) → spared ≡ has_ways phase → GathersRest second.ghosts with_way spared second.old second.new digest started ways → GaveOrNot second spared digest b (λ c. IsChoice area b c sets h)
+    of true all rest =
+        let came = takes.all seen (ap has_ways (sym taken) ∙ sym all) ∙ sym (sets_are area es) in
+        (rest.0, chosen b (λ frames known. rest.1 ∙ starts ∙ ap ended taken ∙ came ∙ ap (λ (l : List FrameSpec). fold with_way (nodes_of area es) (stored_entities l)) (same_frames b p.frames frames (known_says b (p.frames, None) p.judged) known)))
+    of false all rest =
+        let wait = takes.nodes seen (ap has_ways (sym taken) ∙ sym all) in
+        gave_file_less second.ghosts second.old second.new digest (λ file. GathersFile with_way (judged_file (Some file)) started ways) _ (λ c more. chosen c (λ frames known. more frames known ∙ ap (λ (s : WaySets). fold with_way s (stored_entities frames)) (starts ∙ ap ended taken ∙ wait))) rest

@@ -9,6 +9,7 @@ pub mod WritingLemmas
 pub mod StayLemmas
 pub mod ConvertingLemmas
 pub mod ChangedLemmas
+pub mod LaterLemmas
 pub mod ExtractingLemmas
 pub mod ChosenLemmas
 pub mod KeptLaw

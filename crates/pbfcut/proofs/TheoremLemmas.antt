@@ -1,36 +1,16 @@
 -- What a call promises for a file that all its feeds supply, from what went through its devices.
-use Rattle.std.proofs.Common.{Bool, true, false, ◌≡◌, ◌⊎◌, inl, inr, ℕ, List, Option, Some, subst, sym, ◌∙◌}
-use Rattle.pbf_frame.specs.declared.device.Feed as feed
+use Rattle.std.proofs.Common.{Bool, true, false, ◌≡◌, ◌⊎◌, inl, inr, ℕ, List, [], ◌∷◌, Option, Some, Result, Ok, Err, IfOk, map, subst, refl, sym, ◌∙◌}
 use Rattle.pbf_frame.specs.declared.device.Drain as drain
-use Rattle.pbfcut.specs.Calls.{BothSupply, AllSupply, FourSupply, GaveOrNot}
-use Rattle.pbf_pass.specs.Given.{GaveFile, Took}
-use Rattle.pbfcut.specs.Kept.{IsWritable}
+use Rattle.pbfcut.specs.Calls.{AllSupply, DrainUse, FeedUse, GaveEach, GaveOrNot, IfSame, TookBy, supply_of}
+use Rattle.pbf_pass.specs.declared.receipt.Halt.{Halt}
+use Rattle.pbf_pass.specs.declared.receipt.InputReceipt.{InputReceipt}
+use Rattle.pbf_pass.specs.Given.{Took}
+use Rattle.pbfcut.specs.Receipts.{Wrote}
 use Rattle.pbfcut.specs.Repeat.{SameDigest}
-use Rattle.pbf_pass.proofs.GivenLemmas.{Tells, IsDigest, tells_file, told_digest, one_file, gave_file_less}
+use Rattle.pbf_pass.proofs.GivenLemmas.{Tells, IsDigest, tells_file, told_digest, gave_file_less}
 
 pub took_weaker : {D : Type 0} (d : drain.Ghosts D) (old new : D) (P Q : List ℕ → Type 0) → ((written : List ℕ) → P written → Q written) → Took d old new P → Took d old new Q
 took_weaker d old new P Q weaker took = record { written = took.written; added = took.added; holding = weaker took.written took.holding }
-
-pub took_of_two : {F G D : Type 0} (f : feed.Ghosts F) (g : feed.Ghosts G) (d : drain.Ghosts D) (first first_new : F) (second second_new : G) (old new : D) (digest : Option (List ℕ)) (holds : List ℕ → List ℕ → Type 0) (file : List ℕ) → GaveFile f first first_new digest (λ b. IsWritable b × GaveFile g second second_new digest (λ c. Took d old new (λ written. b ≡ c → holds b written))) → BothSupply file (f.remaining first) (g.remaining second) → Took d old new (holds file)
-took_of_two f g d first first_new second second_new old new digest holds file one supply =
-    let two = one.holding.1 in
-    let tells = tells_file f _ _ _ _ one in
-    took_weaker d old new _ _ (λ written is. subst (λ (b : List ℕ). holds b written) (tells file supply.0) (is (one_file _ _ one.file two.file file tells (tells_file g _ _ _ _ two) supply.0 supply.1))) two.holding
-
-pub took_of_three : {F G H D : Type 0} (f : feed.Ghosts F) (g : feed.Ghosts G) (h : feed.Ghosts H) (d : drain.Ghosts D) (first first_new : F) (second second_new : G) (third third_new : H) (old new : D) (digest : Option (List ℕ)) (holds : List ℕ → List ℕ → Type 0) (file : List ℕ) → GaveFile f first first_new digest (λ b. IsWritable b × GaveFile g second second_new digest (λ c. GaveFile h third third_new digest (λ e. Took d old new (λ written. b ≡ c → b ≡ e → holds b written)))) → AllSupply file (f.remaining first) (g.remaining second) (h.remaining third) → Took d old new (holds file)
-took_of_three f g h d first first_new second second_new third third_new old new digest holds file one supply =
-    let two = one.holding.1 in
-    let three = two.holding in
-    let tells = tells_file f _ _ _ _ one in
-    took_weaker d old new _ _ (λ written is. subst (λ (b : List ℕ). holds b written) (tells file supply.0) (is (one_file _ _ one.file two.file file tells (tells_file g _ _ _ _ two) supply.0 supply.1) (one_file _ _ one.file three.file file tells (tells_file h _ _ _ _ three) supply.0 supply.2))) three.holding
-
-pub took_of_four : {F G H I D : Type 0} (f : feed.Ghosts F) (g : feed.Ghosts G) (h : feed.Ghosts H) (i : feed.Ghosts I) (d : drain.Ghosts D) (first first_new : F) (second second_new : G) (third third_new : H) (fourth fourth_new : I) (old new : D) (digest : Option (List ℕ)) (holds : List ℕ → List ℕ → Type 0) (file : List ℕ) → GaveFile f first first_new digest (λ b. IsWritable b × GaveFile g second second_new digest (λ c. GaveFile h third third_new digest (λ e. GaveFile i fourth fourth_new digest (λ k. Took d old new (λ written. b ≡ c → b ≡ e → b ≡ k → holds b written))))) → FourSupply file (f.remaining first) (g.remaining second) (h.remaining third) (i.remaining fourth) → Took d old new (holds file)
-took_of_four f g h i d first first_new second second_new third third_new fourth fourth_new old new digest holds file one supply =
-    let two = one.holding.1 in
-    let three = two.holding in
-    let four = three.holding in
-    let tells = tells_file f _ _ _ _ one in
-    took_weaker d old new _ _ (λ written is. subst (λ (b : List ℕ). holds b written) (tells file supply.0) (is (one_file _ _ one.file two.file file tells (tells_file g _ _ _ _ two) supply.0 supply.1) (one_file _ _ one.file three.file file tells (tells_file h _ _ _ _ three) supply.0 supply.2) (one_file _ _ one.file four.file file tells (tells_file i _ _ _ _ four) supply.0 supply.3))) four.holding
 
 -- ---- digests
 
@@ -39,28 +19,52 @@ same_digest first other digest one two b c is too = sym (one b is) ∙ two c too
 
 -- ---- a feed that may not have been read
 
-module _ {G : Type 0} (f : feed.Ghosts G) (old new : G) (digest : Option (List ℕ)) where
+module _ (second : FeedUse) (digest : Option (List ℕ)) where
   -- what follows of the file that a later feed gave follows of the earlier one too, if the later feed was not read
-  pub gave_or_not : (spared : Bool) (file : List ℕ) (holds : List ℕ → Type 0) (told : Type 0) → ((c : List ℕ) → holds c → told) → GaveOrNot f spared old new digest file holds → told
+  pub gave_or_not : (spared : Bool) (file : List ℕ) (holds : List ℕ → Type 0) (told : Type 0) → ((c : List ℕ) → holds c → told) → GaveOrNot second spared digest file holds → told
   gave_or_not false file holds told step given = step given.file given.holding
   gave_or_not true file holds told step none = step file none.1
 
-  pub gave_or_less : (spared : Bool) (file : List ℕ) (holds less : List ℕ → Type 0) → ((c : List ℕ) → holds c → less c) → GaveOrNot f spared old new digest file holds → GaveOrNot f spared old new digest file less
-  gave_or_less false file holds less step given = gave_file_less f old new digest holds less step given
+  pub gave_or_less : (spared : Bool) (file : List ℕ) (holds less : List ℕ → Type 0) → ((c : List ℕ) → holds c → less c) → GaveOrNot second spared digest file holds → GaveOrNot second spared digest file less
+  gave_or_less false file holds less step given = gave_file_less second.ghosts second.old second.new digest holds less step given
   gave_or_less true file holds less step none = (none.0, step file none.1)
 
   -- of feeds that report the same bytes
-  pub told_or_not : (spared : Bool) (first : Option (List ℕ)) (file b : List ℕ) (holds : List ℕ → Type 0) → Tells first file → first ≡ Some b → f.remaining old ≡ Some b → GaveOrNot f spared old new digest file holds → holds b
-  told_or_not false first file b holds tells is also given = subst holds (tells_file f old new digest holds given b also) given.holding
+  pub told_or_not : (spared : Bool) (first : Option (List ℕ)) (file b : List ℕ) (holds : List ℕ → Type 0) → Tells first file → first ≡ Some b → supply_of second ≡ Some b → GaveOrNot second spared digest file holds → holds b
+  told_or_not false first file b holds tells is also given = subst holds (tells_file second.ghosts second.old second.new digest holds given b also) given.holding
   told_or_not true first file b holds tells is also none = subst holds (tells b is) none.1
 
 -- a feed that was read supplied bytes of the digest
-pub second_digest : {G : Type 0} (f : feed.Ghosts G) (old new : G) (digest : List ℕ) (first : Option (List ℕ)) (file : List ℕ) (holds : List ℕ → Type 0) → IsDigest first (Some digest) → (spared : Bool) → GaveOrNot f spared old new (Some digest) file holds → SameDigest first (f.remaining old) ⊎ (new ≡ old)
-second_digest f old new digest first file holds same false given = inl (same_digest first (f.remaining old) digest same (told_digest f old new (Some digest) holds given))
-second_digest f old new digest first file holds same true none = inr none.0
+pub second_digest : (second : FeedUse) (digest : List ℕ) (first : Option (List ℕ)) (file : List ℕ) (holds : List ℕ → Type 0) → IsDigest first (Some digest) → (spared : Bool) → GaveOrNot second spared (Some digest) file holds → SameDigest first (supply_of second) ⊎ (second.new ≡ second.old)
+second_digest second digest first file holds same false given = inl (same_digest first (supply_of second) digest same (told_digest second.ghosts second.old second.new (Some digest) holds given))
+second_digest second digest first file holds same true none = inr none.0
 
-pub took_sorted : {F G H D : Type 0} (f : feed.Ghosts F) (g : feed.Ghosts G) (h : feed.Ghosts H) (d : drain.Ghosts D) (first first_new : F) (second second_new : G) (third third_new : H) (old new : D) (digest : Option (List ℕ)) (holds : List ℕ → List ℕ → Type 0) (file : List ℕ) (spared : Bool) → GaveFile f first first_new digest (λ b. IsWritable b × GaveOrNot g spared second second_new digest b (λ c. GaveFile h third third_new digest (λ e. Took d old new (λ written. b ≡ c → b ≡ e → holds b written)))) → AllSupply file (f.remaining first) (g.remaining second) (h.remaining third) → Took d old new (holds file)
-took_sorted f g h d first first_new second second_new third third_new old new digest holds file spared one supply =
-    let tells = tells_file f _ _ _ _ one in
-    let three = told_or_not g second second_new digest spared (f.remaining first) one.file file (λ c. GaveFile h third third_new digest (λ e. Took d old new (λ written. one.file ≡ c → one.file ≡ e → holds one.file written))) tells supply.0 supply.1 one.holding.1 in
-    took_weaker d old new _ _ (λ written is. subst (λ (b : List ℕ). holds b written) (tells file supply.0) (is (tells file supply.0) (one_file _ _ one.file three.file file tells (tells_file h _ _ _ _ three) supply.0 supply.2))) three.holding
+-- ---- what was written
+
+pub each_less : (feeds : List FeedUse) (digest : Option (List ℕ)) (P Q : List (List ℕ) → Type 0) → ((files : List (List ℕ)) → P files → Q files) → GaveEach feeds digest P → GaveEach feeds digest Q
+each_less [] digest P Q step given = step [] given
+each_less (one ∷ more) digest P Q step given = gave_file_less one.ghosts one.old one.new digest _ _ (λ file. each_less more digest (λ files. P (file ∷ files)) (λ files. Q (file ∷ files)) (λ files. step (file ∷ files))) given
+
+-- later feeds that have the bytes of the first to give gave the same file
+took_each : {D : Type 0} (feeds : List FeedUse) (out : DrainUse D) (digest : Option (List ℕ)) (b : List ℕ) (holds : List ℕ → Type 0) → AllSupply b (map supply_of feeds) → GaveEach feeds digest (λ files. TookBy out (λ written. IfSame b files (holds written))) → TookBy out holds
+took_each [] out digest b holds supply given = given
+took_each (one ∷ more) out digest b holds supply given =
+    took_each more out digest b holds supply.1 (each_less more digest _ _ (λ files took. took_weaker out.ghosts out.old out.new _ _ (λ written same. same (sym (tells_file one.ghosts one.old one.new digest _ given b supply.0))) took) given.holding)
+
+pub took_of : {D : Type 0} (first second : FeedUse) (later : List FeedUse) (out : DrainUse D) (digest : Option (List ℕ)) (spared : Bool) (holds : List ℕ → List ℕ → Type 0) (b : List ℕ) → Wrote first second later out digest spared holds → AllSupply b (supply_of first ∷ supply_of second ∷ map supply_of later) → TookBy out (holds b)
+took_of first second later out digest spared holds b one supply =
+    let tells = tells_file first.ghosts first.old first.new digest _ one in
+    let is = tells b supply.0 in
+    let rest = subst (λ (file : List ℕ). GaveOrNot second spared digest file (λ c. GaveEach later digest (λ files. TookBy out (λ written. IfSame file (c ∷ files) (holds file written))))) is one.holding.1 in
+    let both = told_or_not second digest spared (supply_of first) b b _ (λ c known. is_some b c supply.0 known) supply.0 supply.1.0 rest in
+    took_each later out digest b (holds b) supply.1.1 (each_less later digest _ _ (λ files took. took_weaker out.ghosts out.old out.new _ _ (λ written same. same refl) took) both) where
+      is_some : (b c : List ℕ) → supply_of first ≡ Some b → supply_of first ≡ Some c → b ≡ c
+      is_some b c e f = some_same (sym e ∙ f) where
+        some_same : Some b ≡ Some c → b ≡ c
+        some_same e = cc
+
+-- if no pass was spared, each feed gave its file
+pub wrote_all : {D : Type 0} (first second : FeedUse) (later : List FeedUse) (out : DrainUse D) (digest : InputReceipt → Option (List ℕ)) (holds : InputReceipt → List ℕ → List ℕ → Type 0) (r : Result InputReceipt Halt) → IfOk r (λ receipt. receipt.spared ≡ false)
+    → IfOk r (λ receipt. Wrote first second later out (digest receipt) receipt.spared (holds receipt)) → IfOk r (λ receipt. Wrote first second later out (digest receipt) false (holds receipt))
+wrote_all first second later out digest holds (Ok receipt) none wrote = subst (λ (s : Bool). Wrote first second later out (digest receipt) s (holds receipt)) none wrote
+wrote_all first second later out digest holds (Err halt) none wrote = tt

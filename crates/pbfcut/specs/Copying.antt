@@ -6,8 +6,7 @@ use Rattle.pbf_frame.specs.declared.frame.TheConstants.{FILE_LIMIT}
 use Rattle.pbf_frame.specs.declared.stop.Stop.{Stop}
 use Rattle.pbf_frame.specs.Devices.{IsAtEnd, IsFront}
 use Rattle.pbf_frame.specs.Transfers.{Added, SuppliedFirst}
-use Rattle.pbf_pass.specs.Given.{GaveFile}
-use Rattle.pbfcut.specs.Calls.{DrainUse, FailedDrain, FeedUse, KeepsDrained, KeepsFed, TookBy, supply_of, taken_after, taken_before}
+use Rattle.pbfcut.specs.Calls.{DrainUse, FailedDrain, FeedUse, GaveBy, KeepsDrained, KeepsFed, TookBy, supply_of, taken_after, taken_before}
 use Rattle.pbfcut.specs.declared.repeat.LaterPass.{LaterPass}
 use Rattle.pbfcut.specs.Repeat.{StopsLater, digest_of}
 
@@ -23,8 +22,8 @@ IsAllOrLong true left bytes = IsAtEnd left
 IsAllOrLong false left bytes = FILE_LIMIT < length bytes
 
 -- what a later pass does that copies
-pub record CopiesAgain {F D X : Type 0} (source : FeedUse F) (drain : DrainUse D) (again : LaterPass) (result : Result X Stop) : Type 0 where
-  pub copied : OnOk result (GaveFile source.ghosts source.old source.new (digest_of again) (λ file. TookBy drain (λ written. written ≡ file)))
+pub record CopiesAgain {D X : Type 0} (source : FeedUse) (drain : DrainUse D) (again : LaterPass) (result : Result X Stop) : Type 0 where
+  pub copied : OnOk result (GaveBy source (digest_of again) (λ file. TookBy drain (λ written. written ≡ file)))
   pub front : (all : List ℕ) → supply_of source ≡ Some all → IsFront (taken_before drain) (taken_after drain) all
   pub stops : IfErr result (StopsLater source.ghosts again source.old source.new (FailedDrain drain))
   pub feed : KeepsFed source

@@ -14,4 +14,5 @@ pub mod Calls
 pub mod Changes
 pub mod Choosing
 pub mod Ends
+pub mod Receipts
 pub mod Copying

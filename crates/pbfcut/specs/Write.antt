@@ -15,14 +15,13 @@ use Rattle.pbf_frame.specs.Verdict.{Verdict}
 use Rattle.pbf_pass.specs.declared.receipt.Halt.{Halt}
 use Rattle.pbf_pass.specs.declared.receipt.InputReceipt.{InputReceipt}
 use Rattle.pbf_pass.specs.Unjudged.{ReadsFaulty, StopsAtPayload, StopsUnjudged}
-use Rattle.pbf_pass.specs.Given.{GaveFile}
 use Rattle.pbf_pass.specs.Hashing.{digest_if}
 use Rattle.pbf_pass.specs.Counting.{counts_of, stored_entities}
 use Rattle.pbf_pass.specs.Judged.{fault_in, judged_file}
 use Rattle.pbf_pass.specs.Payload.{Payload, payload_of}
 use Rattle.pbf_pass.specs.Refused.{stop_of}
 use Rattle.pbf_pass.specs.Stops.{WriteFailed}
-use Rattle.pbfcut.specs.Calls.{DrainUse, FailedDrain, FailedFeed, FeedUse, KeepsDrained, KeepsFed, TookBy, supply_of, taken_after, taken_before}
+use Rattle.pbfcut.specs.Calls.{DrainUse, FailedDrain, FailedFeed, FeedUse, GaveBy, KeepsDrained, KeepsFed, TookBy, supply_of, taken_after, taken_before}
 use Rattle.pbfcut.specs.declared.repeat.LaterPass.{LaterPass}
 use Rattle.pbfcut.specs.declared.write.OutputPlan.{OutputPlan}
 use Rattle.pbfcut.specs.declared.pick.EntityPacker.{EntityPacker}
@@ -83,15 +82,15 @@ Packed pick h counts known written = (frames : List FrameSpec) → known ≡ Som
 abbrev pub PacksFront : Pick → HeaderSpec → Option Verdict → (old new : Option (List ℕ)) → Type 0
 PacksFront pick h known old new = (frames : List FrameSpec) → known ≡ Some (frames, None) → IsFront old new (written_file h (filter pick (stored_entities frames)))
 
-abbrev pub PacksFrontOf : {F D : Type 0} → FeedUse F → DrainUse D → Pick → HeaderSpec → Type 0
+abbrev pub PacksFrontOf : {D : Type 0} → FeedUse → DrainUse D → Pick → HeaderSpec → Type 0
 PacksFrontOf source drain pick h = PacksFront pick h (judged_file (supply_of source)) (taken_before drain) (taken_after drain)
 
 -- ---- the pass that writes, whose bytes aren't compared yet
 
 -- the feed gave a file, and the drain took its header and what is picked of it; or a prefix of that, if the pass stopped: at a fault, since the
 -- bytes changed, or for a device
-pub record WritesUnjudged {F D : Type 0} (source : FeedUse F) (drain : DrainUse D) (plan : OutputPlan) (result : Result InputReceipt Stop) : Type 0 where
-  pub packed : IfOk result (λ wrote. GaveFile source.ghosts source.old source.new (digest_if plan.pass.passes.hashes wrote.input) (λ file. TookBy drain (Packed (take_of plan.chosen) (header_of plan.header.now) wrote.counts (judged_file (Some file)))))
+pub record WritesUnjudged {D : Type 0} (source : FeedUse) (drain : DrainUse D) (plan : OutputPlan) (result : Result InputReceipt Stop) : Type 0 where
+  pub packed : IfOk result (λ wrote. GaveBy source (digest_if plan.pass.passes.hashes wrote.input) (λ file. TookBy drain (Packed (take_of plan.chosen) (header_of plan.header.now) wrote.counts (judged_file (Some file)))))
   pub beginning : OnErr result (PacksFrontOf source drain (take_of plan.chosen) (header_of plan.header.now))
   pub faulty : IfErr result (ReadsFaulty source.ghosts source.old source.new)
   pub stops : IfErr result (StopsUnjudged plan.pass.number (judged_file (supply_of source)) (FailedFeed source) (FailedDrain drain))
@@ -99,8 +98,8 @@ pub record WritesUnjudged {F D : Type 0} (source : FeedUse F) (drain : DrainUse 
   pub out : KeepsDrained drain
 
 -- the same once they are: it has to be the first pass's file
-pub record WritesAgain {F D : Type 0} (source : FeedUse F) (drain : DrainUse D) (plan : OutputPlan) (result : Result Counts Stop) : Type 0 where
-  pub packed : IfOk result (λ counts. GaveFile source.ghosts source.old source.new (digest_of plan.pass) (λ file. TookBy drain (Packed (take_of plan.chosen) (header_of plan.header.now) counts (judged_file (Some file)))))
+pub record WritesAgain {D : Type 0} (source : FeedUse) (drain : DrainUse D) (plan : OutputPlan) (result : Result Counts Stop) : Type 0 where
+  pub packed : IfOk result (λ counts. GaveBy source (digest_of plan.pass) (λ file. TookBy drain (Packed (take_of plan.chosen) (header_of plan.header.now) counts (judged_file (Some file)))))
   pub beginning : OnErr result (PacksFrontOf source drain (take_of plan.chosen) (header_of plan.header.now))
   pub stops : IfErr result (StopsLater source.ghosts plan.pass source.old source.new (FailedDrain drain))
   pub keeps : KeepsFed source
@@ -110,9 +109,9 @@ pub record WritesAgain {F D : Type 0} (source : FeedUse F) (drain : DrainUse D) 
 
 -- the feed gave a file of the first pass's digest, and the drain took its header and what is picked of it; or a prefix of that, if the pass
 -- stopped, which is no refusal
-pub record WritesChoice {F D : Type 0} (source : FeedUse F) (drain : DrainUse D) (again : LaterPass) (sets : KeptSets) (h : HeaderSpec) (spared : Bool) (result : Result InputReceipt Halt) : Type 0 where
+pub record WritesChoice {D : Type 0} (source : FeedUse) (drain : DrainUse D) (again : LaterPass) (sets : KeptSets) (h : HeaderSpec) (spared : Bool) (result : Result InputReceipt Halt) : Type 0 where
   pub input : IfOk result (λ receipt. (receipt.input ≡ again.digest) × (receipt.spared ≡ spared))
-  pub packed : IfOk result (λ receipt. GaveFile source.ghosts source.old source.new (digest_of again) (λ file. TookBy drain (Packed (taken_by sets) h receipt.counts (judged_file (Some file)))))
+  pub packed : IfOk result (λ receipt. GaveBy source (digest_of again) (λ file. TookBy drain (Packed (taken_by sets) h receipt.counts (judged_file (Some file)))))
   pub front : OnErr result (PacksFrontOf source drain (taken_by sets) h)
   pub stops : IfErr result (λ halt. StopsLater source.ghosts again source.old source.new (FailedDrain drain) (stop_of halt))
   pub keeps : KeepsFed source

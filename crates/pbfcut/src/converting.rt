@@ -1,16 +1,15 @@
 //! `convert`: all entities, in canonical form.
 
-ghost use Rattle.std.specs.Prelude.{◌≡◌, ℕ, List, IfOk, IfErr, OnOk, OnErr};
-ghost use Rattle.pbf_frame.specs.Devices.{IsFront};
-ghost use Rattle.pbfcut.specs.Calls.{BothSupply, drained, fed, StopsTwoPasses};
+ghost use Rattle.std.specs.Prelude.{◌≡◌, ℕ, List, [], ◌∷◌, false, IfOk, IfErr, OnOk};
+ghost use Rattle.pbfcut.specs.Calls.{AllSupply, drained, fed, StopsPasses};
 ghost use Rattle.pbfcut.specs.Theorem.{Converted, IsConverted, Promised, Canonical};
 ghost use Rattle.pbfcut.specs.Converting.{answer_bytes, CanBeWritten};
 ghost use Rattle.pbf_pass.specs.HeaderLimit.{judged_writable};
-ghost use Rattle.pbf_pass.specs.Given.{GaveFile, Took};
 ghost use Rattle.pbf_pass.specs.Hashing.{digest_if};
-ghost use Rattle.pbfcut.specs.Kept.{IsWritable, conversion_of};
+ghost use Rattle.pbfcut.specs.Kept.{conversion_of};
+ghost use Rattle.pbfcut.specs.Receipts.{Wrote};
 ghost use Rattle.pbfcut.specs.Repeat.{SameDigest};
-ghost use Rattle.pbfcut.specs.Ends.{EndsTwoPasses};
+ghost use Rattle.pbfcut.specs.Ends.{EndsInFront, EndsPasses};
 
 use crate::repeat::LaterPass;
 use crate::write::OutputPlan;
@@ -41,19 +40,21 @@ pub fn convert<F: Feed, G: Feed, D: Drain, S: BuildHasher + Drop>(
     // If both feeds supply these bytes, the drain took bytes that decode to exactly what they do: the header in written form, with its
     // own box, and the entities, in order, with all fields; the counts are those of the entities. Or they are refused for their first
     // fault, with nothing written.
-    ensures promise { (b : List ℕ) → BothSupply b (F.remaining first.old) (G.remaining second.old)
+    ensures promise { (b : List ℕ)
+        → AllSupply b (F.remaining first.old ∷ G.remaining second.old ∷ [])
         → Promised D.Drain drain.old drain.new b (Converted b) result }
     // If both feeds supply these bytes: whatever stopped it, what the drain took is a prefix of their conversion in canonical form, and
     // nothing if they have a fault; on success it is all of it, and a conversion of it is the same bytes.
-    ensures canonical { (b : List ℕ) → BothSupply b (F.remaining first.old) (G.remaining second.old)
+    ensures canonical { (b : List ℕ)
+        → AllSupply b (F.remaining first.old ∷ G.remaining second.old ∷ [])
         → Canonical D.Drain drain.old drain.new answer_bytes b result }
     // The bytes of both feeds have one SHA-256 digest: no files that differ, unless two different lists share a digest.
     ensures digests { OnOk result (SameDigest (F.remaining first.old) (G.remaining second.old)) }
     // `Refused` names the first fault of the first feed's file, or that its header can't be written, and the drain took nothing. `Read`
     // and `Write` come only if a count of failures rose: of a feed, of the drain. `Changed(2)`: the second feed's bytes aren't the
     // first's. No other number comes.
-    ensures stops { IfErr result (StopsTwoPasses judged_writable (fed F.Feed first.old first.new)
-        (fed G.Feed second.old second.new) (drained D.Drain drain.old drain.new)) }
+    ensures stops { IfErr result (StopsPasses judged_writable (fed F.Feed first.old first.new)
+        (fed G.Feed second.old second.new ∷ []) (drained D.Drain drain.old drain.new)) }
 {
     let passes = Passes {
         alloc,
@@ -73,20 +74,18 @@ pub fn convert_with_receipt<F: Feed, G: Feed, D: Drain, S: BuildHasher + Drop>(
 ) -> Result<InputReceipt, Halt>
     // Each feed gave a file, of the digest `input` if the passes hash, to its end; the first has no fault, and its header can be written.
     // The drain took bytes. If both files are the same, these bytes are exactly its conversion, and the counts are those of its entities.
-    ensures receipt { IfOk result (λ receipt. GaveFile F.Feed first.old first.new
-        (digest_if passes.hashes receipt.input) (λ b. IsWritable b
-        × GaveFile G.Feed second.old second.new (digest_if passes.hashes receipt.input)
-        (λ c. Took D.Drain drain.old drain.new
-        (λ written. b ≡ c → IsConverted b receipt.counts written)))) }
+    ensures receipt { IfOk result (λ receipt. Wrote (fed F.Feed first.old first.new)
+        (fed G.Feed second.old second.new) [] (drained D.Drain drain.old drain.new)
+        (digest_if passes.hashes receipt.input) false
+        (λ b written. IsConverted b receipt.counts written)) }
     // However it ends: `refused` says what is refused, of the bytes that were read, and that the drain took nothing then; `stops` why it
     // stops; `changed` of what bytes it says `Changed`; and `feeds` and `out` that it keeps its devices.
-    ensures ends { EndsTwoPasses judged_writable (fed F.Feed first.old first.new)
-        (fed G.Feed second.old second.new)
+    ensures ends { EndsPasses judged_writable (fed F.Feed first.old first.new)
+        (fed G.Feed second.old second.new ∷ [])
         (drained D.Drain drain.old drain.new) passes.hashes result }
     // Whatever stopped it, if both feeds supply these bytes, a prefix of their conversion went out, and nothing if they have a fault.
-    ensures beginning { OnErr result ((b : List ℕ)
-        → BothSupply b (F.remaining first.old) (G.remaining second.old)
-        → IsFront (D.taken drain.old) (D.taken drain.new) (conversion_of b)) }
+    ensures beginning { EndsInFront conversion_of (fed F.Feed first.old first.new
+        ∷ fed G.Feed second.old second.new ∷ []) (drained D.Drain drain.old drain.new) result }
 {
     let judged = judge(passes, first, &mut Nothing)?;
     let digest = judged.digest;

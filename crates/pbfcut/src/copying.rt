@@ -1,6 +1,6 @@
 //! A file that is judged, and then copied as it is.
 
-ghost use Rattle.std.specs.Prelude.{◌≡◌, Some, List, ℕ, IfOk, IfErr, OnErr};
+ghost use Rattle.std.specs.Prelude.{◌≡◌, [], ◌∷◌, Some, List, ℕ, IfOk, IfErr, OnErr};
 ghost use Rattle.pbf_frame.specs.Devices.{IsFront};
 ghost use Rattle.pbf_frame.specs.Keeps.{KeepsDrain, KeepsFeed};
 ghost use Rattle.pbf_pass.specs.Given.{GaveFile, Took};
@@ -8,9 +8,9 @@ ghost use Rattle.pbf_pass.specs.Hashing.{digest_if};
 ghost use Rattle.pbf_pass.specs.Judged.{judged_file};
 ghost use Rattle.pbf_pass.specs.Pass.{CountsFile};
 ghost use Rattle.pbf_pass.specs.Stops.{Caused, ReadFailed, WriteFailed, unchanged};
-ghost use Rattle.pbfcut.specs.Calls.{BothSupply, drained, fed};
+ghost use Rattle.pbfcut.specs.Calls.{AllSupply, drained, fed};
 ghost use Rattle.pbfcut.specs.Copying.{Copied, CopiesAgain, IsAllOrLong};
-ghost use Rattle.pbfcut.specs.Ends.{EndsTwoPasses};
+ghost use Rattle.pbfcut.specs.Ends.{EndsPasses};
 
 use crate::repeat::LaterPass;
 use pbf_frame::{Drain, FILE_LIMIT, Feed, Stop, write_all};
@@ -80,12 +80,12 @@ pub fn copy_with_receipt<F: Feed, G: Feed, D: Drain>(
         (λ c. Took D.Drain drain.old drain.new (λ written. written ≡ c)))) }
     // However it ends: `refused` says what is refused, of the bytes that were read, and that the drain took nothing then; `stops` why it
     // stops; `changed` of what bytes it says `Changed`; and `feeds` and `out` that it keeps its devices.
-    ensures ends { EndsTwoPasses judged_file (fed F.Feed first.old first.new)
-        (fed G.Feed second.old second.new)
+    ensures ends { EndsPasses judged_file (fed F.Feed first.old first.new)
+        (fed G.Feed second.old second.new ∷ [])
         (drained D.Drain drain.old drain.new) passes.hashes result }
     // Whatever stopped it, if both feeds supply these bytes, a prefix of them went out.
     ensures beginning { OnErr result ((b : List ℕ)
-        → BothSupply b (F.remaining first.old) (G.remaining second.old)
+        → AllSupply b (F.remaining first.old ∷ G.remaining second.old ∷ [])
         → IsFront (D.taken drain.old) (D.taken drain.new) b) }
 {
     let judged = judge(passes, first, &mut Nothing)?;

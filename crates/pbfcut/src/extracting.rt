@@ -1,32 +1,33 @@
 //! `extract` and `extract_parents`: what a box cuts out of a file, in canonical form.
 
-ghost use Rattle.std.specs.Prelude.{◌≡◌, ℕ, List, true, Some, IfOk, IfErr, OnOk};
+ghost use Rattle.std.specs.Prelude.{◌≡◌, ℕ, List, [], ◌∷◌, true, false, Some, IfOk, IfErr, OnOk};
 ghost use Rattle.osm_area.specs.Area.{box_area};
 ghost use Rattle.osm_ways.specs.Parents.{extract_with_parents};
 ghost use Rattle.osm_ways.specs.Seen.{seen_decoded};
 ghost use Rattle.osm_ways.specs.Selection.{extract};
 ghost use Rattle.pbf_header.specs.Header.{header_of};
-ghost use Rattle.pbfcut.specs.Calls.{AllSupply, drained, fed, FourSupply, StopsExtracting, StopsExtractingParents};
-ghost use Rattle.pbfcut.specs.Choosing.{StopsFirst, EndsChoosing, EndsChoosingParents};
+ghost use Rattle.pbfcut.specs.Calls.{AllSupply, drained, fed, GaveBy, GaveOrNot, StopsPasses};
+ghost use Rattle.pbfcut.specs.Choosing.{EndsChoosing, IsNever, StopsChoosing};
 ghost use Rattle.pbfcut.specs.Theorem.{Extracted, IsExtraction, Promised, Canonical};
 ghost use Rattle.pbfcut.specs.Converting.{CanBeWritten};
 ghost use Rattle.pbf_pass.specs.HeaderLimit.{HasShortTexts, judged_writable};
 ghost use Rattle.pbfcut.specs.Extracting.{complete_ways, all_parents, extract_bytes, Begins, AddsParents, IsChoice, IsChoiceWithParents};
-ghost use Rattle.pbf_pass.specs.Given.{GaveFile, Took};
+ghost use Rattle.pbf_pass.specs.Given.{GaveFile};
 ghost use Rattle.pbf_pass.specs.Hashing.{digest_if};
 ghost use Rattle.pbf_pass.specs.Judged.{judged_file};
-ghost use Rattle.pbfcut.specs.Kept.{IsWritable};
+ghost use Rattle.pbfcut.specs.Kept.{extract_of};
 ghost use Rattle.pbf_pass.specs.Refused.{stop_of};
 ghost use Rattle.pbfcut.specs.Repeat.{IsPass, SameDigest, StopsLater, digest_of};
+ghost use Rattle.pbfcut.specs.Receipts.{Wrote};
 ghost use Rattle.pbfcut.specs.Write.{WritesChoice};
 ghost use Rattle.pbf_frame.specs.Keeps.{KeepsFeed};
-ghost use Rattle.pbfcut.specs.Ends.{EndsExtracting, EndsExtractingParents};
+ghost use Rattle.pbfcut.specs.Ends.{EndsInFront, EndsPasses};
 
 use crate::repeat::LaterPass;
 use crate::write::OutputPlan;
 use osm_area::Area;
 use osm_entity::BoundingBox;
-use osm_ways::{Chosen, InArea, NodePhase, NodeTaker};
+use osm_ways::{Chosen, InArea, NodeIds, NodeTaker};
 use pbf_block::Counts;
 use pbf_frame::{Drain, Feed, Stop};
 use pbf_header::Header;
@@ -65,7 +66,7 @@ pub(crate) fn begin<A: Area, P: NodeTaker, F: Feed>(
     ensures begun { IfOk result (λ begun. GaveFile F.Feed feed.old feed.new
         (digest_if passes.hashes begun.digest) (λ b. Begins (A.area taking.old.area) P.step b
         taking.old.phase taking.new.phase (header_of begun.header))) }
-    ensures halts { IfErr result (StopsFirst (fed F.Feed feed.old feed.new) passes.hashes) }
+    ensures halts { IfErr result (StopsChoosing (fed F.Feed feed.old feed.new) [] passes.hashes) }
     ensures keeps { KeepsFeed F.Feed feed.old feed.new }
 {
     let bounds = taking.area.bounds();
@@ -129,38 +130,140 @@ impl Choice {
     }
 }
 
-/// The passes before the one that writes: the first judges the file and takes the nodes of the box, the second takes the ways.
-fn choose<F: Feed, G: Feed>(
+/// The passes before the one that writes: the first judges the file and takes the nodes of the area, and maybe all ways too. If it has
+/// not, the second takes the ways; otherwise it isn't made.
+fn choose<A: Area + Copy, P: NodeTaker + Drop, F: Feed, G: Feed>(
     passes: Passes,
-    area: BoundingBox,
+    area: A,
     first: &mut F,
     second: &mut G,
 ) -> Result<Choice, Halt>
-    ensures chosen { IfOk result (λ choice. GaveFile F.Feed first.old first.new
+    ensures chosen { IfOk result (λ choice. GaveBy (fed F.Feed first.old first.new)
         (digest_if passes.hashes choice.next.digest)
-        (λ b. GaveFile G.Feed second.old second.new
-        (digest_if passes.hashes choice.next.digest)
-        (λ c. IsChoice (box_area area) b c choice.chosen (header_of choice.header)))) }
-    ensures ends { EndsChoosing (fed F.Feed first.old first.new) (fed G.Feed second.old second.new)
-        passes result }
+        (λ b. GaveOrNot (fed G.Feed second.old second.new) choice.spared
+        (digest_if passes.hashes choice.next.digest) b
+        (λ c. IsChoice (A.area area) b c choice.chosen (header_of choice.header)))) }
+    ensures spared { IfOk result (λ choice. IsNever P.has_ways → choice.spared ≡ false) }
+    ensures ends { EndsChoosing (fed F.Feed first.old first.new)
+        (fed G.Feed second.old second.new ∷ []) passes result }
 {
-    let mut nodes = NodePhase::new(passes.alloc, area);
-    let begun = begin(passes, first, &mut nodes)?;
+    let mut taking = InArea::<A, P>::new(passes.alloc, area);
+    let begun = begin(passes, first, &mut taking)?;
     let digest = begun.digest;
     let again = LaterPass {
         number: 2,
         digest,
         passes,
     };
-    let mut ways = nodes.end_nodes()?;
-    again.gather(second, &mut ways)?;
+    let spared = taking.phase.has_all_ways();
+    let mut ways = taking.end_nodes()?;
+    again.gather_rest(second, &mut ways, spared)?;
     let chosen = ways.end_ways()?;
     Ok(Choice {
         chosen,
         header: begun.header,
         next: LaterPass { number: 3, ..again },
-        spared: false,
+        spared,
     })
+}
+
+/// The same, and a pass more, which takes the relations.
+fn choose_parents<A: Area + Copy, P: NodeTaker + Drop, F: Feed, G: Feed, H: Feed>(
+    passes: Passes,
+    area: A,
+    first: &mut F,
+    second: &mut G,
+    third: &mut H,
+) -> Result<Choice, Halt>
+    ensures chosen { IfOk result (λ choice. GaveBy (fed F.Feed first.old first.new)
+        (digest_if passes.hashes choice.next.digest)
+        (λ b. GaveOrNot (fed G.Feed second.old second.new) choice.spared
+        (digest_if passes.hashes choice.next.digest) b
+        (λ c. GaveBy (fed H.Feed third.old third.new)
+        (digest_if passes.hashes choice.next.digest)
+        (λ d. IsChoiceWithParents (A.area area) b c d choice.chosen (header_of choice.header))))) }
+    ensures spared { IfOk result (λ choice. IsNever P.has_ways → choice.spared ≡ false) }
+    ensures ends { EndsChoosing (fed F.Feed first.old first.new)
+        (fed G.Feed second.old second.new ∷ fed H.Feed third.old third.new ∷ []) passes result }
+{
+    let choice = choose::<A, P, F, G>(passes, area, first, second)?;
+    choice.with_parents(third)
+}
+
+/// The extract of an area, in which `P` is the first phase.
+pub(crate) fn cut<
+    A: Area + Copy,
+    P: NodeTaker + Drop,
+    F: Feed,
+    G: Feed,
+    H: Feed,
+    D: Drain,
+    S: BuildHasher + Drop,
+>(
+    passes: Passes,
+    first: &mut F,
+    second: &mut G,
+    third: &mut H,
+    area: A,
+    drain: &mut D,
+    hasher: S,
+) -> Result<InputReceipt, Halt>
+    ensures receipt { IfOk result (λ receipt. Wrote (fed F.Feed first.old first.new)
+        (fed G.Feed second.old second.new) (fed H.Feed third.old third.new ∷ [])
+        (drained D.Drain drain.old drain.new) (digest_if passes.hashes receipt.input)
+        receipt.spared (λ b written. IsExtraction (complete_ways (A.area area))
+        (extract (seen_decoded (A.area area))) (A.area area) b receipt.counts written)) }
+    ensures spared { IfOk result (λ receipt. IsNever P.has_ways → receipt.spared ≡ false) }
+    ensures ends { EndsPasses judged_writable (fed F.Feed first.old first.new)
+        (fed G.Feed second.old second.new ∷ fed H.Feed third.old third.new ∷ [])
+        (drained D.Drain drain.old drain.new) passes.hashes result }
+    ensures beginning { EndsInFront (extract_of (complete_ways (A.area area)) (A.area area))
+        (fed F.Feed first.old first.new ∷ fed G.Feed second.old second.new
+        ∷ fed H.Feed third.old third.new ∷ []) (drained D.Drain drain.old drain.new) result }
+{
+    let choice = choose::<A, P, F, G>(passes, area, first, second)?;
+    choice.write(third, drain, hasher)
+}
+
+/// The same with all parents.
+pub(crate) fn cut_parents<
+    A: Area + Copy,
+    P: NodeTaker + Drop,
+    F: Feed,
+    G: Feed,
+    H: Feed,
+    I: Feed,
+    D: Drain,
+    S: BuildHasher + Drop,
+>(
+    passes: Passes,
+    first: &mut F,
+    second: &mut G,
+    third: &mut H,
+    fourth: &mut I,
+    area: A,
+    drain: &mut D,
+    hasher: S,
+) -> Result<InputReceipt, Halt>
+    ensures receipt { IfOk result (λ receipt. Wrote (fed F.Feed first.old first.new)
+        (fed G.Feed second.old second.new)
+        (fed H.Feed third.old third.new ∷ fed I.Feed fourth.old fourth.new ∷ [])
+        (drained D.Drain drain.old drain.new) (digest_if passes.hashes receipt.input)
+        receipt.spared (λ b written. IsExtraction (all_parents (A.area area))
+        (extract_with_parents (seen_decoded (A.area area))) (A.area area)
+        b receipt.counts written)) }
+    ensures spared { IfOk result (λ receipt. IsNever P.has_ways → receipt.spared ≡ false) }
+    ensures ends { EndsPasses judged_writable (fed F.Feed first.old first.new)
+        (fed G.Feed second.old second.new ∷ fed H.Feed third.old third.new
+        ∷ fed I.Feed fourth.old fourth.new ∷ [])
+        (drained D.Drain drain.old drain.new) passes.hashes result }
+    ensures beginning { EndsInFront (extract_of (all_parents (A.area area)) (A.area area))
+        (fed F.Feed first.old first.new ∷ fed G.Feed second.old second.new
+        ∷ fed H.Feed third.old third.new ∷ fed I.Feed fourth.old fourth.new ∷ [])
+        (drained D.Drain drain.old drain.new) result }
+{
+    let choice = choose_parents::<A, P, F, G, H>(passes, area, first, second, third)?;
+    choice.write(fourth, drain, hasher)
 }
 
 /// Writes the complete-ways extract of the box, in canonical form: the nodes in the box, the ways with at least one of these nodes
@@ -190,14 +293,14 @@ pub fn extract<F: Feed, G: Feed, H: Feed, D: Drain, S: BuildHasher + Drop>(
     // If all feeds supply these bytes, the drain took bytes that decode to exactly the complete-ways extract of what they decode
     // to, in input order, or they are refused for their first fault, with nothing written.
     ensures promise { (b : List ℕ)
-        → AllSupply b (F.remaining first.old) (G.remaining second.old) (H.remaining third.old)
+        → AllSupply b (F.remaining first.old ∷ G.remaining second.old ∷ H.remaining third.old ∷ [])
         → Promised D.Drain drain.old drain.new b
         (Extracted (complete_ways (box_area area)) (extract (seen_decoded (box_area area)))
         (box_area area) b) result }
     // If all feeds supply these bytes: whatever stopped it, what the drain took is a prefix of their extract in canonical form, and nothing
     // if they have a fault; on success it is all of the extract, and an extract of it is the same bytes.
     ensures canonical { (b : List ℕ)
-        → AllSupply b (F.remaining first.old) (G.remaining second.old) (H.remaining third.old)
+        → AllSupply b (F.remaining first.old ∷ G.remaining second.old ∷ H.remaining third.old ∷ [])
         → Canonical D.Drain drain.old drain.new
         (extract_bytes (complete_ways (box_area area)) (box_area area)) b result }
     // The bytes of all feeds have one SHA-256 digest: no files that differ, unless two different lists share a digest.
@@ -206,8 +309,8 @@ pub fn extract<F: Feed, G: Feed, H: Feed, D: Drain, S: BuildHasher + Drop>(
     // `Refused` names the first fault of the first feed's file, or that its header can't be written, and the drain took nothing. `Read`
     // and `Write` come only if a count of failures rose: of a feed, of the drain. `Changed(2)`: the second feed's bytes aren't the
     // first's, and the drain took nothing. `Changed(3)`: the third's aren't. No other number comes.
-    ensures stops { IfErr result (StopsExtracting (fed F.Feed first.old first.new)
-        (fed G.Feed second.old second.new) (fed H.Feed third.old third.new)
+    ensures stops { IfErr result (StopsPasses judged_writable (fed F.Feed first.old first.new)
+        (fed G.Feed second.old second.new ∷ fed H.Feed third.old third.new ∷ [])
         (drained D.Drain drain.old drain.new)) }
 {
     Ok(extract_with_receipt(alloc, first, second, third, area, drain, hasher)?.counts)
@@ -226,48 +329,26 @@ pub fn extract_with_receipt<F: Feed, G: Feed, H: Feed, D: Drain, S: BuildHasher 
 ) -> Result<InputReceipt, Halt>
     // Each feed gave a file of the digest `input`, to its end; the first has no fault, and its header can be written. The drain took
     // bytes. If the files are the same, these bytes are exactly its complete-ways extract, and the counts are those of the entities in it.
-    ensures receipt { IfOk result (λ receipt. GaveFile F.Feed first.old first.new
-        (Some receipt.input) (λ b. IsWritable b
-        × GaveFile G.Feed second.old second.new (Some receipt.input)
-        (λ c. GaveFile H.Feed third.old third.new (Some receipt.input) (λ d.
-        Took D.Drain drain.old drain.new
-        (λ written. b ≡ c → b ≡ d → IsExtraction (complete_ways (box_area area))
-        (extract (seen_decoded (box_area area))) (box_area area) b receipt.counts written))))) }
+    ensures receipt { IfOk result (λ receipt. Wrote (fed F.Feed first.old first.new)
+        (fed G.Feed second.old second.new) (fed H.Feed third.old third.new ∷ [])
+        (drained D.Drain drain.old drain.new) (Some receipt.input) false
+        (λ b written. IsExtraction (complete_ways (box_area area))
+        (extract (seen_decoded (box_area area))) (box_area area) b receipt.counts written)) }
     // However it ends: `refused` says what is refused, of the bytes that were read, and that the drain took nothing then; `stops` why it
-    // stops; `changed` of what bytes it says `Changed`; `beginning` what went out by then; and `feeds` and `out` that it keeps its devices.
-    ensures ends { EndsExtracting (fed F.Feed first.old first.new)
-        (fed G.Feed second.old second.new) (fed H.Feed third.old third.new)
-        (drained D.Drain drain.old drain.new) true (box_area area) result }
+    // stops; `changed` of what bytes it says `Changed`; and `feeds` and `out` that it keeps its devices.
+    ensures ends { EndsPasses judged_writable (fed F.Feed first.old first.new)
+        (fed G.Feed second.old second.new ∷ fed H.Feed third.old third.new ∷ [])
+        (drained D.Drain drain.old drain.new) true result }
+    // Whatever stopped it, if all feeds supply these bytes, a prefix of their extract went out, and nothing if they have a fault.
+    ensures beginning { EndsInFront (extract_of (complete_ways (box_area area)) (box_area area))
+        (fed F.Feed first.old first.new ∷ fed G.Feed second.old second.new
+        ∷ fed H.Feed third.old third.new ∷ []) (drained D.Drain drain.old drain.new) result }
 {
     let passes = Passes {
         alloc,
         hashes: true,
     };
-    let choice = choose(passes, area, first, second)?;
-    choice.write(third, drain, hasher)
-}
-
-/// The passes before the one that writes: over nodes and ways as without parents, and a third that takes the relations.
-fn choose_parents<F: Feed, G: Feed, H: Feed>(
-    passes: Passes,
-    area: BoundingBox,
-    first: &mut F,
-    second: &mut G,
-    third: &mut H,
-) -> Result<Choice, Halt>
-    ensures chosen { IfOk result (λ choice. GaveFile F.Feed first.old first.new
-        (digest_if passes.hashes choice.next.digest)
-        (λ b. GaveFile G.Feed second.old second.new
-        (digest_if passes.hashes choice.next.digest)
-        (λ c. GaveFile H.Feed third.old third.new
-        (digest_if passes.hashes choice.next.digest)
-        (λ d. IsChoiceWithParents (box_area area) b c d choice.chosen (header_of choice.header))))) }
-    ensures ends { EndsChoosingParents (fed F.Feed first.old first.new)
-        (fed G.Feed second.old second.new)
-        (fed H.Feed third.old third.new) passes result }
-{
-    let choice = choose(passes, area, first, second)?;
-    choice.with_parents(third)
+    cut::<BoundingBox, NodeIds, F, G, H, D, S>(passes, first, second, third, area, drain, hasher)
 }
 
 /// Writes the complete-ways extract of the box with all parents: what [`extract`] writes, and all relations that have a kept
@@ -293,16 +374,16 @@ pub fn extract_parents<F: Feed, G: Feed, H: Feed, I: Feed, D: Drain, S: BuildHas
     // If all feeds supply these bytes, the drain took bytes that decode to exactly the complete-ways extract with all parents of
     // what they decode to, in input order, or they are refused for their first fault, with nothing written.
     ensures promise { (b : List ℕ)
-        → FourSupply b (F.remaining first.old) (G.remaining second.old) (H.remaining third.old)
-        (I.remaining fourth.old)
+        → AllSupply b (F.remaining first.old ∷ G.remaining second.old ∷ H.remaining third.old
+        ∷ I.remaining fourth.old ∷ [])
         → Promised D.Drain drain.old drain.new b
         (Extracted (all_parents (box_area area))
         (extract_with_parents (seen_decoded (box_area area))) (box_area area) b) result }
     // If all feeds supply these bytes: whatever stopped it, what the drain took is a prefix of their extract in canonical form, and nothing
     // if they have a fault; on success it is all of the extract, and an extract of it is the same bytes.
     ensures canonical { (b : List ℕ)
-        → FourSupply b (F.remaining first.old) (G.remaining second.old) (H.remaining third.old)
-        (I.remaining fourth.old)
+        → AllSupply b (F.remaining first.old ∷ G.remaining second.old ∷ H.remaining third.old
+        ∷ I.remaining fourth.old ∷ [])
         → Canonical D.Drain drain.old drain.new
         (extract_bytes (all_parents (box_area area)) (box_area area)) b result }
     // The bytes of all feeds have one SHA-256 digest: no files that differ, unless two different lists share a digest.
@@ -312,10 +393,9 @@ pub fn extract_parents<F: Feed, G: Feed, H: Feed, I: Feed, D: Drain, S: BuildHas
     // `Refused` names the first fault of the first feed's file, or that its header can't be written, and the drain took nothing. `Read`
     // and `Write` come only if a count of failures rose: of a feed, of the drain. `Changed(2)`, `Changed(3)`: the second or
     // third feed's bytes aren't the first's, and the drain took nothing. `Changed(4)`: the fourth's aren't. No other number comes.
-    ensures stops { IfErr result (StopsExtractingParents (fed F.Feed first.old first.new)
-        (fed G.Feed second.old second.new) (fed H.Feed third.old third.new)
-        (fed I.Feed fourth.old fourth.new)
-        (drained D.Drain drain.old drain.new)) }
+    ensures stops { IfErr result (StopsPasses judged_writable (fed F.Feed first.old first.new)
+        (fed G.Feed second.old second.new ∷ fed H.Feed third.old third.new
+        ∷ fed I.Feed fourth.old fourth.new ∷ []) (drained D.Drain drain.old drain.new)) }
 {
     Ok(
         extract_parents_with_receipt(
@@ -345,26 +425,30 @@ pub fn extract_parents_with_receipt<
     // Each feed gave a file of the digest `input`, to its end; the first has no fault, and its header can be written. The drain took
     // bytes. If the files are the same, these bytes are exactly its complete-ways extract with all parents, and the
     // counts are those of the entities in it.
-    ensures receipt { IfOk result (λ receipt. GaveFile F.Feed first.old first.new
-        (Some receipt.input) (λ b. IsWritable b
-        × GaveFile G.Feed second.old second.new (Some receipt.input)
-        (λ c. GaveFile H.Feed third.old third.new (Some receipt.input) (λ d.
-        GaveFile I.Feed fourth.old fourth.new (Some receipt.input) (λ e.
-        Took D.Drain drain.old drain.new (λ written. b ≡ c → b ≡ d → b ≡ e
-        → IsExtraction (all_parents (box_area area))
-        (extract_with_parents (seen_decoded (box_area area)))
-        (box_area area) b receipt.counts written)))))) }
+    ensures receipt { IfOk result (λ receipt. Wrote (fed F.Feed first.old first.new)
+        (fed G.Feed second.old second.new)
+        (fed H.Feed third.old third.new ∷ fed I.Feed fourth.old fourth.new ∷ [])
+        (drained D.Drain drain.old drain.new) (Some receipt.input) false
+        (λ b written. IsExtraction (all_parents (box_area area))
+        (extract_with_parents (seen_decoded (box_area area))) (box_area area)
+        b receipt.counts written)) }
     // However it ends: `refused` says what is refused, of the bytes that were read, and that the drain took nothing then; `stops` why it
-    // stops; `changed` of what bytes it says `Changed`; `beginning` what went out by then; and `feeds` and `out` that it keeps its devices.
-    ensures ends { EndsExtractingParents (fed F.Feed first.old first.new)
-        (fed G.Feed second.old second.new) (fed H.Feed third.old third.new)
-        (fed I.Feed fourth.old fourth.new)
-        (drained D.Drain drain.old drain.new) true (box_area area) result }
+    // stops; `changed` of what bytes it says `Changed`; and `feeds` and `out` that it keeps its devices.
+    ensures ends { EndsPasses judged_writable (fed F.Feed first.old first.new)
+        (fed G.Feed second.old second.new ∷ fed H.Feed third.old third.new
+        ∷ fed I.Feed fourth.old fourth.new ∷ [])
+        (drained D.Drain drain.old drain.new) true result }
+    // Whatever stopped it, if all feeds supply these bytes, a prefix of their extract went out, and nothing if they have a fault.
+    ensures beginning { EndsInFront (extract_of (all_parents (box_area area)) (box_area area))
+        (fed F.Feed first.old first.new ∷ fed G.Feed second.old second.new
+        ∷ fed H.Feed third.old third.new ∷ fed I.Feed fourth.old fourth.new ∷ [])
+        (drained D.Drain drain.old drain.new) result }
 {
     let passes = Passes {
         alloc,
         hashes: true,
     };
-    let choice = choose_parents(passes, area, first, second, third)?;
-    choice.write(fourth, drain, hasher)
+    cut_parents::<BoundingBox, NodeIds, F, G, H, I, D, S>(
+        passes, first, second, third, fourth, area, drain, hasher,
+    )
 }

@@ -1,6 +1,6 @@
 //! `show`: a line for each field of the header and for each entity.
 
-ghost use Rattle.std.specs.Prelude.{◌∷◌, ◌≡◌, false, Some, IfOk, IfErr, OnOk, OnErr};
+ghost use Rattle.std.specs.Prelude.{[], ◌∷◌, ◌≡◌, false, Some, IfOk, IfErr, OnOk, OnErr};
 ghost use Rattle.pbf_frame.specs.Keeps.{KeepsDrain, KeepsFeed};
 ghost use Rattle.pbf_frame.specs.Verdict.{judged_known};
 ghost use Rattle.std.specs.List.{flat_map};
@@ -15,8 +15,8 @@ ghost use Rattle.pbf_pass.specs.Payload.{header_block, primitive_block, lent_by}
 ghost use Rattle.pbf_pass.specs.Stops.{Caused, ReadFailed, WriteFailed, unchanged};
 ghost use Rattle.pbfcut.specs.Repeat.{SameDigest};
 ghost use Rattle.pbfcut.specs.Showing.{RefusedAtOnce, Shown, ShowsFirst, ShowsFront, WritesLines, WritesPayload, ShowsNext, FailsToShowNext, ShowsAgain};
-ghost use Rattle.pbfcut.specs.Calls.{drained, fed, StopsTwoPasses};
-ghost use Rattle.pbfcut.specs.Ends.{EndsTwoPasses};
+ghost use Rattle.pbfcut.specs.Calls.{drained, fed, StopsPasses};
+ghost use Rattle.pbfcut.specs.Ends.{EndsPasses};
 
 use crate::repeat::LaterPass;
 use osm_entity::EntityRef;
@@ -207,8 +207,8 @@ pub fn show<F: Feed, G: Feed, D: Drain>(
     ensures digests { OnOk result (SameDigest (F.remaining first.old) (G.remaining second.old)) }
     // `Refused` names the first fault of the first feed's file, and the drain took nothing. `Read` and `Write` come only if a count of
     // failures rose: of a feed, of the drain. `Changed(2)`: the second feed's bytes aren't the first's. No other number comes.
-    ensures stops { IfErr result (StopsTwoPasses judged_file (fed F.Feed first.old first.new)
-        (fed G.Feed second.old second.new) (drained D.Drain drain.old drain.new)) }
+    ensures stops { IfErr result (StopsPasses judged_file (fed F.Feed first.old first.new)
+        (fed G.Feed second.old second.new ∷ []) (drained D.Drain drain.old drain.new)) }
     // Whatever stopped it, if both feeds supply one file, a prefix of its text went out, and nothing if it has a fault.
     ensures beginning { OnErr result (F.remaining first.old ≡ G.remaining second.old
         → ShowsFront dates (judged_file (F.remaining first.old))
@@ -239,8 +239,8 @@ pub fn show_with_receipt<F: Feed, G: Feed, D: Drain>(
         (λ c. Took D.Drain drain.old drain.new (Shown dates (judged_file (Some c)))))) }
     // However it ends: `refused` says what is refused, of the bytes that were read, and that the drain took nothing then; `stops` why it
     // stops; `changed` of what bytes it says `Changed`; and `feeds` and `out` that it keeps its devices.
-    ensures ends { EndsTwoPasses judged_file (fed F.Feed first.old first.new)
-        (fed G.Feed second.old second.new)
+    ensures ends { EndsPasses judged_file (fed F.Feed first.old first.new)
+        (fed G.Feed second.old second.new ∷ [])
         (drained D.Drain drain.old drain.new) passes.hashes result }
     // Whatever stopped it, if both feeds supply one file, a prefix of its text went out, and nothing if it has a fault.
     ensures beginning { OnErr result (F.remaining first.old ≡ G.remaining second.old

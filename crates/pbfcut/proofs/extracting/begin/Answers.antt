@@ -7,7 +7,10 @@ use Rattle.pbf_pass.specs.HeaderLimit.{header_limit, held_header, judged_writabl
 use Rattle.pbf_pass.specs.Pass.{with_seen_in}
 use Rattle.pbf_pass.specs.Stops.{FaultOf, Only, unchanged}
 use Rattle.pbf_pass.proofs.LimitLemmas.{limit_refused}
-use Rattle.pbfcut.proofs.ExtractingLemmas.{begins, edges_typed, stops_earlier}
+use Rattle.pbf_pass.specs.Refused.{stop_of}
+use Rattle.pbfcut.proofs.ChangedLemmas.{never_changed}
+use Rattle.pbfcut.proofs.ExtractingLemmas.{begins, edges_typed}
+use Rattle.pbfcut.proofs.LaterLemmas.{stops_earlier}
 use Rattle.pbf_pass.proofs.GivenLemmas.{tells_file, takes_told}
 use Rattle.pbf_pass.proofs.HaltingLemmas.{halts_writing, limit_caused, limit_halts}
 use Rattle.pbfcut.proofs.extracting.begin.Goals as goal
@@ -15,7 +18,7 @@ use Rattle.pbfcut.proofs.extracting.begin.Goals as goal
 pub returns-in_err-judged-clause-halts : goal.returns-in_err-judged-clause-halts
 returns-in_err-judged-clause-halts g c =
     let p = err_from_is_err_and c.from_residual.result c.from_residual.ensures.1 in
-    rw (p.1, p.2) (record { refused = halts_writing g.F.Feed _ _ _ _ c.in_err-judged.ensures.ends.refused; stops = search rules })
+    rw (p.1, p.2) (record { refused = halts_writing g.F.Feed _ _ _ _ c.in_err-judged.ensures.ends.refused; stops = search rules; changed = never_changed _ _ _ _ (stop_of c.in_err-judged.field-0.0) c.in_err-judged.ensures.ends.stops })
 
 pub returns-in_err-writable_header-clause-halts : goal.returns-in_err-writable_header-clause-halts
 returns-in_err-writable_header-clause-halts g c =
@@ -25,6 +28,7 @@ returns-in_err-writable_header-clause-halts g c =
       refused = limit_halts g.F.Feed _ _ _ (with_seen_in g.A.Area.area g.P.NodeTaker.step) _ _ c.in_ok-judged.judged _ c.in_ok-judged.ensures.judged c.in_err-writable_header.ensures.refused;
       stops = stops_earlier (Only (header_limit (held_header c.in_ok-judged.judged.pass))) (FaultOf (judged_writable (g.F.Feed.remaining c.args.feed.now))) ⊥ _ ⊥ unchanged unchanged _
           (λ e limit. limit_refused (with_seen_in g.A.Area.area g.P.NodeTaker.step) _ _ _ _ e (takes_told (with_seen_in g.A.Area.area g.P.NodeTaker.step) _ one.file _ _ _ (tells_file g.F.Feed _ _ _ _ one) one.holding.1) limit) (λ r. absurd r) (λ pass h. absurd h) (limit_caused c.in_ok-judged.judged _ c.in_err-writable_header.ensures.refused);
+      changed = never_changed (Only (header_limit (held_header c.in_ok-judged.judged.pass))) ⊥ ⊥ _ _ (limit_caused c.in_ok-judged.judged _ c.in_err-writable_header.ensures.refused);
     })
 
 pub returns-clause-begun : goal.returns-clause-begun

@@ -1,13 +1,16 @@
-use Rattle.std.proofs.Common.{rules, List, ℕ, Option, refl, sym, subst}
+use Rattle.std.proofs.Common.{rules, List, [], ℕ, Option, refl, sym, subst}
 use Rattle.std.proofs.lemmas.Result.{err_from_is_err_and}
 use Rattle.pbf_pass.specs.Judged.{judged_file}
+use Rattle.pbfcut.specs.Calls.{drained, fed}
+use Rattle.pbfcut.specs.Ends.{TookNothing}
 use Rattle.pbfcut.specs.Showing.{ShowsFront}
 use Rattle.pbf_pass.proofs.GivenLemmas.{tells_file}
 use Rattle.pbfcut.proofs.ShowingLemmas.{shown_front, shown_told}
 use Rattle.pbfcut.specs.declared.repeat.LaterPass.{LaterPass}
 use Rattle.pbf_pass.specs.Refused.{stop_of}
 use Rattle.pbfcut.specs.Repeat.{as_change}
-use Rattle.pbfcut.proofs.ChangedLemmas.{never_changed, changed_later, digest_as_change, fault_as_change}
+use Rattle.pbfcut.proofs.ChangedLemmas.{never_changed, digest_as_change, fault_as_change}
+use Rattle.pbfcut.proofs.LaterLemmas.{last_changed}
 use Rattle.pbfcut.proofs.showing.show_with_receipt.Goals as goal
 
 pub returns-in_err-judged-clause-ends : goal.returns-in_err-judged-clause-ends
@@ -30,7 +33,7 @@ returns-in_err-compare-in-Ok-clause-ends g c =
     rw (p.1, p.2) (record {
       refused = search rules;
       stops = search rules;
-      changed = changed_later g.F.Feed _ _ g.G.Feed _ _ last _ _ _ _ c.in_err-compare-in-Ok.field-0.0 one one.holding.1.frames one.holding.1.says refl (λ pass is. is) stops;
+      changed = last_changed (fed g.F.Feed c.args.first.now c.judge.new.feed) _ _ one one.holding.1.frames one.holding.1.says [] (fed g.G.Feed c.args.second.now c.write_text.new.feed) last refl refl (TookNothing (drained g.D.Drain c.args.drain.now c.write_text.new.drain)) ⊥ _ stops;
       feeds = search rules;
       out = search rules;
     })
@@ -43,7 +46,7 @@ returns-clause-ends g c =
     record {
       refused = search rules;
       stops = search rules;
-      changed = rw (c.from.ensures, c.changed.ensures) (changed_later g.F.Feed _ _ g.G.Feed _ _ last _ _ _ _ (as_change 2 c.in-Err.stop) one one.holding.1.frames one.holding.1.says refl (λ pass is. is) stops);
+      changed = rw (c.from.ensures, c.changed.ensures) (last_changed (fed g.F.Feed c.args.first.now c.judge.new.feed) _ _ one one.holding.1.frames one.holding.1.says [] (fed g.G.Feed c.args.second.now c.write_text.new.feed) last refl refl (TookNothing (drained g.D.Drain c.args.drain.now c.write_text.new.drain)) _ (as_change 2 c.in-Err.stop) stops);
       feeds = search rules;
       out = search rules;
     }
