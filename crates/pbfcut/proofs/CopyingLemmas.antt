@@ -14,7 +14,7 @@ use Rattle.pbf_frame.specs.Sound.{AreFrames, EndsAs, had_after, place_after}
 use Rattle.pbf_frame.specs.Frames.{next_of}
 use Rattle.pbf_frame.specs.Devices.{IsFront, append, prepend}
 use Rattle.pbf_frame.specs.Transfers.{SuppliedFirst}
-use Rattle.pbf_frame.proofs.Beginnings.{front_longer, front_then, front_whole}
+use Rattle.pbf_frame.proofs.Beginnings.{front_longer, front_then}
 use Rattle.pbf_frame.specs.Verdict.{Verdict, joined_frames, judged}
 use Rattle.pbf_frame.proofs.Longest.{longest_front}
 use Rattle.pbf_frame.proofs.Parting.{next_none}
@@ -87,12 +87,6 @@ too_long f again old new wrote bytes gave long = (
 known_rest : (left : Option (List ℕ)) (all bytes : List ℕ) → Some all ≡ prepend bytes left → (rest : List ℕ) × (left ≡ Some rest) × (all ≡ bytes ++ rest)
 known_rest None all bytes e = (let bad : ⊥ = cc in absurd bad)
 known_rest (Some rest) all bytes e = (rest, refl, (let same : all ≡ bytes ++ rest = cc in same))
-
--- all bytes that were given
-pub front_so_far : (left before now : Option (List ℕ)) (all bytes : List ℕ) → Some all ≡ prepend bytes left → now ≡ append before bytes → IsFront before now all
-front_so_far left before now all bytes gave took =
-    let known = known_rest left all bytes gave in
-    subst (IsFront before now) (sym known.2) (front_longer before now bytes known.0 (front_whole before now bytes took))
 
 -- and a part of some more
 pub front_then_part : (left before mid now : Option (List ℕ)) (all bytes piece : List ℕ) → Some all ≡ prepend (bytes ++ piece) left → mid ≡ append before bytes → IsFront mid now piece → IsFront before now all

@@ -11,7 +11,6 @@ use Rattle.pbf_frame.specs.Devices.{append, IsFront}
 use Rattle.pbf_frame.specs.Transfers.{Added}
 use Rattle.pbf_frame.specs.Frames.{FrameSpec}
 use Rattle.pbf_frame.specs.Verdict.{Verdict, judged_known, VerdictAfter, Says, with_all, with_first_known}
-use Rattle.pbf_frame.proofs.KnownBytes.{append_append}
 use Rattle.pbf_frame.proofs.Passed.{added_none, added_more, added_same}
 use Rattle.pbf_frame.proofs.Beginnings.{front_whole, front_longer, front_then}
 use Rattle.pbf_frame.proofs.VerdictLemmas.{gone_more, gone_split}
@@ -29,9 +28,6 @@ use Rattle.pbf_frame.proofs.Parting.{some_same}
 -- what is written for one more of anything
 pub text_one : {A : Type 0} (text : A → List ℕ) (xs : List A) (x : A) → flat_map text (xs ++ x ∷ []) ≡ flat_map text xs ++ text x
 text_one text xs x = flat_map-append text xs (x ∷ []) ∙ ap (λ (l : List ℕ). flat_map text xs ++ l) (append-nil (text x))
-
-pub texts_more : {A : Type 0} (text : A → List ℕ) (before mid now : Option (List ℕ)) (xs : List A) (x : A) → mid ≡ append before (flat_map text xs) → now ≡ append mid (text x) → now ≡ append before (flat_map text (xs ++ x ∷ []))
-texts_more text before mid now xs x e e2 = e2 ∙ ap (λ (k : Option (List ℕ)). append k (text x)) e ∙ append_append before (flat_map text xs) (text x) ∙ ap (append before) (sym (text_one text xs x))
 
 -- the same of what a drain took, whether it reports it or not
 pub texts_added : {A D : Type 0} (d : drain.Ghosts D) (text : A → List ℕ) (before mid now : D) (xs : List A) (x : A) → Added d before (flat_map text xs) mid → Added d mid (text x) now → Added d before (flat_map text (xs ++ x ∷ [])) now

@@ -1,9 +1,7 @@
 -- What a call promises for a file that all its feeds supply, from what went through its devices.
-use Rattle.std.proofs.Common.{Bool, true, false, ◌≡◌, ◌⊎◌, inl, inr, ℕ, List, [], ◌∷◌, Option, Some, Result, Ok, Err, IfOk, map, subst, refl, sym, ◌∙◌}
+use Rattle.std.proofs.Common.{Bool, true, false, ◌≡◌, ◌⊎◌, inl, inr, ℕ, List, [], ◌∷◌, Option, Some, map, subst, refl, sym, ◌∙◌}
 use Rattle.pbf_frame.specs.declared.device.Drain as drain
-use Rattle.pbfcut.specs.Calls.{AllSupply, DrainUse, FeedUse, GaveEach, GaveOrNot, IfSame, TookBy, supply_of}
-use Rattle.pbf_pass.specs.declared.receipt.Halt.{Halt}
-use Rattle.pbf_pass.specs.declared.receipt.InputReceipt.{InputReceipt}
+use Rattle.pbfcut.specs.Calls.{AllSupply, DrainUse, FeedUse, GaveBy, GaveEach, GaveOrNot, IfSame, TookBy, supply_of}
 use Rattle.pbf_pass.specs.Given.{Took}
 use Rattle.pbfcut.specs.Receipts.{Wrote}
 use Rattle.pbfcut.specs.Repeat.{SameDigest}
@@ -28,6 +26,9 @@ module _ (second : FeedUse) (digest : Option (List ℕ)) where
   pub gave_or_less : (spared : Bool) (file : List ℕ) (holds less : List ℕ → Type 0) → ((c : List ℕ) → holds c → less c) → GaveOrNot second spared digest file holds → GaveOrNot second spared digest file less
   gave_or_less false file holds less step given = gave_file_less second.ghosts second.old second.new digest holds less step given
   gave_or_less true file holds less step none = (none.0, step file none.1)
+
+  pub gave_all : (spared : Bool) (file : List ℕ) (holds : List ℕ → Type 0) → spared ≡ false → GaveOrNot second spared digest file holds → GaveBy second digest holds
+  gave_all spared file holds none given = subst (λ (s : Bool). GaveOrNot second s digest file holds) none given
 
   -- of feeds that report the same bytes
   pub told_or_not : (spared : Bool) (first : Option (List ℕ)) (file b : List ℕ) (holds : List ℕ → Type 0) → Tells first file → first ≡ Some b → supply_of second ≡ Some b → GaveOrNot second spared digest file holds → holds b
@@ -62,9 +63,3 @@ took_of first second later out digest spared holds b one supply =
       is_some b c e f = some_same (sym e ∙ f) where
         some_same : Some b ≡ Some c → b ≡ c
         some_same e = cc
-
--- if no pass was spared, each feed gave its file
-pub wrote_all : {D : Type 0} (first second : FeedUse) (later : List FeedUse) (out : DrainUse D) (digest : InputReceipt → Option (List ℕ)) (holds : InputReceipt → List ℕ → List ℕ → Type 0) (r : Result InputReceipt Halt) → IfOk r (λ receipt. receipt.spared ≡ false)
-    → IfOk r (λ receipt. Wrote first second later out (digest receipt) receipt.spared (holds receipt)) → IfOk r (λ receipt. Wrote first second later out (digest receipt) false (holds receipt))
-wrote_all first second later out digest holds (Ok receipt) none wrote = subst (λ (s : Bool). Wrote first second later out (digest receipt) s (holds receipt)) none wrote
-wrote_all first second later out digest holds (Err halt) none wrote = tt

@@ -8,20 +8,18 @@ ghost use Rattle.osm_ways.specs.Selection.{extract};
 ghost use Rattle.pbf_header.specs.Header.{header_of};
 ghost use Rattle.pbfcut.specs.Calls.{AllSupply, drained, fed, GaveBy, GaveOrNot, StopsPasses};
 ghost use Rattle.pbfcut.specs.Choosing.{EndsChoosing, IsNever, StopsChoosing};
-ghost use Rattle.pbfcut.specs.Theorem.{Extracted, IsExtraction, Promised, Canonical};
+ghost use Rattle.pbfcut.specs.Theorem.{Extracted, Promised, Canonical};
 ghost use Rattle.pbfcut.specs.Converting.{CanBeWritten};
 ghost use Rattle.pbf_pass.specs.HeaderLimit.{HasShortTexts, judged_writable};
 ghost use Rattle.pbfcut.specs.Extracting.{complete_ways, all_parents, extract_bytes, Begins, AddsParents, IsChoice, IsChoiceWithParents};
 ghost use Rattle.pbf_pass.specs.Given.{GaveFile};
 ghost use Rattle.pbf_pass.specs.Hashing.{digest_if};
 ghost use Rattle.pbf_pass.specs.Judged.{judged_file};
-ghost use Rattle.pbfcut.specs.Kept.{extract_of};
 ghost use Rattle.pbf_pass.specs.Refused.{stop_of};
 ghost use Rattle.pbfcut.specs.Repeat.{IsPass, SameDigest, StopsLater, digest_of};
-ghost use Rattle.pbfcut.specs.Receipts.{Wrote};
+ghost use Rattle.pbfcut.specs.Receipts.{Extracts, parents_in, ways_in};
 ghost use Rattle.pbfcut.specs.Write.{WritesChoice};
 ghost use Rattle.pbf_frame.specs.Keeps.{KeepsFeed};
-ghost use Rattle.pbfcut.specs.Ends.{EndsInFront, EndsPasses};
 
 use crate::repeat::LaterPass;
 use crate::write::OutputPlan;
@@ -208,18 +206,11 @@ pub(crate) fn cut<
     drain: &mut D,
     hasher: S,
 ) -> Result<InputReceipt, Halt>
-    ensures receipt { IfOk result (λ receipt. Wrote (fed F.Feed first.old first.new)
-        (fed G.Feed second.old second.new) (fed H.Feed third.old third.new ∷ [])
-        (drained D.Drain drain.old drain.new) (digest_if passes.hashes receipt.input)
-        receipt.spared (λ b written. IsExtraction (complete_ways (A.area area))
-        (extract (seen_decoded (A.area area))) (A.area area) b receipt.counts written)) }
-    ensures spared { IfOk result (λ receipt. IsNever P.has_ways → receipt.spared ≡ false) }
-    ensures ends { EndsPasses judged_writable (fed F.Feed first.old first.new)
-        (fed G.Feed second.old second.new ∷ fed H.Feed third.old third.new ∷ [])
+    ensures extracts { Extracts (ways_in (A.area area)) (fed F.Feed first.old first.new)
+        (fed G.Feed second.old second.new)
+        (fed H.Feed third.old third.new ∷ [])
         (drained D.Drain drain.old drain.new) passes.hashes result }
-    ensures beginning { EndsInFront (extract_of (complete_ways (A.area area)) (A.area area))
-        (fed F.Feed first.old first.new ∷ fed G.Feed second.old second.new
-        ∷ fed H.Feed third.old third.new ∷ []) (drained D.Drain drain.old drain.new) result }
+    ensures spared { IfOk result (λ receipt. IsNever P.has_ways → receipt.spared ≡ false) }
 {
     let choice = choose::<A, P, F, G>(passes, area, first, second)?;
     choice.write(third, drain, hasher)
@@ -245,22 +236,11 @@ pub(crate) fn cut_parents<
     drain: &mut D,
     hasher: S,
 ) -> Result<InputReceipt, Halt>
-    ensures receipt { IfOk result (λ receipt. Wrote (fed F.Feed first.old first.new)
+    ensures extracts { Extracts (parents_in (A.area area)) (fed F.Feed first.old first.new)
         (fed G.Feed second.old second.new)
         (fed H.Feed third.old third.new ∷ fed I.Feed fourth.old fourth.new ∷ [])
-        (drained D.Drain drain.old drain.new) (digest_if passes.hashes receipt.input)
-        receipt.spared (λ b written. IsExtraction (all_parents (A.area area))
-        (extract_with_parents (seen_decoded (A.area area))) (A.area area)
-        b receipt.counts written)) }
-    ensures spared { IfOk result (λ receipt. IsNever P.has_ways → receipt.spared ≡ false) }
-    ensures ends { EndsPasses judged_writable (fed F.Feed first.old first.new)
-        (fed G.Feed second.old second.new ∷ fed H.Feed third.old third.new
-        ∷ fed I.Feed fourth.old fourth.new ∷ [])
         (drained D.Drain drain.old drain.new) passes.hashes result }
-    ensures beginning { EndsInFront (extract_of (all_parents (A.area area)) (A.area area))
-        (fed F.Feed first.old first.new ∷ fed G.Feed second.old second.new
-        ∷ fed H.Feed third.old third.new ∷ fed I.Feed fourth.old fourth.new ∷ [])
-        (drained D.Drain drain.old drain.new) result }
+    ensures spared { IfOk result (λ receipt. IsNever P.has_ways → receipt.spared ≡ false) }
 {
     let choice = choose_parents::<A, P, F, G, H>(passes, area, first, second, third)?;
     choice.write(fourth, drain, hasher)
@@ -327,22 +307,14 @@ pub fn extract_with_receipt<F: Feed, G: Feed, H: Feed, D: Drain, S: BuildHasher 
     drain: &mut D,
     hasher: S,
 ) -> Result<InputReceipt, Halt>
-    // Each feed gave a file of the digest `input`, to its end; the first has no fault, and its header can be written. The drain took
-    // bytes. If the files are the same, these bytes are exactly its complete-ways extract, and the counts are those of the entities in it.
-    ensures receipt { IfOk result (λ receipt. Wrote (fed F.Feed first.old first.new)
-        (fed G.Feed second.old second.new) (fed H.Feed third.old third.new ∷ [])
-        (drained D.Drain drain.old drain.new) (Some receipt.input) false
-        (λ b written. IsExtraction (complete_ways (box_area area))
-        (extract (seen_decoded (box_area area))) (box_area area) b receipt.counts written)) }
-    // However it ends: `refused` says what is refused, of the bytes that were read, and that the drain took nothing then; `stops` why it
-    // stops; `changed` of what bytes it says `Changed`; and `feeds` and `out` that it keeps its devices.
-    ensures ends { EndsPasses judged_writable (fed F.Feed first.old first.new)
-        (fed G.Feed second.old second.new ∷ fed H.Feed third.old third.new ∷ [])
+    // Each feed gave a file of the digest `input`, to its end. If they are the same, the drain took exactly its complete-ways extract.
+    // However it ends: what is refused, why it stops, what went out by then, and that the devices are kept.
+    ensures extracts { Extracts (ways_in (box_area area)) (fed F.Feed first.old first.new)
+        (fed G.Feed second.old second.new)
+        (fed H.Feed third.old third.new ∷ [])
         (drained D.Drain drain.old drain.new) true result }
-    // Whatever stopped it, if all feeds supply these bytes, a prefix of their extract went out, and nothing if they have a fault.
-    ensures beginning { EndsInFront (extract_of (complete_ways (box_area area)) (box_area area))
-        (fed F.Feed first.old first.new ∷ fed G.Feed second.old second.new
-        ∷ fed H.Feed third.old third.new ∷ []) (drained D.Drain drain.old drain.new) result }
+    // Each feed was read.
+    ensures spared { IfOk result (λ receipt. receipt.spared ≡ false) }
 {
     let passes = Passes {
         alloc,
@@ -422,27 +394,14 @@ pub fn extract_parents_with_receipt<
     drain: &mut D,
     hasher: S,
 ) -> Result<InputReceipt, Halt>
-    // Each feed gave a file of the digest `input`, to its end; the first has no fault, and its header can be written. The drain took
-    // bytes. If the files are the same, these bytes are exactly its complete-ways extract with all parents, and the
-    // counts are those of the entities in it.
-    ensures receipt { IfOk result (λ receipt. Wrote (fed F.Feed first.old first.new)
+    // Each feed gave a file of the digest `input`, to its end. If they are the same, the drain took exactly its complete-ways extract with all parents.
+    // However it ends: what is refused, why it stops, what went out by then, and that the devices are kept.
+    ensures extracts { Extracts (parents_in (box_area area)) (fed F.Feed first.old first.new)
         (fed G.Feed second.old second.new)
         (fed H.Feed third.old third.new ∷ fed I.Feed fourth.old fourth.new ∷ [])
-        (drained D.Drain drain.old drain.new) (Some receipt.input) false
-        (λ b written. IsExtraction (all_parents (box_area area))
-        (extract_with_parents (seen_decoded (box_area area))) (box_area area)
-        b receipt.counts written)) }
-    // However it ends: `refused` says what is refused, of the bytes that were read, and that the drain took nothing then; `stops` why it
-    // stops; `changed` of what bytes it says `Changed`; and `feeds` and `out` that it keeps its devices.
-    ensures ends { EndsPasses judged_writable (fed F.Feed first.old first.new)
-        (fed G.Feed second.old second.new ∷ fed H.Feed third.old third.new
-        ∷ fed I.Feed fourth.old fourth.new ∷ [])
         (drained D.Drain drain.old drain.new) true result }
-    // Whatever stopped it, if all feeds supply these bytes, a prefix of their extract went out, and nothing if they have a fault.
-    ensures beginning { EndsInFront (extract_of (all_parents (box_area area)) (box_area area))
-        (fed F.Feed first.old first.new ∷ fed G.Feed second.old second.new
-        ∷ fed H.Feed third.old third.new ∷ fed I.Feed fourth.old fourth.new ∷ [])
-        (drained D.Drain drain.old drain.new) result }
+    // Each feed was read.
+    ensures spared { IfOk result (λ receipt. receipt.spared ≡ false) }
 {
     let passes = Passes {
         alloc,

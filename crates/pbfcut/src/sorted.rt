@@ -1,19 +1,15 @@
 //! The extracts with one pass fewer, for files whose ways come after their nodes.
 
-ghost use Rattle.std.specs.Prelude.{◌≡◌, ◌⊎◌, ℕ, List, [], ◌∷◌, IfOk, IfErr, OnOk};
-ghost use Rattle.osm_ways.specs.Parents.{extract_with_parents};
+ghost use Rattle.std.specs.Prelude.{◌≡◌, ◌⊎◌, ℕ, List, [], ◌∷◌, IfErr, OnOk};
 ghost use Rattle.osm_ways.specs.Seen.{seen_decoded};
 ghost use Rattle.osm_ways.specs.Selection.{extract};
 ghost use Rattle.pbfcut.specs.Calls.{AllSupply, drained, fed, StopsPasses};
-ghost use Rattle.pbfcut.specs.Theorem.{Extracted, IsExtraction, Promised, Canonical};
+ghost use Rattle.pbfcut.specs.Theorem.{Extracted, Promised, Canonical};
 ghost use Rattle.pbfcut.specs.Converting.{CanBeWritten};
 ghost use Rattle.pbf_pass.specs.HeaderLimit.{judged_writable};
-ghost use Rattle.pbfcut.specs.Extracting.{complete_ways, all_parents, extract_bytes};
-ghost use Rattle.pbf_pass.specs.Hashing.{digest_if};
-ghost use Rattle.pbfcut.specs.Kept.{extract_of};
+ghost use Rattle.pbfcut.specs.Extracting.{complete_ways, extract_bytes};
 ghost use Rattle.pbfcut.specs.Repeat.{SameDigest};
-ghost use Rattle.pbfcut.specs.Ends.{EndsInFront, EndsPasses};
-ghost use Rattle.pbfcut.specs.Receipts.{Wrote};
+ghost use Rattle.pbfcut.specs.Receipts.{Extracts, parents_in, ways_in};
 
 use crate::extracting::{cut, cut_parents};
 use osm_area::Area;
@@ -88,23 +84,13 @@ pub fn extract_sorted_with_receipt<
     drain: &mut D,
     hasher: S,
 ) -> Result<InputReceipt, Halt>
-    // The first and the third feed gave a file, of the digest `input` if the passes hash, to its end, and the second too, unless it was
-    // spared. The first file has no fault, and its header can be written. The drain took bytes. If the files are the same, these bytes are exactly
-    // its complete-ways extract, and the counts are those of the entities in it.
-    ensures receipt { IfOk result (λ receipt. Wrote (fed F.Feed first.old first.new)
-        (fed G.Feed second.old second.new) (fed H.Feed third.old third.new ∷ [])
-        (drained D.Drain drain.old drain.new) (digest_if passes.hashes receipt.input)
-        receipt.spared (λ b written. IsExtraction (complete_ways (A.area area))
-        (extract (seen_decoded (A.area area))) (A.area area) b receipt.counts written)) }
-    // However it ends: `refused` says what is refused, of the bytes that were read, and that the drain took nothing then; `stops` why it
-    // stops; `changed` of what bytes it says `Changed`; and `feeds` and `out` that it keeps its devices.
-    ensures ends { EndsPasses judged_writable (fed F.Feed first.old first.new)
-        (fed G.Feed second.old second.new ∷ fed H.Feed third.old third.new ∷ [])
+    // Each feed gave a file, of the digest `input` if the passes hash, to its end, unless the second was spared. If they are the same, the
+    // drain took exactly its complete-ways extract. However it ends: what is refused, why it stops, what went out by then, and
+    // that the devices are kept.
+    ensures { Extracts (ways_in (A.area area)) (fed F.Feed first.old first.new)
+        (fed G.Feed second.old second.new)
+        (fed H.Feed third.old third.new ∷ [])
         (drained D.Drain drain.old drain.new) passes.hashes result }
-    // Whatever stopped it, if all feeds supply these bytes, a prefix of their extract went out, and nothing if they have a fault.
-    ensures beginning { EndsInFront (extract_of (complete_ways (A.area area)) (A.area area))
-        (fed F.Feed first.old first.new ∷ fed G.Feed second.old second.new
-        ∷ fed H.Feed third.old third.new ∷ []) (drained D.Drain drain.old drain.new) result }
 {
     cut::<A, FirstPhase, F, G, H, D, S>(passes, first, second, third, area, drain, hasher)
 }
@@ -129,27 +115,13 @@ pub fn extract_parents_sorted_with_receipt<
     drain: &mut D,
     hasher: S,
 ) -> Result<InputReceipt, Halt>
-    // Each feed gave a file, of the digest `input` if the passes hash, to its end, unless the second was spared; the first has no fault, and
-    // its header can be written. The drain took bytes. If the files are the same, these bytes are exactly its complete-ways extract with all
-    // parents, and the counts are those of the entities in it.
-    ensures receipt { IfOk result (λ receipt. Wrote (fed F.Feed first.old first.new)
+    // Each feed gave a file, of the digest `input` if the passes hash, to its end, unless the second was spared. If they are the same, the
+    // drain took exactly its complete-ways extract with all parents. However it ends: what is refused, why it stops, what went out by then, and
+    // that the devices are kept.
+    ensures { Extracts (parents_in (A.area area)) (fed F.Feed first.old first.new)
         (fed G.Feed second.old second.new)
         (fed H.Feed third.old third.new ∷ fed I.Feed fourth.old fourth.new ∷ [])
-        (drained D.Drain drain.old drain.new) (digest_if passes.hashes receipt.input)
-        receipt.spared (λ b written. IsExtraction (all_parents (A.area area))
-        (extract_with_parents (seen_decoded (A.area area))) (A.area area)
-        b receipt.counts written)) }
-    // However it ends: `refused` says what is refused, of the bytes that were read, and that the drain took nothing then; `stops` why it
-    // stops; `changed` of what bytes it says `Changed`; and `feeds` and `out` that it keeps its devices.
-    ensures ends { EndsPasses judged_writable (fed F.Feed first.old first.new)
-        (fed G.Feed second.old second.new ∷ fed H.Feed third.old third.new
-        ∷ fed I.Feed fourth.old fourth.new ∷ [])
         (drained D.Drain drain.old drain.new) passes.hashes result }
-    // Whatever stopped it, if all feeds supply these bytes, a prefix of their extract went out, and nothing if they have a fault.
-    ensures beginning { EndsInFront (extract_of (all_parents (A.area area)) (A.area area))
-        (fed F.Feed first.old first.new ∷ fed G.Feed second.old second.new
-        ∷ fed H.Feed third.old third.new ∷ fed I.Feed fourth.old fourth.new ∷ [])
-        (drained D.Drain drain.old drain.new) result }
 {
     cut_parents::<A, FirstPhase, F, G, H, I, D, S>(
         passes, first, second, third, fourth, area, drain, hasher,

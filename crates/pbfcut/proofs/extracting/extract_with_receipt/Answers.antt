@@ -1,16 +1,6 @@
-use Rattle.std.proofs.Common.{[], ◌∷◌, Some, refl}
+use Rattle.std.proofs.Common.{refl}
 use Rattle.std.proofs.lemmas.Result.{IfOk-weaker}
-use Rattle.osm_area.specs.Area.{box_area}
-use Rattle.osm_ways.specs.Selection.{extract}
-use Rattle.osm_ways.specs.Seen.{seen_decoded}
-use Rattle.pbfcut.specs.Calls.{drained, fed}
-use Rattle.pbfcut.specs.Extracting.{complete_ways}
-use Rattle.pbfcut.specs.Theorem.{IsExtraction}
-use Rattle.pbfcut.proofs.TheoremLemmas.{wrote_all}
 use Rattle.pbfcut.proofs.extracting.extract_with_receipt.Goals as goal
 
-pub returns-clause-receipt : goal.returns-clause-receipt
-returns-clause-receipt g c =
-    let area = box_area c.args.area in
-    let r = c.cut.result in
-    wrote_all (fed g.F.Feed c.args.first.now c.cut.new.first) (fed g.G.Feed c.args.second.now c.cut.new.second) (fed g.H.Feed c.args.third.now c.cut.new.third ∷ []) (drained g.D.Drain c.args.drain.now c.cut.new.drain) (λ receipt. Some receipt.input) (λ receipt b written. IsExtraction (complete_ways area) (λ meant. extract (seen_decoded area) meant) area b receipt.counts written) r (IfOk-weaker r _ _ (λ receipt is. is (λ _. refl)) c.cut.ensures.spared) c.cut.ensures.receipt
+pub returns-clause-spared : goal.returns-clause-spared
+returns-clause-spared g c = IfOk-weaker c.cut.result _ _ (λ receipt is. is (λ _. refl)) c.cut.ensures.spared
