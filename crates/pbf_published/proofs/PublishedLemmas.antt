@@ -23,7 +23,7 @@ use Rattle.pbf_unpack.specs.declared.feed.State.TheVariants.{Reading, PassingOn,
 use Rattle.pbf_unpack.specs.Reports.{has_all, stop_in}
 use Rattle.pbf_unpack.specs.Supplying.{left_in, unless_failed}
 use Rattle.pbf_unpack.specs.Unpacked.{unpacked}
-use Rattle.pbfcut.specs.Calls.{Differ, GaveOrNot}
+use Rattle.pbfcut.specs.Calls.{Differ, FeedUse, GaveBy, GaveOrNot, supply_of}
 use Rattle.pbfcut.proofs.ConvertingLemmas.{nothing_out}
 use Rattle.pbf_published.specs.declared.input.PublishedHalt.{PublishedHalt}
 use Rattle.pbf_published.specs.Published.{Closed, GavePublished, GaveOrNone, Opened, ReportsOutcome, UnlessChanged, log_number, log_of, raw_of, told_by}
@@ -89,11 +89,11 @@ module _ {F U : Type 0} (f : feed.Ghosts F) (first last : F) {u : feed.Ghosts U}
         some ∙ ap (λ (l : List ℕ). Some l) digest_is ∙ ap (λ (l : List ℕ). Some (sha256 l)) (sym (p.told all is))
 
 -- the same of a feed that may have been spared
-pub published_or_none : {F U : Type 0} (f : feed.Ghosts F) (first last : F) (u : feed.Ghosts U) {old new : U} {raw_digest : Option (List ℕ)} (holds : List ℕ → Type 0) (file : List ℕ) (spared : Bool) → GaveOrNot u spared old new raw_digest file holds → (o : Option (List ℕ)) → u.remaining old ≡ raw_of (f.remaining first)
-    → Opened (f.remaining first) (f.has_passed first) true (u.has_passed old) → Closed (f.has_passed last) (f.remaining last) (u.has_passed new) (u.remaining new) o → (digest : List ℕ) → (spared ≡ false → o ≡ Some digest) → (new ≡ old → last ≡ first)
+pub published_or_none : {F : Type 0} (f : feed.Ghosts F) (first last : F) (above : FeedUse) {raw_digest : Option (List ℕ)} (holds : List ℕ → Type 0) (file : List ℕ) (spared : Bool) → GaveOrNot above spared raw_digest file holds → (o : Option (List ℕ)) → supply_of above ≡ raw_of (f.remaining first)
+    → Opened (f.remaining first) (f.has_passed first) true (above.ghosts.has_passed above.old) → Closed (f.has_passed last) (f.remaining last) (above.ghosts.has_passed above.new) (above.ghosts.remaining above.new) o → (digest : List ℕ) → (spared ≡ false → o ≡ Some digest) → (above.new ≡ above.old → last ≡ first)
     → (keeps : List ℕ → Type 0) → ((file : List ℕ) → holds file → keeps file) → GaveOrNone f first last digest raw_digest file keeps
-published_or_none f first last u holds file false given o remaining opened closed digest is same keeps step = inl (published_of f first last given true o remaining opened closed digest (is refl) keeps step)
-published_or_none f first last u holds file true none o remaining opened closed digest is same keeps step = inr (same none.0, step file none.1)
+published_or_none f first last above holds file false given o remaining opened closed digest is same keeps step = inl (published_of f first last given true o remaining opened closed digest (is refl) keeps step)
+published_or_none f first last above holds file true none o remaining opened closed digest is same keeps step = inr (same none.0, step file none.1)
 
 -- a feed that was closed is one that a reference goes to
 pub closed_below : {F : Type 0} (f : feed.Ghosts F) (mid last : F) (supplied : ℕ → List ℕ → Type 0) (left o : Option (List ℕ)) → mid ≡ last → Closed (f.has_passed mid) (f.remaining mid) supplied left o → Closed (f.has_passed last) (f.remaining last) supplied left o
@@ -216,15 +216,15 @@ pub later_differ : (first other o p : Option (List ℕ)) (digest : List ℕ) →
 later_differ first other o p digest of is other_of unlike b c is_b is_c same = unlike (other_of c is_c ∙ ap (λ (l : List ℕ). Some (sha256 l)) (sym same) ∙ sym (of b is_b) ∙ is)
 
 -- the second feed was read, and hasn't the digest of the first: so its bytes differ
-pub second_differs : {U : Type 0} {u : feed.Ghosts U} {old new : U} {raw_digest : Option (List ℕ)} (file : List ℕ) (holds : List ℕ → Type 0) (spared : Bool) → GaveOrNot u spared old new raw_digest file holds → spared ≡ false → {first other o p : Option (List ℕ)} {digest : List ℕ} → DigestIsOf first o → o ≡ Some digest
-    → (GaveFile u old new raw_digest holds → DigestIsOf other p) → (p ≡ Some digest → ⊥) → Differ first other
+pub second_differs : {above : FeedUse} {raw_digest : Option (List ℕ)} (file : List ℕ) (holds : List ℕ → Type 0) (spared : Bool) → GaveOrNot above spared raw_digest file holds → spared ≡ false → {first other o p : Option (List ℕ)} {digest : List ℕ} → DigestIsOf first o → o ≡ Some digest
+    → (GaveBy above raw_digest holds → DigestIsOf other p) → (p ≡ Some digest → ⊥) → Differ first other
 second_differs file holds false given was of is read unlike = later_differ _ _ _ _ _ of is (read given) unlike
 second_differs file holds true none was of is read unlike = (let bad : ⊥ = cc in absurd bad)
 
 -- what is said of the next feed, whether the one before was read or not
-pub rest_of : {U : Type 0} (u : feed.Ghosts U) (old new : U) (raw_digest : Option (List ℕ)) (file : List ℕ) (holds : List ℕ → Type 0) (spared : Bool) → GaveOrNot u spared old new raw_digest file holds → (c : List ℕ) × holds c
-rest_of u old new raw_digest file holds false given = (given.file, given.holding)
-rest_of u old new raw_digest file holds true none = (file, none.1)
+pub rest_of : (above : FeedUse) (raw_digest : Option (List ℕ)) (file : List ℕ) (holds : List ℕ → Type 0) (spared : Bool) → GaveOrNot above spared raw_digest file holds → (c : List ℕ) × holds c
+rest_of above raw_digest file holds false given = (given.file, given.holding)
+rest_of above raw_digest file holds true none = (file, none.1)
 
 -- before a drain was used, whatever is said
 pub nothing_went_out : {A : Type 0} (r : Result A PublishedHalt) (old new : Option (List ℕ)) (whole : List ℕ → List ℕ) (supplies : List ℕ → Type 0) → new ≡ old

@@ -2,8 +2,8 @@
 use Rattle.std.proofs.Common.{◌≡◌, ◌<◌, ℕ, zero, suc, List, [], ◌∷◌, Option, Some, None, refl, sym, ap, ◌∙◌, subst, arith}
 use Rattle.std.proofs.lemmas.List.{append-nil}
 use Rattle.pbf_frame.specs.declared.device.Feed as feed
-use Rattle.pbf_frame.specs.Devices.{prepend, Passes}
-use Rattle.pbf_frame.proofs.KnownBytes.{prepend_more, prepend_none}
+use Rattle.pbf_frame.specs.Devices.{prepend}
+use Rattle.pbf_frame.proofs.KnownBytes.{prepend_none}
 use Rattle.pbf_published.specs.Published.{HasTraced, list_number, log_number, pair_number, start_number}
 
 -- ---- no two pairs, lists or logs have one number
@@ -46,17 +46,6 @@ same_log a b c d start other is =
 -- at its start a feed has a log for each two below
 pub traced_from : {F : Type 0} (f : feed.Ghosts F) (start : F) (one two : ℕ) → f.has_passed start one [] → f.has_passed start two [] → HasTraced f start (log_number one two (f.remaining start)) []
 traced_from f start one two passed also = record { one = one; two = two; start = f.remaining start; number = refl; passed = (passed, also); told = sym (prepend_none (f.remaining start)) }
-
--- a read of the feed below goes on with it
-pub traced_more : {F : Type 0} (f : feed.Ghosts F) (old new : F) (read : List ℕ) → f.remaining old ≡ prepend read (f.remaining new) → Passes (f.has_passed old) read (f.has_passed new) → Passes (HasTraced f old) read (HasTraced f new)
-traced_more f old new read told passes log before has = record {
-  one = has.one;
-  two = has.two;
-  start = has.start;
-  number = has.number;
-  passed = (passes has.one before has.passed.0, passes has.two before has.passed.1);
-  told = prepend_more has.start (f.remaining old) (f.remaining new) before read has.told told;
-}
 
 -- what passed below
 pub traced_below : {F : Type 0} (f : feed.Ghosts F) (now : F) (one two : ℕ) (start : Option (List ℕ)) (bytes : List ℕ) → HasTraced f now (log_number one two start) bytes → f.has_passed now one bytes × f.has_passed now two bytes

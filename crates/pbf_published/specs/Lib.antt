@@ -1,2 +1,3 @@
 pub mod Published
 pub mod Showing
+pub mod Extracting

@@ -1,21 +1,21 @@
 -- What a call over published files was given: packed bytes, and the raw files that they mean.
-use Rattle.std.specs.Prelude.{◌≡◌, ◌⊎◌, ℕ, zero, suc, ◌+◌, ◌*◌, List, [], ◌∷◌, Bool, true, false, Option, Some, None, Result, Ok, Err, IfSome}
+use Rattle.std.specs.Prelude.{◌≡◌, ◌⊎◌, ℕ, zero, suc, ◌+◌, ◌*◌, List, [], ◌∷◌, map, Bool, true, false, Option, Some, None, Result, Ok, Err, IfSome}
 use Rattle.std.specs.Option.{option_map}
 use Rattle.pbf_wire.specs.declared.fault.Fault.{Fault}
 use Rattle.pbf_frame.specs.declared.device.Feed as feed
 use Rattle.pbf_frame.specs.declared.device.Drain as drain
 use Rattle.pbf_frame.specs.declared.stop.Stop.{Stop}
 use Rattle.pbf_frame.specs.declared.stop.Stop.TheVariants.{Refused, Read, Write, Memory, Changed}
-use Rattle.pbf_frame.specs.Devices.{IsAtEnd, prepend}
+use Rattle.pbf_frame.specs.Devices.{IsAtEnd, IsFront, prepend}
 use Rattle.pbf_frame.specs.Transfers.{Added}
 use Rattle.pbf_frame.specs.Verdict.{Verdict}
 use Rattle.pbf_pass.specs.Hashing.{IsDigestOf, digest_if}
 use Rattle.pbf_pass.specs.declared.receipt.Halt.{Halt}
 use Rattle.pbf_pass.specs.declared.receipt.InputReceipt.{InputReceipt}
 use Rattle.pbf_pass.specs.Refused.{stop_of}
-use Rattle.pbf_pass.specs.Stops.{FaultOf}
+use Rattle.pbf_pass.specs.Stops.{Caused, FaultOf}
 use Rattle.pbf_unpack.specs.Unpacked.{unpacked}
-use Rattle.pbfcut.specs.Calls.{ChangedIn}
+use Rattle.pbfcut.specs.Calls.{AllSupply, AnyFailed, ChangedIn, DrainUse, FailedDrain, FeedUse, supply_of, taken_after, taken_before}
 use Rattle.pbf_published.specs.declared.input.PublishedHalt.{PublishedHalt}
 
 -- ---- what was given
@@ -42,6 +42,11 @@ pub record GavePublished {F : Type 0} (f : feed.Ghosts F) (old new : F) (digest 
 -- a later feed did so; or nothing was read of it, and this holds of the file before
 abbrev pub GaveOrNone : {F : Type 0} → feed.Ghosts F → (old new : F) → (digest : List ℕ) → Option (List ℕ) → (raw : List ℕ) → (List ℕ → Type 0) → Type 0
 GaveOrNone f old new digest raw_digest raw holds = GavePublished f old new (Some digest) raw_digest holds ⊎ ((new ≡ old) × holds raw)
+
+-- each of these feeds did, and this holds of the raw files
+abbrev pub GavePublishedEach : List FeedUse → (digest raw_digest : Option (List ℕ)) → (List (List ℕ) → Type 0) → Type 0
+GavePublishedEach [] digest raw_digest holds = holds []
+GavePublishedEach (one ∷ more) digest raw_digest holds = GavePublished one.ghosts one.old one.new digest raw_digest (λ raw. GavePublishedEach more digest raw_digest (λ raws. holds (raw ∷ raws)))
 
 -- ---- the digest of a feed that was read
 
@@ -123,6 +128,12 @@ abbrev pub ChangedOf : List (Option (List ℕ)) → ℕ → Type 0
 ChangedOf [] pass = ⊥
 ChangedOf (first ∷ later) pass = ChangedFrom 1 first (first ∷ later) pass
 
+-- a call stops: what is refused is the raw file that the first feed's bytes mean, which is judged so; a read or a write failed if the count of its device
+-- rose; and `Changed` has the number of the pass whose feed has other packed bytes than the first, as far as both report them
+abbrev pub StopsPublished : {D : Type 0} → (Option (List ℕ) → Option Verdict) → FeedUse → List FeedUse → DrainUse D → Stop → Type 0
+StopsPublished judge first later out =
+    Caused (RefusedRaw (judge (raw_of (supply_of first))) out.ghosts out.old out.new) (AnyFailed (first ∷ later)) (FailedDrain out) (ChangedOf (map supply_of (first ∷ later)))
+
 -- this holds unless the stop is that a later pass read other bytes
 abbrev pub UnlessChanged : Type 0 → Stop → Type 0
 UnlessChanged holds Read = holds
@@ -130,6 +141,10 @@ UnlessChanged holds Write = holds
 UnlessChanged holds Memory = holds
 UnlessChanged holds (Refused e) = holds
 UnlessChanged holds (Changed pass) = Unit {0}
+
+-- whatever stopped a call, but for a change, if all feeds mean this raw file, a prefix of what is to be written for it went out
+abbrev pub FrontUnlessChanged : {D : Type 0} → (List ℕ → List ℕ) → List FeedUse → DrainUse D → Stop → Type 0
+FrontUnlessChanged answer feeds out = UnlessChanged ((b : List ℕ) → AllSupply b (map raw_of (map supply_of feeds)) → IsFront (taken_before out) (taken_after out) (answer b))
 
 -- if memory was refused to a feed, a read that failed is reported as `Memory`
 abbrev pub told_by : Bool → Stop → Stop

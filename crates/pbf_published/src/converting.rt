@@ -1,15 +1,13 @@
 //! `convert` of published files.
 
-ghost use Rattle.std.specs.Prelude.{Some, ◌≡◌, ◌⊎◌, ◌∷◌, [], ℕ, List, IfOk, IfErr};
-ghost use Rattle.pbf_frame.specs.Devices.{IsFront};
+ghost use Rattle.std.specs.Prelude.{Some, ◌≡◌, ◌∷◌, [], IfOk, IfErr};
 ghost use Rattle.pbf_pass.specs.Given.{Took};
 ghost use Rattle.pbf_pass.specs.HeaderLimit.{judged_writable};
 ghost use Rattle.pbf_pass.specs.Hashing.{digest_if};
-ghost use Rattle.pbfcut.specs.Calls.{BothSupply};
+ghost use Rattle.pbfcut.specs.Calls.{drained, fed};
 ghost use Rattle.pbfcut.specs.Kept.{IsWritable, conversion_of};
 ghost use Rattle.pbfcut.specs.Theorem.{IsConverted};
-ghost use Rattle.pbf_pass.specs.Stops.{Caused, ReadFailed, WriteFailed};
-ghost use Rattle.pbf_published.specs.Published.{ChangedOf, GavePublished, RefusedRaw, UnlessChanged, raw_of};
+ghost use Rattle.pbf_published.specs.Published.{FrontUnlessChanged, GavePublished, StopsPublished};
 
 use crate::input::{
     PublishedHalt, PublishedInput, close, compare, first_digest, lacks_memory, open,
@@ -46,15 +44,12 @@ pub fn convert_with_receipt<F: Feed, G: Feed, D: Drain, S: BuildHasher + Drop>(
     // Each stop has its cause. What is refused is the raw file that the first feed's bytes mean, by its first fault, and then the drain took
     // nothing. `Read` and `Write` come only if a count of failures rose: of a feed, of the drain. `Changed` has the number of the pass
     // whose feed has other packed bytes than the first, as far as both report them.
-    ensures stops { IfErr result (λ h. Caused (RefusedRaw
-        (judged_writable (raw_of (F.remaining first.old))) D.Drain drain.old drain.new)
-        (ReadFailed F.Feed first.old first.new ⊎ ReadFailed G.Feed second.old second.new)
-        (WriteFailed D.Drain drain.old drain.new)
-        (ChangedOf (F.remaining first.old ∷ G.remaining second.old ∷ [])) h.stop) }
+    ensures stops { IfErr result (λ h. StopsPublished judged_writable (fed F.Feed first.old first.new)
+        (fed G.Feed second.old second.new ∷ []) (drained D.Drain drain.old drain.new) h.stop) }
     // Whatever stopped it, except `Changed`, if both feeds mean this raw file, a prefix of its conversion went out.
-    ensures beginning { IfErr result (λ h. UnlessChanged ((b : List ℕ)
-        → BothSupply b (raw_of (F.remaining first.old)) (raw_of (G.remaining second.old))
-        → IsFront (D.taken drain.old) (D.taken drain.new) (conversion_of b)) h.stop) }
+    ensures beginning { IfErr result (λ h. FrontUnlessChanged conversion_of
+        (fed F.Feed first.old first.new ∷ fed G.Feed second.old second.new ∷ [])
+        (drained D.Drain drain.old drain.new) h.stop) }
 {
     let alloc = passes.alloc;
     let (inflater, another) = two_inflaters(alloc)?;

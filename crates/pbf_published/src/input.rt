@@ -1,7 +1,6 @@
 //! A published file that is read: hashed as it is, and unpacked.
 
-ghost use Rattle.std.specs.Prelude.{◌≡◌, ◌⊎◌, [], Some, None, IfOk, IfErr, OnOk, false};
-ghost use Rattle.sha2.specs.Sha256.{sha256};
+ghost use Rattle.std.specs.Prelude.{◌≡◌, Some, None, IfOk, IfErr, OnOk, false};
 ghost use Rattle.pbf_frame.specs.declared.stop.Stop.TheVariants as stop;
 ghost use Rattle.pbf_published.specs.Published.{Closed, Opened, ReportsOutcome, raw_of, told_by};
 

@@ -1,16 +1,17 @@
 //! `show` and `blobs` of published files.
 
-ghost use Rattle.std.specs.Prelude.{◌≡◌, ◌⊎◌, ◌∷◌, [], IfOk, IfErr, OnErr, OnOk, Some, false};
+ghost use Rattle.std.specs.Prelude.{◌≡◌, ◌∷◌, [], IfOk, IfErr, OnErr, OnOk, Some, false};
 ghost use Rattle.pbf_frame.specs.Verdict.{judged_known};
 ghost use Rattle.pbf_pass.specs.Given.{Took};
 ghost use Rattle.pbf_pass.specs.Judged.{judged_file};
 ghost use Rattle.pbf_pass.specs.Pass.{CountsFile};
 ghost use Rattle.pbf_pass.specs.Hashing.{digest_if};
+ghost use Rattle.pbfcut.specs.Calls.{drained, fed};
 ghost use Rattle.pbfcut.specs.Listing.{Lists, ListsFront, ListsToFault};
 ghost use Rattle.pbfcut.specs.Showing.{RefusedAtOnce, Shown, ShowsFront};
 ghost use Rattle.pbf_pass.specs.Stops.{Caused, ReadFailed, WriteFailed, unchanged};
 ghost use Rattle.pbf_published.specs.Showing.{ShowsHeader, storage_line};
-ghost use Rattle.pbf_published.specs.Published.{ChangedOf, GavePublished, RefusedRaw, UnlessChanged, raw_of};
+ghost use Rattle.pbf_published.specs.Published.{GavePublished, StopsPublished, UnlessChanged, raw_of};
 
 use crate::input::{
     PublishedHalt, PublishedInput, close, compare, first_digest, lacks_memory, open,
@@ -45,11 +46,8 @@ pub fn show_with_receipt<F: Feed, G: Feed, D: Drain>(
     // Each stop has its cause. What is refused is the raw file that the first feed's bytes mean, by its first fault, and then the drain took
     // nothing. `Read` and `Write` come only if a count of failures rose: of a feed, of the drain. `Changed` has the number of the pass
     // whose feed has other packed bytes than the first, as far as both report them.
-    ensures stops { IfErr result (λ h. Caused (RefusedRaw
-        (judged_file (raw_of (F.remaining first.old))) D.Drain drain.old drain.new)
-        (ReadFailed F.Feed first.old first.new ⊎ ReadFailed G.Feed second.old second.new)
-        (WriteFailed D.Drain drain.old drain.new)
-        (ChangedOf (F.remaining first.old ∷ G.remaining second.old ∷ [])) h.stop) }
+    ensures stops { IfErr result (λ h. StopsPublished judged_file (fed F.Feed first.old first.new)
+        (fed G.Feed second.old second.new ∷ []) (drained D.Drain drain.old drain.new) h.stop) }
     // Whatever stopped it, except `Changed`, if both feeds mean one raw file, a prefix of its text went out, and nothing if it has a fault.
     ensures beginning { IfErr result (λ h. UnlessChanged
         (raw_of (F.remaining first.old) ≡ raw_of (G.remaining second.old)

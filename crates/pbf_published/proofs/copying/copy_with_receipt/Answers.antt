@@ -16,7 +16,7 @@ returns-clause-receipt g c =
 pub returns-in_err-receipt-clause-beginning : goal.returns-in_err-receipt-clause-beginning
 returns-in_err-receipt-clause-beginning g c =
     let p = err_from_is_err_and c.from_residual-in_err-receipt.result c.from_residual-in_err-receipt.ensures.1 in
-    rw (p.1, p.2) (outcome_beginning _ _ _ c.published_outcome-outcome.ensures _ _ _ c.in_err-receipt.was (λ begun b supply. begun b (c.open-one.ensures.remaining ∙ supply.0, c.open-two.ensures.remaining ∙ supply.1)) c.copy_with_receipt-outcome.ensures.beginning)
+    rw (p.1, p.2) (outcome_beginning _ _ _ c.published_outcome-outcome.ensures _ _ _ c.in_err-receipt.was (λ begun b supply. begun b (c.open-one.ensures.remaining ∙ supply.0, (c.open-two.ensures.remaining ∙ supply.1.0, tt))) c.copy_with_receipt-outcome.ensures.beginning)
 
 pub returns-in_err-receipt-clause-stops : goal.returns-in_err-receipt-clause-stops
 returns-in_err-receipt-clause-stops g c =
@@ -25,8 +25,8 @@ returns-in_err-receipt-clause-stops g c =
     (λ e refused. (fault_as judged_file _ _ e c.open-one.ensures.remaining refused.0.0, refused.1))
     (λ none.
     let two = none_lacks _ _ none in
-    either_of (read_below g.F.Feed _ _ _ _ c.open-one.ensures.failures (c.lacks_memory.ensures two.0 ∙ ap (λ r. g.F.Feed.failures r.now) (sym c.close-one.ensures.feed) ∙ ap (λ (x : g.row.F.Denot). g.F.Feed.failures x) (search rules))) (read_below g.G.Feed _ _ _ _ c.open-two.ensures.failures (c.lacks_memory-2.ensures two.1 ∙ ap (λ r. g.G.Feed.failures r.now) (sym c.close-two.ensures.feed) ∙ ap (λ (x : g.row.G.Denot). g.G.Feed.failures x) (search rules))))
-    (λ pass is. inr (inl (is.0, packed_differ _ _ _ _ c.open-one.ensures.remaining c.open-two.ensures.remaining is.1)))
+    either_of (read_below g.F.Feed _ _ _ _ c.open-one.ensures.failures (c.lacks_memory.ensures two.0 ∙ ap (λ r. g.F.Feed.failures r.now) (sym c.close-one.ensures.feed) ∙ ap (λ (x : g.row.F.Denot). g.F.Feed.failures x) (search rules))) (either_of (read_below g.G.Feed _ _ _ _ c.open-two.ensures.failures (c.lacks_memory-2.ensures two.1 ∙ ap (λ r. g.G.Feed.failures r.now) (sym c.close-two.ensures.feed) ∙ ap (λ (x : g.row.G.Denot). g.G.Feed.failures x) (search rules))) (λ none. none)))
+    (λ pass is. elim is [ inl two ↦ inr (inl (two.0.0, packed_differ _ _ _ _ c.open-one.ensures.remaining c.open-two.ensures.remaining two.0.1)) | inr none ↦ absurd none ])
     (with_nothing _ _ _ _ _ _ _ c.copy_with_receipt-outcome.ensures.ends.refused c.copy_with_receipt-outcome.ensures.ends.stops))
 
 pub returns-in_err-input-clause-stops : goal.returns-in_err-input-clause-stops

@@ -4,65 +4,68 @@ use Rattle.pbf_pass.specs.HeaderLimit.{judged_writable}
 use Rattle.pbf_published.proofs.PublishedLemmas.{published_of, published_or_none, digest_told, closed_below, same_by, outcome_receipt, outcome_stops, outcome_beginning, with_nothing, read_below, either_of, fault_as, none_lacks, nothing_went_out, packed_differ, changed_stop, first_unknown, second_differs, later_differ, rest_of}
 use Rattle.pbf_published.proofs.parents.extract_parents_sorted_with_receipt.Goals as goal
 
-pub returns-clause-receipt : goal.returns-clause-receipt
-returns-clause-receipt g c =
+pub returns : goal.returns
+returns g c =
     let digest = c.in_ok-input.input in
     let from_first = outcome_receipt _ _ c.extract_parents_sorted_with_receipt-outcome.ensures.receipt _ _ c.in_ok-receipt.was _ c.published_outcome-outcome.ensures in
-    published_of g.F.Feed c.args.first.now _ from_first true _ c.open-one.ensures.remaining c.open-one.ensures.opened (closed_below g.F.Feed c.close-one.result.1.now _ _ _ _ (search rules) c.close-one.ensures.closed) digest c.in_ok-input.ensures.there _ (λ b holds. (
-      holds.0,
-      published_or_none g.G.Feed c.args.second.now _ _ _ _ c.in_ok-receipt.receipt.spared holds.1 _ c.open-two.ensures.remaining c.open-two.ensures.opened (closed_below g.G.Feed c.close-two.result.1.now _ _ _ _ (search rules) c.close-two.ensures.closed) digest c.in_ok-compare_unless_spared.ensures.same
-          (λ e. same_by c.close-two.result.1.now _ _ (search rules) (ap (λ r. r.now) c.close-two.ensures.feed ∙ ap (λ u. u.feed.feed.feed.now) e ∙ ap (λ r. r.now) c.open-two.ensures.below))
-          _ (λ e rest.
-          published_of g.H.Feed c.args.third.now _ rest true _ c.open-three.ensures.remaining c.open-three.ensures.opened (closed_below g.H.Feed c.close-three.result.1.now _ _ _ _ (search rules) c.close-three.ensures.closed) digest c.in_ok-compare.ensures.same _ (λ d rest.
-          published_of g.I.Feed c.args.fourth.now _ rest true _ c.open-four.ensures.remaining c.open-four.ensures.opened (closed_below g.I.Feed c.close-four.result.1.now _ _ _ _ (search rules) c.close-four.ensures.closed) digest c.in_ok-compare-2.ensures.same _ (λ e took. took))),
-    ))
+    record {
+      receipt = published_of g.F.Feed c.args.first.now _ from_first true _ c.open-one.ensures.remaining c.open-one.ensures.opened (closed_below g.F.Feed c.close-one.result.1.now _ _ _ _ (search rules) c.close-one.ensures.closed) digest c.in_ok-input.ensures.there _ (λ b holds. (
+        holds.0,
+        published_or_none g.G.Feed c.args.second.now _ _ _ _ c.in_ok-receipt.receipt.spared holds.1 _ c.open-two.ensures.remaining c.open-two.ensures.opened (closed_below g.G.Feed c.close-two.result.1.now _ _ _ _ (search rules) c.close-two.ensures.closed) digest c.in_ok-compare_unless_spared.ensures.same
+            (λ e. same_by c.close-two.result.1.now _ _ (search rules) (ap (λ r. r.now) c.close-two.ensures.feed ∙ ap (λ u. u.feed.feed.feed.now) e ∙ ap (λ r. r.now) c.open-two.ensures.below))
+            _ (λ e rest.
+            published_of g.H.Feed c.args.third.now _ rest true _ c.open-three.ensures.remaining c.open-three.ensures.opened (closed_below g.H.Feed c.close-three.result.1.now _ _ _ _ (search rules) c.close-three.ensures.closed) digest c.in_ok-compare.ensures.same _ (λ d rest.
+            published_of g.I.Feed c.args.fourth.now _ rest true _ c.open-four.ensures.remaining c.open-four.ensures.opened (closed_below g.I.Feed c.close-four.result.1.now _ _ _ _ (search rules) c.close-four.ensures.closed) digest c.in_ok-compare-2.ensures.same _ (λ e took. took))),
+      ));
+      stops = tt;
+      beginning = tt;
+    }
 
-pub returns-in_err-inflater-clause-beginning : goal.returns-in_err-inflater-clause-beginning
-returns-in_err-inflater-clause-beginning g c =
-    nothing_went_out c.from_residual.result _ _ _ _ (search rules)
+pub returns-in_err-inflater : goal.returns-in_err-inflater
+returns-in_err-inflater g c =
+    record { receipt = search rules; stops = search rules; beginning = nothing_went_out c.from_residual.result _ _ _ _ (search rules) }
 
-pub returns-in_err-more-clause-beginning : goal.returns-in_err-more-clause-beginning
-returns-in_err-more-clause-beginning g c =
-    nothing_went_out c.from_residual-in_err-more.result _ _ _ _ (search rules)
+pub returns-in_err-more : goal.returns-in_err-more
+returns-in_err-more g c =
+    record { receipt = search rules; stops = search rules; beginning = nothing_went_out c.from_residual-in_err-more.result _ _ _ _ (search rules) }
 
-pub returns-in_err-receipt-clause-beginning : goal.returns-in_err-receipt-clause-beginning
-returns-in_err-receipt-clause-beginning g c =
+pub returns-in_err-receipt : goal.returns-in_err-receipt
+returns-in_err-receipt g c =
     let p = err_from_is_err_and c.from_residual-in_err-receipt.result c.from_residual-in_err-receipt.ensures.1 in
-    rw (p.1, p.2) (outcome_beginning _ _ _ c.published_outcome-outcome.ensures _ _ _ c.in_err-receipt.was (λ begun b supply. begun b (c.open-one.ensures.remaining ∙ supply.0, c.open-two.ensures.remaining ∙ supply.1, c.open-three.ensures.remaining ∙ supply.2, c.open-four.ensures.remaining ∙ supply.3)) c.extract_parents_sorted_with_receipt-outcome.ensures.ends.beginning)
+    rw (p.1, p.2) (record {
+      receipt = tt;
+      stops = outcome_stops _ _ _ c.published_outcome-outcome.ensures _ _ _ _ _ _ _ _ c.in_err-receipt.was
+          (λ e refused. (fault_as judged_writable _ _ e c.open-one.ensures.remaining refused.0.0, refused.1))
+          (λ none.
+          let four = none_lacks _ _ none in
+          let three = none_lacks _ _ four.0 in
+          let two = none_lacks _ _ three.0 in
+          either_of (read_below g.F.Feed _ _ _ _ c.open-one.ensures.failures (c.lacks_memory.ensures two.0 ∙ ap (λ r. g.F.Feed.failures r.now) (sym c.close-one.ensures.feed) ∙ ap (λ (x : g.row.F.Denot). g.F.Feed.failures x) (search rules))) (either_of (read_below g.G.Feed _ _ _ _ c.open-two.ensures.failures (c.lacks_memory-2.ensures two.1 ∙ ap (λ r. g.G.Feed.failures r.now) (sym c.close-two.ensures.feed) ∙ ap (λ (x : g.row.G.Denot). g.G.Feed.failures x) (search rules))) (either_of (read_below g.H.Feed _ _ _ _ c.open-three.ensures.failures (c.lacks_memory-3.ensures three.1 ∙ ap (λ r. g.H.Feed.failures r.now) (sym c.close-three.ensures.feed) ∙ ap (λ (x : g.row.H.Denot). g.H.Feed.failures x) (search rules))) (either_of (read_below g.I.Feed _ _ _ _ c.open-four.ensures.failures (c.lacks_memory-4.ensures four.1 ∙ ap (λ r. g.I.Feed.failures r.now) (sym c.close-four.ensures.feed) ∙ ap (λ (x : g.row.I.Denot). g.I.Feed.failures x) (search rules))) (λ none. none)))))
+          (λ pass is. elim is [ inl two ↦ inr (inl (two.0.0, packed_differ _ _ _ _ c.open-one.ensures.remaining c.open-two.ensures.remaining two.0.1)) | inr more ↦ elim more [ inl three ↦ inr (inr (inl (three.0.0, packed_differ _ _ _ _ c.open-one.ensures.remaining c.open-three.ensures.remaining three.0.1))) | inr last ↦ elim last [ inl four ↦ inr (inr (inr (inl (four.0.0, packed_differ _ _ _ _ c.open-one.ensures.remaining c.open-four.ensures.remaining four.0.1)))) | inr none ↦ absurd none ] ] ])
+          (with_nothing _ _ _ _ _ _ _ c.extract_parents_sorted_with_receipt-outcome.ensures.ends.refused c.extract_parents_sorted_with_receipt-outcome.ensures.ends.stops);
+      beginning = outcome_beginning _ _ _ c.published_outcome-outcome.ensures _ _ _ c.in_err-receipt.was (λ begun b supply. begun b (c.open-one.ensures.remaining ∙ supply.0, (c.open-two.ensures.remaining ∙ supply.1.0, (c.open-three.ensures.remaining ∙ supply.1.1.0, (c.open-four.ensures.remaining ∙ supply.1.1.1.0, tt))))) c.extract_parents_sorted_with_receipt-outcome.ensures.beginning;
+    })
 
-pub returns-in_err-receipt-clause-stops : goal.returns-in_err-receipt-clause-stops
-returns-in_err-receipt-clause-stops g c =
-    let p = err_from_is_err_and c.from_residual-in_err-receipt.result c.from_residual-in_err-receipt.ensures.1 in
-    rw (p.1, p.2) (outcome_stops _ _ _ c.published_outcome-outcome.ensures _ _ _ _ _ _ _ _ c.in_err-receipt.was
-    (λ e refused. (fault_as judged_writable _ _ e c.open-one.ensures.remaining refused.0.0, refused.1))
-    (λ none.
-    let four = none_lacks _ _ none in
-    let three = none_lacks _ _ four.0 in
-    let two = none_lacks _ _ three.0 in
-    either_of (either_of (read_below g.F.Feed _ _ _ _ c.open-one.ensures.failures (c.lacks_memory.ensures two.0 ∙ ap (λ r. g.F.Feed.failures r.now) (sym c.close-one.ensures.feed) ∙ ap (λ (x : g.row.F.Denot). g.F.Feed.failures x) (search rules))) (either_of (read_below g.G.Feed _ _ _ _ c.open-two.ensures.failures (c.lacks_memory-2.ensures two.1 ∙ ap (λ r. g.G.Feed.failures r.now) (sym c.close-two.ensures.feed) ∙ ap (λ (x : g.row.G.Denot). g.G.Feed.failures x) (search rules))) (read_below g.H.Feed _ _ _ _ c.open-three.ensures.failures (c.lacks_memory-3.ensures three.1 ∙ ap (λ r. g.H.Feed.failures r.now) (sym c.close-three.ensures.feed) ∙ ap (λ (x : g.row.H.Denot). g.H.Feed.failures x) (search rules))))) (read_below g.I.Feed _ _ _ _ c.open-four.ensures.failures (c.lacks_memory-4.ensures four.1 ∙ ap (λ r. g.I.Feed.failures r.now) (sym c.close-four.ensures.feed) ∙ ap (λ (x : g.row.I.Denot). g.I.Feed.failures x) (search rules))))
-    (λ pass is. elim is [ inl before ↦ elim before [ inl two ↦ inr (inl (two.0.0, packed_differ _ _ _ _ c.open-one.ensures.remaining c.open-two.ensures.remaining two.0.1)) | inr three ↦ inr (inr (inl (three.0.0, packed_differ _ _ _ _ c.open-one.ensures.remaining c.open-three.ensures.remaining three.0.1))) ] | inr after ↦ inr (inr (inr (inl (after.0, packed_differ _ _ _ _ c.open-one.ensures.remaining c.open-four.ensures.remaining after.1)))) ])
-    (with_nothing _ _ _ _ _ _ _ c.extract_parents_sorted_with_receipt-outcome.ensures.ends.refused c.extract_parents_sorted_with_receipt-outcome.ensures.ends.stops))
-
-pub returns-in_err-input-clause-stops : goal.returns-in_err-input-clause-stops
-returns-in_err-input-clause-stops g c =
+pub returns-in_err-input : goal.returns-in_err-input
+returns-in_err-input g c =
     let p = err_from_is_err_and c.from_residual-in_err-input.result c.from_residual-in_err-input.ensures.1 in
     let from_first = outcome_receipt _ _ c.extract_parents_sorted_with_receipt-outcome.ensures.receipt _ _ c.in_ok-receipt.was _ c.published_outcome-outcome.ensures in
-    rw p.1 (changed_stop _ _ _ _ _ _ 1 p.2 c.in_err-input.ensures.stops.0 (inl (refl, first_unknown _ _ (digest_told g.F.Feed c.args.first.now c.close-one.result.1.now from_first true _ c.open-one.ensures.remaining c.open-one.ensures.opened c.close-one.ensures.closed refl) c.in_err-input.ensures.stops.1)))
+    rw p.1 (record { receipt = tt; stops = changed_stop _ _ _ _ _ _ 1 p.2 c.in_err-input.ensures.stops.0 (inl (refl, first_unknown _ _ (digest_told g.F.Feed c.args.first.now c.close-one.result.1.now from_first true _ c.open-one.ensures.remaining c.open-one.ensures.opened c.close-one.ensures.closed refl) c.in_err-input.ensures.stops.1)); beginning = search rules })
 
-pub returns-in_err-compare_unless_spared-clause-stops : goal.returns-in_err-compare_unless_spared-clause-stops
-returns-in_err-compare_unless_spared-clause-stops g c =
+pub returns-in_err-compare_unless_spared : goal.returns-in_err-compare_unless_spared
+returns-in_err-compare_unless_spared g c =
     let p = err_from_is_err_and c.from_residual-in_err-compare_unless_spared.result c.from_residual-in_err-compare_unless_spared.ensures.1 in
     let from_first = outcome_receipt _ _ c.extract_parents_sorted_with_receipt-outcome.ensures.receipt _ _ c.in_ok-receipt.was _ c.published_outcome-outcome.ensures in
-    rw p.1 (changed_stop _ _ _ _ _ _ 2 p.2 c.in_err-compare_unless_spared.ensures.stops.0 (inr (inl (refl, second_differs _ _ c.in_ok-receipt.receipt.spared from_first.holding.1 c.in_err-compare_unless_spared.ensures.stops.1 (digest_told g.F.Feed c.args.first.now c.close-one.result.1.now from_first true _ c.open-one.ensures.remaining c.open-one.ensures.opened c.close-one.ensures.closed refl) c.in_ok-input.ensures.there (λ given. digest_told g.G.Feed c.args.second.now c.close-two.result.1.now given true _ c.open-two.ensures.remaining c.open-two.ensures.opened c.close-two.ensures.closed refl) c.in_err-compare_unless_spared.ensures.stops.2))))
+    rw p.1 (record { receipt = tt; stops = changed_stop _ _ _ _ _ _ 2 p.2 c.in_err-compare_unless_spared.ensures.stops.0 (inr (inl (refl, second_differs _ _ c.in_ok-receipt.receipt.spared from_first.holding.1 c.in_err-compare_unless_spared.ensures.stops.1 (digest_told g.F.Feed c.args.first.now c.close-one.result.1.now from_first true _ c.open-one.ensures.remaining c.open-one.ensures.opened c.close-one.ensures.closed refl) c.in_ok-input.ensures.there (λ given. digest_told g.G.Feed c.args.second.now c.close-two.result.1.now given true _ c.open-two.ensures.remaining c.open-two.ensures.opened c.close-two.ensures.closed refl) c.in_err-compare_unless_spared.ensures.stops.2))); beginning = search rules })
 
-pub returns-in_err-compare-clause-stops : goal.returns-in_err-compare-clause-stops
-returns-in_err-compare-clause-stops g c =
+pub returns-in_err-compare : goal.returns-in_err-compare
+returns-in_err-compare g c =
     let p = err_from_is_err_and c.from_residual-in_err-compare.result c.from_residual-in_err-compare.ensures.1 in
     let from_first = outcome_receipt _ _ c.extract_parents_sorted_with_receipt-outcome.ensures.receipt _ _ c.in_ok-receipt.was _ c.published_outcome-outcome.ensures in
-    rw p.1 (changed_stop _ _ _ _ _ _ 3 p.2 c.in_err-compare.ensures.stops.0 (inr (inr (inl (refl, later_differ _ _ _ _ _ (digest_told g.F.Feed c.args.first.now c.close-one.result.1.now from_first true _ c.open-one.ensures.remaining c.open-one.ensures.opened c.close-one.ensures.closed refl) c.in_ok-input.ensures.there (digest_told g.H.Feed c.args.third.now c.close-three.result.1.now (rest_of _ _ _ _ _ _ c.in_ok-receipt.receipt.spared from_first.holding.1).1 true _ c.open-three.ensures.remaining c.open-three.ensures.opened c.close-three.ensures.closed refl) c.in_err-compare.ensures.stops.1)))))
+    rw p.1 (record { receipt = tt; stops = changed_stop _ _ _ _ _ _ 3 p.2 c.in_err-compare.ensures.stops.0 (inr (inr (inl (refl, later_differ _ _ _ _ _ (digest_told g.F.Feed c.args.first.now c.close-one.result.1.now from_first true _ c.open-one.ensures.remaining c.open-one.ensures.opened c.close-one.ensures.closed refl) c.in_ok-input.ensures.there (digest_told g.H.Feed c.args.third.now c.close-three.result.1.now (rest_of _ _ _ _ c.in_ok-receipt.receipt.spared from_first.holding.1).1 true _ c.open-three.ensures.remaining c.open-three.ensures.opened c.close-three.ensures.closed refl) c.in_err-compare.ensures.stops.1)))); beginning = search rules })
 
-pub returns-in_err-compare-2-clause-stops : goal.returns-in_err-compare-2-clause-stops
-returns-in_err-compare-2-clause-stops g c =
+pub returns-in_err-compare-2 : goal.returns-in_err-compare-2
+returns-in_err-compare-2 g c =
     let p = err_from_is_err_and c.from_residual-in_err-compare-2.result c.from_residual-in_err-compare-2.ensures.1 in
     let from_first = outcome_receipt _ _ c.extract_parents_sorted_with_receipt-outcome.ensures.receipt _ _ c.in_ok-receipt.was _ c.published_outcome-outcome.ensures in
-    rw p.1 (changed_stop _ _ _ _ _ _ 4 p.2 c.in_err-compare-2.ensures.stops.0 (inr (inr (inr (inl (refl, later_differ _ _ _ _ _ (digest_told g.F.Feed c.args.first.now c.close-one.result.1.now from_first true _ c.open-one.ensures.remaining c.open-one.ensures.opened c.close-one.ensures.closed refl) c.in_ok-input.ensures.there (digest_told g.I.Feed c.args.fourth.now c.close-four.result.1.now (rest_of _ _ _ _ _ _ c.in_ok-receipt.receipt.spared from_first.holding.1).1.holding true _ c.open-four.ensures.remaining c.open-four.ensures.opened c.close-four.ensures.closed refl) c.in_err-compare-2.ensures.stops.1))))))
+    rw p.1 (record { receipt = tt; stops = changed_stop _ _ _ _ _ _ 4 p.2 c.in_err-compare-2.ensures.stops.0 (inr (inr (inr (inl (refl, later_differ _ _ _ _ _ (digest_told g.F.Feed c.args.first.now c.close-one.result.1.now from_first true _ c.open-one.ensures.remaining c.open-one.ensures.opened c.close-one.ensures.closed refl) c.in_ok-input.ensures.there (digest_told g.I.Feed c.args.fourth.now c.close-four.result.1.now (rest_of _ _ _ _ c.in_ok-receipt.receipt.spared from_first.holding.1).1.holding true _ c.open-four.ensures.remaining c.open-four.ensures.opened c.close-four.ensures.closed refl) c.in_err-compare-2.ensures.stops.1))))); beginning = search rules })
