@@ -17,13 +17,14 @@ use Rattle.pbfcut_cli.specs.declared.programs.Program.{Program}
 use Rattle.pbfcut_cli.specs.declared.programs.Program.TheVariants.{Pbfcut, Pbfcutz}
 use Rattle.pbfcut_program.specs.declared.engine.Report.{Report}
 use Rattle.pbfcut_program.specs.declared.engine.Halted.{Halted}
-use Rattle.pbfcut_program.specs.Devices.{AnyFailed, AreFresh, ChangeIn, CloseAll, Closes, Finishes, Fronts, GiveAll, GiveLater, GivesOrNot, GivesOtherAt, IsAsked, IsFresh, IsFreshOut, StopsFor, Works}
+use Rattle.pbfcut.specs.Calls.{AllSupply, AnyFailed}
+use Rattle.pbfcut_program.specs.Devices.{AreFresh, ChangeIn, CloseAll, Closes, Finishes, Fronts, GiveAll, GiveLater, GivesOrNot, GivesOtherAt, IsAsked, IsFresh, IsFreshOut, StopsFor, Works, used}
 use Rattle.pbfcut_program.specs.Events.{Event, Reading, Writing, read, wrote, then_all, then_one}
 use Rattle.pbfcut_program.specs.Fails.{Each, Fails, FailsToFinish, FailsToRead, FailsToWrite, Has, Judging, Stops, TookNothing, UnlessPacked, judging, readings}
 use Rattle.pbfcut_program.specs.Manner.{AreDigests, Manner, input_form, manner, of_input, of_output, output_form}
 use Rattle.pbfcut_program.specs.Outcomes.{EndsAs}
 use Rattle.pbfcut_program.specs.Program.{digest_if_asked}
-use Rattle.pbfcut_program.specs.Readings.{AllHave, IsOther, IsWholeOrSpared, IsWork, ReadAll, ReadLater}
+use Rattle.pbfcut_program.specs.Readings.{IsOther, IsWholeOrSpared, IsWork, ReadAll, ReadLater}
 use Rattle.pbfcut_program.specs.Leaving.{Leaves, TookFront}
 use Rattle.pbfcut_program.specs.Tasks.{Holds, Task, answer_of, hashes_in, judge_of, spares}
 use Rattle.pbfcut_program.proofs.EventLemmas.{each_both, has_after, has_before, nothing_read, readings_both, readings_of}
@@ -77,7 +78,7 @@ module _ {F : Type 0} (f : feed.Ghosts F) where
   close_given known may _ _ _ l m fresh c g = absurd g
 
   -- one of them failed
-  close_failed : (olds news : List F) (l m : Option (List Event)) → AreFresh f olds → CloseAll f news l m → AnyFailed f olds news → (rs : List Reading) × (m ≡ then_all l (reads rs)) × Has FailsToRead (reads rs)
+  close_failed : (olds news : List F) (l m : Option (List Event)) → AreFresh f olds → CloseAll f news l m → AnyFailed (used f olds news) → (rs : List Reading) × (m ≡ then_all l (reads rs)) × Has FailsToRead (reads rs)
   close_failed (old ∷ olds) (now ∷ news) l m fresh c (inl risen) =
       let rest = close_rest news c.0 m c.2 in
       (reading f now c.1.0.0 ∷ rest.0, and_then l c.0 m (read (reading f now c.1.0.0) ∷ []) (reads rest.0) c.1.0.1 rest.1, inl (has_failed _ _ fresh.0.1 risen))
@@ -291,7 +292,7 @@ if_done f d out went by task took failed l m n olds news (Err halted) fresh c fi
 -- a call stopped, and it and its devices left this
 pub stops_leaving : (m : Manner) (task : Task) (has : List (Option (List ℕ))) (before after : Option (List ℕ)) (events : List Event) → IfSome before (λ taken. taken ≡ [])
     → ((answer : List ℕ) → TakenFront after answer → Each (TookFront answer) events)
-    → UnlessPacked (output_form m.packs m.program) ((bytes : List ℕ) → AllHave bytes has → IsFront before after (answer_of task (of_input m bytes))) → Leaves m task has events
+    → UnlessPacked (output_form m.packs m.program) ((bytes : List ℕ) → AllSupply bytes has → IsFront before after (answer_of task (of_input m bytes))) → Leaves m task has events
 stops_leaving m task has before after events fresh fronts given = inl (unless_packed (output_form m.packs m.program) _ _ (λ front bytes all. fronts _ (taken_front before after _ fresh (front bytes all))) given)
 
 -- the digest that was wanted

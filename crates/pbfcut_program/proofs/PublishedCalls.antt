@@ -1,9 +1,6 @@
 -- What pbfcutz's calls report of what went through their devices.
-use Rattle.std.proofs.Common.{◌≡◌, ◌⊎◌, inl, inr, ℕ, List, [], ◌∷◌, Bool, true, false, Option, Some, Result, Ok, Err, IfOk, IfErr, refl, subst, sym}
+use Rattle.std.proofs.Common.{◌≡◌, inl, inr, ℕ, List, [], ◌∷◌, Bool, true, false, Option, Some, Result, Ok, Err, IfOk, IfErr, refl, subst, sym}
 use Rattle.osm_area.specs.Area.{AreaSpec}
-use Rattle.osm_ways.specs.Parents.{extract_with_parents}
-use Rattle.osm_ways.specs.Seen.{seen_decoded}
-use Rattle.osm_ways.specs.Selection as select
 use Rattle.pbf_frame.specs.declared.device.Feed as feed
 use Rattle.pbf_frame.specs.declared.device.Drain as drain
 use Rattle.pbf_pass.specs.Given.{Took}
@@ -13,13 +10,15 @@ use Rattle.pbf_pass.specs.Pass.{CountsFile}
 use Rattle.pbf_pass.specs.HeaderLimit.{judged_writable}
 use Rattle.pbf_pass.specs.Stops.{Caused, FaultOf, ReadFailed, WriteFailed}
 use Rattle.pbf_unpack.specs.Unpacked.{unpacked}
-use Rattle.pbfcut.specs.Extracting.{all_parents, complete_ways}
+use Rattle.pbfcut.specs.Calls.{drained, fed}
+use Rattle.pbfcut.specs.Receipts.{parents_in, ways_in}
 use Rattle.pbfcut.specs.Kept.{IsWritable}
 use Rattle.pbfcut.specs.Showing.{Shown}
-use Rattle.pbfcut.specs.Theorem.{IsConverted, IsExtraction}
+use Rattle.pbfcut.specs.Theorem.{IsConverted}
 use Rattle.pbf_published.specs.declared.input.PublishedHalt.{PublishedHalt}
 use Rattle.pbf_published.specs.declared.input.PublishedInput.{PublishedInput}
-use Rattle.pbf_published.specs.Published.{ChangedOf, GaveOrNone, GavePublished, RefusedRaw, raw_of}
+use Rattle.pbf_published.specs.Extracting.{ExtractsPublished}
+use Rattle.pbf_published.specs.Published.{ChangedOf, GaveOrNone, GavePublished, StopsPublished, raw_of}
 use Rattle.pbfcut_cli.specs.declared.programs.Program.TheVariants.{Pbfcutz}
 use Rattle.pbfcut_program.specs.declared.engine.Report.{Report}
 use Rattle.pbfcut_program.specs.declared.engine.Halted.{Halted}
@@ -87,7 +86,7 @@ module _ {F D : Type 0} (f : feed.Ghosts F) (d : drain.Ghosts D) (out out_now : 
       → ((receipt : PublishedInput) (b c w : List ℕ) → P receipt b → Q receipt b c w → Holds task (b ∷ c ∷ []) receipt.counts w)
       → (one one_now two two_now : F) (outcome : Result PublishedInput PublishedHalt) (result : Result Report Halted) → AreFresh f (one ∷ two ∷ [])
       → IfOk outcome (λ receipt. GavePublished f one one_now (Some receipt.input) (digest_if digests receipt.raw) (λ b. P receipt b × GavePublished f two two_now (Some receipt.input) (digest_if digests receipt.raw) (λ c. Took d out out_now (λ w. Q receipt b c w))))
-      → IfErr outcome (λ h. Caused (RefusedRaw (judge_of task (raw_of (f.remaining one))) d out out_now) (ReadFailed f one one_now ⊎ ReadFailed f two two_now) (WriteFailed d out out_now) (ChangedOf (f.remaining one ∷ f.remaining two ∷ [])) h.stop) → ReportsPublished outcome result
+      → IfErr outcome (λ h. StopsPublished (judge_of task) (fed f one one_now) (fed f two two_now ∷ []) (drained d out out_now) h.stop) → ReportsPublished outcome result
       → Works (manner Pbfcutz false digests) f task (one ∷ two ∷ []) (one_now ∷ two_now ∷ []) (d.has_taken out_now log) (WriteFailed d out out_now) result
   two_published task P Q meant one one_now two two_now (Ok receipt) (Ok report) fresh given stops r =
       let first = gave_all f false digests (hashes_in task digests) receipt.input receipt.raw report.raw r.2 fresh.0.0 given in
@@ -101,35 +100,34 @@ module _ {F D : Type 0} (f : feed.Ghosts F) (d : drain.Ghosts D) (out out_now : 
         holds = meant receipt (unpacked first.file) (unpacked again.file) took.written first.holding.0 took.holding;
       }
   two_published task P Q meant one one_now two two_now (Err halt) (Err halted) fresh given stops r =
-      (halt.stop, r, caused_weaker _ _ _ _ _ _ _ _ halt.stop (λ e refused. (refused.0, refused.1.logged log [] start)) (λ failed. elim failed [ inl a ↦ inl a | inr b ↦ inr (inl b) ]) (λ failed. failed) (λ p c. c) stops)
+      (halt.stop, r, caused_weaker _ _ _ _ _ _ _ _ halt.stop (λ e refused. (refused.0, refused.1.logged log [] start)) (λ failed. failed) (λ failed. failed) (λ p c. c) stops)
   two_published task P Q meant one one_now two two_now _ _ fresh given stops r = absurd r
 
   pub show_published : (dates : Bool) (one one_now two two_now : F) (outcome : Result PublishedInput PublishedHalt) (result : Result Report Halted) → AreFresh f (one ∷ two ∷ [])
       → IfOk outcome (λ receipt. GavePublished f one one_now (Some receipt.input) (digest_if digests receipt.raw) (λ b. CountsFile (judged_file (Some b)) receipt.counts × GavePublished f two two_now (Some receipt.input) (digest_if digests receipt.raw) (λ c. Took d out out_now (Shown dates (judged_file (Some c))))))
-      → IfErr outcome (λ h. Caused (RefusedRaw (judged_file (raw_of (f.remaining one))) d out out_now) (ReadFailed f one one_now ⊎ ReadFailed f two two_now) (WriteFailed d out out_now) (ChangedOf (f.remaining one ∷ f.remaining two ∷ [])) h.stop) → ReportsPublished outcome result
+      → IfErr outcome (λ h. StopsPublished judged_file (fed f one one_now) (fed f two two_now ∷ []) (drained d out out_now) h.stop) → ReportsPublished outcome result
       → Works (manner Pbfcutz false digests) f (showing dates) (one ∷ two ∷ []) (one_now ∷ two_now ∷ []) (d.has_taken out_now log) (WriteFailed d out out_now) result
   show_published dates = two_published (showing dates) (λ receipt b. CountsFile (judged_file (Some b)) receipt.counts) (λ receipt b c w. Shown dates (judged_file (Some c)) w) (λ receipt b c w p q. (p, q))
 
   pub convert_published : (one one_now two two_now : F) (outcome : Result PublishedInput PublishedHalt) (result : Result Report Halted) → AreFresh f (one ∷ two ∷ [])
       → IfOk outcome (λ receipt. GavePublished f one one_now (Some receipt.input) (digest_if digests receipt.raw) (λ b. IsWritable b × GavePublished f two two_now (Some receipt.input) (digest_if digests receipt.raw) (λ c. Took d out out_now (λ w. b ≡ c → IsConverted b receipt.counts w))))
-      → IfErr outcome (λ h. Caused (RefusedRaw (judged_writable (raw_of (f.remaining one))) d out out_now) (ReadFailed f one one_now ⊎ ReadFailed f two two_now) (WriteFailed d out out_now) (ChangedOf (f.remaining one ∷ f.remaining two ∷ [])) h.stop) → ReportsPublished outcome result
+      → IfErr outcome (λ h. StopsPublished judged_writable (fed f one one_now) (fed f two two_now ∷ []) (drained d out out_now) h.stop) → ReportsPublished outcome result
       → Works (manner Pbfcutz false digests) f converting (one ∷ two ∷ []) (one_now ∷ two_now ∷ []) (d.has_taken out_now log) (WriteFailed d out out_now) result
   convert_published = two_published converting (λ receipt b. IsWritable b) (λ receipt b c w. b ≡ c → IsConverted b receipt.counts w) (λ receipt b c w p q. (p, q))
 
   pub copy_published : (one one_now two two_now : F) (outcome : Result PublishedInput PublishedHalt) (result : Result Report Halted) → AreFresh f (one ∷ two ∷ [])
       → IfOk outcome (λ receipt. GavePublished f one one_now (Some receipt.input) (digest_if digests receipt.raw) (λ b. CountsFile (judged_file (Some b)) receipt.counts × GavePublished f two two_now (Some receipt.input) (digest_if digests receipt.raw) (λ c. Took d out out_now (λ w. w ≡ c))))
-      → IfErr outcome (λ h. Caused (RefusedRaw (judged_file (raw_of (f.remaining one))) d out out_now) (ReadFailed f one one_now ⊎ ReadFailed f two two_now) (WriteFailed d out out_now) (ChangedOf (f.remaining one ∷ f.remaining two ∷ [])) h.stop) → ReportsPublished outcome result
+      → IfErr outcome (λ h. StopsPublished judged_file (fed f one one_now) (fed f two two_now ∷ []) (drained d out out_now) h.stop) → ReportsPublished outcome result
       → Works (manner Pbfcutz false digests) f copying (one ∷ two ∷ []) (one_now ∷ two_now ∷ []) (d.has_taken out_now log) (WriteFailed d out out_now) result
   copy_published = two_published copying (λ receipt b. CountsFile (judged_file (Some b)) receipt.counts) (λ receipt b c w. w ≡ c) (λ receipt b c w p q. (p, q))
 
   -- three passes
   pub extract_published : (area : AreaSpec) (one one_now two two_now three three_now : F) (outcome : Result PublishedInput PublishedHalt) (result : Result Report Halted) → AreFresh f (one ∷ two ∷ three ∷ [])
-      → IfOk outcome (λ receipt. GavePublished f one one_now (Some receipt.input) (digest_if digests receipt.raw) (λ b. IsWritable b × GaveOrNone f two two_now receipt.input (digest_if digests receipt.raw) b (λ c. GavePublished f three three_now (Some receipt.input) (digest_if digests receipt.raw) (λ e. Took d out out_now (λ w. b ≡ c → b ≡ e → IsExtraction (complete_ways area) (select.extract (seen_decoded area)) area b receipt.counts w)))))
-      → IfErr outcome (λ h. Caused (RefusedRaw (judged_writable (raw_of (f.remaining one))) d out out_now) (ReadFailed f one one_now ⊎ (ReadFailed f two two_now ⊎ ReadFailed f three three_now)) (WriteFailed d out out_now) (ChangedOf (f.remaining one ∷ f.remaining two ∷ f.remaining three ∷ [])) h.stop) → ReportsPublished outcome result
+      → ExtractsPublished (ways_in area) (fed f one one_now) (fed f two two_now) (fed f three three_now ∷ []) (drained d out out_now) digests outcome → ReportsPublished outcome result
       → Works (manner Pbfcutz false digests) f (extracting area) (one ∷ two ∷ three ∷ []) (one_now ∷ two_now ∷ three_now ∷ []) (d.has_taken out_now log) (WriteFailed d out out_now) result
-  extract_published area one one_now two two_now three three_now (Ok receipt) (Ok report) fresh given stops r =
+  extract_published area one one_now two two_now three three_now (Ok receipt) (Ok report) fresh extracts r =
       let task = extracting area in
-      let first = gave_all f false digests (hashes_in task digests) receipt.input receipt.raw report.raw r.2 fresh.0.0 given in
+      let first = gave_all f false digests (hashes_in task digests) receipt.input receipt.raw report.raw r.2 fresh.0.0 extracts.receipt in
       let again = gave_after f false digests (hashes_in task digests) receipt.input receipt.raw report.raw r.2 fresh.1.0.0 first.holding.1 in
       let last = gave_all f false digests (hashes_in task digests) receipt.input receipt.raw report.raw r.2 fresh.1.1.0.0 again.holding in
       let took = last.holding in
@@ -140,18 +138,17 @@ module _ {F D : Type 0} (f : feed.Ghosts F) (d : drain.Ghosts D) (out out_now : 
         took_them = took.added.logged log [] start;
         holds = (first.holding.0, took.holding);
       }
-  extract_published area one one_now two two_now three three_now (Err halt) (Err halted) fresh given stops r =
-      (halt.stop, r, caused_weaker _ _ _ _ _ _ _ _ halt.stop (λ e refused. (refused.0, refused.1.logged log [] start)) (λ failed. elim failed [ inl a ↦ inl a | inr more ↦ elim more [ inl b ↦ inr (inl b) | inr e ↦ inr (inr (inl e)) ] ]) (λ failed. failed) (λ p c. c) stops)
-  extract_published area one one_now two two_now three three_now _ _ fresh given stops r = absurd r
+  extract_published area one one_now two two_now three three_now (Err halt) (Err halted) fresh extracts r =
+      (halt.stop, r, caused_weaker _ _ _ _ _ _ _ _ halt.stop (λ e refused. (refused.0, refused.1.logged log [] start)) (λ failed. failed) (λ failed. failed) (λ p c. c) extracts.stops)
+  extract_published area one one_now two two_now three three_now _ _ fresh extracts r = absurd r
 
   -- four passes
   pub extract_parents_published : (area : AreaSpec) (one one_now two two_now three three_now four four_now : F) (outcome : Result PublishedInput PublishedHalt) (result : Result Report Halted) → AreFresh f (one ∷ two ∷ three ∷ four ∷ [])
-      → IfOk outcome (λ receipt. GavePublished f one one_now (Some receipt.input) (digest_if digests receipt.raw) (λ b. IsWritable b × GaveOrNone f two two_now receipt.input (digest_if digests receipt.raw) b (λ c. GavePublished f three three_now (Some receipt.input) (digest_if digests receipt.raw) (λ e. GavePublished f four four_now (Some receipt.input) (digest_if digests receipt.raw) (λ g. Took d out out_now (λ w. b ≡ c → b ≡ e → b ≡ g → IsExtraction (all_parents area) (extract_with_parents (seen_decoded area)) area b receipt.counts w))))))
-      → IfErr outcome (λ h. Caused (RefusedRaw (judged_writable (raw_of (f.remaining one))) d out out_now) ((ReadFailed f one one_now ⊎ (ReadFailed f two two_now ⊎ ReadFailed f three three_now)) ⊎ ReadFailed f four four_now) (WriteFailed d out out_now) (ChangedOf (f.remaining one ∷ f.remaining two ∷ f.remaining three ∷ f.remaining four ∷ [])) h.stop) → ReportsPublished outcome result
+      → ExtractsPublished (parents_in area) (fed f one one_now) (fed f two two_now) (fed f three three_now ∷ fed f four four_now ∷ []) (drained d out out_now) digests outcome → ReportsPublished outcome result
       → Works (manner Pbfcutz false digests) f (extracting_parents area) (one ∷ two ∷ three ∷ four ∷ []) (one_now ∷ two_now ∷ three_now ∷ four_now ∷ []) (d.has_taken out_now log) (WriteFailed d out out_now) result
-  extract_parents_published area one one_now two two_now three three_now four four_now (Ok receipt) (Ok report) fresh given stops r =
+  extract_parents_published area one one_now two two_now three three_now four four_now (Ok receipt) (Ok report) fresh extracts r =
       let task = extracting_parents area in
-      let first = gave_all f false digests (hashes_in task digests) receipt.input receipt.raw report.raw r.2 fresh.0.0 given in
+      let first = gave_all f false digests (hashes_in task digests) receipt.input receipt.raw report.raw r.2 fresh.0.0 extracts.receipt in
       let again = gave_after f false digests (hashes_in task digests) receipt.input receipt.raw report.raw r.2 fresh.1.0.0 first.holding.1 in
       let third = gave_all f false digests (hashes_in task digests) receipt.input receipt.raw report.raw r.2 fresh.1.1.0.0 again.holding in
       let last = gave_all f false digests (hashes_in task digests) receipt.input receipt.raw report.raw r.2 fresh.1.1.1.0.0 third.holding in
@@ -163,12 +160,6 @@ module _ {F D : Type 0} (f : feed.Ghosts F) (d : drain.Ghosts D) (out out_now : 
         took_them = took.added.logged log [] start;
         holds = (first.holding.0, took.holding);
       }
-  extract_parents_published area one one_now two two_now three three_now four four_now (Err halt) (Err halted) fresh given stops r = (
-    halt.stop,
-    r,
-    caused_weaker _ _ _ _ _ _ _ _ halt.stop (λ e refused. (refused.0, refused.1.logged log [] start)) (λ failed. elim failed [
-      | inl first ↦ elim first [ inl a ↦ inl a | inr more ↦ elim more [ inl b ↦ inr (inl b) | inr e ↦ inr (inr (inl e)) ] ]
-      | inr last ↦ inr (inr (inr (inl last)))
-    ]) (λ failed. failed) (λ p c. c) stops,
-  )
-  extract_parents_published area one one_now two two_now three three_now four four_now _ _ fresh given stops r = absurd r
+  extract_parents_published area one one_now two two_now three three_now four four_now (Err halt) (Err halted) fresh extracts r =
+      (halt.stop, r, caused_weaker _ _ _ _ _ _ _ _ halt.stop (λ e refused. (refused.0, refused.1.logged log [] start)) (λ failed. failed) (λ failed. failed) (λ p c. c) extracts.stops)
+  extract_parents_published area one one_now two two_now three three_now four four_now _ _ fresh extracts r = absurd r

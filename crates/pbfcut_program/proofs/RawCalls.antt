@@ -1,9 +1,6 @@
 -- What pbfcut's calls report of what went through their devices.
-use Rattle.std.proofs.Common.{◌≡◌, inl, inr, ℕ, List, [], ◌∷◌, Bool, true, false, Option, Some, None, Result, Ok, Err, IfOk, refl, sym, subst}
+use Rattle.std.proofs.Common.{◌≡◌, ◌⊎◌, inl, inr, ℕ, suc, ◌+◌, arith, map, length, List, [], ◌∷◌, Bool, true, false, Option, Some, None, Result, Ok, Err, IfOk, refl, sym, subst}
 use Rattle.osm_area.specs.Area.{AreaSpec}
-use Rattle.osm_ways.specs.Parents.{extract_with_parents}
-use Rattle.osm_ways.specs.Seen.{seen_decoded}
-use Rattle.osm_ways.specs.Selection as select
 use Rattle.pbf_frame.specs.declared.device.Feed as feed
 use Rattle.pbf_frame.specs.declared.device.Drain as drain
 use Rattle.pbf_frame.specs.declared.stop.Stop.TheVariants as stop
@@ -18,18 +15,18 @@ use Rattle.pbf_pass.specs.HeaderLimit.{judged_writable}
 use Rattle.pbf_pass.specs.Judged.{judged_file}
 use Rattle.pbf_pass.specs.Pass.{CountsFile}
 use Rattle.pbf_pass.specs.Refused.{EndsJudging, RefusesFile, stop_of}
-use Rattle.pbfcut.specs.Calls.{GaveOrNot, drained, fed}
-use Rattle.pbfcut.specs.Changes.{GaveOther}
-use Rattle.pbfcut.specs.Ends.{EndsExtracting, EndsExtractingParents, EndsTwoPasses}
-use Rattle.pbfcut.specs.Extracting.{all_parents, complete_ways}
+use Rattle.pbfcut.specs.Calls.{ChangedLater, GaveOrNot, IfMore, drained, fed}
+use Rattle.pbfcut.specs.Changes.{ChangedAt, GaveOther}
+use Rattle.pbfcut.specs.Ends.{EndsPasses, TookNothing}
 use Rattle.pbfcut.specs.Kept.{IsWritable}
+use Rattle.pbfcut.specs.Receipts.{Extracts, parents_in, ways_in}
 use Rattle.pbfcut.specs.Showing.{Shown}
-use Rattle.pbfcut.specs.Theorem.{IsConverted, IsExtraction}
+use Rattle.pbfcut.specs.Theorem.{IsConverted}
 use Rattle.pbfcut_cli.specs.declared.endings.Ending.TheVariants as ending
 use Rattle.pbfcut_cli.specs.declared.programs.Program.TheVariants.{Pbfcut}
 use Rattle.pbfcut_program.specs.declared.engine.Report.{Report}
 use Rattle.pbfcut_program.specs.declared.engine.Halted.{Halted}
-use Rattle.pbfcut_program.specs.Devices.{AreFresh, EndsFor, StopsFor, Gives, GivesFaulty, GivesOrNot, GivesOther, Works}
+use Rattle.pbfcut_program.specs.Devices.{AreFresh, EndsFor, StopsFor, Gives, GivesFaulty, GivesOrNot, GivesOther, GivesOtherAt, Works, used}
 use Rattle.pbfcut_program.specs.Fails.{EndsAsStop, UnlessPacked}
 use Rattle.pbfcut_program.specs.Manner.{AreDigests, manner, output_form}
 use Rattle.pbfcut_program.specs.Outcomes.{ReportsRaw}
@@ -97,23 +94,53 @@ module _ {F D : Type 0} (f : feed.Ghosts F) (d : drain.Ghosts D) (out out_now : 
   known_of : (task : Task) (input : List ℕ) (raw : Option (List ℕ)) → raw ≡ None → (file : List ℕ) → IsDigestOf (Some input) file → Known task input raw file
   known_of task input raw none file is = (digest_or_not (hashes_in task digests) input file is, none)
 
-  -- two passes
-  two_ends : (judge : Option (List ℕ) → Option Verdict) (one one_now two two_now : F) (h : Halt) → AreFresh f (one ∷ two ∷ []) → EndsTwoPasses judge (fed f one one_now) (fed f two two_now) (drained d out out_now) true (Stopped InputReceipt h)
-      → StopsFor Pbfcut f judge (one ∷ two ∷ []) (one_now ∷ two_now ∷ []) (d.has_taken out_now log []) (WriteFailed d out out_now) (stop_of h)
-  two_ends judge one one_now two two_now (halt.Refused r) fresh ends = (gives_faulty f judge r fresh.0.0 ends.refused.0, ends.refused.1.logged log [] start)
-  two_ends judge one one_now two two_now (halt.Stopped (stop.Refused e)) fresh ends = absurd (ends.refused e refl)
-  two_ends judge one one_now two two_now (halt.Stopped stop.Read) fresh ends = elim ends.stops [ inl a ↦ inl a | inr a ↦ inr (inl a) ]
-  two_ends judge one one_now two two_now (halt.Stopped stop.Write) fresh ends = ends.stops
-  two_ends judge one one_now two two_now (halt.Stopped stop.Memory) fresh ends = tt
-  two_ends judge one one_now two two_now (halt.Stopped (stop.Changed p)) fresh ends =
-      let g = ends.changed.1 in
-      record { file = g.file; first = gives_some f fresh.0.0 g; at = 0; pass_is = ends.changed.0; other = gives_other f two two_now g.file fresh.1.0.0 g.holding; last = inl refl }
+  -- why a call stops
+  module _ (one one_now : F) (fresh_one : f.has_passed one 0 []) where
+    abbrev olds : List (F × F) → List F
+    olds later = map (λ p. p.0) later
 
+    abbrev news : List (F × F) → List F
+    news later = map (λ p. p.1) later
+
+    -- one of the later feeds, the first of which is that of this pass, gave another file than the first
+    record Found (pass number : ℕ) (later : List (F × F)) : Type 0 where
+      file : List ℕ
+      first : Gives f (λ _. Unit {0}) one_now file
+      at : ℕ
+      pass_is : pass ≡ at + number
+      other : GivesOtherAt f file at (olds later) (news later)
+      last : (length (news later) ≡ at + 1) ⊎ d.has_taken out_now log []
+
+    last_of : (now : F) (later : List (F × F)) → IfMore (used f (olds later) (news later)) (TookNothing (drained d out out_now)) → (length (now ∷ news later) ≡ 0 + 1) ⊎ d.has_taken out_now log []
+    last_of now [] more = inl refl
+    last_of now (p ∷ later) more = inr (more.logged log [] start)
+
+    found : (pass number : ℕ) (later : List (F × F)) → AreFresh f (olds later) → ChangedLater (ChangedAt (fed f one one_now)) (TookNothing (drained d out out_now)) number (used f (olds later) (news later)) pass → Found pass number later
+    found pass number [] fresh none = absurd none
+    found pass number (p ∷ later) fresh (inl c) =
+        let g = c.0.1 in
+        record { file = g.file; first = gives_some f fresh_one g; at = 0; pass_is = omega (arith, c.0.0); other = gives_other f p.0 p.1 g.file fresh.0.0 g.holding; last = last_of p.1 later c.1 }
+    found pass number (p ∷ later) fresh (inr c) =
+        let m = found pass (number + 1) later fresh.1 c in
+        record { file = m.file; first = m.first; at = suc m.at; pass_is = omega (arith, m.pass_is); other = m.other; last = elim m.last [ inl e ↦ inl (omega (arith, e)) | inr none ↦ inr none ] }
+
+    call_ends : (judge : Option (List ℕ) → Option Verdict) (later : List (F × F)) (h : Halt) → AreFresh f (olds later) → EndsPasses judge (fed f one one_now) (used f (olds later) (news later)) (drained d out out_now) true (Stopped InputReceipt h)
+        → StopsFor Pbfcut f judge (one ∷ olds later) (one_now ∷ news later) (d.has_taken out_now log []) (WriteFailed d out out_now) (stop_of h)
+    call_ends judge later (halt.Refused r) fresh ends = (gives_faulty f judge r fresh_one ends.refused.0, ends.refused.1.logged log [] start)
+    call_ends judge later (halt.Stopped (stop.Refused e)) fresh ends = absurd (ends.refused e refl)
+    call_ends judge later (halt.Stopped stop.Read) fresh ends = ends.stops
+    call_ends judge later (halt.Stopped stop.Write) fresh ends = ends.stops
+    call_ends judge later (halt.Stopped stop.Memory) fresh ends = tt
+    call_ends judge later (halt.Stopped (stop.Changed p)) fresh ends =
+        let m = found p 2 later fresh ends.changed in
+        record { file = m.file; first = m.first; at = m.at; pass_is = m.pass_is; other = m.other; last = m.last }
+
+  -- two passes
   two_works : (task : Task) (P : InputReceipt → List ℕ → Type 0) (Q : InputReceipt → (b c w : List ℕ) → Type 0)
       → ((receipt : InputReceipt) (b c w : List ℕ) → P receipt b → Q receipt b c w → Holds task (b ∷ c ∷ []) receipt.counts w)
       → (one one_now two two_now : F) (outcome : Result InputReceipt Halt) (result : Result Report Halted) → AreFresh f (one ∷ two ∷ [])
       → IfOk outcome (λ receipt. GaveFile f one one_now (Some receipt.input) (λ b. P receipt b × GaveFile f two two_now (Some receipt.input) (λ c. Took d out out_now (λ w. Q receipt b c w))))
-      → EndsTwoPasses (judge_of task) (fed f one one_now) (fed f two two_now) (drained d out out_now) true outcome → ReportsRaw outcome result
+      → EndsPasses (judge_of task) (fed f one one_now) (fed f two two_now ∷ []) (drained d out out_now) true outcome → ReportsRaw outcome result
       → Works (manner Pbfcut false digests) f task (one ∷ two ∷ []) (one_now ∷ two_now ∷ []) (d.has_taken out_now log) (WriteFailed d out out_now) result
   two_works task P Q meant one one_now two two_now (Ok receipt) (Ok report) fresh given ends r =
       let again = given.holding.1 in let took = again.holding in
@@ -126,97 +153,65 @@ module _ {F D : Type 0} (f : feed.Ghosts F) (d : drain.Ghosts D) (out out_now : 
         holds = meant receipt given.file again.file took.written given.holding.0 took.holding;
       }
   two_works task P Q meant one one_now two two_now (Err h) (Err halted) fresh given ends r =
-      reported_ends f (judge_of task) (one ∷ two ∷ []) (one_now ∷ two_now ∷ []) (d.has_taken out_now log []) (WriteFailed d out out_now) h halted r (two_ends (judge_of task) one one_now two two_now h fresh ends)
+      reported_ends f (judge_of task) (one ∷ two ∷ []) (one_now ∷ two_now ∷ []) (d.has_taken out_now log []) (WriteFailed d out out_now) h halted r (call_ends one one_now fresh.0.0 (judge_of task) ((two, two_now) ∷ []) h fresh.1 ends)
   two_works task P Q meant one one_now two two_now _ _ fresh given ends r = absurd r
 
   pub show_works : (dates : Bool) (one one_now two two_now : F) (outcome : Result InputReceipt Halt) (result : Result Report Halted) → AreFresh f (one ∷ two ∷ [])
       → IfOk outcome (λ receipt. GaveFile f one one_now (Some receipt.input) (λ b. CountsFile (judged_file (Some b)) receipt.counts × GaveFile f two two_now (Some receipt.input) (λ c. Took d out out_now (Shown dates (judged_file (Some c))))))
-      → EndsTwoPasses judged_file (fed f one one_now) (fed f two two_now) (drained d out out_now) true outcome → ReportsRaw outcome result
+      → EndsPasses judged_file (fed f one one_now) (fed f two two_now ∷ []) (drained d out out_now) true outcome → ReportsRaw outcome result
       → Works (manner Pbfcut false digests) f (showing dates) (one ∷ two ∷ []) (one_now ∷ two_now ∷ []) (d.has_taken out_now log) (WriteFailed d out out_now) result
   show_works dates = two_works (showing dates) (λ receipt b. CountsFile (judged_file (Some b)) receipt.counts) (λ receipt b c w. Shown dates (judged_file (Some c)) w) (λ receipt b c w p q. (p, q))
 
   pub convert_works : (one one_now two two_now : F) (outcome : Result InputReceipt Halt) (result : Result Report Halted) → AreFresh f (one ∷ two ∷ [])
       → IfOk outcome (λ receipt. GaveFile f one one_now (Some receipt.input) (λ b. IsWritable b × GaveFile f two two_now (Some receipt.input) (λ c. Took d out out_now (λ w. b ≡ c → IsConverted b receipt.counts w))))
-      → EndsTwoPasses judged_writable (fed f one one_now) (fed f two two_now) (drained d out out_now) true outcome → ReportsRaw outcome result
+      → EndsPasses judged_writable (fed f one one_now) (fed f two two_now ∷ []) (drained d out out_now) true outcome → ReportsRaw outcome result
       → Works (manner Pbfcut false digests) f converting (one ∷ two ∷ []) (one_now ∷ two_now ∷ []) (d.has_taken out_now log) (WriteFailed d out out_now) result
   convert_works = two_works converting (λ receipt b. IsWritable b) (λ receipt b c w. b ≡ c → IsConverted b receipt.counts w) (λ receipt b c w p q. (p, q))
 
   pub copy_works : (one one_now two two_now : F) (outcome : Result InputReceipt Halt) (result : Result Report Halted) → AreFresh f (one ∷ two ∷ [])
       → IfOk outcome (λ receipt. GaveFile f one one_now (Some receipt.input) (λ b. CountsFile (judged_file (Some b)) receipt.counts × GaveFile f two two_now (Some receipt.input) (λ c. Took d out out_now (λ w. w ≡ c))))
-      → EndsTwoPasses judged_file (fed f one one_now) (fed f two two_now) (drained d out out_now) true outcome → ReportsRaw outcome result
+      → EndsPasses judged_file (fed f one one_now) (fed f two two_now ∷ []) (drained d out out_now) true outcome → ReportsRaw outcome result
       → Works (manner Pbfcut false digests) f copying (one ∷ two ∷ []) (one_now ∷ two_now ∷ []) (d.has_taken out_now log) (WriteFailed d out out_now) result
   copy_works = two_works copying (λ receipt b. CountsFile (judged_file (Some b)) receipt.counts) (λ receipt b c w. w ≡ c) (λ receipt b c w p q. (p, q))
 
   -- the second pass, which may have been spared
-  later_of : (digest : Option (List ℕ)) {first : List ℕ} {holds : List ℕ → Type 0} (known : List ℕ → Type 0) → ((file : List ℕ) → IsDigestOf digest file → known file) → (spared : Bool) (old now : F) → f.has_passed old 0 [] → GaveOrNot f spared old now digest first holds
+  later_of : (digest : Option (List ℕ)) {first : List ℕ} {holds : List ℕ → Type 0} (known : List ℕ → Type 0) → ((file : List ℕ) → IsDigestOf digest file → known file) → (spared : Bool) (old now : F) → f.has_passed old 0 [] → GaveOrNot (fed f old now) spared digest first holds
       → (file : List ℕ) × GivesOrNot f known true first old now file × holds file
   later_of digest known is true old now begun g = (_, inr (refl, g.0, refl), g.1)
   later_of digest known is false old now begun g = (g.file, inl (gives_file f known is begun g), g.holding)
 
   -- three passes
-  three_ends : (area : AreaSpec) (one one_now two two_now three three_now : F) (h : Halt) → AreFresh f (one ∷ two ∷ three ∷ []) → EndsExtracting (fed f one one_now) (fed f two two_now) (fed f three three_now) (drained d out out_now) true area (Stopped InputReceipt h)
-      → StopsFor Pbfcut f judged_writable (one ∷ two ∷ three ∷ []) (one_now ∷ two_now ∷ three_now ∷ []) (d.has_taken out_now log []) (WriteFailed d out out_now) (stop_of h)
-  three_ends area one one_now two two_now three three_now (halt.Refused r) fresh ends = (gives_faulty f judged_writable r fresh.0.0 ends.refused.0, ends.refused.1.logged log [] start)
-  three_ends area one one_now two two_now three three_now (halt.Stopped (stop.Refused e)) fresh ends = absurd (ends.refused e refl)
-  three_ends area one one_now two two_now three three_now (halt.Stopped stop.Read) fresh ends = elim ends.stops [ inl a ↦ inl a | inr b ↦ elim b [ inl a ↦ inr (inl a) | inr a ↦ inr (inr (inl a)) ] ]
-  three_ends area one one_now two two_now three three_now (halt.Stopped stop.Write) fresh ends = ends.stops
-  three_ends area one one_now two two_now three three_now (halt.Stopped stop.Memory) fresh ends = tt
-  three_ends area one one_now two two_now three three_now (halt.Stopped (stop.Changed p)) fresh ends = elim ends.changed [
-    | inl c ↦ record { file = c.0.1.file; first = gives_some f fresh.0.0 c.0.1; at = 0; pass_is = c.0.0; other = gives_other f two two_now c.0.1.file fresh.1.0.0 c.0.1.holding; last = inr (c.1.logged log [] start) }
-    | inr c ↦ record { file = c.1.file; first = gives_some f fresh.0.0 c.1; at = 1; pass_is = c.0; other = gives_other f three three_now c.1.file fresh.1.1.0.0 c.1.holding; last = inl refl }
-  ]
-
   pub extract_works : (area : AreaSpec) (one one_now two two_now three three_now : F) (outcome : Result InputReceipt Halt) (result : Result Report Halted) → AreFresh f (one ∷ two ∷ three ∷ [])
-      → IfOk outcome (λ receipt. GaveFile f one one_now (Some receipt.input) (λ b. IsWritable b × GaveOrNot f receipt.spared two two_now (Some receipt.input) b (λ c. GaveFile f three three_now (Some receipt.input) (λ e. Took d out out_now (λ w. b ≡ c → b ≡ e → IsExtraction (complete_ways area) (select.extract (seen_decoded area)) area b receipt.counts w)))))
-      → EndsExtracting (fed f one one_now) (fed f two two_now) (fed f three three_now) (drained d out out_now) true area outcome → ReportsRaw outcome result
+      → Extracts (ways_in area) (fed f one one_now) (fed f two two_now) (fed f three three_now ∷ []) (drained d out out_now) true outcome → ReportsRaw outcome result
       → Works (manner Pbfcut false digests) f (extracting area) (one ∷ two ∷ three ∷ []) (one_now ∷ two_now ∷ three_now ∷ []) (d.has_taken out_now log) (WriteFailed d out out_now) result
-  extract_works area one one_now two two_now three three_now (Ok receipt) (Ok report) fresh given ends r =
+  extract_works area one one_now two two_now three three_now (Ok receipt) (Ok report) fresh extracts r =
       let known = Known (extracting area) receipt.input report.raw in let is = known_of (extracting area) receipt.input report.raw r.2 in
-      let again = later_of (Some receipt.input) known is receipt.spared two two_now fresh.1.0.0 given.holding.1 in let last = again.2 in let took = last.holding in
+      let again = later_of (Some receipt.input) known is receipt.spared two two_now fresh.1.0.0 extracts.receipt.holding.1 in let last = again.2 in let took = last.holding in
       rw (r.0, r.1) record {
-        files = given.file ∷ again.0 ∷ last.file ∷ [];
+        files = extracts.receipt.file ∷ again.0 ∷ last.file ∷ [];
         written = took.written;
-        gave = (gives_file f known is fresh.0.0 given, (again.1, (inl (gives_file f known is fresh.1.1.0.0 last), tt)));
+        gave = (gives_file f known is fresh.0.0 extracts.receipt, (again.1, (inl (gives_file f known is fresh.1.1.0.0 last), tt)));
         took_them = took.added.logged log [] start;
-        holds = (given.holding.0, took.holding);
+        holds = (extracts.receipt.holding.0, took.holding);
       }
-  extract_works area one one_now two two_now three three_now (Err h) (Err halted) fresh given ends r =
-      reported_ends f judged_writable (one ∷ two ∷ three ∷ []) (one_now ∷ two_now ∷ three_now ∷ []) (d.has_taken out_now log []) (WriteFailed d out out_now) h halted r (three_ends area one one_now two two_now three three_now h fresh ends)
-  extract_works area one one_now two two_now three three_now _ _ fresh given ends r = absurd r
+  extract_works area one one_now two two_now three three_now (Err h) (Err halted) fresh extracts r =
+      reported_ends f judged_writable (one ∷ two ∷ three ∷ []) (one_now ∷ two_now ∷ three_now ∷ []) (d.has_taken out_now log []) (WriteFailed d out out_now) h halted r (call_ends one one_now fresh.0.0 judged_writable ((two, two_now) ∷ (three, three_now) ∷ []) h fresh.1 extracts.ends)
+  extract_works area one one_now two two_now three three_now _ _ fresh extracts r = absurd r
 
   -- four passes
-  four_ends : (area : AreaSpec) (one one_now two two_now three three_now four four_now : F) (h : Halt) → AreFresh f (one ∷ two ∷ three ∷ four ∷ []) → EndsExtractingParents (fed f one one_now) (fed f two two_now) (fed f three three_now) (fed f four four_now) (drained d out out_now) true area (Stopped InputReceipt h)
-      → StopsFor Pbfcut f judged_writable (one ∷ two ∷ three ∷ four ∷ []) (one_now ∷ two_now ∷ three_now ∷ four_now ∷ []) (d.has_taken out_now log []) (WriteFailed d out out_now) (stop_of h)
-  four_ends area one one_now two two_now three three_now four four_now (halt.Refused r) fresh ends = (gives_faulty f judged_writable r fresh.0.0 ends.refused.0, ends.refused.1.logged log [] start)
-  four_ends area one one_now two two_now three three_now four four_now (halt.Stopped (stop.Refused e)) fresh ends = absurd (ends.refused e refl)
-  four_ends area one one_now two two_now three three_now four four_now (halt.Stopped stop.Read) fresh ends = elim ends.stops [
-    | inl x ↦ elim x [ inl a ↦ inl a | inr b ↦ elim b [ inl a ↦ inr (inl a) | inr a ↦ inr (inr (inl a)) ] ]
-    | inr a ↦ inr (inr (inr (inl a)))
-  ]
-  four_ends area one one_now two two_now three three_now four four_now (halt.Stopped stop.Write) fresh ends = ends.stops
-  four_ends area one one_now two two_now three three_now four four_now (halt.Stopped stop.Memory) fresh ends = tt
-  four_ends area one one_now two two_now three three_now four four_now (halt.Stopped (stop.Changed p)) fresh ends = elim ends.changed [
-    | inl x ↦ elim x.0 [
-      | inl c ↦ record { file = c.1.file; first = gives_some f fresh.0.0 c.1; at = 0; pass_is = c.0; other = gives_other f two two_now c.1.file fresh.1.0.0 c.1.holding; last = inr (x.1.logged log [] start) }
-      | inr c ↦ record { file = c.1.file; first = gives_some f fresh.0.0 c.1; at = 1; pass_is = c.0; other = gives_other f three three_now c.1.file fresh.1.1.0.0 c.1.holding; last = inr (x.1.logged log [] start) }
-    ]
-    | inr c ↦ record { file = c.1.file; first = gives_some f fresh.0.0 c.1; at = 2; pass_is = c.0; other = gives_other f four four_now c.1.file fresh.1.1.1.0.0 c.1.holding; last = inl refl }
-  ]
-
   pub extract_parents_works : (area : AreaSpec) (one one_now two two_now three three_now four four_now : F) (outcome : Result InputReceipt Halt) (result : Result Report Halted) → AreFresh f (one ∷ two ∷ three ∷ four ∷ [])
-      → IfOk outcome (λ receipt. GaveFile f one one_now (Some receipt.input) (λ b. IsWritable b × GaveOrNot f receipt.spared two two_now (Some receipt.input) b (λ c. GaveFile f three three_now (Some receipt.input) (λ e. GaveFile f four four_now (Some receipt.input) (λ g. Took d out out_now (λ w. b ≡ c → b ≡ e → b ≡ g → IsExtraction (all_parents area) (extract_with_parents (seen_decoded area)) area b receipt.counts w))))))
-      → EndsExtractingParents (fed f one one_now) (fed f two two_now) (fed f three three_now) (fed f four four_now) (drained d out out_now) true area outcome → ReportsRaw outcome result
+      → Extracts (parents_in area) (fed f one one_now) (fed f two two_now) (fed f three three_now ∷ fed f four four_now ∷ []) (drained d out out_now) true outcome → ReportsRaw outcome result
       → Works (manner Pbfcut false digests) f (extracting_parents area) (one ∷ two ∷ three ∷ four ∷ []) (one_now ∷ two_now ∷ three_now ∷ four_now ∷ []) (d.has_taken out_now log) (WriteFailed d out out_now) result
-  extract_parents_works area one one_now two two_now three three_now four four_now (Ok receipt) (Ok report) fresh given ends r =
+  extract_parents_works area one one_now two two_now three three_now four four_now (Ok receipt) (Ok report) fresh extracts r =
       let known = Known (extracting_parents area) receipt.input report.raw in let is = known_of (extracting_parents area) receipt.input report.raw r.2 in
-      let again = later_of (Some receipt.input) known is receipt.spared two two_now fresh.1.0.0 given.holding.1 in let third = again.2 in let last = third.holding in let took = last.holding in
+      let again = later_of (Some receipt.input) known is receipt.spared two two_now fresh.1.0.0 extracts.receipt.holding.1 in let third = again.2 in let last = third.holding in let took = last.holding in
       rw (r.0, r.1) record {
-        files = given.file ∷ again.0 ∷ third.file ∷ last.file ∷ [];
+        files = extracts.receipt.file ∷ again.0 ∷ third.file ∷ last.file ∷ [];
         written = took.written;
-        gave = (gives_file f known is fresh.0.0 given, (again.1, (inl (gives_file f known is fresh.1.1.0.0 third), (inl (gives_file f known is fresh.1.1.1.0.0 last), tt))));
+        gave = (gives_file f known is fresh.0.0 extracts.receipt, (again.1, (inl (gives_file f known is fresh.1.1.0.0 third), (inl (gives_file f known is fresh.1.1.1.0.0 last), tt))));
         took_them = took.added.logged log [] start;
-        holds = (given.holding.0, took.holding);
+        holds = (extracts.receipt.holding.0, took.holding);
       }
-  extract_parents_works area one one_now two two_now three three_now four four_now (Err h) (Err halted) fresh given ends r =
-      reported_ends f judged_writable (one ∷ two ∷ three ∷ four ∷ []) (one_now ∷ two_now ∷ three_now ∷ four_now ∷ []) (d.has_taken out_now log []) (WriteFailed d out out_now) h halted r (four_ends area one one_now two two_now three three_now four four_now h fresh ends)
-  extract_parents_works area one one_now two two_now three three_now four four_now _ _ fresh given ends r = absurd r
+  extract_parents_works area one one_now two two_now three three_now four four_now (Err h) (Err halted) fresh extracts r =
+      reported_ends f judged_writable (one ∷ two ∷ three ∷ four ∷ []) (one_now ∷ two_now ∷ three_now ∷ four_now ∷ []) (d.has_taken out_now log []) (WriteFailed d out out_now) h halted r (call_ends one one_now fresh.0.0 judged_writable ((two, two_now) ∷ (three, three_now) ∷ (four, four_now) ∷ []) h fresh.1 extracts.ends)
+  extract_parents_works area one one_now two two_now three three_now four four_now _ _ fresh extracts r = absurd r

@@ -5,13 +5,14 @@ use Rattle.pbf_frame.specs.declared.device.Feed as feed
 use Rattle.pbf_frame.specs.declared.device.Drain as drain
 use Rattle.pbf_frame.specs.declared.stop.Stop.{Stop}
 use Rattle.pbf_frame.specs.declared.stop.Stop.TheVariants as stop
-use Rattle.pbf_frame.specs.Devices.{HasRisen, IsAtEnd, IsFront}
+use Rattle.pbf_frame.specs.Devices.{IsAtEnd, IsFront}
 use Rattle.pbf_frame.specs.Verdict.{Verdict}
 use Rattle.pbf_pass.specs.Stops.{Caused, WriteFailed}
 use Rattle.pbf_published.specs.Published.{ChangedOf}
 use Rattle.pbf_unpack.specs.declared.drain.PackedDrain.{PackedDrain}
 use Rattle.pbf_unpack.specs.Packing.{GaveAll}
 use Rattle.pbf_wire.specs.declared.fault.Fault.{Fault}
+use Rattle.pbfcut.specs.Calls.{AllSupply, AnyFailed, FeedUse, fed}
 use Rattle.sha2.specs.Sha256.{sha256}
 use Rattle.pbfcut_cli.specs.declared.endings.Ending.{Ending}
 use Rattle.pbfcut_cli.specs.declared.endings.Ending.TheVariants as ending
@@ -22,7 +23,7 @@ use Rattle.pbfcut_program.specs.declared.engine.Halted.{Halted}
 use Rattle.pbfcut_program.specs.Events.{Event, read, wrote, then_one}
 use Rattle.pbfcut_program.specs.Fails.{EndsAsStop, FirstFault, UnlessPacked}
 use Rattle.pbfcut_program.specs.Manner.{AreDigests, Form, Manner, meant, of_input, of_output, output_form, packed_file}
-use Rattle.pbfcut_program.specs.Readings.{AllHave, IsFaulty, IsOther}
+use Rattle.pbfcut_program.specs.Readings.{IsFaulty, IsOther}
 use Rattle.pbfcut_program.specs.Tasks.{Task, Holds, answer_of, hashes_in, judge_of, spares}
 
 -- ---- devices of which nothing was read, and that took nothing
@@ -78,9 +79,10 @@ GiveAll f known may _ _ _ = ⊥
 
 -- ---- why a call stops
 
-abbrev pub AnyFailed : {F : Type 0} → feed.Ghosts F → (olds news : List F) → Type 0
-AnyFailed f (old ∷ olds) (now ∷ news) = HasRisen (f.failures old) (f.failures now) ⊎ AnyFailed f olds news
-AnyFailed f _ _ = ⊥
+-- feeds as a call finds them, and as it leaves them
+abbrev pub used : {F : Type 0} → feed.Ghosts F → (olds news : List F) → List FeedUse
+used f (old ∷ olds) (now ∷ news) = fed f old now ∷ used f olds news
+used f _ _ = []
 
 -- a feed gave faulty bytes
 pub record GivesFaulty {F : Type 0} (f : feed.Ghosts F) (judge : Option (List ℕ) → Option Verdict) (fault : Fault) (now : F) : Type 0 where
@@ -128,7 +130,7 @@ ChangesBy Pbfcut f nothing pass olds news = Change f nothing pass olds news
 ChangesBy Pbfcutz f nothing pass olds news = ChangedOf (map f.remaining olds) pass
 
 abbrev pub StopsFor : {F : Type 0} → Program → feed.Ghosts F → (Option (List ℕ) → Option Verdict) → (olds news : List F) → (nothing failed : Type 0) → Stop → Type 0
-StopsFor program f judge olds news nothing failed s = Caused (λ fault. RefusesBy program f judge fault olds news × nothing) (AnyFailed f olds news) failed (λ pass. ChangesBy program f nothing pass olds news) s
+StopsFor program f judge olds news nothing failed s = Caused (λ fault. RefusesBy program f judge fault olds news × nothing) (AnyFailed (used f olds news)) failed (λ pass. ChangesBy program f nothing pass olds news) s
 
 abbrev pub EndsFor : {F : Type 0} → Program → feed.Ghosts F → (Option (List ℕ) → Option Verdict) → (olds news : List F) → (nothing failed : Type 0) → Ending → Type 0
 EndsFor program f judge olds news nothing failed how = (s : Stop) × EndsAsStop program s how × StopsFor program f judge olds news nothing failed s
@@ -154,7 +156,7 @@ WorksOn m f d task olds news old new result = AreFresh f olds → (log : ℕ) �
 
 -- a call stopped: if its feeds had the same bytes, a prefix of what the task makes of the raw file that they mean went out
 abbrev pub Fronts : {A : Type 0} → Form → Task → (has : List (Option (List ℕ))) → (before after : Option (List ℕ)) → Result A Halted → Type 0
-Fronts form task has before after result = OnErr result ((bytes : List ℕ) → AllHave bytes has → IsFront before after (answer_of task (meant form bytes)))
+Fronts form task has before after result = OnErr result ((bytes : List ℕ) → AllSupply bytes has → IsFront before after (answer_of task (meant form bytes)))
 
 -- ---- drains between a call and OUT
 

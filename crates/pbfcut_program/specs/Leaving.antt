@@ -4,7 +4,8 @@ use Rattle.pbf_block.specs.declared.counts.Counts.{Counts}
 use Rattle.pbfcut_program.specs.Events.{Event, Reading, Writing, read, wrote}
 use Rattle.pbfcut_program.specs.Fails.{Each, Opens, UnlessPacked}
 use Rattle.pbfcut_program.specs.Manner.{Manner, of_input, output_form}
-use Rattle.pbfcut_program.specs.Readings.{AllHave, IsWork}
+use Rattle.pbfcut.specs.Calls.{AllSupply}
+use Rattle.pbfcut_program.specs.Readings.{IsWork}
 use Rattle.pbfcut_program.specs.Tasks.{Task, answer_of}
 
 -- OUT took a prefix of the answer, if it reports what it took
@@ -27,7 +28,7 @@ pub record IsWorked (m : Manner) (task : Task) (events : List Event) : Type 0 wh
 -- OUT took a prefix of the answer, if IN has the same bytes for each pass, and raw blobs are written; or all of it
 abbrev pub Leaves : Manner → Task → (has : List (Option (List ℕ))) → List Event → Type 0
 Leaves m task has events =
-    UnlessPacked (output_form m.packs m.program) ((bytes : List ℕ) → AllHave bytes has → Each (TookFront (answer_of task (of_input m bytes))) events) ⊎ IsWorked m task events
+    UnlessPacked (output_form m.packs m.program) ((bytes : List ℕ) → AllSupply bytes has → Each (TookFront (answer_of task (of_input m bytes))) events) ⊎ IsWorked m task events
 
 -- IN has this for the passes, and by that the command leaves such an OUT
 pub record LeavesFor (m : Manner) (task : Task) (events : List Event) : Type 0 where

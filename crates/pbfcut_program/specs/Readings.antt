@@ -42,8 +42,3 @@ IsFaulty judge fault bytes left = ((rest : List ℕ) → FaultOf (judge (Some (b
 -- this isn't the file: the file doesn't begin so; or this is all of IN, and another list
 abbrev pub IsOther : (file bytes : List ℕ) → (left : Option (List ℕ)) → Type 0
 IsOther file bytes left = ((rest : List ℕ) → file ≡ bytes ++ rest → ⊥) ⊎ (IsAtEnd left × (file ≡ bytes → ⊥))
-
--- IN has the same bytes for each of these passes, and the host reports them
-abbrev pub AllHave : List ℕ → (has : List (Option (List ℕ))) → Type 0
-AllHave bytes [] = Unit {0}
-AllHave bytes (first ∷ later) = (first ≡ Some bytes) × AllHave bytes later

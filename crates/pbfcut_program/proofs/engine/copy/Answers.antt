@@ -1,5 +1,6 @@
+use Rattle.std.proofs.Common.{[], ◌∷◌}
 use Rattle.pbfcut_program.specs.Tasks.{copying}
-use Rattle.pbfcut_program.proofs.FrontLemmas.{two_published, two_raw}
+use Rattle.pbfcut_program.proofs.FrontLemmas.{published_front, raw_front}
 use Rattle.pbfcut_program.proofs.PublishedCalls.{copy_published}
 use Rattle.pbfcut_program.proofs.RawCalls.{copy_works}
 use Rattle.pbfcut_program.proofs.engine.copy.Goals as goal
@@ -19,7 +20,7 @@ returns-in-Pbfcutz-clause-works g c =
     copy_published g.F.Feed g.D.Drain c.args.drain.now c.copy_with_receipt-in-Pbfcutz.new.drain c.args.engine.digests log start c.args.passes.now.one c.copy_with_receipt-in-Pbfcutz.new.first c.args.passes.now.two c.copy_with_receipt-in-Pbfcutz.new.second c.copy_with_receipt-in-Pbfcutz.result c.published.result fresh (rw c.packed_passes-how.ensures at receipt) c.copy_with_receipt-in-Pbfcutz.ensures.stops c.published.ensures)
 
 pub returns-in-Pbfcut-clause-front : goal.returns-in-Pbfcut-clause-front
-returns-in-Pbfcut-clause-front g c = rw c.in-Pbfcut.is (two_raw copying (g.F.Feed.remaining c.args.passes.now.one) (g.F.Feed.remaining c.args.passes.now.two) (g.F.Feed.remaining c.args.passes.now.one) (g.F.Feed.remaining c.args.passes.now.one) _ _ c.reported.result c.copy_with_receipt.result c.reported.ensures c.copy_with_receipt.ensures.beginning)
+returns-in-Pbfcut-clause-front g c = rw c.in-Pbfcut.is (raw_front copying (g.F.Feed.remaining c.args.passes.now.one ∷ g.F.Feed.remaining c.args.passes.now.two ∷ []) _ _ c.reported.result c.copy_with_receipt.result c.reported.ensures c.copy_with_receipt.ensures.beginning)
 
 pub returns-in-Pbfcutz-clause-front : goal.returns-in-Pbfcutz-clause-front
-returns-in-Pbfcutz-clause-front g c = rw c.in-Pbfcutz.is (two_published copying (g.F.Feed.remaining c.args.passes.now.one) (g.F.Feed.remaining c.args.passes.now.two) (g.F.Feed.remaining c.args.passes.now.one) (g.F.Feed.remaining c.args.passes.now.one) _ _ c.published.result c.copy_with_receipt-in-Pbfcutz.result c.published.ensures _ _ _ c.copy_with_receipt-in-Pbfcutz.ensures.beginning c.copy_with_receipt-in-Pbfcutz.ensures.stops)
+returns-in-Pbfcutz-clause-front g c = rw c.in-Pbfcutz.is (published_front copying (g.F.Feed.remaining c.args.passes.now.one ∷ g.F.Feed.remaining c.args.passes.now.two ∷ []) _ _ c.published.result c.copy_with_receipt-in-Pbfcutz.result c.published.ensures _ _ _ c.copy_with_receipt-in-Pbfcutz.ensures.beginning c.copy_with_receipt-in-Pbfcutz.ensures.stops)

@@ -1,5 +1,6 @@
+use Rattle.std.proofs.Common.{[], ◌∷◌}
 use Rattle.pbfcut_program.specs.Tasks.{extracting_parents}
-use Rattle.pbfcut_program.proofs.FrontLemmas.{four_published, four_raw}
+use Rattle.pbfcut_program.proofs.FrontLemmas.{published_front, raw_front}
 use Rattle.pbfcut_program.proofs.PublishedCalls.{extract_parents_published}
 use Rattle.pbfcut_program.proofs.RawCalls.{extract_parents_works}
 use Rattle.pbfcut_program.proofs.engine.extract_parents.Goals as goal
@@ -7,19 +8,18 @@ use Rattle.pbfcut_program.proofs.engine.extract_parents.Goals as goal
 pub returns-in-Pbfcut-clause-works : goal.returns-in-Pbfcut-clause-works
 returns-in-Pbfcut-clause-works g c =
     let h = c.raw_passes-how.ensures in
-    let receipt = c.extract_parents_sorted_with_receipt.ensures.receipt in
-    let ends = c.extract_parents_sorted_with_receipt.ensures.ends in
+    let extracts = c.extract_parents_sorted_with_receipt.ensures in
     rw c.in-Pbfcut.is (λ fresh log start.
-    extract_parents_works g.F.Feed g.D.Drain c.args.drain.now c.extract_parents_sorted_with_receipt.new.drain c.args.engine.digests log start (g.A.Area.area c.args.area) c.args.passes.now.one c.extract_parents_sorted_with_receipt.new.first c.args.passes.now.two c.extract_parents_sorted_with_receipt.new.second c.args.passes.now.three c.extract_parents_sorted_with_receipt.new.third c.args.passes.now.four c.extract_parents_sorted_with_receipt.new.fourth c.extract_parents_sorted_with_receipt.result c.reported.result fresh (rw h at receipt) (rw h at ends) c.reported.ensures)
+    extract_parents_works g.F.Feed g.D.Drain c.args.drain.now c.extract_parents_sorted_with_receipt.new.drain c.args.engine.digests log start (g.A.Area.area c.args.area) c.args.passes.now.one c.extract_parents_sorted_with_receipt.new.first c.args.passes.now.two c.extract_parents_sorted_with_receipt.new.second c.args.passes.now.three c.extract_parents_sorted_with_receipt.new.third c.args.passes.now.four c.extract_parents_sorted_with_receipt.new.fourth c.extract_parents_sorted_with_receipt.result c.reported.result fresh (rw h at extracts) c.reported.ensures)
 
 pub returns-in-Pbfcutz-clause-works : goal.returns-in-Pbfcutz-clause-works
 returns-in-Pbfcutz-clause-works g c =
-    let receipt = c.extract_parents_sorted_with_receipt-in-Pbfcutz.ensures.receipt in
+    let extracts = c.extract_parents_sorted_with_receipt-in-Pbfcutz.ensures in
     rw c.in-Pbfcutz.is (λ fresh log start.
-    extract_parents_published g.F.Feed g.D.Drain c.args.drain.now c.extract_parents_sorted_with_receipt-in-Pbfcutz.new.drain c.args.engine.digests log start (g.A.Area.area c.args.area) c.args.passes.now.one c.extract_parents_sorted_with_receipt-in-Pbfcutz.new.first c.args.passes.now.two c.extract_parents_sorted_with_receipt-in-Pbfcutz.new.second c.args.passes.now.three c.extract_parents_sorted_with_receipt-in-Pbfcutz.new.third c.args.passes.now.four c.extract_parents_sorted_with_receipt-in-Pbfcutz.new.fourth c.extract_parents_sorted_with_receipt-in-Pbfcutz.result c.published.result fresh (rw c.packed_passes-how.ensures at receipt) c.extract_parents_sorted_with_receipt-in-Pbfcutz.ensures.stops c.published.ensures)
+    extract_parents_published g.F.Feed g.D.Drain c.args.drain.now c.extract_parents_sorted_with_receipt-in-Pbfcutz.new.drain c.args.engine.digests log start (g.A.Area.area c.args.area) c.args.passes.now.one c.extract_parents_sorted_with_receipt-in-Pbfcutz.new.first c.args.passes.now.two c.extract_parents_sorted_with_receipt-in-Pbfcutz.new.second c.args.passes.now.three c.extract_parents_sorted_with_receipt-in-Pbfcutz.new.third c.args.passes.now.four c.extract_parents_sorted_with_receipt-in-Pbfcutz.new.fourth c.extract_parents_sorted_with_receipt-in-Pbfcutz.result c.published.result fresh (rw c.packed_passes-how.ensures at extracts) c.published.ensures)
 
 pub returns-in-Pbfcut-clause-front : goal.returns-in-Pbfcut-clause-front
-returns-in-Pbfcut-clause-front g c = rw c.in-Pbfcut.is (four_raw (extracting_parents (g.A.Area.area c.args.area)) (g.F.Feed.remaining c.args.passes.now.one) (g.F.Feed.remaining c.args.passes.now.two) (g.F.Feed.remaining c.args.passes.now.three) (g.F.Feed.remaining c.args.passes.now.four) _ _ c.reported.result c.extract_parents_sorted_with_receipt.result c.reported.ensures c.extract_parents_sorted_with_receipt.ensures.ends.beginning)
+returns-in-Pbfcut-clause-front g c = rw c.in-Pbfcut.is (raw_front (extracting_parents (g.A.Area.area c.args.area)) (g.F.Feed.remaining c.args.passes.now.one ∷ g.F.Feed.remaining c.args.passes.now.two ∷ g.F.Feed.remaining c.args.passes.now.three ∷ g.F.Feed.remaining c.args.passes.now.four ∷ []) _ _ c.reported.result c.extract_parents_sorted_with_receipt.result c.reported.ensures c.extract_parents_sorted_with_receipt.ensures.beginning)
 
 pub returns-in-Pbfcutz-clause-front : goal.returns-in-Pbfcutz-clause-front
-returns-in-Pbfcutz-clause-front g c = rw c.in-Pbfcutz.is (four_published (extracting_parents (g.A.Area.area c.args.area)) (g.F.Feed.remaining c.args.passes.now.one) (g.F.Feed.remaining c.args.passes.now.two) (g.F.Feed.remaining c.args.passes.now.three) (g.F.Feed.remaining c.args.passes.now.four) _ _ c.published.result c.extract_parents_sorted_with_receipt-in-Pbfcutz.result c.published.ensures _ _ _ c.extract_parents_sorted_with_receipt-in-Pbfcutz.ensures.beginning c.extract_parents_sorted_with_receipt-in-Pbfcutz.ensures.stops)
+returns-in-Pbfcutz-clause-front g c = rw c.in-Pbfcutz.is (published_front (extracting_parents (g.A.Area.area c.args.area)) (g.F.Feed.remaining c.args.passes.now.one ∷ g.F.Feed.remaining c.args.passes.now.two ∷ g.F.Feed.remaining c.args.passes.now.three ∷ g.F.Feed.remaining c.args.passes.now.four ∷ []) _ _ c.published.result c.extract_parents_sorted_with_receipt-in-Pbfcutz.result c.published.ensures _ _ _ c.extract_parents_sorted_with_receipt-in-Pbfcutz.ensures.beginning c.extract_parents_sorted_with_receipt-in-Pbfcutz.ensures.stops)
