@@ -141,7 +141,7 @@ fn chosen_after(
     alloc: Global,
     ways: &[WayRow<'_>],
 ) -> Result<Chosen, AllocError> {
-    let in_order = phase.is_in_order();
+    let in_order = phase.has_all_ways();
     let mut phase = phase.end()?;
     if !in_order {
         for row in ways {
@@ -159,14 +159,11 @@ fn chosen_first(
     ways: &[WayRow<'_>],
     late: &[NodeRow],
 ) -> Result<(bool, Chosen), AllocError> {
-    let mut first = InArea {
-        area: AREA,
-        phase: FirstPhase::new(alloc),
-    };
+    let mut first = InArea::<BoundingBox, FirstPhase>::new(alloc, AREA);
     take_first_nodes(&mut first, alloc, nodes)?;
     take_first_ways(&mut first, alloc, ways)?;
     take_first_nodes(&mut first, alloc, late)?;
-    let in_order = first.phase.is_in_order();
+    let in_order = first.phase.has_all_ways();
     Ok((in_order, chosen_after(first.phase, alloc, ways)?))
 }
 
