@@ -23,9 +23,6 @@ pub record RunPut (start : List (List ℕ)) (all : List TagSpec) (before : List 
   pub runs_are : (used : List (List ℕ)) → runs ++ tag_numbers (texts_after texts (tag_texts left ++ used)) left ≡ before ++ tag_numbers (texts_after texts (tag_texts left ++ used)) all
   pub room : length texts + length (tag_texts left) ≤ 1048575
 
-pub none_put : (start : List (List ℕ)) (all : List TagSpec) (before : List ℕ) → length start + length (tag_texts all) ≤ 1048575 → RunPut start all before start before all
-none_put start all before room = record { texts_are = refl; runs_are = λ used. refl; room = room }
-
 pub run_step : (start : List (List ℕ)) (all : List TagSpec) (before : List ℕ) (texts one two : List (List ℕ)) (runs runs1 runs2 : List ℕ) (tag : TagSpec) (was left : List TagSpec) (key value : ℕ)
     → RunPut start all before texts runs was → was ≡ tag ∷ left → one ≡ with_text texts tag.0 → key ≡ index_in one tag.0 → runs1 ≡ runs ++ key ∷ [] → two ≡ with_text one tag.1 → value ≡ index_in two tag.1 → runs2 ≡ runs1 ++ value ∷ []
     → RunPut start all before two runs2 left

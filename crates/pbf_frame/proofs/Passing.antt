@@ -1,5 +1,5 @@
 -- The bytes that passed, put together; and the frame that was read part by part.
-use Rattle.std.proofs.Common.{◌≡◌, ℕ, ◌+◌, ◌<◌, Bool, List, [], ◌++◌, Option, Some, None, Ok, length, refl}
+use Rattle.std.proofs.Common.{◌≡◌, ℕ, ◌+◌, ◌<◌, Bool, List, [], ◌++◌, Some, None, Ok, length, refl}
 use Rattle.byteorder.specs.Endian.{big_number}
 use Rattle.pbf_wire.specs.Least.{least}
 use Rattle.pbf_frame.specs.declared.frame.FrameKind.{FrameKind}
@@ -8,17 +8,11 @@ use Rattle.pbf_frame.specs.declared.header.Head.{Head}
 use Rattle.pbf_frame.specs.declared.header.TheConstants.{HEADER_LIMIT}
 use Rattle.pbf_frame.specs.declared.frame.TheConstants.{FILE_LIMIT}
 use Rattle.pbf_frame.specs.Frames.{FrameSpec, order_faults}
-use Rattle.pbf_frame.specs.Reads.{Holds, Skips}
+use Rattle.pbf_frame.specs.Reads.{Holds}
 use Rattle.pbf_frame.specs.Sound.{IsFrame, IsSoundBlob}
 use Rattle.pbf_frame.specs.Steps.{head_of}
 use Rattle.pbf_frame.proofs.Parting.{FrameParts}
 use Rattle.pbf_frame.proofs.Longest.{frame_at}
-use Rattle.pbf_frame.proofs.Passed.{passes_none}
-
--- nothing is skipped
-pub skips_none : (now : ℕ → List ℕ → Type 0) (known : Option (List ℕ)) → Skips now now known known 0
-skips_none now None = record { skipped = []; long = refl; gone = refl; passed = passes_none now }
-skips_none now (Some rest) = record { skipped = []; long = refl; gone = refl; passed = passes_none now }
 
 sound_held : (k : FrameKind) (at : ℕ) (blob held : List ℕ) → Holds k at blob held → IsSoundBlob k at blob
 sound_held kind.Header at blob held holds = holds.1

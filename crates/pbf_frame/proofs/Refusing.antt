@@ -1,11 +1,11 @@
 -- What was read if bytes are refused, put together.
-use Rattle.std.proofs.Common.{◌≡◌, ◌⊎◌, inl, inr, ℕ, ◌+◌, ◌<◌, ◌≤◌, ◌==◌, nat_lt, nat_le, Bool, true, false, List, [], ◌++◌, length, Option, Some, None, Result, Ok, Err, refl, sym, ap, ◌∙◌, subst, append_assoc, length-append, arith}
+use Rattle.std.proofs.Common.{◌≡◌, ◌⊎◌, inl, inr, ℕ, ◌+◌, ◌<◌, ◌≤◌, ◌==◌, nat_lt, nat_le, Bool, true, false, List, ◌++◌, length, Option, Some, None, Result, Ok, Err, refl, sym, ap, ◌∙◌, subst, append_assoc, length-append, arith}
 use Rattle.std.specs.Prelude.{IfSome}
 use Rattle.std.proofs.lemmas.Bool.Decides.{nat_tests}
 use Rattle.std.proofs.lemmas.List.{append-nil, take_at, take_all}
 use Rattle.byteorder.specs.Endian.{big_number}
 use Rattle.pbf_wire.specs.declared.fault.Fault.{Fault}
-use Rattle.pbf_wire.specs.declared.fault.Reason.TheVariants.{PrefixCut, HeaderLong, HeaderCut, BlobCut, NoHeader}
+use Rattle.pbf_wire.specs.declared.fault.Reason.TheVariants.{PrefixCut, HeaderLong, HeaderCut, BlobCut}
 use Rattle.pbf_wire.specs.Faults.{fault}
 use Rattle.pbf_wire.specs.Least.{least}
 use Rattle.pbf_frame.specs.declared.frame.FrameKind.{FrameKind}
@@ -64,7 +64,6 @@ refused_told at_fault before now old new bytes refuses is = told new refuses.fau
 
 -- ---- of the bytes before a header
 
-pub prefix_missing : (p : ℕ) → prefix_at false p [] ≡ Err (fault p NoHeader)
 unfolding prefix_at
 prefix_missing p = refl
 

@@ -61,10 +61,6 @@ beside area step of (e ∷ es) = beside area step (with_seen_in area step of e) 
 abbrev pub with_place : {A S : Type 0} → (A → AreaSpec) → (S → Seen → S) → InArea A S → Place → InArea A S
 with_place area step of p = stepped step of (a_node p.id ((area of.area).has p.lat p.lon))
 
-pub places_gathered : {A S : Type 0} (area : A → AreaSpec) (step : S → Seen → S) (of : InArea A S) (ns : List NodeSpec) → fold (with_place area step) of (map node_place ns) ≡ fold (with_seen_in area step) of (map node ns)
-places_gathered area step of [] = refl
-places_gathered area step of (n ∷ ns) = places_gathered area step (with_seen_in area step of (node n)) ns
-
 nothing_more : (p : Place) (ps : List Place) → ◌≡◌ {A = List Place} [] (p ∷ ps) → ⊥
 nothing_more p ps e = search rules
 

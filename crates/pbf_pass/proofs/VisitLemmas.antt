@@ -1,5 +1,5 @@
 -- Frames that are visited one after another.
-use Rattle.std.proofs.Common.{◌≡◌, ◌⊎◌, inl, inr, ℕ, ◌≤◌, arith, List, [], ◌∷◌, ◌++◌, Option, Some, Err, refl, sym, ap, subst, append_assoc}
+use Rattle.std.proofs.Common.{◌≡◌, ◌⊎◌, inl, inr, ℕ, ◌≤◌, arith, List, [], ◌∷◌, ◌++◌, Option, Some, Err, refl, sym, subst, append_assoc}
 use Rattle.std.proofs.lemmas.List.{append-nil}
 use Rattle.pbf_frame.specs.declared.device.Feed as feed
 use Rattle.pbf_frame.specs.declared.reader.FrameReader.{FrameReader}
@@ -23,11 +23,6 @@ pub visited_to : {V : Type 0} (took : Takes V) (done : List FrameSpec → V → 
 visited_to took done step [] gone before now so_far visited = subst (λ l. done l now) (sym (append-nil gone)) (subst (λ v. done gone v) (sym visited) so_far)
 visited_to took done step (f ∷ fs) gone before now so_far visited =
     subst (λ l. done l now) (append_assoc gone (f ∷ []) fs) (visited_to took done step fs (gone ++ f ∷ []) visited.0 now (step gone f before visited.0 so_far visited.1) visited.2)
-
--- what no frame lets fall
-pub visited_rises : {V : Type 0} (took : Takes V) (m : V → ℕ) → ((old new : V) (f : FrameSpec) → took old f new → m old ≤ m new) → (fs : List FrameSpec) (before now : V) → Visited took before fs now → m before ≤ m now
-visited_rises took m rises [] before now visited = omega (arith, ap m visited)
-visited_rises took m rises (f ∷ fs) before now visited = omega (arith, rises before visited.0 f visited.1, visited_rises took m rises fs visited.0 now visited.2)
 
 -- a loop of steps stops, of which some are done
 pub stops_visit : {F V : Type 0} (g : feed.Ghosts F) (old new : FrameReader F) (took : Takes V) (failed : Fails V) (first : Option Verdict) (frames : List FrameSpec) (count : ℕ) (before mid now : V) (stop : Stop) → VerdictAfter first frames (verdict g.remaining old) → count ≤ g.failures old.feed
