@@ -126,8 +126,7 @@ way_pass seen = fold way_step (start_ways (node_pass seen)) seen
 abbrev pub relation_pass : List Seen → RelationSets
 relation_pass seen = fold relation_step (start_relations (way_pass seen)) seen
 
--- a first phase, which takes nodes and maybe ways: if it has all ways, it ends with the sets of the pass over ways, and otherwise with those of the pass over
--- nodes alone; relations change nothing
+-- a first phase, which takes nodes and maybe ways: if it has all ways, it ends as the second pass does, and otherwise as the first; relations change nothing
 pub record TakesFirst {S : Type 0} (start : S) (step : S → Seen → S) (has_ways : S → Bool) (ended : S → WaySets) : Type 0 where
   pub all : (seen : List Seen) → has_ways (fold step start seen) ≡ true → ended (fold step start seen) ≡ way_pass seen
   pub nodes : (seen : List Seen) → has_ways (fold step start seen) ≡ false → ended (fold step start seen) ≡ start_ways (node_pass seen)

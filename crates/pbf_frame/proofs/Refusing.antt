@@ -64,9 +64,6 @@ refused_told at_fault before now old new bytes refuses is = told new refuses.fau
 
 -- ---- of the bytes before a header
 
-unfolding prefix_at
-prefix_missing p = refl
-
 pub prefix_short : (h : Bool) (p : ℕ) (bytes : List ℕ) → 0 < length bytes → length bytes < 4 → prefix_at h p bytes ≡ Err (fault p PrefixCut)
 unfolding prefix_at
 prefix_short h p bytes some short =
