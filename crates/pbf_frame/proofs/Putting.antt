@@ -1,7 +1,6 @@
 -- What is put into the room is the frame in written form.
-use Rattle.std.proofs.Common.{◌≡◌, ℕ, ◌+◌, ◌*◌, List, [], ◌∷◌, ◌++◌, length, Some, refl, sym, ap, ◌∙◌, append_assoc, length-append, arith}
-use Rattle.std.proofs.lemmas.List.{append-nil, take_min, take-append-le}
-use Rattle.std.proofs.Math.Seq.{take-append-add}
+use Rattle.std.proofs.Common.{◌≡◌, ℕ, ◌+◌, ◌*◌, List, [], ◌∷◌, ◌++◌, length, Some, refl, sym, ap, ◌∙◌, append_assoc, length-append}
+use Rattle.std.proofs.lemmas.List.{append-nil}
 use Rattle.byteorder.specs.Endian.{big_bytes}
 use Rattle.pbf_wire.specs.Message.{Scalar, Each, message, slot_bytes}
 use Rattle.pbf_wire.specs.Varint.{shortest}
@@ -9,9 +8,7 @@ use Rattle.pbf_wire.proofs.WritingLemmas.{message_first, message_none, bytes_put
 use Rattle.pbf_frame.specs.declared.blob.TheConstants.{RAW}
 use Rattle.pbf_frame.specs.declared.frame.FrameKind.{FrameKind}
 use Rattle.pbf_frame.specs.declared.header.TheConstants.{TYPE, DATASIZE}
-use Rattle.pbf_frame.specs.Devices.{append, IsFront}
 use Rattle.pbf_frame.specs.Writing.{written_name, written_header, written_blob, written_frame}
-use Rattle.pbf_frame.proofs.KnownBytes.{append_append}
 
 pub header_put : (k : FrameKind) (size : ℕ) (name e1 e2 e3 e4 e5 : List ℕ) → name ≡ written_name k → e1 ≡ [] ++ shortest (TYPE * 8 + 2) → e2 ≡ e1 ++ shortest (length name) → e3 ≡ e2 ++ name → e4 ≡ e3 ++ shortest (DATASIZE * 8) → e5 ≡ e4 ++ shortest size → e5 ≡ written_header k size
 unfolding written_header
