@@ -1,5 +1,5 @@
--- The greatest id of a set, and the ids that came out of order.
-use Rattle.std.proofs.Common.{◌≡◌, ◌<◌, true, false, ◌||◌, List, [], ◌∷◌, length, ℤ, ◌<ℤ◌, ◌≤ℤ◌, refl, sym, ap, subst, ◌∙◌, arith, true≢false}
+-- The ids that came out of order.
+use Rattle.std.proofs.Common.{◌≡◌, true, false, ◌||◌, List, [], ◌∷◌, length, ℤ, ◌<ℤ◌, refl, sym, ap, subst, ◌∙◌, arith}
 use Rattle.std.specs.List.{list_any}
 use Rattle.std.specs.Ordering.{int_eq, int_cmp}
 use Rattle.std.specs.Cmp.{int_cmp_total}
@@ -9,46 +9,13 @@ use Rattle.std.proofs.lemmas.Bool.{false_from_ne_true, or_from, or_right}
 use Rattle.std.proofs.lemmas.Bool.Decides.{Decides-int_eq}
 use Rattle.std.proofs.lemmas.Int.{ints}
 use Rattle.std.proofs.Math.Bool.{or_assoc, or-false}
-use Rattle.osm_ids.specs.Order.{IsAbove, IsGreatest, IsReached, AreLate}
+use Rattle.osm_ids.specs.Order.{IsAbove, IsReached, AreLate}
 use Rattle.osm_ids.proofs.Sets.{Ids, ids_of, contains-ids_of, any-insert_key, or_swap}
-use Rattle.osm_ids.proofs.Rising.{other, len-rising, rising_list}
-
--- ---- the greatest id
-
-empty_has : (x : ℤ) → set.contains (set.empty {R = int_cmp}) x ≡ true → ⊥
-empty_has x e = true≢false (sym e ∙ set.contains-empty int_cmp x)
-
-pub none_greatest : (last : ℤ) → IsGreatest set.empty last
-none_greatest last = record { most = λ x e. absurd (empty_has x e); there = λ x e. absurd (empty_has x e) }
-
-pub insert_greatest : (ids : Ids) (id : ℤ) → IsAbove ids id → IsGreatest (set.insert ids id) id
-insert_greatest ids id up =
-    record {
-      most = λ x e.
-          elim (int_eq x id) as (λ b. int_eq x id ≡ b → (b || set.contains ids x) ≡ true → x ≤ℤ id) [
-            | true ↦ λ is _. let same : x ≡ id = (Decides-int_eq x id).0 is in omega (arith, ints)
-            | false ↦ λ _ old. let below = up x old in omega (arith, ints)
-          ] refl (sym (set.contains-insert int_cmp_total ids id x) ∙ e);
-      there = λ _ _. set.contains-insert int_cmp_total ids id id ∙ ap (λ b. b || set.contains ids id) ((Decides-int_eq id id).1 refl);
-    }
-
--- no id at all
-pub none_above_it : (ids : Ids) (id : ℤ) → set.len ids ≡ 0 → IsAbove ids id
-none_above_it ids id none x e = absurd (empty_has x (ap (λ (s : Ids). set.contains s x) (sym (set.empty_of_len ids none)) ∙ e))
-
-one_of : (ids : List ℤ) → 0 < length ids → (x : ℤ) × (list_any (int_eq x) ids ≡ true)
-one_of [] some = absurd (omega arith)
-one_of (x ∷ ids) some = (x, ap (λ b. b || list_any (int_eq x) ids) ((Decides-int_eq x x).1 refl))
-
-pub greatest_reaches : (ids : Ids) (last id : ℤ) → IsGreatest ids last → 0 < set.len ids → id ≤ℤ last → IsReached ids id
-greatest_reaches ids last id g some low =
-    let all = rising_list ids in
-    let one = one_of all.0 (subst (λ n. 0 < n) (ap (λ (s : Ids). set.len s) (sym all.2) ∙ len-rising all.0 all.1) some) in
-    (last, g.there one.0 (ap (λ (s : Ids). set.contains s one.0) (sym all.2) ∙ contains-ids_of all.0 one.0 ∙ one.1), low)
+use Rattle.osm_ids.proofs.Rising.{other}
 
 -- ---- the ids that came out of order
 
-above_apart : (ids : Ids) (id : ℤ) → IsAbove ids id → set.contains ids id ≡ false
+pub above_apart : (ids : Ids) (id : ℤ) → IsAbove ids id → set.contains ids id ≡ false
 above_apart ids id up = false_from_ne_true (set.contains ids id) (λ e. let below = up id e in omega (arith, ints))
 
 -- an id below the greatest is not above all

@@ -10,10 +10,9 @@ use Rattle.std.proofs.lemmas.Bool.{false_from_ne_true, or_right}
 use Rattle.std.proofs.lemmas.Bool.Decides.{Decides-int_eq}
 use Rattle.std.proofs.lemmas.Int.{ints}
 use Rattle.std.proofs.lemmas.Map.Keys.{sorted_head, sorted_tail}
-use Rattle.std.proofs.lemmas.List.Folds.{list_any-append}
-use Rattle.std.proofs.Math.Bool.{or-false}
 use Rattle.osm_ids.proofs.Sets.{Ids, ids_of, contains-ids_of, ids_of-insert_key}
-use Rattle.osm_ids.specs.Pages.{Rises, IsRising, last_of, in_order, rising}
+use Rattle.osm_ids.specs.Pages.{Rises, IsRising, in_order, rising}
+use Rattle.pbf_wire.specs.Packed.{last_from}
 
 pub other : (a b : ℤ) → (a ≡ b → ⊥) → int_eq a b ≡ false
 other a b ne = false_from_ne_true (int_eq a b) (λ e. ne ((Decides-int_eq a b).0 e))
@@ -32,25 +31,9 @@ pub rises_front : (low : ℤ) (xs ys : List ℤ) → Rises low (xs ++ ys) → Ri
 rises_front low [] ys h = tt
 rises_front low (x ∷ xs) ys h = (h.0, rises_front x xs ys h.1)
 
-pub rises_below : (low : ℤ) (xs : List ℤ) (y : ℤ) (ys : List ℤ) → Rises low (xs ++ y ∷ ys) → low <ℤ y
-rises_below low [] y ys h = h.0
-rises_below low (x ∷ xs) y ys h = let next = rises_below x xs y ys h.1 in let first = h.0 in omega (arith, ints)
-
-pub rises_back : (low : ℤ) (xs : List ℤ) (y : ℤ) (ys : List ℤ) → Rises low (xs ++ y ∷ ys) → Rises y ys
-rises_back low [] y ys h = h.1
-rises_back low (x ∷ xs) y ys h = rises_back x xs y ys h.1
-
-pub rising_back : (xs : List ℤ) (y : ℤ) (ys : List ℤ) → IsRising (xs ++ y ∷ ys) → Rises y ys
-rising_back [] y ys h = h
-rising_back (x ∷ xs) y ys h = rises_back x xs y ys h
-
--- no id at or above y comes before y
-pub none_below : (xs : List ℤ) (y : ℤ) (ys : List ℤ) (id : ℤ) → IsRising (xs ++ y ∷ ys) → y ≤ℤ id → list_any (int_eq id) xs ≡ false
-none_below [] y ys id h le = refl
-none_below (x ∷ xs) y ys id h le =
-    let below = rises_below x xs y ys h in
-    let apart : x <ℤ id = omega (arith, ints) in
-    rw (other_below id x apart) (none_below xs y ys id (rising_tail x (xs ++ y ∷ ys) h) le)
+pub rises_after : (low : ℤ) (xs ys : List ℤ) → Rises low (xs ++ ys) → IsRising ys
+rises_after low [] ys h = rising_tail low ys h
+rises_after low (x ∷ xs) ys h = rises_after x xs ys h.1
 
 -- no id at or below low comes after low
 pub none_above : (low : ℤ) (ids : List ℤ) (id : ℤ) → Rises low ids → id ≤ℤ low → list_any (int_eq id) ids ≡ false
@@ -81,45 +64,11 @@ pub rises_from : (low x : ℤ) (ids : List ℤ) → low <ℤ x → Rises x ids �
 rises_from low x [] h r = tt
 rises_from low x (id ∷ ids) h r = let up = r.0 in (omega (arith, ints), r.1)
 
-pub rises_skip : (low : ℤ) (xs ys : List ℤ) → Rises low (xs ++ ys) → Rises low ys
-rises_skip low [] ys h = h
-rises_skip low (x ∷ xs) ys h = rises_from low x ys h.0 (rises_skip x xs ys h.1)
-
 -- ---- the last of rising ids
 
-pub low_last : (low : ℤ) (ids : List ℤ) → Rises low ids → low ≤ℤ last_of low ids
-low_last low [] h = omega (arith, ints)
-low_last low (id ∷ ids) h = let next = low_last id ids h.1 in let first = h.0 in omega (arith, ints)
-
-pub all_last : (low : ℤ) (ids : List ℤ) (x : ℤ) → Rises low ids → list_any (int_eq x) (low ∷ ids) ≡ true → x ≤ℤ last_of low ids
-all_last low [] x h e = let same : x ≡ low = (Decides-int_eq x low).0 (sym (or-false (int_eq x low)) ∙ e) in omega (arith, ints)
-all_last low (id ∷ ids) x h e =
-    let later = λ (among : list_any (int_eq x) (id ∷ ids) ≡ true). all_last id ids x h.1 among in
-    elim (int_eq x low) as (λ b. int_eq x low ≡ b → (b || list_any (int_eq x) (id ∷ ids)) ≡ true → x ≤ℤ last_of id ids) [
-      | true ↦ λ is _. let same : x ≡ low = (Decides-int_eq x low).0 is in let up = low_last id ids h.1 in let first = h.0 in omega (arith, ints)
-      | false ↦ λ _ among. later among
-    ] refl e
-
-pub last_among : (low : ℤ) (ids : List ℤ) → list_any (int_eq (last_of low ids)) (low ∷ ids) ≡ true
+pub last_among : (low : ℤ) (ids : List ℤ) → list_any (int_eq (last_from low ids)) (low ∷ ids) ≡ true
 last_among low [] = rw (Decides-int_eq low low).1 refl
-last_among low (id ∷ ids) = or_right (int_eq (last_of id ids) low) (list_any (int_eq (last_of id ids)) (id ∷ ids)) (last_among id ids)
-
--- ---- where an id can be
-
--- one of the parts has it, if the others do not
-pub any_in_middle : (xs ys zs : List ℤ) (id : ℤ) → list_any (int_eq id) xs ≡ false → list_any (int_eq id) zs ≡ false → list_any (int_eq id) (xs ++ (ys ++ zs)) ≡ list_any (int_eq id) ys
-any_in_middle xs ys zs id before after =
-    list_any-append (int_eq id) xs (ys ++ zs) ∙ rw before (list_any-append (int_eq id) ys zs ∙ rw after (or-false (list_any (int_eq id) ys)))
-
--- and an id of a part is one of all
-pub any_in_last : (xs ys zs : List ℤ) (id : ℤ) → list_any (int_eq id) zs ≡ true → list_any (int_eq id) (xs ++ (ys ++ zs)) ≡ true
-any_in_last xs ys zs id there =
-    list_any-append (int_eq id) xs (ys ++ zs)
-    ∙ or_right (list_any (int_eq id) xs) (list_any (int_eq id) (ys ++ zs)) (list_any-append (int_eq id) ys zs ∙ or_right (list_any (int_eq id) ys) (list_any (int_eq id) zs) there)
-
-pub any_of_middle : (xs ys zs : List ℤ) (id : ℤ) → list_any (int_eq id) ys ≡ true → list_any (int_eq id) (xs ++ (ys ++ zs)) ≡ true
-any_of_middle xs ys zs id there =
-    list_any-append (int_eq id) xs (ys ++ zs) ∙ rw (list_any-append (int_eq id) ys zs, there) (or_right (list_any (int_eq id) xs) true refl)
+last_among low (id ∷ ids) = or_right (int_eq (last_from id ids) low) (list_any (int_eq (last_from id ids)) (id ∷ ids)) (last_among id ids)
 
 -- ---- a set has one rising list
 

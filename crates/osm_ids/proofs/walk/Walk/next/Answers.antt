@@ -5,7 +5,7 @@ use Rattle.std.proofs.lemmas.List.{length-take}
 use Rattle.osm_ids.specs.declared.walk.Walk.TheInside.{Inside}
 use Rattle.osm_ids.specs.Pages.{rising}
 use Rattle.osm_ids.specs.Windows.{held}
-use Rattle.osm_ids.proofs.Walking.{walk_end, next_page, some_next, step}
+use Rattle.osm_ids.proofs.Walking.{len_is, walk_end, next_page, some_next, step}
 use Rattle.osm_ids.proofs.walk.Walk.next.Goals as goal
 use Rattle.osm_ids.proofs.walk.Walk.next.Goals.{then-self+else-self-pages, else-self}
 
@@ -21,7 +21,7 @@ ready c =
       | then-self+else-self-pages w ↦
           let ids = c.self.inside.ids.now in
           let n = c.self.inside.page in
-          let page = w.read.ensures.ids in
+          let page = w.read.ensures.held_is in
           subst (IsReady c.args.self.now) (sym w.self-inside-is) (record {
             same = sym c.self.view_is ∙ next_page ids c.self.inside.here w.read.new.ids c.self.inside.at n (omega (arith, w.if-self.true)) page;
             more = some_next ids w.read.new.ids n (omega (arith, w.pages.ensures, w.if-self-pages.false)) page;
@@ -36,6 +36,9 @@ ready c =
             few = c.self.invariant.1;
           })
     ]
+
+pub read-requires : goal.read-requires
+read-requires c = omega (arith, len_is c.self.inside.ids.now, c.pages.ensures, c.if-self-pages.false)
 
 pub returns-then-self-pages : goal.returns-then-self-pages
 returns-then-self-pages c =

@@ -1,0 +1,423 @@
+-- Rising ids in pages: how they grow, and that they are read again.
+use Rattle.std.proofs.Common.{◌≡◌, true, false, int_le, ℕ, zero, suc, ◌+◌, ◌-◌, ◌*◌, ◌%◌, ◌^◌, ◌<◌, ◌≤◌, List, [], ◌∷◌, ◌++◌, length, take, drop, get_or, ℤ, pos, ◌+ℤ◌, ◌<ℤ◌, ◌≤ℤ◌, FitsSigned, w64, inl, inr, refl, sym, ap, subst, ◌∙◌, arith, length-append, append_assoc, take-append-drop}
+use Rattle.std.specs.Int.{div_ceil}
+use Rattle.std.specs.List.{AllByRecursion, list_any}
+use Rattle.std.specs.List.Sorted.{IsPartitionedBy, IsPartitionPoint}
+use Rattle.std.specs.Ordering.{int_eq}
+use Rattle.std.specs.Cmp.{int_cmp_total}
+use Rattle.std.specs.FinSet as set
+use Rattle.std.proofs.lemmas.Bool.{cases_lt}
+use Rattle.std.proofs.lemmas.Int.{ints}
+use Rattle.std.proofs.lemmas.Grind.{flat_map-append}
+use Rattle.std.proofs.lemmas.List.{append-nil, drop-drop, drop_more, length-take, length-take-le, take_all, take-append-le, take_more}
+use Rattle.std.proofs.Math.Seq.{drop-nil, drop-append_seam, take-append_seam}
+use Rattle.pbf_wire.specs.Varint.{shortest}
+use Rattle.pbf_wire.specs.Columns.{packed}
+use Rattle.pbf_wire.specs.Packed.{last_from, numbers_of}
+use Rattle.pbf_wire.proofs.AllLemmas.{all_left, all_right, all_push, all_take, all_drop}
+use Rattle.pbf_wire.proofs.FaultLemmas.{numbers_within}
+use Rattle.pbf_wire.proofs.PackedLemmas.{column_read, packed_push}
+use Rattle.osm_ids.specs.declared.index.PageStart.{PageStart}
+use Rattle.osm_ids.specs.Index.{ArePassed, HasPage, first_of, page_at, set_in}
+use Rattle.osm_ids.specs.Order.{IsAbove, IsReached}
+use Rattle.osm_ids.specs.Pages.{gap, gaps, Page, page_ids, page_bytes, pages_past, pages_of, ids_of_pages, bytes_of_pages, starts_from, HasFullPages, Rises, IsRising, AllFit, raised, ids_in, IsSealed, rising}
+use Rattle.osm_ids.proofs.Sets.{Ids, ids_of, contains-ids_of}
+use Rattle.osm_ids.proofs.Places.{at_most, last_most, last_there, some_of, le_true, le_false, true_le}
+use Rattle.osm_ids.proofs.Rising.{rises_front, rises_after, len-rising, rising_of_set, rising_rises, ids_of-rising, last_among}
+
+-- ---- the pages of a list
+
+-- ids that are skipped begin no page
+past_all : (ids : List ℤ) (skip : ℕ) → length ids ≤ skip → pages_past skip ids ≡ []
+unfolding pages_past
+past_all [] skip le = refl
+past_all (id ∷ ids) zero le = absurd (omega arith)
+past_all (id ∷ ids) (suc skip) le = past_all ids skip (omega arith)
+
+-- the first page
+first_page : (id : ℤ) (ids : List ℤ) → pages_of (id ∷ ids) ≡ record { first = id; others = take 127 ids } ∷ pages_past 127 ids
+unfolding pages_past
+first_page id ids = refl
+
+-- if it is full
+full_page : (id : ℤ) (ids rest : List ℤ) → 127 ≤ length ids → pages_of (id ∷ (ids ++ rest)) ≡ record { first = id; others = take 127 ids } ∷ pages_past 127 (ids ++ rest)
+full_page id ids rest full = first_page id (ids ++ rest) ∙ ap (λ (front : List ℤ). record { first = id; others = front } ∷ pages_past 127 (ids ++ rest)) (take-append-le 127 ids rest full)
+
+-- and if it is the last
+last_page : (id : ℤ) (ids : List ℤ) → length ids ≤ 127 → pages_of (id ∷ ids) ≡ record { first = id; others = ids } ∷ []
+last_page id ids few =
+    first_page id ids
+    ∙ ap (λ (front : List ℤ). record { first = id; others = front } ∷ pages_past 127 ids) (take_all 127 ids few)
+    ∙ ap (λ (pages : List Page). record { first = id; others = ids } ∷ pages) (past_all ids 127 few)
+
+-- joined, they are the list
+ids-past : (skip : ℕ) (ids : List ℤ) → ids_of_pages (pages_past skip ids) ≡ drop skip ids
+unfolding pages_past
+ids-past skip [] = sym (drop-nil skip)
+ids-past (suc skip) (id ∷ ids) = ids-past skip ids
+ids-past zero (id ∷ ids) = ap (λ (rest : List ℤ). id ∷ (take 127 ids ++ rest)) (ids-past 127 ids) ∙ ap (λ (rest : List ℤ). id ∷ rest) (take-append-drop 127 ids)
+
+pub ids-pages_of : (ids : List ℤ) → ids_of_pages (pages_of ids) ≡ ids
+ids-pages_of ids = ids-past 0 ids
+
+filled_cons : (page : Page) (pages : List Page) → length page.others ≡ 127 → HasFullPages pages → HasFullPages (page ∷ pages)
+filled_cons page [] full h = omega arith
+filled_cons page (next ∷ pages) full h = (full, h)
+
+filled_past : (skip : ℕ) (ids : List ℤ) → HasFullPages (pages_past skip ids)
+unfolding pages_past
+filled_past skip [] = tt
+filled_past (suc skip) (id ∷ ids) = filled_past skip ids
+filled_past zero (id ∷ ids) =
+    let page : Page = record { first = id; others = take 127 ids } in
+    elim (cases_lt 127 (length ids)) [
+      | inl more ↦ filled_cons page (pages_past 127 ids) (length-take-le 127 ids (omega arith)) (filled_past 127 ids)
+      | inr few ↦ subst (λ (pages : List Page). HasFullPages (page ∷ pages)) (sym (past_all ids 127 few)) (omega (arith, length-take 127 ids))
+    ]
+
+pub filled_pages_of : (ids : List ℤ) → HasFullPages (pages_of ids)
+filled_pages_of ids = filled_past 0 ids
+
+past_front : (ids rest : List ℤ) → pages_past (length ids) (ids ++ rest) ≡ pages_of rest
+unfolding pages_past
+past_front [] rest = refl
+past_front (id ∷ ids) rest = past_front ids rest
+
+-- filled pages are the pages of their ids
+pub pages_of-ids : (pages : List Page) → HasFullPages pages → pages_of (ids_of_pages pages) ≡ pages
+unfolding pages_past
+pages_of-ids [] h = refl
+pages_of-ids (page ∷ []) h = ap pages_of (append-nil (page_ids page)) ∙ last_page page.first page.others h
+pages_of-ids (page ∷ next ∷ pages) h =
+    let rest = ids_of_pages (next ∷ pages) in
+    full_page page.first page.others rest (omega (arith, h.0))
+    ∙ ap (λ (front : List ℤ). record { first = page.first; others = front } ∷ pages_past 127 (page.others ++ rest)) (take_all 127 page.others (omega (arith, h.0)))
+    ∙ ap (λ (n : ℕ). page ∷ pages_past n (page.others ++ rest)) (sym h.0)
+    ∙ ap (λ (all : List Page). page ∷ all) (past_front page.others rest ∙ pages_of-ids (next ∷ pages) h.1)
+
+-- ---- by their places
+
+-- a page by its number
+past_at : (ids : List ℤ) (skip n k : ℕ) (d : Page) → n ≡ skip + 128 * k → n < length ids → get_or (pages_past skip ids) k d ≡ page_at ids n
+unfolding pages_past
+past_at [] skip n k d e lt = absurd (omega arith)
+past_at (id ∷ ids) (suc skip) zero k d e lt = absurd (omega (arith, e))
+past_at (id ∷ ids) (suc skip) (suc n) k d e lt = past_at ids skip n k d (omega (arith, e)) (omega arith)
+past_at (id ∷ ids) zero zero zero d e lt = refl
+past_at (id ∷ ids) zero (suc n) zero d e lt = absurd (omega (arith, e))
+past_at (id ∷ ids) zero zero (suc k) d e lt = absurd (omega (arith, e))
+past_at (id ∷ ids) zero (suc n) (suc k) d e lt = past_at ids 127 n k d (omega (arith, e)) (omega arith)
+
+past_count : (skip : ℕ) (ids : List ℤ) → length (pages_past skip ids) ≡ div_ceil (length ids - skip) 128
+unfolding pages_past
+past_count skip [] = omega arith
+past_count (suc skip) (id ∷ ids) = omega (arith, past_count skip ids)
+past_count zero (id ∷ ids) = omega (arith, past_count 127 ids)
+
+start_at : (at : ℕ) (pages : List Page) (k : ℕ) (d : PageStart) (e : Page) → k < length pages → get_or (starts_from at pages) k d ≡ record { first = (get_or pages k e).first; place = at + length (bytes_of_pages (take k pages)) }
+start_at at [] k d e lt = absurd (omega arith)
+start_at at (page ∷ pages) zero d e lt = ap (λ n. record { first = page.first; place = n }) (omega arith)
+start_at at (page ∷ pages) (suc k) d e lt =
+    start_at (at + length (page_bytes page)) pages k d e (omega arith)
+    ∙ ap (λ n. record { first = (get_or pages k e).first; place = n }) (omega (arith, length-append (page_bytes page) (bytes_of_pages (take k pages))))
+
+starts_count : (at : ℕ) (pages : List Page) → length (starts_from at pages) ≡ length pages
+starts_count at [] = refl
+starts_count at (page ∷ pages) = ap suc (starts_count (at + length (page_bytes page)) pages)
+
+-- ---- reading
+
+-- the gaps of the page's bytes lead to its ids
+abbrev pub IsReadable : Page → Type 0
+IsReadable page = raised page.first (numbers_of (page_bytes page)) ≡ page.others
+
+gaps_fit : (low : ℤ) (ids : List ℤ) → FitsSigned w64 low → AllFit ids → Rises low ids → AllByRecursion (λ n. n < 2 ^ 64) (gaps low ids)
+gaps_fit low [] f fits rises = tt
+gaps_fit low (id ∷ ids) f fits rises = (omega (arith, ints, f, fits.0, rises.0), gaps_fit id ids fits.0 fits.1 rises.1)
+
+raised-gaps : (low : ℤ) (ids : List ℤ) → Rises low ids → raised low (gaps low ids) ≡ ids
+raised-gaps low [] rises = refl
+raised-gaps low (id ∷ ids) rises =
+    let up : low +ℤ pos (gap low id) ≡ id = omega (arith, ints, rises.0) in
+    rw up (ap (λ (rest : List ℤ). id ∷ rest) (raised-gaps id ids rises.1))
+
+readable : (pages : List Page) → IsRising (ids_of_pages pages) → AllFit (ids_of_pages pages) → AllByRecursion IsReadable pages
+readable [] rising fits = tt
+readable (page ∷ pages) rising fits =
+    let rises = rises_front page.first page.others (ids_of_pages pages) rising in
+    let fit = all_left (FitsSigned w64) (page_ids page) (ids_of_pages pages) fits in (
+      ap (raised page.first) (column_read (gaps page.first page.others) (gaps_fit page.first page.others fit.0 fit.1 rises)) ∙ raised-gaps page.first page.others rises,
+      readable pages (rises_after page.first page.others (ids_of_pages pages) rising) (all_right (FitsSigned w64) (page_ids page) (ids_of_pages pages) fits),
+    )
+
+ids_in-starts : (at : ℕ) (pages : List Page) (bytes : List ℕ) → drop at bytes ≡ bytes_of_pages pages → AllByRecursion IsReadable pages → ids_in (starts_from at pages) bytes ≡ ids_of_pages pages
+ids_in-starts at [] bytes e read = refl
+ids_in-starts at (page ∷ []) bytes e read =
+    ap (λ s. page.first ∷ raised page.first (numbers_of s)) (e ∙ append-nil (page_bytes page)) ∙ ap (λ s. page.first ∷ s) (read.0 ∙ sym (append-nil page.others))
+ids_in-starts at (page ∷ next ∷ pages) bytes e read =
+    let rest = bytes_of_pages (next ∷ pages) in
+    let size = length (page_bytes page) in
+    let after : drop (at + size) bytes ≡ rest = sym (drop-drop size at bytes) ∙ ap (drop size) e ∙ drop-append_seam (page_bytes page) rest in
+    let here : take ((at + size) - at) (drop at bytes) ≡ page_bytes page = ap (λ k. take k (drop at bytes)) (omega arith) ∙ ap (take size) e ∙ take-append_seam (page_bytes page) rest in
+    ap (λ s. page.first ∷ (raised page.first (numbers_of s) ++ ids_in (starts_from (at + size) (next ∷ pages)) bytes)) here
+    ∙ ap (λ s. page.first ∷ (s ++ ids_in (starts_from (at + size) (next ∷ pages)) bytes)) read.0
+    ∙ ap (λ s. page.first ∷ (page.others ++ s)) (ids_in-starts (at + size) (next ∷ pages) bytes after read.1)
+
+all_get : {X : Type 0} (P : X → Type 0) (xs : List X) (i : ℕ) (d : X) → AllByRecursion P xs → i < length xs → P (get_or xs i d)
+all_get P [] i d h lt = absurd (omega arith)
+all_get P (x ∷ xs) zero d h lt = h.0
+all_get P (x ∷ xs) (suc i) d h lt = all_get P xs i d h.1 (omega arith)
+
+-- each id takes a byte or begins a page
+pub length-raised : (low : ℤ) (ns : List ℕ) → length (raised low ns) ≡ length ns
+length-raised low [] = refl
+length-raised low (n ∷ ns) = ap suc (length-raised (low +ℤ pos n) ns)
+
+sized : (pages : List Page) → AllByRecursion IsReadable pages → length (ids_of_pages pages) ≤ length pages + length (bytes_of_pages pages)
+sized [] read = omega arith
+sized (page ∷ pages) read =
+    omega (arith, numbers_within 0 (page_bytes page), length-raised page.first (numbers_of (page_bytes page)), ap length read.0, sized pages read.1, length-append page.others (ids_of_pages pages), length-append (page_bytes page) (bytes_of_pages pages))
+
+-- ---- one more id
+
+-- it begins a page if all are full
+abbrev lone : ℤ → List Page
+lone id = record { first = id; others = [] } ∷ []
+
+past_new : (ids : List ℤ) (skip : ℕ) (id : ℤ) → skip ≤ length ids → (length ids - skip) % 128 ≡ 0 → pages_past skip (ids ++ id ∷ []) ≡ pages_past skip ids ++ lone id
+unfolding pages_past
+past_new [] zero id le full = refl
+past_new [] (suc skip) id le full = absurd (omega (arith, le))
+past_new (x ∷ ids) (suc skip) id le full = past_new ids skip id (omega (arith, le)) (omega (arith, full))
+past_new (x ∷ ids) zero id le full =
+    let page : Page = record { first = x; others = take 127 ids } in
+    full_page x ids (id ∷ []) (omega (arith, full))
+    ∙ ap (λ (pages : List Page). page ∷ pages) (past_new ids 127 id (omega (arith, full)) (omega (arith, full)))
+
+starts-new : (at : ℕ) (pages : List Page) (id : ℤ) → starts_from at (pages ++ lone id) ≡ starts_from at pages ++ record { first = id; place = at + length (bytes_of_pages pages) } ∷ []
+starts-new at [] id = ap (λ k. record { first = id; place = k } ∷ []) (omega arith)
+starts-new at (page ∷ pages) id =
+    ap (λ s. record { first = page.first; place = at } ∷ s)
+    (starts-new (at + length (page_bytes page)) pages id
+    ∙ ap (λ k. starts_from (at + length (page_bytes page)) pages ++ record { first = id; place = k } ∷ []) (omega (arith, length-append (page_bytes page) (bytes_of_pages pages))))
+
+-- and otherwise the last page has one more
+gaps-push : (low : ℤ) (ids : List ℤ) (id : ℤ) → gaps low (ids ++ id ∷ []) ≡ gaps low ids ++ gap (last_from low ids) id ∷ []
+gaps-push low [] id = refl
+gaps-push low (x ∷ ids) id = ap (λ (s : List ℕ). gap low x ∷ s) (gaps-push x ids id)
+
+record IsLonger (pages more : List Page) (last id : ℤ) : Type 0 where
+  starts : (at : ℕ) → starts_from at more ≡ starts_from at pages
+  spelled : bytes_of_pages more ≡ bytes_of_pages pages ++ shortest (gap last id)
+
+longer_last : (x : ℤ) (ids : List ℤ) (id : ℤ) → IsLonger (record { first = x; others = ids } ∷ []) (record { first = x; others = ids ++ id ∷ [] } ∷ []) (last_from x ids) id
+longer_last x ids id = record {
+  starts = λ at. refl;
+  spelled = append-nil (packed (gaps x (ids ++ id ∷ [])))
+      ∙ ap packed (gaps-push x ids id)
+      ∙ sym (packed_push (gaps x ids) (gap (last_from x ids) id))
+      ∙ ap (λ (s : List ℕ). s ++ shortest (gap (last_from x ids) id)) (sym (append-nil (packed (gaps x ids))));
+}
+
+longer_cons : (page : Page) (pages more : List Page) (last id : ℤ) → IsLonger pages more last id → IsLonger (page ∷ pages) (page ∷ more) last id
+longer_cons page pages more last id h = record {
+  starts = λ at. ap (λ s. record { first = page.first; place = at } ∷ s) (h.starts (at + length (page_bytes page)));
+  spelled = ap (λ s. page_bytes page ++ s) h.spelled ∙ sym (append_assoc (page_bytes page) (bytes_of_pages pages) _);
+}
+
+past_more : (ids : List ℤ) (skip : ℕ) (low id : ℤ) → 0 < (length ids - skip) % 128 → IsLonger (pages_past skip ids) (pages_past skip (ids ++ id ∷ [])) (last_from low ids) id
+unfolding pages_past
+past_more [] skip low id some = absurd (omega (arith, some))
+past_more (x ∷ ids) (suc skip) low id some = past_more ids skip x id (omega (arith, some))
+past_more (x ∷ ids) zero low id some =
+    let page : Page = record { first = x; others = take 127 ids } in
+    elim (cases_lt (length ids) 127) [
+      | inl few ↦
+          let long = last_page x (ids ++ id ∷ []) (omega (arith, few, length-append ids (id ∷ []))) in
+          subst (λ (pages : List Page). IsLonger pages (pages_of (x ∷ (ids ++ id ∷ []))) (last_from x ids) id) (sym (last_page x ids (omega (arith, few))))
+          (subst (λ (more : List Page). IsLonger (record { first = x; others = ids } ∷ []) more (last_from x ids) id) (sym long) (longer_last x ids id))
+      | inr many ↦
+          subst (λ (more : List Page). IsLonger (page ∷ pages_past 127 ids) more (last_from x ids) id) (sym (full_page x ids (id ∷ []) many))
+          (longer_cons page (pages_past 127 ids) (pages_past 127 (ids ++ id ∷ [])) (last_from x ids) id (past_more ids 127 x id (omega (arith, some, many))))
+    ]
+
+rises_push : (low : ℤ) (ids : List ℤ) (id : ℤ) → Rises low ids → last_from low ids <ℤ id → Rises low (ids ++ id ∷ [])
+rises_push low [] id h up = (up, tt)
+rises_push low (x ∷ ids) id h up = (h.0, rises_push x ids id h.1 up)
+
+rising_push : (ids : List ℤ) (id : ℤ) → IsRising ids → IsAbove (ids_of ids) id → IsRising (ids ++ id ∷ [])
+rising_push [] id h above = tt
+rising_push (x ∷ ids) id h above = rises_push x ids id h (above (last_from x ids) (contains-ids_of (x ∷ ids) (last_from x ids) ∙ last_among x ids))
+
+-- ---- an index and bytes
+
+module _ (index : List PageStart) (bytes : List ℕ) (ids : List ℤ) (s : IsSealed index bytes ids) where
+  abbrev pub pages : List Page
+  pages = pages_of ids
+
+  all_readable : AllByRecursion IsReadable pages
+  all_readable = readable pages (subst IsRising (sym (ids-pages_of ids)) s.rising) (subst AllFit (sym (ids-pages_of ids)) s.fits)
+
+  -- what is sealed is read again
+  pub sealed_ids : ids_in index bytes ≡ ids
+  sealed_ids = ap (λ i. ids_in i bytes) s.starts ∙ ids_in-starts 0 pages bytes s.spelled all_readable ∙ ids-pages_of ids
+
+  sealed_rising : (all : Ids) → set_in index bytes ≡ all → rising all ≡ ids
+  sealed_rising all e = rising_of_set (rising all) ids (rising_rises all) s.rising (ids_of-rising all ∙ sym e ∙ ap ids_of sealed_ids)
+
+  pub sealed_now : (all : Ids) → set_in index bytes ≡ all → IsSealed index bytes (rising all)
+  sealed_now all e = subst (IsSealed index bytes) (sym (sealed_rising all e)) s
+
+  pub sealed_len : (all : Ids) → set_in index bytes ≡ all → length ids ≡ set.len all
+  sealed_len all e = sym (len-rising ids s.rising) ∙ ap (λ (l : List ℤ). set.len (ids_of l)) (sym sealed_ids) ∙ ap (λ (t : Ids). set.len t) e
+
+  pub page_count : length index ≡ div_ceil (length ids) 128
+  page_count = omega (arith, ap length s.starts, starts_count 0 pages, past_count 0 ids)
+
+  pub few_ids : length ids ≤ length index + length bytes
+  few_ids = omega (arith, sized pages all_readable, ap length (ids-pages_of ids), ap length s.starts, starts_count 0 pages, ap length s.spelled)
+
+  -- an id above the last is above all
+  pub above_last : (last id : ℤ) → (0 < length ids → last ≡ last_from (pos 0) ids) → (0 < length ids → last <ℤ id) → IsAbove (set_in index bytes) id
+  above_last last id ends up x there =
+      let among = ap (list_any (int_eq x)) (sym sealed_ids) ∙ sym (contains-ids_of (ids_in index bytes) x) ∙ there in
+      let most = last_most ids x s.rising among in
+      let some = some_of ids x among in
+      let same = ends some in
+      let high = up some in
+      omega (arith, ints, most, same, high)
+
+  pub reached_last : (last id : ℤ) → (0 < length ids → last ≡ last_from (pos 0) ids) → 0 < length ids → id ≤ℤ last → IsReached (set_in index bytes) id
+  reached_last last id ends some low =
+      let same = ends some in (
+        last_from (pos 0) ids,
+        ap (λ (l : List ℤ). set.contains (ids_of l) (last_from (pos 0) ids)) sealed_ids ∙ contains-ids_of ids (last_from (pos 0) ids) ∙ last_there ids some,
+        omega (arith, ints, same, low),
+      )
+
+  -- a page by its number
+  module _ (n : ℕ) (lt : HasPage ids n) where
+    pub begun : n < length index
+    begun = omega (arith, page_count, lt)
+
+    within : n < length pages
+    within = omega (arith, past_count 0 ids, lt)
+
+    page_is : get_or pages n (page_at ids 0) ≡ page_at ids (128 * n)
+    page_is = past_at ids 0 (128 * n) n (page_at ids 0) (omega arith) lt
+
+    pub start_is : (d : PageStart) → get_or index n d ≡ record { first = first_of ids n; place = length (bytes_of_pages (take n pages)) }
+    start_is d =
+        ap (λ i. get_or i n d) s.starts
+        ∙ start_at 0 pages n d (page_at ids 0) within
+        ∙ ap (λ (p : Page). record { first = p.first; place = 0 + length (bytes_of_pages (take n pages)) }) page_is
+        ∙ ap (λ k. record { first = first_of ids n; place = k }) (omega arith)
+
+    cut : bytes ≡ bytes_of_pages (take n pages) ++ (page_bytes (page_at ids (128 * n)) ++ bytes_of_pages (drop (n + 1) pages))
+    cut =
+        s.spelled
+        ∙ ap bytes_of_pages (sym (take-append-drop n pages) ∙ ap (λ (rest : List Page). take n pages ++ rest) (drop_more pages n (page_at ids 0) within ∙ ap (λ (p : Page). p ∷ drop (n + 1) pages) page_is))
+        ∙ flat_map-append page_bytes (take n pages) (page_at ids (128 * n) ∷ drop (n + 1) pages)
+
+    -- where its bytes end
+    pub end_is : (end : ℕ) → (n + 1 < length index → (d : PageStart) × (end ≡ (get_or index (n + 1) d).place)) → (length index ≤ n + 1 → end ≡ length bytes) → end ≡ length (bytes_of_pages (take n pages)) + length (page_bytes (page_at ids (128 * n)))
+    end_is end next last =
+        let more : bytes_of_pages (take (n + 1) pages) ≡ bytes_of_pages (take n pages) ++ (page_bytes (page_at ids (128 * n)) ++ []) =
+        ap bytes_of_pages (take_more pages n (page_at ids 0) within ∙ ap (λ (p : Page). take n pages ++ p ∷ []) page_is) ∙ flat_map-append page_bytes (take n pages) (page_at ids (128 * n) ∷ []) in
+        let size = length-append (bytes_of_pages (take n pages)) (page_bytes (page_at ids (128 * n)) ++ []) in
+        let here = ap length (append-nil (page_bytes (page_at ids (128 * n)))) in
+        elim (cases_lt (n + 1) (length index)) [
+          | inl lt' ↦
+              let d = (next lt').0 in
+              let place = (next lt').1 ∙ ap (λ (i : List PageStart). (get_or i (n + 1) d).place) s.starts ∙ ap (λ (p : PageStart). p.place) (start_at 0 pages (n + 1) d (page_at ids 0) (omega (arith, lt', ap length s.starts, starts_count 0 pages))) in
+              omega (arith, place, ap length more, size, here)
+          | inr ge ↦
+              let all = ap bytes_of_pages (take_all (n + 1) pages (omega (arith, ge, ap length s.starts, starts_count 0 pages))) in
+              omega (arith, last ge, ap length s.spelled, ap length all, ap length more, size, here)
+        ]
+
+    pub cut_is : (place end : ℕ) → place ≡ length (bytes_of_pages (take n pages)) → end ≡ length (bytes_of_pages (take n pages)) + length (page_bytes (page_at ids (128 * n))) → (place ≤ end) × (end ≤ length bytes) × (take (end - place) (drop place bytes) ≡ page_bytes (page_at ids (128 * n)))
+    cut_is place end begins e =
+        let front = bytes_of_pages (take n pages) in
+        let this = page_bytes (page_at ids (128 * n)) in
+        let back = bytes_of_pages (drop (n + 1) pages) in
+        let size : end - place ≡ length this = omega (arith, begins, e) in (
+          omega (arith, begins, e),
+          omega (arith, e, ap length cut, length-append front (this ++ back), length-append this back),
+          ap (λ k. take k (drop place bytes)) size
+              ∙ ap (λ k. take (length this) (drop k bytes)) begins
+              ∙ ap (λ b. take (length this) (drop (length front) b)) cut
+              ∙ ap (take (length this)) (drop-append_seam front (this ++ back))
+              ∙ take-append_seam this back,
+        )
+
+    -- its bytes lead to its ids
+    pub page_read : (first : ℤ) (seen : List ℕ) (held : List ℤ) → first ≡ first_of ids n → seen ≡ page_bytes (page_at ids (128 * n)) → (AllFit (raised first (numbers_of seen)) → length (numbers_of seen) ≤ 127 → held ≡ first ∷ raised first (numbers_of seen)) → held ≡ take 128 (drop (128 * n) ids)
+    page_read first seen held e f is =
+        let others = (page_at ids (128 * n)).others in
+        let read = ap (raised first) (ap numbers_of f) ∙ ap (λ z. raised z (numbers_of (page_bytes (page_at ids (128 * n))))) e ∙ subst IsReadable page_is (all_get IsReadable pages n (page_at ids 0) all_readable within) in
+        let fit : AllFit others = all_take (FitsSigned w64) 127 (drop (suc (128 * n)) ids) (all_drop (FitsSigned w64) (suc (128 * n)) ids s.fits) in
+        let few : length (numbers_of seen) ≤ 127 = omega (arith, ap length read, length-raised first (numbers_of seen), length-take 127 (drop (suc (128 * n)) ids)) in
+        let same : suc (128 * n) ≡ 128 * n + 1 = omega arith in
+        is (subst AllFit (sym read) fit) few
+        ∙ ap (λ (l : List ℤ). first ∷ l) read
+        ∙ ap (λ z. z ∷ others) e
+        ∙ ap (λ k. first_of ids n ∷ take 127 (drop k ids)) same
+        ∙ sym (ap (take 128) (drop_more ids (128 * n) (pos 0) lt))
+
+  -- the first ids of pages rise, so a search by halves finds where they pass an id
+  first_is : (i : ℕ) (d : PageStart) → i < length index → (get_or index i d).first ≡ first_of ids i
+  first_is i d lt = ap (λ (a : PageStart). a.first) (start_is i (omega (arith, page_count, lt)) d)
+
+  pub parted_index : (id : ℤ) → IsPartitionedBy (λ (a : PageStart). int_le a.first id) index
+  parted_index id i j d le lt there =
+      let up = at_most ids (128 * i) (128 * j) (pos 0) s.rising (omega (arith, le)) (omega (arith, page_count, lt)) in
+      let low = le_true _ id there in
+      let here = first_is i d (omega (arith, le, lt)) in
+      let last = first_is j d lt in
+      true_le _ id (omega (arith, ints, up, low, here, last))
+
+  pub passed_at : (id : ℤ) (n : ℕ) → n ≤ length index → IsPartitionPoint (λ (a : PageStart). int_le a.first id ≡ true) (λ (a : PageStart). int_le a.first id ≡ false) index n → ArePassed ids id n
+  passed_at id n le point =
+      let d : PageStart = record { first = pos 0; place = 0 } in
+      record {
+        there = λ some. omega (arith, page_count, le, some);
+        low = λ some.
+            let here = first_is (n - 1) d (omega (arith, le, some)) in
+            let low = le_true _ id (point.0 (n - 1) d (omega arith) (omega (arith, some))) in
+            omega (arith, ints, here, low);
+        high = λ lt.
+            let here = first_is n d (begun n lt) in
+            let high = le_false _ id (point.1 n d (omega arith) (begun n lt)) in
+            omega (arith, ints, here, high);
+      }
+
+  -- one more id, above all others
+  module _ (id : ℤ) (up : IsAbove (set_in index bytes) id) (f : FitsSigned w64 id) where
+    grown : (index' : List PageStart) (bytes' : List ℕ) → index' ≡ starts_from 0 (pages_of (ids ++ id ∷ [])) → bytes' ≡ bytes_of_pages (pages_of (ids ++ id ∷ [])) → IsSealed index' bytes' (ids ++ id ∷ [])
+    grown index' bytes' starts spelled = record {
+      starts = starts;
+      spelled = spelled;
+      rising = rising_push ids id s.rising (subst (λ (l : List ℤ). IsAbove (ids_of l) id) sealed_ids up);
+      fits = all_push (FitsSigned w64) ids id s.fits f;
+    }
+
+    pub new_page : length ids % 128 ≡ 0 → IsSealed (index ++ record { first = id; place = length bytes } ∷ []) bytes (ids ++ id ∷ [])
+    new_page full =
+        let e = past_new ids 0 id (omega arith) (omega (arith, full)) in
+        grown _ _
+        (ap (λ i. i ++ record { first = id; place = length bytes } ∷ []) s.starts
+        ∙ ap (λ k. starts_from 0 pages ++ record { first = id; place = k } ∷ []) (omega (arith, ap length s.spelled))
+        ∙ sym (ap (starts_from 0) e ∙ starts-new 0 pages id))
+        (s.spelled ∙ sym (ap bytes_of_pages e ∙ flat_map-append page_bytes pages (lone id) ∙ append-nil (bytes_of_pages pages)))
+
+    pub longer_page : (last : ℤ) → (0 < length ids → last ≡ last_from (pos 0) ids) → 0 < length ids % 128 → IsSealed index (bytes ++ shortest (gap last id)) (ids ++ id ∷ [])
+    longer_page last ends part =
+        let e = past_more ids 0 (pos 0) id (omega (arith, part)) in
+        grown _ _ (s.starts ∙ sym (e.starts 0)) (ap (λ b. b ++ shortest (gap last id)) s.spelled ∙ ap (λ z. bytes_of_pages pages ++ shortest (gap z id)) (ends (omega (arith, part))) ∙ sym e.spelled)
+
+    pub inserted : (index' : List PageStart) (bytes' : List ℕ) → ids_in index' bytes' ≡ ids ++ id ∷ [] → set_in index' bytes' ≡ set.insert (set_in index bytes) id
+    inserted index' bytes' e =
+        ap ids_of e
+        ∙ set.from_list_push int_cmp_total set.int_cmp-IsAntisymmetric ids id
+        ∙ ap (λ l. set.insert (ids_of l) id) (sym sealed_ids)
