@@ -10,16 +10,12 @@ use Rattle.std.proofs.lemmas.List.Folds.{list_any-append}
 use Rattle.std.proofs.lemmas.List.Sums.{sum_by-cons}
 use Rattle.osm_ids.specs.declared.links.Link.{Link}
 use Rattle.osm_ids.specs.Links.{link_cmp, Has, IsClosed, IsLeast, is_link_among, is_of, is_in, missing_parents, IsAdded}
-use Rattle.osm_ids.proofs.Sets.{Ids, ids_of, contains-ids_of, insert_has}
+use Rattle.osm_ids.proofs.Sets.{Ids, ids_of, contains-ids_of, insert_cases, insert_has}
 use Rattle.osm_ids.proofs.LinkOrder.{found_is, all_kept}
 use Rattle.pbf_wire.proofs.AllLemmas.{all_push, all_middle, all_weaker}
 
 insert_new : (s : Ids) (p : ℤ) → set.contains (set.insert s p) p ≡ true
 insert_new s p = set.contains-insert int_cmp_total s p p ∙ or_left (int_eq p p) (set.contains s p) ((Decides-int_eq p p).1 refl)
-
-insert_cases : (s : Ids) (p x : ℤ) → set.contains (set.insert s p) x ≡ true → (x ≡ p) ⊎ (set.contains s x ≡ true)
-insert_cases s p x h =
-    elim (or_cases (int_eq x p) (set.contains s x) (sym (set.contains-insert int_cmp_total s p x) ∙ h)) [ inl e ↦ inl ((Decides-int_eq x p).0 e) | inr e ↦ inr e ]
 
 -- to add what is there changes nothing
 pub insert_same : (s : Ids) (p : ℤ) → set.contains s p ≡ true → set.insert s p ≡ s

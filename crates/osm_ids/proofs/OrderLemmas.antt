@@ -1,5 +1,5 @@
 -- The ids that came out of order.
-use Rattle.std.proofs.Common.{◌≡◌, true, false, ◌||◌, List, [], ◌∷◌, length, ℤ, ◌<ℤ◌, refl, sym, ap, subst, ◌∙◌, arith}
+use Rattle.std.proofs.Common.{◌≡◌, true, false, ◌||◌, List, [], ◌∷◌, ◌++◌, length, ℤ, ◌<ℤ◌, refl, sym, ap, subst, ◌∙◌, arith}
 use Rattle.std.specs.List.{list_any}
 use Rattle.std.specs.Ordering.{int_eq, int_cmp}
 use Rattle.std.specs.Cmp.{int_cmp_total}
@@ -8,6 +8,7 @@ use Rattle.std.specs.FinSet as set
 use Rattle.std.proofs.lemmas.Bool.{false_from_ne_true, or_from, or_right}
 use Rattle.std.proofs.lemmas.Bool.Decides.{Decides-int_eq}
 use Rattle.std.proofs.lemmas.Int.{ints}
+use Rattle.std.proofs.lemmas.List.Folds.{list_any-append}
 use Rattle.std.proofs.Math.Bool.{or_assoc, or-false}
 use Rattle.osm_ids.specs.Order.{IsAbove, IsReached, AreLate}
 use Rattle.osm_ids.proofs.Sets.{Ids, ids_of, contains-ids_of, any-insert_key, or_swap}
@@ -70,6 +71,14 @@ insert-with_late ids late id =
     ∙ or_swap (set.contains ids x) (int_eq x id) (list_any (int_eq x) late)
     ∙ ap (λ b. int_eq x id || b) (sym (contains-with_late ids late x))
     ∙ sym (set.contains-insert int_cmp_total (with_late ids late) id x))
+
+pub ids_of-append : (ids late : List ℤ) → ids_of (ids ++ late) ≡ with_late (ids_of ids) late
+ids_of-append ids late =
+    same_ids _ _ (λ x.
+    contains-ids_of (ids ++ late) x
+    ∙ list_any-append (int_eq x) ids late
+    ∙ ap (λ b. b || list_any (int_eq x) late) (sym (contains-ids_of ids x))
+    ∙ sym (contains-with_late (ids_of ids) late x))
 
 pub none_late : (ids : Ids) → with_late ids [] ≡ ids
 none_late ids = same_ids _ _ (λ x. contains-with_late ids [] x ∙ or-false (set.contains ids x))
