@@ -1,8 +1,9 @@
 -- How far one page has been read.
-use Rattle.std.proofs.Common.{◌≡◌, ℕ, ◌+◌, ◌-◌, ◌^◌, ◌%◌, ◌≤◌, inl, inr, List, [], ◌∷◌, ◌++◌, append_assoc, length, ℤ, pos, negsuc, ◌+ℤ◌, refl, sym, ap, subst, ◌∙◌, arith, FitsSigned, w64, to_z, of_z}
+use Rattle.std.proofs.Common.{◌≡◌, ℕ, ◌+◌, ◌-◌, ◌^◌, ◌%◌, inl, inr, List, [], ◌∷◌, ◌++◌, append_assoc, length, take, ℤ, pos, negsuc, ◌+ℤ◌, refl, sym, ap, subst, ◌∙◌, arith, FitsSigned, w64, to_z, of_z}
 use Rattle.std.proofs.lemmas.Int.{ints, to_z_pos, to_z-of_z}
 use Rattle.std.proofs.lemmas.Bool.{cases_lt}
 use Rattle.std.proofs.lemmas.List.{append-nil}
+use Rattle.std.proofs.Math.Seq.{take-append-add}
 use Rattle.pbf_wire.specs.Packed.{last_from}
 use Rattle.osm_ids.specs.Pages.{AllFit, Reads, raised}
 use Rattle.osm_ids.proofs.Places.{last_push}
@@ -45,14 +46,10 @@ reads_next all held next n more sum r e is =
           ∙ ap (λ z. (held ++ sum ∷ []) ++ raised z more) (sym last);
     })
 
+-- a run of them
+pub front_left : (n k : ℕ) (run left : List ℕ) → n ≡ length run + k → take n (run ++ left) ≡ run ++ take k left
+front_left n k run left e = ap (λ m. take m (run ++ left)) e ∙ take-append-add run left k
+
 -- all are read
 pub reads_none : (all held : List ℤ) (numbers : List ℕ) → Reads all held numbers → numbers ≡ [] → held ≡ all
 reads_none all held numbers r none = sym (r.whole ∙ ap (λ (ns : List ℕ). held ++ raised (last_from (pos 0) held) ns) none ∙ append-nil held)
-
-no_more : (held more : List ℤ) → length (held ++ more) ≤ length held → held ++ more ≡ held
-no_more [] [] le = refl
-no_more [] (x ∷ more) le = absurd (omega arith)
-no_more (x ∷ held) more le = ap (λ (l : List ℤ). x ∷ l) (no_more held more (omega arith))
-
-pub reads_full : (all held : List ℤ) (numbers : List ℕ) → Reads all held numbers → length all ≤ length held → held ≡ all
-reads_full all held numbers r le = sym (r.whole ∙ no_more held (raised (last_from (pos 0) held) numbers) (omega (arith, le, ap length r.whole)))

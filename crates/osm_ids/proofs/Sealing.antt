@@ -9,13 +9,16 @@ use Rattle.std.specs.FinSet as set
 use Rattle.std.proofs.lemmas.Bool.{cases_lt}
 use Rattle.std.proofs.lemmas.Int.{ints}
 use Rattle.std.proofs.lemmas.Grind.{flat_map-append}
-use Rattle.std.proofs.lemmas.List.{append-nil, drop-drop, drop_more, length-take, length-take-le, take_all, take-append-le, take_more}
+use Rattle.std.proofs.lemmas.List.{append-nil, drop-drop, drop_all, drop_more, length-drop, length-take, length-take-le, take_all, take_at, take-append-le}
 use Rattle.std.proofs.Math.Seq.{drop-nil, drop-append_seam, take-append_seam}
 use Rattle.pbf_wire.specs.Varint.{shortest}
-use Rattle.pbf_wire.specs.Columns.{packed}
+use Rattle.pbf_wire.specs.Columns.{packed, read_entries}
 use Rattle.pbf_wire.specs.Packed.{last_from, numbers_of}
 use Rattle.pbf_wire.proofs.AllLemmas.{all_left, all_right, all_push, all_take, all_drop}
-use Rattle.pbf_wire.proofs.FaultLemmas.{numbers_within}
+use Rattle.pbf_wire.proofs.Columns.{entries_none, entries_ok}
+use Rattle.pbf_wire.proofs.Shortest.{shortest_spells}
+use Rattle.pbf_wire.proofs.Spellings.{spelling_is_read}
+use Rattle.pbf_wire.proofs.WritingLemmas.{shortest_positive}
 use Rattle.pbf_wire.proofs.PackedLemmas.{column_read, packed_push}
 use Rattle.osm_ids.specs.declared.index.PageStart.{PageStart}
 use Rattle.osm_ids.specs.Index.{ArePassed, HasPage, first_of, page_at, set_in}
@@ -127,13 +130,22 @@ starts_count at (page ∷ pages) = ap suc (starts_count (at + length (page_bytes
 
 -- ---- reading
 
--- the gaps of the page's bytes lead to its ids
-abbrev pub IsReadable : Page → Type 0
-IsReadable page = raised page.first (numbers_of (page_bytes page)) ≡ page.others
+-- a page's ids rise, and its gaps are numbers of 64 bits
+abbrev pub IsGood : Page → Type 0
+IsGood page = Rises page.first page.others × AllByRecursion (λ n. n < 2 ^ 64) (gaps page.first page.others)
 
 gaps_fit : (low : ℤ) (ids : List ℤ) → FitsSigned w64 low → AllFit ids → Rises low ids → AllByRecursion (λ n. n < 2 ^ 64) (gaps low ids)
 gaps_fit low [] f fits rises = tt
 gaps_fit low (id ∷ ids) f fits rises = (omega (arith, ints, f, fits.0, rises.0), gaps_fit id ids fits.0 fits.1 rises.1)
+
+all_are_good : (pages : List Page) → IsRising (ids_of_pages pages) → AllFit (ids_of_pages pages) → AllByRecursion IsGood pages
+all_are_good [] rising fits = tt
+all_are_good (page ∷ pages) rising fits =
+    let rises = rises_front page.first page.others (ids_of_pages pages) rising in
+    let fit = all_left (FitsSigned w64) (page_ids page) (ids_of_pages pages) fits in (
+      (rises, gaps_fit page.first page.others fit.0 fit.1 rises),
+      all_are_good pages (rises_after page.first page.others (ids_of_pages pages) rising) (all_right (FitsSigned w64) (page_ids page) (ids_of_pages pages) fits),
+    )
 
 raised-gaps : (low : ℤ) (ids : List ℤ) → Rises low ids → raised low (gaps low ids) ≡ ids
 raised-gaps low [] rises = refl
@@ -141,27 +153,35 @@ raised-gaps low (id ∷ ids) rises =
     let up : low +ℤ pos (gap low id) ≡ id = omega (arith, ints, rises.0) in
     rw up (ap (λ (rest : List ℤ). id ∷ rest) (raised-gaps id ids rises.1))
 
-readable : (pages : List Page) → IsRising (ids_of_pages pages) → AllFit (ids_of_pages pages) → AllByRecursion IsReadable pages
-readable [] rising fits = tt
-readable (page ∷ pages) rising fits =
-    let rises = rises_front page.first page.others (ids_of_pages pages) rising in
-    let fit = all_left (FitsSigned w64) (page_ids page) (ids_of_pages pages) fits in (
-      ap (raised page.first) (column_read (gaps page.first page.others) (gaps_fit page.first page.others fit.0 fit.1 rises)) ∙ raised-gaps page.first page.others rises,
-      readable pages (rises_after page.first page.others (ids_of_pages pages) rising) (all_right (FitsSigned w64) (page_ids page) (ids_of_pages pages) fits),
-    )
+none_left : numbers_of [] ≡ []
+none_left = ap read_entries (entries_none [] refl)
 
-ids_in-starts : (at : ℕ) (pages : List Page) (bytes : List ℕ) → drop at bytes ≡ bytes_of_pages pages → AllByRecursion IsReadable pages → ids_in (starts_from at pages) bytes ≡ ids_of_pages pages
-ids_in-starts at [] bytes e read = refl
-ids_in-starts at (page ∷ []) bytes e read =
-    ap (λ s. page.first ∷ raised page.first (numbers_of s)) (e ∙ append-nil (page_bytes page)) ∙ ap (λ s. page.first ∷ s) (read.0 ∙ sym (append-nil page.others))
-ids_in-starts at (page ∷ next ∷ pages) bytes e read =
+-- the gaps are read from their bytes, whatever follows
+gaps_read : (ns more : List ℕ) → AllByRecursion (λ n. n < 2 ^ 64) ns → numbers_of (packed ns ++ more) ≡ ns ++ numbers_of more
+gaps_read [] more h = refl
+gaps_read (n ∷ ns) more h =
+    let rest = packed ns ++ more in
+    let one = spelling_is_read (shortest n) rest n (shortest_spells n h.0) in
+    ap numbers_of (append_assoc (shortest n) (packed ns) more)
+    ∙ ap read_entries (entries_ok (shortest n ++ rest) n (length (shortest n)) (shortest_positive n) (omega (arith, length-append (shortest n) rest)) one)
+    ∙ ap (λ (b : List ℕ). n ∷ numbers_of b) (drop-append_seam (shortest n) rest)
+    ∙ ap (λ (l : List ℕ). n ∷ l) (gaps_read ns more h.1)
+
+page_ids_read : (page : Page) → IsGood page → raised page.first (numbers_of (page_bytes page)) ≡ page.others
+page_ids_read page good = ap (raised page.first) (column_read (gaps page.first page.others) good.1) ∙ raised-gaps page.first page.others good.0
+
+ids_in-starts : (at : ℕ) (pages : List Page) (bytes : List ℕ) → drop at bytes ≡ bytes_of_pages pages → AllByRecursion IsGood pages → ids_in (starts_from at pages) bytes ≡ ids_of_pages pages
+ids_in-starts at [] bytes e good = refl
+ids_in-starts at (page ∷ []) bytes e good =
+    ap (λ s. page.first ∷ raised page.first (numbers_of s)) (e ∙ append-nil (page_bytes page)) ∙ ap (λ s. page.first ∷ s) (page_ids_read page good.0 ∙ sym (append-nil page.others))
+ids_in-starts at (page ∷ next ∷ pages) bytes e good =
     let rest = bytes_of_pages (next ∷ pages) in
     let size = length (page_bytes page) in
     let after : drop (at + size) bytes ≡ rest = sym (drop-drop size at bytes) ∙ ap (drop size) e ∙ drop-append_seam (page_bytes page) rest in
     let here : take ((at + size) - at) (drop at bytes) ≡ page_bytes page = ap (λ k. take k (drop at bytes)) (omega arith) ∙ ap (take size) e ∙ take-append_seam (page_bytes page) rest in
     ap (λ s. page.first ∷ (raised page.first (numbers_of s) ++ ids_in (starts_from (at + size) (next ∷ pages)) bytes)) here
-    ∙ ap (λ s. page.first ∷ (s ++ ids_in (starts_from (at + size) (next ∷ pages)) bytes)) read.0
-    ∙ ap (λ s. page.first ∷ (page.others ++ s)) (ids_in-starts (at + size) (next ∷ pages) bytes after read.1)
+    ∙ ap (λ s. page.first ∷ (s ++ ids_in (starts_from (at + size) (next ∷ pages)) bytes)) (page_ids_read page good.0)
+    ∙ ap (λ s. page.first ∷ (page.others ++ s)) (ids_in-starts (at + size) (next ∷ pages) bytes after good.1)
 
 all_get : {X : Type 0} (P : X → Type 0) (xs : List X) (i : ℕ) (d : X) → AllByRecursion P xs → i < length xs → P (get_or xs i d)
 all_get P [] i d h lt = absurd (omega arith)
@@ -169,14 +189,18 @@ all_get P (x ∷ xs) zero d h lt = h.0
 all_get P (x ∷ xs) (suc i) d h lt = all_get P xs i d h.1 (omega arith)
 
 -- each id takes a byte or begins a page
-pub length-raised : (low : ℤ) (ns : List ℕ) → length (raised low ns) ≡ length ns
-length-raised low [] = refl
-length-raised low (n ∷ ns) = ap suc (length-raised (low +ℤ pos n) ns)
+length-gaps : (low : ℤ) (ids : List ℤ) → length (gaps low ids) ≡ length ids
+length-gaps low [] = refl
+length-gaps low (id ∷ ids) = ap suc (length-gaps id ids)
 
-sized : (pages : List Page) → AllByRecursion IsReadable pages → length (ids_of_pages pages) ≤ length pages + length (bytes_of_pages pages)
-sized [] read = omega arith
-sized (page ∷ pages) read =
-    omega (arith, numbers_within 0 (page_bytes page), length-raised page.first (numbers_of (page_bytes page)), ap length read.0, sized pages read.1, length-append page.others (ids_of_pages pages), length-append (page_bytes page) (bytes_of_pages pages))
+sized_gaps : (ns : List ℕ) → length ns ≤ length (packed ns)
+sized_gaps [] = omega arith
+sized_gaps (n ∷ ns) = omega (arith, shortest_positive n, sized_gaps ns, length-append (shortest n) (packed ns))
+
+sized : (pages : List Page) → length (ids_of_pages pages) ≤ length pages + length (bytes_of_pages pages)
+sized [] = omega arith
+sized (page ∷ pages) =
+    omega (arith, sized_gaps (gaps page.first page.others), length-gaps page.first page.others, sized pages, length-append page.others (ids_of_pages pages), length-append (page_bytes page) (bytes_of_pages pages))
 
 -- ---- one more id
 
@@ -255,12 +279,12 @@ module _ (index : List PageStart) (bytes : List ℕ) (ids : List ℤ) (s : IsSea
   abbrev pub pages : List Page
   pages = pages_of ids
 
-  all_readable : AllByRecursion IsReadable pages
-  all_readable = readable pages (subst IsRising (sym (ids-pages_of ids)) s.rising) (subst AllFit (sym (ids-pages_of ids)) s.fits)
+  all_good : AllByRecursion IsGood pages
+  all_good = all_are_good pages (subst IsRising (sym (ids-pages_of ids)) s.rising) (subst AllFit (sym (ids-pages_of ids)) s.fits)
 
   -- what is sealed is read again
   pub sealed_ids : ids_in index bytes ≡ ids
-  sealed_ids = ap (λ i. ids_in i bytes) s.starts ∙ ids_in-starts 0 pages bytes s.spelled all_readable ∙ ids-pages_of ids
+  sealed_ids = ap (λ i. ids_in i bytes) s.starts ∙ ids_in-starts 0 pages bytes s.spelled all_good ∙ ids-pages_of ids
 
   sealed_rising : (all : Ids) → set_in index bytes ≡ all → rising all ≡ ids
   sealed_rising all e = rising_of_set (rising all) ids (rising_rises all) s.rising (ids_of-rising all ∙ sym e ∙ ap ids_of sealed_ids)
@@ -275,7 +299,7 @@ module _ (index : List PageStart) (bytes : List ℕ) (ids : List ℤ) (s : IsSea
   page_count = omega (arith, ap length s.starts, starts_count 0 pages, past_count 0 ids)
 
   pub few_ids : length ids ≤ length index + length bytes
-  few_ids = omega (arith, sized pages all_readable, ap length (ids-pages_of ids), ap length s.starts, starts_count 0 pages, ap length s.spelled)
+  few_ids = omega (arith, sized pages, ap length (ids-pages_of ids), ap length s.starts, starts_count 0 pages, ap length s.spelled)
 
   -- an id above the last is above all
   pub above_last : (last id : ℤ) → (0 < length ids → last ≡ last_from (pos 0) ids) → (0 < length ids → last <ℤ id) → IsAbove (set_in index bytes) id
@@ -306,6 +330,20 @@ module _ (index : List PageStart) (bytes : List ℕ) (ids : List ℤ) (s : IsSea
     page_is : get_or pages n (page_at ids 0) ≡ page_at ids (128 * n)
     page_is = past_at ids 0 (128 * n) n (page_at ids 0) (omega arith) lt
 
+    -- its gaps are the last, or 127
+    last_gaps : take 127 (gaps (first_of ids n) (page_at ids (128 * n)).others ++ numbers_of (bytes_of_pages (drop (n + 1) pages))) ≡ gaps (first_of ids n) (page_at ids (128 * n)).others
+    last_gaps =
+        let own = gaps (first_of ids n) (page_at ids (128 * n)).others in
+        let size = length-gaps (first_of ids n) (page_at ids (128 * n)).others in
+        let most = length-take 127 (drop (suc (128 * n)) ids) in
+        let left = length-drop (suc (128 * n)) ids in
+        elim (cases_lt (128 * (n + 1)) (length ids)) [
+          | inl more ↦ take_at own _ 127 (omega (arith, size, most, left, more))
+          | inr end ↦
+              let none = ap (λ (l : List Page). own ++ numbers_of (bytes_of_pages l)) (drop_all (n + 1) pages (omega (arith, past_count 0 ids, end))) in
+              ap (take 127) (none ∙ ap (λ (l : List ℕ). own ++ l) none_left ∙ append-nil own) ∙ take_all 127 own (omega (arith, size, most))
+        ]
+
     pub start_is : (d : PageStart) → get_or index n d ≡ record { first = first_of ids n; place = length (bytes_of_pages (take n pages)) }
     start_is d =
         ap (λ i. get_or i n d) s.starts
@@ -315,51 +353,27 @@ module _ (index : List PageStart) (bytes : List ℕ) (ids : List ℤ) (s : IsSea
 
     cut : bytes ≡ bytes_of_pages (take n pages) ++ (page_bytes (page_at ids (128 * n)) ++ bytes_of_pages (drop (n + 1) pages))
     cut =
+        let this : drop n pages ≡ page_at ids (128 * n) ∷ drop (n + 1) pages = drop_more pages n (page_at ids 0) within ∙ ap (λ (p : Page). p ∷ drop (n + 1) pages) page_is in
         s.spelled
-        ∙ ap bytes_of_pages (sym (take-append-drop n pages) ∙ ap (λ (rest : List Page). take n pages ++ rest) (drop_more pages n (page_at ids 0) within ∙ ap (λ (p : Page). p ∷ drop (n + 1) pages) page_is))
+        ∙ ap bytes_of_pages (sym (take-append-drop n pages) ∙ ap (λ (l : List Page). take n pages ++ l) this)
         ∙ flat_map-append page_bytes (take n pages) (page_at ids (128 * n) ∷ drop (n + 1) pages)
 
-    -- where its bytes end
-    pub end_is : (end : ℕ) → (n + 1 < length index → (d : PageStart) × (end ≡ (get_or index (n + 1) d).place)) → (length index ≤ n + 1 → end ≡ length bytes) → end ≡ length (bytes_of_pages (take n pages)) + length (page_bytes (page_at ids (128 * n)))
-    end_is end next last =
-        let more : bytes_of_pages (take (n + 1) pages) ≡ bytes_of_pages (take n pages) ++ (page_bytes (page_at ids (128 * n)) ++ []) =
-        ap bytes_of_pages (take_more pages n (page_at ids 0) within ∙ ap (λ (p : Page). take n pages ++ p ∷ []) page_is) ∙ flat_map-append page_bytes (take n pages) (page_at ids (128 * n) ∷ []) in
-        let size = length-append (bytes_of_pages (take n pages)) (page_bytes (page_at ids (128 * n)) ++ []) in
-        let here = ap length (append-nil (page_bytes (page_at ids (128 * n)))) in
-        elim (cases_lt (n + 1) (length index)) [
-          | inl lt' ↦
-              let d = (next lt').0 in
-              let place = (next lt').1 ∙ ap (λ (i : List PageStart). (get_or i (n + 1) d).place) s.starts ∙ ap (λ (p : PageStart). p.place) (start_at 0 pages (n + 1) d (page_at ids 0) (omega (arith, lt', ap length s.starts, starts_count 0 pages))) in
-              omega (arith, place, ap length more, size, here)
-          | inr ge ↦
-              let all = ap bytes_of_pages (take_all (n + 1) pages (omega (arith, ge, ap length s.starts, starts_count 0 pages))) in
-              omega (arith, last ge, ap length s.spelled, ap length all, ap length more, size, here)
-        ]
+    pub place_within : (place : ℕ) → place ≡ length (bytes_of_pages (take n pages)) → place ≤ length bytes
+    place_within place at = omega (arith, at, ap length cut, length-append (bytes_of_pages (take n pages)) (page_bytes (page_at ids (128 * n)) ++ bytes_of_pages (drop (n + 1) pages)))
 
-    pub cut_is : (place end : ℕ) → place ≡ length (bytes_of_pages (take n pages)) → end ≡ length (bytes_of_pages (take n pages)) + length (page_bytes (page_at ids (128 * n))) → (place ≤ end) × (end ≤ length bytes) × (take (end - place) (drop place bytes) ≡ page_bytes (page_at ids (128 * n)))
-    cut_is place end begins e =
-        let front = bytes_of_pages (take n pages) in
-        let this = page_bytes (page_at ids (128 * n)) in
+    -- the bytes from its place on begin with its gaps
+    pub page_read : (first : ℤ) (place : ℕ) (seen : List ℕ) (held : List ℤ) → first ≡ first_of ids n → place ≡ length (bytes_of_pages (take n pages)) → seen ≡ drop place bytes → (AllFit (raised first (take 127 (numbers_of seen))) → held ≡ first ∷ raised first (take 127 (numbers_of seen))) → held ≡ take 128 (drop (128 * n) ids)
+    page_read first place seen held e at f is =
+        let this = page_at ids (128 * n) in
+        let others = this.others in
         let back = bytes_of_pages (drop (n + 1) pages) in
-        let size : end - place ≡ length this = omega (arith, begins, e) in (
-          omega (arith, begins, e),
-          omega (arith, e, ap length cut, length-append front (this ++ back), length-append this back),
-          ap (λ k. take k (drop place bytes)) size
-              ∙ ap (λ k. take (length this) (drop k bytes)) begins
-              ∙ ap (λ b. take (length this) (drop (length front) b)) cut
-              ∙ ap (take (length this)) (drop-append_seam front (this ++ back))
-              ∙ take-append_seam this back,
-        )
-
-    -- its bytes lead to its ids
-    pub page_read : (first : ℤ) (seen : List ℕ) (held : List ℤ) → first ≡ first_of ids n → seen ≡ page_bytes (page_at ids (128 * n)) → (AllFit (raised first (numbers_of seen)) → length (numbers_of seen) ≤ 127 → held ≡ first ∷ raised first (numbers_of seen)) → held ≡ take 128 (drop (128 * n) ids)
-    page_read first seen held e f is =
-        let others = (page_at ids (128 * n)).others in
-        let read = ap (raised first) (ap numbers_of f) ∙ ap (λ z. raised z (numbers_of (page_bytes (page_at ids (128 * n))))) e ∙ subst IsReadable page_is (all_get IsReadable pages n (page_at ids 0) all_readable within) in
+        let spelled : seen ≡ page_bytes this ++ back = f ∙ ap (λ k. drop k bytes) at ∙ ap (drop (length (bytes_of_pages (take n pages)))) cut ∙ drop-append_seam (bytes_of_pages (take n pages)) (page_bytes this ++ back) in
+        let good = subst IsGood page_is (all_get IsGood pages n (page_at ids 0) all_good within) in
+        let front : take 127 (numbers_of seen) ≡ gaps this.first others = ap (λ b. take 127 (numbers_of b)) spelled ∙ ap (take 127) (gaps_read (gaps this.first others) back good.1) ∙ last_gaps in
+        let read : raised first (take 127 (numbers_of seen)) ≡ others = ap (raised first) front ∙ ap (λ z. raised z (gaps this.first others)) e ∙ raised-gaps this.first others good.0 in
         let fit : AllFit others = all_take (FitsSigned w64) 127 (drop (suc (128 * n)) ids) (all_drop (FitsSigned w64) (suc (128 * n)) ids s.fits) in
-        let few : length (numbers_of seen) ≤ 127 = omega (arith, ap length read, length-raised first (numbers_of seen), length-take 127 (drop (suc (128 * n)) ids)) in
         let same : suc (128 * n) ≡ 128 * n + 1 = omega arith in
-        is (subst AllFit (sym read) fit) few
+        is (subst AllFit (sym read) fit)
         ∙ ap (λ (l : List ℤ). first ∷ l) read
         ∙ ap (λ z. z ∷ others) e
         ∙ ap (λ k. first_of ids n ∷ take 127 (drop k ids)) same

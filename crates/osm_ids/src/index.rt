@@ -1,6 +1,6 @@
 //! The index of pages: where each begins.
 
-ghost use Rattle.std.specs.Prelude.{◌≡◌, ◌-◌, ◌≤◌, take, drop, length, int_le};
+ghost use Rattle.std.specs.Prelude.{◌≡◌, ◌≤◌, drop, length, int_le};
 
 /// How many ids a page has, all but the last.
 pub(crate) const PAGE: u64 = 128;
@@ -19,11 +19,10 @@ pub(crate) fn begins_up_to(start: &PageStart, id: i64) -> bool
     start.first <= id
 }
 
-/// The bytes from one place to another.
-pub(crate) fn part(bytes: &[u8], from: usize, to: usize) -> &[u8]
-    requires ordered { from ≤ to }
-    requires within { to ≤ length bytes.now }
-    ensures { result.now ≡ take (to - from) (drop from bytes.now) }
+/// The bytes from a place on.
+pub(crate) fn bytes_from(bytes: &[u8], place: usize) -> &[u8]
+    requires { place ≤ length bytes.now }
+    ensures { result.now ≡ drop place bytes.now }
 {
-    &bytes[from..to]
+    &bytes[place..]
 }

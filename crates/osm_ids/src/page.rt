@@ -1,6 +1,6 @@
 //! The ids of one page, as numbers. A look-up is inlined; to read a page is a call, which few look-ups take.
 
-ghost use Rattle.std.specs.Prelude.{◌≡◌, ◌+◌, ◌<◌, ◌≤◌, ◌++◌, ◌<ℤ◌, ◌≤ℤ◌, int_lt, length, List, [], ◌∷◌, ℕ, ℤ, IsTrue};
+ghost use Rattle.std.specs.Prelude.{◌≡◌, ◌+◌, ◌<◌, ◌≤◌, ◌++◌, ◌<ℤ◌, ◌≤ℤ◌, int_lt, length, take, List, [], ◌∷◌, ℕ, ℤ, IsTrue};
 ghost use Rattle.std.specs.List.{list_any};
 ghost use Rattle.std.specs.Ordering.{int_eq, int_cmp};
 ghost use Rattle.std.specs.FinSet as set;
@@ -73,13 +73,12 @@ impl PageIds {
         self.round(id)
     }
 
-    /// Reads a page with that first id whose bytes these are. No other page follows, as long as none is named.
+    /// Reads a page with that first id: 128 ids, or fewer if the bytes end. No other page follows, as long as none is named.
     #[inline(never)]
     pub(crate) fn read(&mut self, first: i64, bytes: &[u8])
         ensures count { (0 < self.new.count) × (self.new.count ≤ 128) }
-        ensures ids { AllFit (raised first (numbers_of bytes.now))
-            → length (numbers_of bytes.now) ≤ 127
-            → held self.new ≡ first ∷ raised first (numbers_of bytes.now) }
+        ensures ids { AllFit (raised first (take 127 (numbers_of bytes.now)))
+            → held self.new ≡ first ∷ raised first (take 127 (numbers_of bytes.now)) }
         ensures below { IsNext (last_held self.new) self.new.below }
     {
         let mut gaps = Column::packed(bytes);

@@ -1,14 +1,14 @@
 //! Rising ids in pages.
 
-ghost use Rattle.std.specs.Prelude.{◌≡◌, ◌+◌, ◌*◌, length, List, ℤ, true, false, IfSome, IfNone, OnOk, OnErr};
+ghost use Rattle.std.specs.Prelude.{◌≡◌, ◌+◌, length, List, ℤ, true, false, IfSome, IfNone, OnOk, OnErr};
 ghost use Rattle.std.specs.Int.{div_ceil};
 ghost use Rattle.std.specs.FinSet as set;
-ghost use Rattle.osm_ids.specs.Pages.{IsRising, page_bytes, pages_of, bytes_of_pages, rising};
-ghost use Rattle.osm_ids.specs.Index.{HasPage, ArePassed, IsRead, page_at};
+ghost use Rattle.osm_ids.specs.Pages.{IsRising, pages_of, bytes_of_pages, rising};
+ghost use Rattle.osm_ids.specs.Index.{HasPage, ArePassed, IsRead};
 ghost use Rattle.osm_ids.specs.Order.{IsAbove, IsReached};
 ghost use Rattle.osm_ids.specs.Windows.{IsPageOf, Tells};
 
-use crate::index::{PAGE, PageStart, begins_up_to, part};
+use crate::index::{PAGE, PageStart, begins_up_to, bytes_from};
 use crate::page::{Known, PageIds, told};
 use pbf_wire::put_varint;
 use std::alloc::{AllocError, Global};
@@ -161,23 +161,10 @@ impl SealedIds {
         requires { HasPage (rising self.now) page }
         ensures { IsRead (rising self.now) page ids.new }
     {
-        ids.read(self.index[page].first, self.bytes_of(page));
+        let start = self.index[page];
+        ids.read(start.first, bytes_from(&self.bytes, start.place));
         if page + 1 < self.index.len() {
             ids.below = self.index[page + 1].first;
         }
-    }
-
-    /// The bytes of a page.
-    fn bytes_of(&self, page: usize) -> &[u8]
-        requires { HasPage (rising self.now) page }
-        ensures { result.now ≡ page_bytes (page_at (rising self.now) (128 * page)) }
-    {
-        let place = self.index[page].place;
-        let end = if page + 1 < self.index.len() {
-            self.index[page + 1].place
-        } else {
-            self.bytes.len()
-        };
-        part(&self.bytes, place, end)
     }
 }

@@ -1,4 +1,4 @@
-use Rattle.std.proofs.Common.{◌≤◌, ◌<◌, ◌-◌, ◌∷◌}
+use Rattle.std.proofs.Common.{◌≤◌, ◌<◌, ◌-◌, ◌∷◌, take}
 use Rattle.pbf_wire.specs.Cursors.{numbers_left}
 use Rattle.pbf_wire.specs.Packed.{numbers_of}
 use Rattle.osm_ids.specs.Pages.{AllFit, Reads, raised}
@@ -9,7 +9,7 @@ abbrev pub invariant-ids : goal.invariant-ids
 invariant-ids l = record {
   some : 0 < l.self.count;
   few : l.self.count ≤ 128;
-  reading : AllFit (raised l.first (numbers_of l.bytes)) → Reads (l.first ∷ raised l.first (numbers_of l.bytes)) (held l.self) (numbers_left l.gaps);
+  reading : AllFit (raised l.first (take 127 (numbers_of l.bytes))) → Reads (l.first ∷ raised l.first (take 127 (numbers_of l.bytes))) (held l.self) (take (128 - l.self.count) (numbers_left l.gaps));
 }
 
 abbrev pub decreases-ids : goal.decreases-ids
