@@ -13,7 +13,7 @@ use Rattle.std.proofs.Math.Bool.{or_assoc, or-false}
 use Rattle.osm_ids.specs.Pages.{Rises, IsRising, rising}
 use Rattle.osm_ids.specs.Order.{AreLate}
 use Rattle.osm_ids.proofs.Sets.{Ids, ids_of, contains-ids_of, insert_cases, or_swap}
-use Rattle.osm_ids.proofs.Rising.{cases_order, first_among, none_above, rising_tail, rises_from, rising_rises, ids_of-rising}
+use Rattle.osm_ids.proofs.Rising.{below_other, first_among, none_above, rising_tail, rises_from, rising_rises, ids_of-rising}
 use Rattle.osm_ids.proofs.OrderLemmas.{with_late, contains-with_late, same_ids}
 use Rattle.osm_ids.proofs.Kept.{has_rising}
 
@@ -77,8 +77,7 @@ merging_id all done late ids id m up = record {
 pub merging_late : (all done : Ids) (late ids : List ℤ) (other id : ℤ) → Merging all done (other ∷ late) (id ∷ ids) → other ≤ℤ id → Merging all (set.insert done other) late (id ∷ ids)
 merging_late all done late ids other id m le =
     let there = (m.reached other (first_among other late)).0 in
-    let apart : other ≡ id → ⊥ = λ e. true≢false (sym (ap (λ z. list_any (int_eq other) (z ∷ ids)) (sym e) ∙ first_among other ids) ∙ sym (contains-ids_of (id ∷ ids) other) ∙ there) in
-    let lower : other <ℤ id = elim (cases_order other id) [ inl h ↦ h | inr more ↦ elim more [ inl h ↦ absurd (omega (arith, ints)) | inr e ↦ absurd (apart e) ] ] in
+    let lower = below_other other id le (λ e. true≢false (sym (ap (λ z. list_any (int_eq other) (z ∷ ids)) (sym e) ∙ first_among other ids) ∙ sym (contains-ids_of (id ∷ ids) other) ∙ there)) in
     record {
       same = λ x.
           ap (λ b. b || (list_any (int_eq x) (id ∷ ids) || list_any (int_eq x) late)) (set.contains-insert int_cmp_total done other x)

@@ -121,7 +121,7 @@ any_part ids at n x there =
     ∙ or_right (list_any (int_eq x) (take at ids)) _
     (ap (list_any (int_eq x)) (sym (take-append-drop n (drop at ids))) ∙ list_any-append (int_eq x) (take n (drop at ids)) _ ∙ or_left (list_any (int_eq x) (take n (drop at ids))) _ there)
 
-rises_take : (low : ℤ) (n : ℕ) (ids : List ℤ) → Rises low ids → Rises low (take n ids)
+pub rises_take : (low : ℤ) (n : ℕ) (ids : List ℤ) → Rises low ids → Rises low (take n ids)
 rises_take low zero ids h = tt
 rises_take low (suc n) [] h = tt
 rises_take low (suc n) (x ∷ ids) h = (h.0, rises_take x n ids h.1)

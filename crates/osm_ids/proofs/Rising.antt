@@ -27,14 +27,6 @@ pub rising_tail : (low : ℤ) (ids : List ℤ) → Rises low ids → IsRising id
 rising_tail low [] h = tt
 rising_tail low (id ∷ ids) h = h.1
 
-pub rises_front : (low : ℤ) (xs ys : List ℤ) → Rises low (xs ++ ys) → Rises low xs
-rises_front low [] ys h = tt
-rises_front low (x ∷ xs) ys h = (h.0, rises_front x xs ys h.1)
-
-pub rises_after : (low : ℤ) (xs ys : List ℤ) → Rises low (xs ++ ys) → IsRising ys
-rises_after low [] ys h = rising_tail low ys h
-rises_after low (x ∷ xs) ys h = rises_after x xs ys h.1
-
 -- no id at or below low comes after low
 pub none_above : (low : ℤ) (ids : List ℤ) (id : ℤ) → Rises low ids → id ≤ℤ low → list_any (int_eq id) ids ≡ false
 none_above low [] id h le = refl
@@ -64,12 +56,6 @@ pub rises_from : (low x : ℤ) (ids : List ℤ) → low <ℤ x → Rises x ids �
 rises_from low x [] h r = tt
 rises_from low x (id ∷ ids) h r = let up = r.0 in (omega (arith, ints), r.1)
 
--- ---- the last of rising ids
-
-pub last_among : (low : ℤ) (ids : List ℤ) → list_any (int_eq (last_from low ids)) (low ∷ ids) ≡ true
-last_among low [] = rw (Decides-int_eq low low).1 refl
-last_among low (id ∷ ids) = or_right (int_eq (last_from id ids) low) (list_any (int_eq (last_from id ids)) (id ∷ ids)) (last_among id ids)
-
 -- ---- a set has one rising list
 
 pub cases_order : (x y : ℤ) → (x <ℤ y) ⊎ ((y <ℤ x) ⊎ (x ≡ y))
@@ -79,6 +65,9 @@ cases_order x y =
       | Equal ↦ λ e. inr (inr (int_ranked x y Equal (sym e)))
       | Greater ↦ λ e. inr (inl (int_ranked x y Greater (sym e)))
     ] refl
+
+pub below_other : (x y : ℤ) → x ≤ℤ y → (x ≡ y → ⊥) → x <ℤ y
+below_other x y le other = elim (cases_order x y) [ inl below ↦ below | inr more ↦ elim more [ inl above ↦ absurd (omega (arith, ints)) | inr same ↦ absurd (other same) ] ]
 
 pub first_among : (x : ℤ) (xs : List ℤ) → list_any (int_eq x) (x ∷ xs) ≡ true
 first_among x xs = rw (Decides-int_eq x x).1 refl

@@ -11,7 +11,7 @@ use Rattle.osm_ids.specs.declared.page.PageIds.{PageIds}
 use Rattle.osm_ids.specs.Pages.{IsRising}
 use Rattle.osm_ids.specs.Windows.{IsKept, IsKnown, IsBegun, IsPlaced, IsRun, held, first_held}
 use Rattle.osm_ids.proofs.Sets.{Ids}
-use Rattle.osm_ids.proofs.Rising.{cases_order}
+use Rattle.osm_ids.proofs.Rising.{below_other}
 use Rattle.osm_ids.proofs.Places.{at_most, any_between, all_between}
 
 -- an id between two neighbours isn't there
@@ -51,14 +51,7 @@ module _ (page : PageIds) (id seen : ℤ) (at : ℕ) (e : seen ≡ id) (b : IsBe
   p = subst (λ z. IsPlaced (held page) z at) e q
 
   apart : at < length (held page) → id <ℤ get_or (held page) at (pos 0)
-  apart lt =
-      elim (cases_order id (get_or (held page) at (pos 0))) [
-        | inl below ↦ below
-        | inr more ↦ elim more [
-          | inl above ↦ let ahead = p.ahead lt in absurd (omega (arith, ints, above, ahead))
-          | inr same ↦ absurd (other lt (sym same))
-        ]
-      ]
+  apart lt = below_other id (get_or (held page) at (pos 0)) (p.ahead lt) (λ e. other lt (sym e))
 
   -- if another is there, one is before it
   pub some_before : 0 < length (held page) → 0 < at

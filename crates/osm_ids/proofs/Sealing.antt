@@ -14,7 +14,7 @@ use Rattle.std.proofs.Math.Seq.{drop-nil, drop-append_seam, take-append_seam}
 use Rattle.pbf_wire.specs.Varint.{shortest}
 use Rattle.pbf_wire.specs.Columns.{packed, read_entries}
 use Rattle.pbf_wire.specs.Packed.{last_from, numbers_of}
-use Rattle.pbf_wire.proofs.AllLemmas.{all_left, all_right, all_push, all_take, all_drop}
+use Rattle.pbf_wire.proofs.AllLemmas.{all_push, all_take, all_drop}
 use Rattle.pbf_wire.proofs.Columns.{entries_none, entries_ok}
 use Rattle.pbf_wire.proofs.Shortest.{shortest_spells}
 use Rattle.pbf_wire.proofs.Spellings.{spelling_is_read}
@@ -25,8 +25,8 @@ use Rattle.osm_ids.specs.Index.{ArePassed, HasPage, first_of, page_at, set_in}
 use Rattle.osm_ids.specs.Order.{IsAbove, IsReached}
 use Rattle.osm_ids.specs.Pages.{gap, gaps, Page, page_ids, page_bytes, pages_past, pages_of, ids_of_pages, bytes_of_pages, starts_from, HasFullPages, Rises, IsRising, AllFit, raised, ids_in, IsSealed, rising}
 use Rattle.osm_ids.proofs.Sets.{Ids, ids_of, contains-ids_of}
-use Rattle.osm_ids.proofs.Places.{at_most, last_most, last_there, some_of, le_true, le_false, true_le}
-use Rattle.osm_ids.proofs.Rising.{rises_front, rises_after, len-rising, rising_of_set, rising_rises, ids_of-rising, last_among}
+use Rattle.osm_ids.proofs.Places.{at_most, rises_take, last_most, last_there, some_of, le_true, le_false, true_le}
+use Rattle.osm_ids.proofs.Rising.{rising_tail, len-rising, rising_of_set, rising_rises, ids_of-rising}
 
 -- ---- the pages of a list
 
@@ -138,14 +138,13 @@ gaps_fit : (low : ℤ) (ids : List ℤ) → FitsSigned w64 low → AllFit ids �
 gaps_fit low [] f fits rises = tt
 gaps_fit low (id ∷ ids) f fits rises = (omega (arith, ints, f, fits.0, rises.0), gaps_fit id ids fits.0 fits.1 rises.1)
 
-all_are_good : (pages : List Page) → IsRising (ids_of_pages pages) → AllFit (ids_of_pages pages) → AllByRecursion IsGood pages
-all_are_good [] rising fits = tt
-all_are_good (page ∷ pages) rising fits =
-    let rises = rises_front page.first page.others (ids_of_pages pages) rising in
-    let fit = all_left (FitsSigned w64) (page_ids page) (ids_of_pages pages) fits in (
-      (rises, gaps_fit page.first page.others fit.0 fit.1 rises),
-      all_are_good pages (rises_after page.first page.others (ids_of_pages pages) rising) (all_right (FitsSigned w64) (page_ids page) (ids_of_pages pages) fits),
-    )
+good_past : (skip : ℕ) (ids : List ℤ) → IsRising ids → AllFit ids → AllByRecursion IsGood (pages_past skip ids)
+unfolding pages_past
+good_past skip [] h fits = tt
+good_past (suc skip) (id ∷ ids) h fits = good_past skip ids (rising_tail id ids h) fits.1
+good_past zero (id ∷ ids) h fits =
+    let rises = rises_take id 127 ids h in
+    ((rises, gaps_fit id (take 127 ids) fits.0 (all_take (FitsSigned w64) 127 ids fits.1) rises), good_past 127 ids (rising_tail id ids h) fits.1)
 
 raised-gaps : (low : ℤ) (ids : List ℤ) → Rises low ids → raised low (gaps low ids) ≡ ids
 raised-gaps low [] rises = refl
@@ -271,7 +270,7 @@ rises_push low (x ∷ ids) id h up = (h.0, rises_push x ids id h.1 up)
 
 rising_push : (ids : List ℤ) (id : ℤ) → IsRising ids → IsAbove (ids_of ids) id → IsRising (ids ++ id ∷ [])
 rising_push [] id h above = tt
-rising_push (x ∷ ids) id h above = rises_push x ids id h (above (last_from x ids) (contains-ids_of (x ∷ ids) (last_from x ids) ∙ last_among x ids))
+rising_push (x ∷ ids) id h above = rises_push x ids id h (above (last_from x ids) (contains-ids_of (x ∷ ids) (last_from x ids) ∙ last_there (x ∷ ids) (omega arith)))
 
 -- ---- an index and bytes
 
@@ -280,7 +279,7 @@ module _ (index : List PageStart) (bytes : List ℕ) (ids : List ℤ) (s : IsSea
   pages = pages_of ids
 
   all_good : AllByRecursion IsGood pages
-  all_good = all_are_good pages (subst IsRising (sym (ids-pages_of ids)) s.rising) (subst AllFit (sym (ids-pages_of ids)) s.fits)
+  all_good = good_past 0 ids s.rising s.fits
 
   -- what is sealed is read again
   pub sealed_ids : ids_in index bytes ≡ ids
