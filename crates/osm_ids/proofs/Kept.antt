@@ -8,12 +8,11 @@ use Rattle.std.proofs.lemmas.Int.{ints}
 use Rattle.std.proofs.lemmas.List.{get_or-drop, get_or-take, length-drop, length-take}
 use Rattle.osm_ids.specs.declared.page.PageIds.{PageIds}
 use Rattle.osm_ids.specs.Index.{HasPage, first_of, ArePassed, IsRead}
-use Rattle.osm_ids.specs.Order.{IsReached}
 use Rattle.osm_ids.specs.Pages.{IsRising, rising}
 use Rattle.osm_ids.specs.Windows.{IsKept, IsPageOf, held, first_held, last_held}
 use Rattle.osm_ids.proofs.Sets.{Ids, contains-ids_of}
 use Rattle.osm_ids.proofs.Rising.{rising_rises, ids_of-rising}
-use Rattle.osm_ids.proofs.Places.{far, at_most, all_between, any_between, any_at, any_up, any_part, rising_part, last_most, last_there, some_of}
+use Rattle.osm_ids.proofs.Places.{far, at_most, all_between, any_between, any_at, any_up, any_part, rising_part, last_most, last_there}
 
 -- a set has the ids of its rising list
 pub has_rising : (s : Ids) (id : ℤ) → set.contains s id ≡ list_any (int_eq id) (rising s)
@@ -99,10 +98,6 @@ module _ (s : Ids) (n : ℕ) (lt : HasPage (rising s) n) (p : PageIds) (r : IsRe
       }
 
 -- ---- without a page being read
-
--- a set with an id has a page
-pub has_first : (s : Ids) (id : ℤ) → IsReached s id → HasPage (rising s) 0
-has_first s id reached = some_of (rising s) reached.0 (sym (has_rising s reached.0) ∙ reached.1)
 
 -- an id below the first page's isn't there
 pub absent_first : (s : Ids) (id : ℤ) → (HasPage (rising s) 0 → id <ℤ first_of (rising s) 0) → set.contains s id ≡ false

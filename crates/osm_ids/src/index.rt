@@ -1,6 +1,6 @@
 //! The index of pages: where each begins.
 
-ghost use Rattle.std.specs.Prelude.{◌≡◌, ◌≤◌, drop, length, int_le};
+ghost use Rattle.std.specs.Prelude.{◌≡◌, ◌<◌, ◌≤◌, drop, get_or, length, int_le};
 
 /// How many ids a page has, all but the last.
 pub(crate) const PAGE: u64 = 128;
@@ -25,4 +25,14 @@ pub(crate) fn bytes_from(bytes: &[u8], place: usize) -> &[u8]
     ensures { result.now ≡ drop place bytes.now }
 {
     &bytes[place..]
+}
+
+/// The first id of all, and the greatest number if there is none.
+pub(crate) fn first_id(index: &[PageStart]) -> i64
+    ensures { (d : PageStart) → 0 < length index.now → result ≡ (get_or index.now 0 d).first }
+{
+    match index.first() {
+        Some(start) => start.first,
+        None => i64::MAX,
+    }
 }

@@ -1,6 +1,6 @@
 //! Rising ids in pages.
 
-ghost use Rattle.std.specs.Prelude.{◌≡◌, ◌+◌, length, List, ℤ, true, false, IfSome, IfNone, OnOk, OnErr};
+ghost use Rattle.std.specs.Prelude.{◌≡◌, ◌<◌, length, List, ℤ, true, false, IfSome, IfNone, OnOk, OnErr};
 ghost use Rattle.std.specs.Int.{div_ceil};
 ghost use Rattle.std.specs.FinSet as set;
 ghost use Rattle.osm_ids.specs.Pages.{IsRising, pages_of, bytes_of_pages, rising};
@@ -8,7 +8,7 @@ ghost use Rattle.osm_ids.specs.Index.{HasPage, ArePassed, IsRead};
 ghost use Rattle.osm_ids.specs.Order.{IsAbove, IsReached};
 ghost use Rattle.osm_ids.specs.Windows.{IsPageOf, Tells};
 
-use crate::index::{PAGE, PageStart, begins_up_to, bytes_from};
+use crate::index::{PAGE, PageStart, begins_up_to, bytes_from, first_id};
 use crate::page::{Known, PageIds, told};
 use pbf_wire::put_varint;
 use std::alloc::{AllocError, Global};
@@ -121,14 +121,14 @@ impl SealedIds {
         ensures some { IfSome result (λ known. Tells self.now id known × (page.new ≡ page.old)) }
         ensures none { IfNone result (IsPageOf self.now id page.new) }
     {
-        if self.takes(id) {
+        if self.last < id {
             return Some(told(false, self.last, i64::MAX));
         }
         let begun = self.begun(id);
         if begun == 0 {
-            return Some(told(false, i64::MIN, self.index[0].first));
+            return Some(told(false, i64::MIN, first_id(&self.index)));
         }
-        if let Some(known) = self.whole(begun - 1) {
+        if let Some(known) = self.whole(begun) {
             return Some(known);
         }
         self.read(begun - 1, page);
@@ -142,14 +142,15 @@ impl SealedIds {
         self.index.partition_point(|start| begins_up_to(start, id))
     }
 
-    /// The ids of a page, if the next page begins 128 above its first: it has 128, so the set has all between. None is read then.
-    fn whole(&self, page: usize) -> Option<Known>
-        requires { HasPage (rising self.now) page }
-        ensures { (id : ℤ) → ArePassed (rising self.now) id (page + 1)
+    /// The ids of the page before a place of the index, if the next page begins 128 above its first: it has 128, so the set has
+    /// all between. None is read then.
+    fn whole(&self, begun: usize) -> Option<Known>
+        requires { 0 < begun }
+        ensures { (id : ℤ) → ArePassed (rising self.now) id begun
             → IfSome result (λ known. Tells self.now id known) }
     {
-        let next = self.index.get(page + 1)?;
-        let first = self.index[page].first;
+        let next = self.index.get(begun)?;
+        let first = self.index[begun - 1].first;
         if next.first.abs_diff(first) != PAGE {
             return None;
         }
