@@ -18,13 +18,7 @@ insert_new s p = set.contains-insert int_cmp_total s p p ∙ or_left (int_eq p p
 
 -- to add what is there changes nothing
 pub insert_same : (s : Ids) (p : ℤ) → set.contains s p ≡ true → set.insert s p ≡ s
-insert_same s p h =
-    set.same_set int_cmp_total set.int_cmp-IsAntisymmetric _ _
-    (λ x. set.contains-insert int_cmp_total s p x
-    ∙ elim (int_eq x p) as (λ b. int_eq x p ≡ b → (b || set.contains s x) ≡ set.contains s x) [
-      | true ↦ λ e. sym (ap (set.contains s) ((Decides-int_eq x p).0 e) ∙ h)
-      | false ↦ λ _. refl
-    ] refl)
+insert_same s p h = set.same_set int_cmp_total set.int_cmp-IsAntisymmetric _ _ (λ x. grind (arith, set.members, h, Decides-int_eq x p))
 
 push_has : (work : List ℤ) (p x : ℤ) → is_in work x ≡ true → is_in (work ++ p ∷ []) x ≡ true
 push_has work p x h = list_any-append (int_eq x) work (p ∷ []) ∙ or_left (is_in work x) _ h

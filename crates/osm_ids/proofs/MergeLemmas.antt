@@ -4,17 +4,16 @@ use Rattle.std.specs.List.{list_any, cons_option}
 use Rattle.std.specs.Option.{option_copied}
 use Rattle.std.specs.Map.Iter.{TakesFirst, deref}
 use Rattle.std.specs.Ordering.{int_eq, int_cmp}
-use Rattle.std.specs.Cmp.{int_cmp_total}
 use Rattle.std.specs.FinSet as set
 use Rattle.std.proofs.lemmas.Bool.{or_cases, or_right}
 use Rattle.std.proofs.lemmas.Bool.Decides.{Decides-int_eq}
 use Rattle.std.proofs.lemmas.Int.{ints}
-use Rattle.std.proofs.Math.Bool.{or_assoc, or-false}
+use Rattle.std.proofs.Math.Bool.{or-false}
 use Rattle.osm_ids.specs.Pages.{Rises, IsRising, rising}
 use Rattle.osm_ids.specs.Order.{AreLate}
-use Rattle.osm_ids.proofs.Sets.{Ids, ids_of, contains-ids_of, insert_cases, or_swap}
+use Rattle.osm_ids.proofs.Sets.{Ids, ids_of, contains-ids_of, insert_cases}
 use Rattle.osm_ids.proofs.Rising.{below_other, first_among, none_above, rising_tail, rises_from, rising_rises, ids_of-rising}
-use Rattle.osm_ids.proofs.OrderLemmas.{with_late, contains-with_late, same_ids}
+use Rattle.osm_ids.proofs.OrderLemmas.{with_late, same_ids}
 use Rattle.osm_ids.proofs.Kept.{has_rising}
 
 -- of all ids these are appended, and these are left of the late ones and of the others
@@ -26,17 +25,11 @@ pub record Merging (all done : Ids) (late ids : List ℤ) : Type 0 where
 
 pub merging_start : (ids : Ids) (late : List ℤ) → AreLate ids late → IsRising late → Merging (with_late ids late) set.empty late (rising ids)
 merging_start ids late l h = record {
-  same = λ x.
-      ap (λ b. b || (list_any (int_eq x) (rising ids) || list_any (int_eq x) late)) (set.contains-empty int_cmp x)
-      ∙ ap (λ b. b || list_any (int_eq x) late) (sym (has_rising ids x))
-      ∙ sym (contains-with_late ids late x);
+  same = λ x. grind (arith, set.members, has_rising ids x);
   below = λ x e. absurd (true≢false (sym e ∙ set.contains-empty int_cmp x));
   rises = (h, rising_rises ids);
   reached = subst (λ (s : Ids). AreLate s late) (sym (ids_of-rising ids)) l;
 }
-
-or_move : (a b c : Bool) → ((a || b) || c) ≡ (b || (a || c))
-or_move a b c = or_assoc a b c ∙ or_swap a b c
 
 or_later : (a b : Bool) → (a || b) ≡ false → b ≡ false
 or_later true b e = absurd (true≢false e)
@@ -45,11 +38,7 @@ or_later false b e = e
 -- the first of the others is below the late ones
 pub merging_id : (all done : Ids) (late ids : List ℤ) (id : ℤ) → Merging all done late (id ∷ ids) → Rises id late → Merging all (set.insert done id) late ids
 merging_id all done late ids id m up = record {
-  same = λ x.
-      ap (λ b. b || (list_any (int_eq x) ids || list_any (int_eq x) late)) (set.contains-insert int_cmp_total done id x)
-      ∙ or_move (int_eq x id) (set.contains done x) _
-      ∙ ap (λ b. set.contains done x || b) (sym (or_assoc (int_eq x id) (list_any (int_eq x) ids) (list_any (int_eq x) late)))
-      ∙ m.same x;
+  same = λ x. grind (arith, set.members, m.same x);
   below = λ x e. elim (insert_cases done id x e) [
     | inl is ↦ subst (λ z. Rises z late × Rises z ids) (sym is) (up, m.rises.1)
     | inr old ↦ let b = m.below x old in (b.0, rises_from x id ids b.1.0 b.1.1)
@@ -79,11 +68,7 @@ merging_late all done late ids other id m le =
     let there = (m.reached other (first_among other late)).0 in
     let lower = below_other other id le (λ e. true≢false (sym (ap (λ z. list_any (int_eq other) (z ∷ ids)) (sym e) ∙ first_among other ids) ∙ sym (contains-ids_of (id ∷ ids) other) ∙ there)) in
     record {
-      same = λ x.
-          ap (λ b. b || (list_any (int_eq x) (id ∷ ids) || list_any (int_eq x) late)) (set.contains-insert int_cmp_total done other x)
-          ∙ or_move (int_eq x other) (set.contains done x) _
-          ∙ ap (λ b. set.contains done x || b) (or_swap (int_eq x other) (list_any (int_eq x) (id ∷ ids)) (list_any (int_eq x) late))
-          ∙ m.same x;
+      same = λ x. grind (arith, set.members, m.same x);
       below = λ x e. elim (insert_cases done other x e) [
         | inl is ↦ subst (λ z. Rises z late × Rises z (id ∷ ids)) (sym is) (m.rises.0, (lower, m.rises.1))
         | inr old ↦ let b = m.below x old in (rises_from x other late b.0.0 b.0.1, b.1)
