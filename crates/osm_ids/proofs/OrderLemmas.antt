@@ -45,8 +45,9 @@ contains-with_late ids late x = set.contains-union int_cmp_total ids (ids_of lat
 
 pub new_above : (ids : Ids) (late : List ℤ) (id : ℤ) → AreLate ids late → IsAbove ids id → set.contains (with_late ids late) id ≡ false
 new_above ids late id l up =
-    contains-with_late ids late id
-    ∙ or_from (set.contains ids id) (list_any (int_eq id) late) (above_apart ids id up) (false_from_ne_true (list_any (int_eq id) late) (λ e. let below = late_below ids late id id l up e in omega (arith, ints)))
+    let apart = above_apart ids id up in
+    let none = false_from_ne_true (list_any (int_eq id) late) (λ e. let below = late_below ids late id id l up e in omega (arith, ints)) in
+    grind (arith, set.members, apart, none)
 
 pub same_ids : (s t : Ids) → ((x : ℤ) → set.contains s x ≡ set.contains t x) → s ≡ t
 same_ids s t = set.same_set int_cmp_total set.int_cmp-IsAntisymmetric s t
@@ -64,10 +65,10 @@ pub none_late : (ids : Ids) → with_late ids [] ≡ ids
 none_late ids = same_ids _ _ (λ x. grind (arith, set.members))
 
 pub known_laid : (ids : Ids) (late : List ℤ) (id : ℤ) → set.contains ids id ≡ true → set.contains (with_late ids late) id ≡ true
-known_laid ids late id e = contains-with_late ids late id ∙ ap (λ b. b || list_any (int_eq id) late) e
+known_laid ids late id e = grind (arith, set.members)
 
 pub new_late : (ids : Ids) (late : List ℤ) (id : ℤ) → set.contains ids id ≡ false → set.contains (with_late ids late) id ≡ list_any (int_eq id) late
-new_late ids late id e = contains-with_late ids late id ∙ ap (λ b. b || list_any (int_eq id) late) e
+new_late ids late id e = grind (arith, set.members)
 
 pub empty_late : (ids : Ids) (late : List ℤ) → length late ≡ 0 → with_late ids late ≡ ids
 empty_late ids [] none = none_late ids

@@ -79,11 +79,7 @@ module _ (x : ℤ) (xs : List ℤ) (y : ℤ) (ys : List ℤ) (alike : (id : ℤ)
       true≢false (sym (first_among x xs) ∙ alike x ∙ none)
 
   tails_alike : x ≡ y → Rises x xs → Rises y ys → (id : ℤ) → list_any (int_eq id) xs ≡ list_any (int_eq id) ys
-  tails_alike e rises others id =
-      elim (int_eq id x) as (λ b. int_eq id x ≡ b → list_any (int_eq id) xs ≡ list_any (int_eq id) ys) [
-        | true ↦ λ is. let at : id ≡ x = (Decides-int_eq id x).0 is in none_above x xs id rises (omega (arith, ints)) ∙ sym (none_above y ys id others (omega (arith, ints)))
-        | false ↦ λ is. ap (λ b. b || list_any (int_eq id) xs) (sym is) ∙ alike id ∙ ap (λ b. b || list_any (int_eq id) ys) (ap (int_eq id) (sym e) ∙ is)
-      ] refl
+  tails_alike e rises others id = grind (arith, alike id, Decides-int_eq id x, e, none_above x xs x rises (omega (arith, ints)), none_above y ys y others (omega (arith, ints)))
 
 pub same_rising : (xs ys : List ℤ) → IsRising xs → IsRising ys → ((id : ℤ) → list_any (int_eq id) xs ≡ list_any (int_eq id) ys) → xs ≡ ys
 same_rising [] [] h k alike = refl

@@ -33,7 +33,7 @@ module _ {K : Type 0} {R : K → K → Ordering} (o : IsTotalOrder R) (same : se
   pub from_list-insert_key : (keys : List K) (new : K) → set.from_list {R = R} (insert_key R keys new) ≡ set.insert (set.from_list keys) new
   from_list-insert_key keys new =
       set.same_set o same _ _
-      (λ k. set.contains-from_list o (insert_key R keys new) k ∙ any-insert_key keys new k ∙ ap (λ b. eq_by_cmp R k new || b) (sym (set.contains-from_list o keys k)) ∙ sym (set.contains-insert o (set.from_list keys) new k))
+      (λ k. grind (arith, set.members, o, any-insert_key keys new k))
 
 -- ---- ids
 
