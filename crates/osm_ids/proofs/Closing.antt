@@ -21,46 +21,31 @@ pub insert_same : (s : Ids) (p : ℤ) → set.contains s p ≡ true → set.inse
 insert_same s p h = set.same_set int_cmp_total set.int_cmp-IsAntisymmetric _ _ (λ x. grind (arith, set.members, h, Decides-int_eq x p))
 
 push_has : (work : List ℤ) (p x : ℤ) → is_in work x ≡ true → is_in (work ++ p ∷ []) x ≡ true
-push_has work p x h = list_any-append (int_eq x) work (p ∷ []) ∙ or_left (is_in work x) _ h
+push_has work p x h = grind (arith, list_any-append (int_eq x) work (p ∷ []))
 
 push_new : (work : List ℤ) (p : ℤ) → is_in (work ++ p ∷ []) p ≡ true
-push_new work p = list_any-append (int_eq p) work (p ∷ []) ∙ or_right (is_in work p) _ (or_left (int_eq p p) false ((Decides-int_eq p p).1 refl))
+push_new work p = grind (arith, list_any-append (int_eq p) work (p ∷ []), Decides-int_eq p p)
 
 pub push_cases : (work : List ℤ) (p x : ℤ) → is_in (work ++ p ∷ []) x ≡ true → (is_in work x ≡ true) ⊎ (x ≡ p)
 push_cases work p x h =
-    elim (or_cases (is_in work x) (int_eq x p || false) (sym (list_any-append (int_eq x) work (p ∷ [])) ∙ h)) [
-      | inl e ↦ inl e
-      | inr e ↦ elim (or_cases (int_eq x p) false e) [ inl f ↦ inr ((Decides-int_eq x p).0 f) | inr f ↦ absurd (both_ways false refl f) ]
-    ]
+    elim (or_cases (is_in work x) (int_eq x p) (grind (arith, list_any-append (int_eq x) work (p ∷ []), h))) [ inl e ↦ inl e | inr e ↦ inr ((Decides-int_eq x p).0 e) ]
 
 abbrev lacks : Ids → Link → Bool
 lacks s l = not (set.contains s l.parent)
-
--- one link counts no more than before
-lacks_le : (s : Ids) (p : ℤ) (l : Link) → cond (lacks (set.insert s p) l) 1 0 ≤ cond (lacks s l) 1 0
-lacks_le s p l =
-    elim (set.contains s l.parent) as (λ b. set.contains s l.parent ≡ b → cond (lacks (set.insert s p) l) 1 0 ≤ cond (not b) 1 0) [
-      | true ↦ λ e. rw (insert_has s p l.parent e) (omega arith)
-      | false ↦ λ _. elim (lacks (set.insert s p) l) as (λ b. cond b 1 0 ≤ 1) [ true ↦ omega arith | false ↦ omega arith ]
-    ] refl
 
 missing_cons : (s : Ids) (l : Link) (links : List Link) → missing_parents (l ∷ links) s ≡ cond (lacks s l) 1 0 + missing_parents links s
 missing_cons s l links = sum_by-cons (λ (x : Link). cond (lacks s x) 1 0) l links
 
 missing_le : (links : List Link) (s : Ids) (p : ℤ) → missing_parents links (set.insert s p) ≤ missing_parents links s
 missing_le [] s p = omega arith
-missing_le (l ∷ links) s p = omega (arith, missing_cons s l links, missing_cons (set.insert s p) l links, missing_le links s p, lacks_le s p l)
+missing_le (l ∷ links) s p = grind (arith, set.members, missing_cons s l links, missing_cons (set.insert s p) l links, missing_le links s p)
 
 missing_less : (links : List Link) (x : Link) (s : Ids) → is_link_among links x ≡ true → set.contains s x.parent ≡ false → missing_parents links (set.insert s x.parent) + 1 ≤ missing_parents links s
 missing_less [] x s here e = absurd (both_ways false refl here)
 missing_less (l ∷ links) x s here e =
     elim (or_cases (eq_by_cmp link_cmp x l) (is_link_among links x) here) [
-      | inl at ↦
-          let same : x.parent ≡ l.parent = ap (λ (y : Link). y.parent) (found_is x l at) in
-          let now : ◌≡◌ {A = ℕ} (cond (lacks s l) 1 0) 1 = ap (λ p. cond (not (set.contains s p)) 1 0) (sym same) ∙ ap (λ b. cond (not b) 1 0) e in
-          let then : ◌≡◌ {A = ℕ} (cond (lacks (set.insert s x.parent) l) 1 0) 0 = ap (λ p. cond (not (set.contains (set.insert s x.parent) p)) 1 0) (sym same) ∙ ap (λ b. cond (not b) 1 0) (insert_new s x.parent) in
-          omega (arith, missing_cons s l links, missing_cons (set.insert s x.parent) l links, missing_le links s x.parent, now, then)
-      | inr later ↦ omega (arith, missing_cons s l links, missing_cons (set.insert s x.parent) l links, missing_less links x s later e, lacks_le s x.parent l)
+      | inl at ↦ let same = found_is x l at in grind (arith, missing_cons s l links, missing_cons (set.insert s x.parent) l links, missing_le links s x.parent, same, e, insert_new s x.parent)
+      | inr later ↦ grind (arith, set.members, missing_cons s l links, missing_cons (set.insert s x.parent) l links, missing_less links x s later e)
     ]
 
 -- ---- following links

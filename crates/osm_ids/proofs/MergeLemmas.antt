@@ -81,9 +81,8 @@ merging_late all done late ids other id m le =
 pub merging_end : (all done : Ids) (late ids : List ℤ) → Merging all done late ids → ids ≡ [] → done ≡ all
 merging_end all done [] ids m e =
     same_ids done all (λ x.
-    sym (or-false (set.contains done x))
-    ∙ ap (λ (l : List ℤ). set.contains done x || (list_any (int_eq x) l || false)) (sym e)
-    ∙ m.same x)
+    let none = ap (list_any (int_eq x)) e in
+    grind (arith, m.same x, none))
 merging_end all done (other ∷ late) ids m e =
     let reached = (m.reached other (first_among other late)).1 in
     absurd (true≢false (sym reached.1 ∙ ap (λ (l : List ℤ). set.contains (ids_of l) reached.0) e ∙ set.contains-empty int_cmp reached.0))

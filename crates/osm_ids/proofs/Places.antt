@@ -116,10 +116,10 @@ any_up (y ∷ ids) x top up there =
 -- a part has no other ids
 pub any_part : (ids : List ℤ) (at n : ℕ) (x : ℤ) → list_any (int_eq x) (take n (drop at ids)) ≡ true → list_any (int_eq x) ids ≡ true
 any_part ids at n x there =
-    ap (list_any (int_eq x)) (sym (take-append-drop at ids))
-    ∙ list_any-append (int_eq x) (take at ids) (drop at ids)
-    ∙ or_right (list_any (int_eq x) (take at ids)) _
-    (ap (list_any (int_eq x)) (sym (take-append-drop n (drop at ids))) ∙ list_any-append (int_eq x) (take n (drop at ids)) _ ∙ or_left (list_any (int_eq x) (take n (drop at ids))) _ there)
+    let back = drop at ids in
+    let in_back = ap (list_any (int_eq x)) (sym (take-append-drop n back)) ∙ list_any-append (int_eq x) (take n back) (drop n back) in
+    let in_all = ap (list_any (int_eq x)) (sym (take-append-drop at ids)) ∙ list_any-append (int_eq x) (take at ids) back in
+    grind (arith, in_back, in_all, there)
 
 pub rises_take : (low : ℤ) (n : ℕ) (ids : List ℤ) → Rises low ids → Rises low (take n ids)
 rises_take low zero ids h = tt
