@@ -8,7 +8,6 @@ use Rattle.std.specs.FinSet as set
 use Rattle.std.proofs.lemmas.Bool.{or_cases, or_right}
 use Rattle.std.proofs.lemmas.Bool.Decides.{Decides-int_eq}
 use Rattle.std.proofs.lemmas.Int.{ints}
-use Rattle.std.proofs.Math.Bool.{or-false}
 use Rattle.osm_ids.specs.Pages.{Rises, IsRising, rising}
 use Rattle.osm_ids.specs.Order.{AreLate}
 use Rattle.osm_ids.proofs.Sets.{Ids, ids_of, contains-ids_of, insert_cases}

@@ -1,8 +1,7 @@
 -- What a growing set knows of its pages.
-use Rattle.std.proofs.Common.{◌≡◌, true, false, ◌||◌, inl, inr, List, ℤ, refl, sym, ap, ◌∙◌, arith}
+use Rattle.std.proofs.Common.{inl, inr, List, ℤ, sym, ◌∙◌, arith}
 use Rattle.std.specs.List.{list_any}
 use Rattle.std.specs.Ordering.{int_eq}
-use Rattle.std.specs.Cmp.{int_cmp_total}
 use Rattle.std.specs.FinSet as set
 use Rattle.std.proofs.lemmas.Bool.{or_cases}
 use Rattle.std.proofs.lemmas.Int.{ints}

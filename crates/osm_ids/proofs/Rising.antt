@@ -1,5 +1,5 @@
 -- Rising ids, and where an id can be among them.
-use Rattle.std.proofs.Common.{◌≡◌, true, false, ◌||◌, ◌⊎◌, inl, inr, List, [], ◌∷◌, length, ℤ, ◌<ℤ◌, ◌≤ℤ◌, refl, sym, ap, ◌∙◌, arith, Less, Equal, Greater, true≢false}
+use Rattle.std.proofs.Common.{◌≡◌, true, false, ◌⊎◌, inl, inr, List, [], ◌∷◌, length, ℤ, ◌<ℤ◌, ◌≤ℤ◌, refl, sym, ap, ◌∙◌, arith, Less, Equal, Greater, true≢false}
 use Rattle.std.specs.List.{list_any}
 use Rattle.std.specs.List.Sorted.{IsStrictlySortedBy}
 use Rattle.std.specs.BTreeSet.{insert_key}
