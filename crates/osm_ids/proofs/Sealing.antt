@@ -172,15 +172,13 @@ page_ids_read page good = ap (raised page.first) (column_read (gaps page.first p
 ids_in-starts : (at : ℕ) (pages : List Page) (bytes : List ℕ) → drop at bytes ≡ bytes_of_pages pages → AllByRecursion IsGood pages → ids_in (starts_from at pages) bytes ≡ ids_of_pages pages
 ids_in-starts at [] bytes e good = refl
 ids_in-starts at (page ∷ []) bytes e good =
-    ap (λ s. page.first ∷ raised page.first (numbers_of s)) (e ∙ append-nil (page_bytes page)) ∙ ap (λ s. page.first ∷ s) (page_ids_read page good.0 ∙ sym (append-nil page.others))
+    grind (arith, e, append-nil (page_bytes page), page_ids_read page good.0, append-nil page.others)
 ids_in-starts at (page ∷ next ∷ pages) bytes e good =
     let rest = bytes_of_pages (next ∷ pages) in
     let size = length (page_bytes page) in
     let after : drop (at + size) bytes ≡ rest = sym (drop-drop size at bytes) ∙ ap (drop size) e ∙ drop-append_seam (page_bytes page) rest in
     let here : take ((at + size) - at) (drop at bytes) ≡ page_bytes page = ap (λ k. take k (drop at bytes)) (omega arith) ∙ ap (take size) e ∙ take-append_seam (page_bytes page) rest in
-    ap (λ s. page.first ∷ (raised page.first (numbers_of s) ++ ids_in (starts_from (at + size) (next ∷ pages)) bytes)) here
-    ∙ ap (λ s. page.first ∷ (s ++ ids_in (starts_from (at + size) (next ∷ pages)) bytes)) (page_ids_read page good.0)
-    ∙ ap (λ s. page.first ∷ (page.others ++ s)) (ids_in-starts (at + size) (next ∷ pages) bytes after good.1)
+    grind (arith, here, page_ids_read page good.0, ids_in-starts (at + size) (next ∷ pages) bytes after good.1)
 
 all_get : {X : Type 0} (P : X → Type 0) (xs : List X) (i : ℕ) (d : X) → AllByRecursion P xs → i < length xs → P (get_or xs i d)
 all_get P [] i d h lt = absurd (omega arith)
@@ -220,9 +218,8 @@ past_new (x ∷ ids) zero id le full =
 starts-new : (at : ℕ) (pages : List Page) (id : ℤ) → starts_from at (pages ++ lone id) ≡ starts_from at pages ++ record { first = id; place = at + length (bytes_of_pages pages) } ∷ []
 starts-new at [] id = ap (λ k. record { first = id; place = k } ∷ []) (omega arith)
 starts-new at (page ∷ pages) id =
-    ap (λ s. record { first = page.first; place = at } ∷ s)
-    (starts-new (at + length (page_bytes page)) pages id
-    ∙ ap (λ k. starts_from (at + length (page_bytes page)) pages ++ record { first = id; place = k } ∷ []) (omega (arith, length-append (page_bytes page) (bytes_of_pages pages))))
+    let size : (at + length (page_bytes page)) + length (bytes_of_pages pages) ≡ at + length (bytes_of_pages (page ∷ pages)) = omega (arith, length-append (page_bytes page) (bytes_of_pages pages)) in
+    grind (arith, size, starts-new (at + length (page_bytes page)) pages id)
 
 -- and otherwise the last page has one more
 gaps-push : (low : ℤ) (ids : List ℤ) (id : ℤ) → gaps low (ids ++ id ∷ []) ≡ gaps low ids ++ gap (last_from low ids) id ∷ []
@@ -236,10 +233,7 @@ record IsLonger (pages more : List Page) (last id : ℤ) : Type 0 where
 longer_last : (x : ℤ) (ids : List ℤ) (id : ℤ) → IsLonger (record { first = x; others = ids } ∷ []) (record { first = x; others = ids ++ id ∷ [] } ∷ []) (last_from x ids) id
 longer_last x ids id = record {
   starts = λ at. refl;
-  spelled = append-nil (packed (gaps x (ids ++ id ∷ [])))
-      ∙ ap packed (gaps-push x ids id)
-      ∙ sym (packed_push (gaps x ids) (gap (last_from x ids) id))
-      ∙ ap (λ (s : List ℕ). s ++ shortest (gap (last_from x ids) id)) (sym (append-nil (packed (gaps x ids))));
+  spelled = grind (arith, append-nil (packed (gaps x (ids ++ id ∷ []))), gaps-push x ids id, packed_push (gaps x ids) (gap (last_from x ids) id), append-nil (packed (gaps x ids)));
 }
 
 longer_cons : (page : Page) (pages more : List Page) (last id : ℤ) → IsLonger pages more last id → IsLonger (page ∷ pages) (page ∷ more) last id
@@ -372,11 +366,8 @@ module _ (index : List PageStart) (bytes : List ℕ) (ids : List ℤ) (s : IsSea
         let read : raised first (take 127 (numbers_of seen)) ≡ others = ap (raised first) front ∙ ap (λ z. raised z (gaps this.first others)) e ∙ raised-gaps this.first others good.0 in
         let fit : AllFit others = all_take (FitsSigned w64) 127 (drop (suc (128 * n)) ids) (all_drop (FitsSigned w64) (suc (128 * n)) ids s.fits) in
         let same : suc (128 * n) ≡ 128 * n + 1 = omega arith in
-        is (subst AllFit (sym read) fit)
-        ∙ ap (λ (l : List ℤ). first ∷ l) read
-        ∙ ap (λ z. z ∷ others) e
-        ∙ ap (λ k. first_of ids n ∷ take 127 (drop k ids)) same
-        ∙ sym (ap (take 128) (drop_more ids (128 * n) (pos 0) lt))
+        let cut = drop_more ids (128 * n) (pos 0) lt in
+        grind (arith, is (subst AllFit (sym read) fit), read, e, same, cut)
 
   -- the first ids of pages rise, so a search by halves finds where they pass an id
   first_is : (i : ℕ) (d : PageStart) → i < length index → (get_or index i d).first ≡ first_of ids i
@@ -418,11 +409,7 @@ module _ (index : List PageStart) (bytes : List ℕ) (ids : List ℤ) (s : IsSea
     pub new_page : length ids % 128 ≡ 0 → IsSealed (index ++ record { first = id; place = length bytes } ∷ []) bytes (ids ++ id ∷ [])
     new_page full =
         let e = past_new ids 0 id (omega arith) (omega (arith, full)) in
-        grown _ _
-        (ap (λ i. i ++ record { first = id; place = length bytes } ∷ []) s.starts
-        ∙ ap (λ k. starts_from 0 pages ++ record { first = id; place = k } ∷ []) (omega (arith, ap length s.spelled))
-        ∙ sym (ap (starts_from 0) e ∙ starts-new 0 pages id))
-        (s.spelled ∙ sym (ap bytes_of_pages e ∙ flat_map-append page_bytes pages (lone id) ∙ append-nil (bytes_of_pages pages)))
+        grown _ _ (grind (arith, s.starts, s.spelled, e, starts-new 0 pages id)) (grind (arith, s.spelled, e, flat_map-append page_bytes pages (lone id), append-nil (bytes_of_pages pages)))
 
     pub longer_page : (last : ℤ) → (0 < length ids → last ≡ last_from (pos 0) ids) → 0 < length ids % 128 → IsSealed index (bytes ++ shortest (gap last id)) (ids ++ id ∷ [])
     longer_page last ends part =
