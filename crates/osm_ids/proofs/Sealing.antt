@@ -49,9 +49,7 @@ full_page id ids rest full = first_page id (ids ++ rest) ∙ ap (λ (front : Lis
 -- and if it is the last
 last_page : (id : ℤ) (ids : List ℤ) → length ids ≤ 127 → pages_of (id ∷ ids) ≡ record { first = id; others = ids } ∷ []
 last_page id ids few =
-    first_page id ids
-    ∙ ap (λ (front : List ℤ). record { first = id; others = front } ∷ pages_past 127 ids) (take_all 127 ids few)
-    ∙ ap (λ (pages : List Page). record { first = id; others = ids } ∷ pages) (past_all ids 127 few)
+    grind (arith, first_page id ids, take_all 127 ids few, past_all ids 127 few)
 
 -- joined, they are the list
 ids-past : (skip : ℕ) (ids : List ℤ) → ids_of_pages (pages_past skip ids) ≡ drop skip ids
@@ -93,10 +91,8 @@ pages_of-ids [] h = refl
 pages_of-ids (page ∷ []) h = ap pages_of (append-nil (page_ids page)) ∙ last_page page.first page.others h
 pages_of-ids (page ∷ next ∷ pages) h =
     let rest = ids_of_pages (next ∷ pages) in
-    full_page page.first page.others rest (omega (arith, h.0))
-    ∙ ap (λ (front : List ℤ). record { first = page.first; others = front } ∷ pages_past 127 (page.others ++ rest)) (take_all 127 page.others (omega (arith, h.0)))
-    ∙ ap (λ (n : ℕ). page ∷ pages_past n (page.others ++ rest)) (sym h.0)
-    ∙ ap (λ (all : List Page). page ∷ all) (past_front page.others rest ∙ pages_of-ids (next ∷ pages) h.1)
+    let all = take_all 127 page.others (omega (arith, h.0)) in
+    grind (arith, full_page page.first page.others rest (omega (arith, h.0)), all, h.0, past_front page.others rest, pages_of-ids (next ∷ pages) h.1)
 
 -- ---- by their places
 
@@ -212,8 +208,7 @@ past_new [] (suc skip) id le full = absurd (omega (arith, le))
 past_new (x ∷ ids) (suc skip) id le full = past_new ids skip id (omega (arith, le)) (omega (arith, full))
 past_new (x ∷ ids) zero id le full =
     let page : Page = record { first = x; others = take 127 ids } in
-    full_page x ids (id ∷ []) (omega (arith, full))
-    ∙ ap (λ (pages : List Page). page ∷ pages) (past_new ids 127 id (omega (arith, full)) (omega (arith, full)))
+    grind (arith, full_page x ids (id ∷ []) (omega (arith, full)), past_new ids 127 id (omega (arith, full)) (omega (arith, full)))
 
 starts-new : (at : ℕ) (pages : List Page) (id : ℤ) → starts_from at (pages ++ lone id) ≡ starts_from at pages ++ record { first = id; place = at + length (bytes_of_pages pages) } ∷ []
 starts-new at [] id = ap (λ k. record { first = id; place = k } ∷ []) (omega arith)
@@ -333,23 +328,17 @@ module _ (index : List PageStart) (bytes : List ℕ) (ids : List ℤ) (s : IsSea
         elim (cases_lt (128 * (n + 1)) (length ids)) [
           | inl more ↦ take_at own _ 127 (omega (arith, size, most, left, more))
           | inr end ↦
-              let none = ap (λ (l : List Page). own ++ numbers_of (bytes_of_pages l)) (drop_all (n + 1) pages (omega (arith, past_count 0 ids, end))) in
-              ap (take 127) (none ∙ ap (λ (l : List ℕ). own ++ l) none_left ∙ append-nil own) ∙ take_all 127 own (omega (arith, size, most))
+              let none = drop_all (n + 1) pages (omega (arith, past_count 0 ids, end)) in
+              grind (arith, none, none_left, append-nil own, take_all 127 own (omega (arith, size, most)))
         ]
 
     pub start_is : (d : PageStart) → get_or index n d ≡ record { first = first_of ids n; place = length (bytes_of_pages (take n pages)) }
-    start_is d =
-        ap (λ i. get_or i n d) s.starts
-        ∙ start_at 0 pages n d (page_at ids 0) within
-        ∙ ap (λ (p : Page). record { first = p.first; place = 0 + length (bytes_of_pages (take n pages)) }) page_is
-        ∙ ap (λ k. record { first = first_of ids n; place = k }) (omega arith)
+    start_is d = grind (arith, s.starts, start_at 0 pages n d (page_at ids 0) within, page_is)
 
     cut : bytes ≡ bytes_of_pages (take n pages) ++ (page_bytes (page_at ids (128 * n)) ++ bytes_of_pages (drop (n + 1) pages))
     cut =
-        let this : drop n pages ≡ page_at ids (128 * n) ∷ drop (n + 1) pages = drop_more pages n (page_at ids 0) within ∙ ap (λ (p : Page). p ∷ drop (n + 1) pages) page_is in
-        s.spelled
-        ∙ ap bytes_of_pages (sym (take-append-drop n pages) ∙ ap (λ (l : List Page). take n pages ++ l) this)
-        ∙ flat_map-append page_bytes (take n pages) (page_at ids (128 * n) ∷ drop (n + 1) pages)
+        let this = page_at ids (128 * n) in
+        grind (arith, s.spelled, take-append-drop n pages, drop_more pages n (page_at ids 0) within, page_is, flat_map-append page_bytes (take n pages) (this ∷ drop (n + 1) pages))
 
     pub place_within : (place : ℕ) → place ≡ length (bytes_of_pages (take n pages)) → place ≤ length bytes
     place_within place at = omega (arith, at, ap length cut, length-append (bytes_of_pages (take n pages)) (page_bytes (page_at ids (128 * n)) ++ bytes_of_pages (drop (n + 1) pages)))
@@ -360,10 +349,11 @@ module _ (index : List PageStart) (bytes : List ℕ) (ids : List ℤ) (s : IsSea
         let this = page_at ids (128 * n) in
         let others = this.others in
         let back = bytes_of_pages (drop (n + 1) pages) in
-        let spelled : seen ≡ page_bytes this ++ back = f ∙ ap (λ k. drop k bytes) at ∙ ap (drop (length (bytes_of_pages (take n pages)))) cut ∙ drop-append_seam (bytes_of_pages (take n pages)) (page_bytes this ++ back) in
         let good = subst IsGood page_is (all_get IsGood pages n (page_at ids 0) all_good within) in
-        let front : take 127 (numbers_of seen) ≡ gaps this.first others = ap (λ b. take 127 (numbers_of b)) spelled ∙ ap (take 127) (gaps_read (gaps this.first others) back good.1) ∙ last_gaps in
-        let read : raised first (take 127 (numbers_of seen)) ≡ others = ap (raised first) front ∙ ap (λ z. raised z (gaps this.first others)) e ∙ raised-gaps this.first others good.0 in
+        let front = bytes_of_pages (take n pages) in
+        let own = gaps this.first others in
+        let read : raised first (take 127 (numbers_of seen)) ≡ others =
+            grind (arith, e, at, f, cut, drop-append_seam front (page_bytes this ++ back), gaps_read own back good.1, last_gaps, raised-gaps this.first others good.0) in
         let fit : AllFit others = all_take (FitsSigned w64) 127 (drop (suc (128 * n)) ids) (all_drop (FitsSigned w64) (suc (128 * n)) ids s.fits) in
         let same : suc (128 * n) ≡ 128 * n + 1 = omega arith in
         let cut = drop_more ids (128 * n) (pos 0) lt in
