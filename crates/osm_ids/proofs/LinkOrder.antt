@@ -1,6 +1,6 @@
 -- The order of links, and sets of them.
 use Rattle.std.proofs.Common.{◌≡◌, Bool, true, false, not, cond, ◌&&◌, inl, inr, List, [], ◌∷◌, ℤ, ◌≤ℤ◌, refl, sym, ap, subst, ◌∙◌, arith, FitsSigned, w64, Less, Equal, Greater, Ordering}
-use Rattle.std.specs.List.{filter, AllByRecursion}
+use Rattle.std.specs.List.{filter}
 use Rattle.std.specs.Ordering.{int_cmp, ordering_then, eq_by_cmp, is_eq, is_le, is_lt}
 use Rattle.std.specs.Cmp.{IsTotalOrder, int_cmp_total, then_total, on_total, tied_itself, int_ranked}
 use Rattle.std.specs.BTreeSet.{insert_key}
@@ -10,6 +10,7 @@ use Rattle.std.specs.BTreeMap.Range.{range_contains}
 use Rattle.std.proofs.lemmas.Int.{ints}
 use Rattle.std.proofs.lemmas.Bool.{or_cases, or_left, or_right}
 use Rattle.std.proofs.lemmas.Bool.Decides.{Decides-int_eq}
+use Rattle.std.proofs.lemmas.Map.Views.{any-filter_same}
 use Rattle.osm_ids.specs.declared.links.Link.{Link}
 use Rattle.osm_ids.specs.Links.{link_cmp, is_link_among, is_of, ParentsFit}
 use Rattle.osm_ids.proofs.Rising.{other_above, other_below}
@@ -50,6 +51,9 @@ alike Greater e = cc
 pub found_is : (l x : Link) → eq_by_cmp link_cmp l x ≡ true → l ≡ x
 found_is l x e = link_cmp-IsAntisymmetric l x (alike (link_cmp l x) e)
 
+pub found_itself : (l : Link) → eq_by_cmp link_cmp l l ≡ true
+found_itself l = ap is_eq (tied_itself link_cmp_total l)
+
 pub fit_more : (links : List Link) (new : Link) → ParentsFit links → FitsSigned w64 new.parent → ParentsFit (insert_key link_cmp links new)
 fit_more links new fit f l h =
     elim (or_cases (eq_by_cmp link_cmp l new) (is_link_among links l) (sym (any-insert_key link_cmp_total link_cmp-IsAntisymmetric links new l) ∙ h)) [
@@ -88,23 +92,13 @@ module _ (p q : Link → Bool) where
   alike_kept : (links : List Link) → ((l : Link) → is_link_among links l ≡ true → p l ≡ q l) → filter p links ≡ filter q links
   alike_kept [] h = refl
   alike_kept (x ∷ links) h =
-      let here = h x (or_left (eq_by_cmp link_cmp x x) (is_link_among links x) (ap is_eq (tied_itself link_cmp_total x))) in
+      let here = h x (or_left (eq_by_cmp link_cmp x x) (is_link_among links x) (found_itself x)) in
       let rest = alike_kept links (λ l e. h l (or_right (eq_by_cmp link_cmp l x) (is_link_among links l) e)) in
       ap (λ b. cond b (x ∷ filter p links) (filter p links)) here ∙ ap (λ ls. cond (q x) (x ∷ ls) ls) rest
 
 pub links_between : (links : List Link) (id lo hi : ℤ) → ((l : Link) → is_link_among links l ≡ true → (lo ≤ℤ l.parent) × (l.parent ≤ℤ hi)) → filter (range_contains link_cmp (Included (link_of id lo)) (Included (link_of id hi))) links ≡ filter (is_of id) links
 links_between links id lo hi fit = alike_kept _ _ links (λ l e. between_is id lo hi l (fit l e).0 (fit l e).1)
 
--- each link that a filter keeps passes the test and is among the links
-pub all_kept : (p : Link → Bool) (links : List Link) → AllByRecursion (λ l. (p l ≡ true) × (is_link_among links l ≡ true)) (filter p links)
-all_kept p [] = tt
-all_kept p (x ∷ links) =
-    let rest = weaken (filter p links) (all_kept p links) in
-    elim (p x) as (λ b. p x ≡ b → AllByRecursion (λ l. (p l ≡ true) × (is_link_among (x ∷ links) l ≡ true)) (cond b (x ∷ filter p links) (filter p links))) [
-      | true ↦ λ e. ((e, or_left (eq_by_cmp link_cmp x x) (is_link_among links x) (ap is_eq (tied_itself link_cmp_total x))), rest)
-      | false ↦ λ _. rest
-    ] refl
-  where
-    weaken : (ls : List Link) → AllByRecursion (λ l. (p l ≡ true) × (is_link_among links l ≡ true)) ls → AllByRecursion (λ l. (p l ≡ true) × (is_link_among (x ∷ links) l ≡ true)) ls
-    weaken [] h = tt
-    weaken (l ∷ ls) h = ((h.0.0, or_right (eq_by_cmp link_cmp l x) (is_link_among links l) h.0.1), weaken ls h.1)
+-- a filter keeps the links of an id
+pub kept_among : (id : ℤ) (links : List Link) (l : Link) → is_link_among (filter (is_of id) links) l ≡ (is_of id l && is_link_among links l)
+kept_among id links l = any-filter_same (eq_by_cmp link_cmp l) (is_of id) (is_of id l) (λ x e. ap (is_of id) (sym (found_is l x e))) links

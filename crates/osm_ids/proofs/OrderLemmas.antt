@@ -1,54 +1,21 @@
--- The greatest id of a set, and the ids that came out of order.
-use Rattle.std.proofs.Common.{◌≡◌, ◌<◌, true, false, ◌||◌, List, [], ◌∷◌, length, ℤ, ◌<ℤ◌, ◌≤ℤ◌, refl, sym, ap, subst, ◌∙◌, arith, true≢false}
+-- The ids that came out of order.
+use Rattle.std.proofs.Common.{◌≡◌, true, false, ◌||◌, inl, inr, List, [], ◌∷◌, ◌++◌, length, ℤ, ◌<ℤ◌, sym, ap, subst, ◌∙◌, arith}
 use Rattle.std.specs.List.{list_any}
 use Rattle.std.specs.Ordering.{int_eq, int_cmp}
 use Rattle.std.specs.Cmp.{int_cmp_total}
 use Rattle.std.specs.BTreeSet.{insert_key}
 use Rattle.std.specs.FinSet as set
-use Rattle.std.proofs.lemmas.Bool.{false_from_ne_true, or_from, or_right}
+use Rattle.std.proofs.lemmas.Bool.{false_from_ne_true, or_cases}
 use Rattle.std.proofs.lemmas.Bool.Decides.{Decides-int_eq}
 use Rattle.std.proofs.lemmas.Int.{ints}
-use Rattle.std.proofs.Math.Bool.{or_assoc, or-false}
-use Rattle.osm_ids.specs.Order.{IsAbove, IsGreatest, IsReached, AreLate}
-use Rattle.osm_ids.proofs.Sets.{Ids, ids_of, contains-ids_of, any-insert_key, or_swap}
-use Rattle.osm_ids.proofs.Rising.{other, len-rising, rising_list}
-
--- ---- the greatest id
-
-empty_has : (x : ℤ) → set.contains (set.empty {R = int_cmp}) x ≡ true → ⊥
-empty_has x e = true≢false (sym e ∙ set.contains-empty int_cmp x)
-
-pub none_greatest : (last : ℤ) → IsGreatest set.empty last
-none_greatest last = record { most = λ x e. absurd (empty_has x e); there = λ x e. absurd (empty_has x e) }
-
-pub insert_greatest : (ids : Ids) (id : ℤ) → IsAbove ids id → IsGreatest (set.insert ids id) id
-insert_greatest ids id up =
-    record {
-      most = λ x e.
-          elim (int_eq x id) as (λ b. int_eq x id ≡ b → (b || set.contains ids x) ≡ true → x ≤ℤ id) [
-            | true ↦ λ is _. let same : x ≡ id = (Decides-int_eq x id).0 is in omega (arith, ints)
-            | false ↦ λ _ old. let below = up x old in omega (arith, ints)
-          ] refl (sym (set.contains-insert int_cmp_total ids id x) ∙ e);
-      there = λ _ _. set.contains-insert int_cmp_total ids id id ∙ ap (λ b. b || set.contains ids id) ((Decides-int_eq id id).1 refl);
-    }
-
--- no id at all
-pub none_above_it : (ids : Ids) (id : ℤ) → set.len ids ≡ 0 → IsAbove ids id
-none_above_it ids id none x e = absurd (empty_has x (ap (λ (s : Ids). set.contains s x) (sym (set.empty_of_len ids none)) ∙ e))
-
-one_of : (ids : List ℤ) → 0 < length ids → (x : ℤ) × (list_any (int_eq x) ids ≡ true)
-one_of [] some = absurd (omega arith)
-one_of (x ∷ ids) some = (x, ap (λ b. b || list_any (int_eq x) ids) ((Decides-int_eq x x).1 refl))
-
-pub greatest_reaches : (ids : Ids) (last id : ℤ) → IsGreatest ids last → 0 < set.len ids → id ≤ℤ last → IsReached ids id
-greatest_reaches ids last id g some low =
-    let all = rising_list ids in
-    let one = one_of all.0 (subst (λ n. 0 < n) (ap (λ (s : Ids). set.len s) (sym all.2) ∙ len-rising all.0 all.1) some) in
-    (last, g.there one.0 (ap (λ (s : Ids). set.contains s one.0) (sym all.2) ∙ contains-ids_of all.0 one.0 ∙ one.1), low)
+use Rattle.std.proofs.lemmas.List.Folds.{list_any-append}
+use Rattle.osm_ids.specs.Order.{IsAbove, IsReached, AreLate}
+use Rattle.osm_ids.proofs.Sets.{Ids, ids_of, contains-ids_of, any-insert_key, ids_of-insert_key, insert_has}
+use Rattle.osm_ids.proofs.Rising.{other_above}
 
 -- ---- the ids that came out of order
 
-above_apart : (ids : Ids) (id : ℤ) → IsAbove ids id → set.contains ids id ≡ false
+pub above_apart : (ids : Ids) (id : ℤ) → IsAbove ids id → set.contains ids id ≡ false
 above_apart ids id up = false_from_ne_true (set.contains ids id) (λ e. let below = up id e in omega (arith, ints))
 
 -- an id below the greatest is not above all
@@ -57,18 +24,16 @@ late_below ids late id x l up e = let reached = (l x e).1 in let below = up reac
 
 pub late_lay : (ids : Ids) (late : List ℤ) (id : ℤ) → AreLate ids late → IsAbove ids id → AreLate (set.insert ids id) late
 late_lay ids late id l up x e =
-    let below = late_below ids late id x l up e in
-    let reached = (l x e).1 in (
-      set.contains-insert int_cmp_total ids id x ∙ or_from (int_eq x id) (set.contains ids x) (other x id (λ same. omega (arith, ints))) (l x e).0,
-      (reached.0, set.contains-insert int_cmp_total ids id reached.0 ∙ or_right (int_eq reached.0 id) (set.contains ids reached.0) reached.1, reached.2),
-    )
+    let below = other_above x id (late_below ids late id x l up e) in
+    let reached = (l x e).1 in
+    (grind (arith, set.members, below, (l x e).0), (reached.0, insert_has ids id reached.0 reached.1, reached.2))
 
 pub late_insert : (ids : Ids) (late : List ℤ) (id : ℤ) → AreLate ids late → set.contains ids id ≡ false → IsReached ids id → AreLate ids (insert_key int_cmp late id)
 late_insert ids late id l none reached x e =
-    elim (int_eq x id) as (λ b. int_eq x id ≡ b → (b || list_any (int_eq x) late) ≡ true → (set.contains ids x ≡ false) × IsReached ids x) [
-      | true ↦ λ is _. subst (λ z. (set.contains ids z ≡ false) × IsReached ids z) (sym ((Decides-int_eq x id).0 is)) (none, reached)
-      | false ↦ λ _ old. l x old
-    ] refl (sym (any-insert_key int_cmp_total set.int_cmp-IsAntisymmetric late id x) ∙ e)
+    elim (or_cases (int_eq x id) (list_any (int_eq x) late) (sym (any-insert_key int_cmp_total set.int_cmp-IsAntisymmetric late id x) ∙ e)) [
+      | inl is ↦ subst (λ z. (set.contains ids z ≡ false) × IsReached ids z) (sym ((Decides-int_eq x id).0 is)) (none, reached)
+      | inr old ↦ l x old
+    ]
 
 -- ---- both together
 
@@ -80,38 +45,30 @@ contains-with_late ids late x = set.contains-union int_cmp_total ids (ids_of lat
 
 pub new_above : (ids : Ids) (late : List ℤ) (id : ℤ) → AreLate ids late → IsAbove ids id → set.contains (with_late ids late) id ≡ false
 new_above ids late id l up =
-    contains-with_late ids late id
-    ∙ or_from (set.contains ids id) (list_any (int_eq id) late) (above_apart ids id up) (false_from_ne_true (list_any (int_eq id) late) (λ e. let below = late_below ids late id id l up e in omega (arith, ints)))
+    let apart = above_apart ids id up in
+    let none = false_from_ne_true (list_any (int_eq id) late) (λ e. let below = late_below ids late id id l up e in omega (arith, ints)) in
+    grind (arith, set.members, apart, none)
 
 pub same_ids : (s t : Ids) → ((x : ℤ) → set.contains s x ≡ set.contains t x) → s ≡ t
 same_ids s t = set.same_set int_cmp_total set.int_cmp-IsAntisymmetric s t
 
 pub lay-with_late : (ids : Ids) (late : List ℤ) (id : ℤ) → with_late (set.insert ids id) late ≡ set.insert (with_late ids late) id
-lay-with_late ids late id =
-    same_ids _ _ (λ x.
-    contains-with_late (set.insert ids id) late x
-    ∙ ap (λ b. b || list_any (int_eq x) late) (set.contains-insert int_cmp_total ids id x)
-    ∙ or_assoc (int_eq x id) (set.contains ids x) (list_any (int_eq x) late)
-    ∙ ap (λ b. int_eq x id || b) (sym (contains-with_late ids late x))
-    ∙ sym (set.contains-insert int_cmp_total (with_late ids late) id x))
+lay-with_late ids late id = same_ids _ _ (λ x. grind (arith, set.members))
 
 pub insert-with_late : (ids : Ids) (late : List ℤ) (id : ℤ) → with_late ids (insert_key int_cmp late id) ≡ set.insert (with_late ids late) id
-insert-with_late ids late id =
-    same_ids _ _ (λ x.
-    contains-with_late ids (insert_key int_cmp late id) x
-    ∙ ap (λ b. set.contains ids x || b) (any-insert_key int_cmp_total set.int_cmp-IsAntisymmetric late id x)
-    ∙ or_swap (set.contains ids x) (int_eq x id) (list_any (int_eq x) late)
-    ∙ ap (λ b. int_eq x id || b) (sym (contains-with_late ids late x))
-    ∙ sym (set.contains-insert int_cmp_total (with_late ids late) id x))
+insert-with_late ids late id = ap (set.union ids) (ids_of-insert_key late id) ∙ same_ids _ _ (λ x. grind (arith, set.members))
+
+pub ids_of-append : (ids late : List ℤ) → ids_of (ids ++ late) ≡ with_late (ids_of ids) late
+ids_of-append ids late = same_ids _ _ (λ x. grind (arith, set.members, list_any-append (int_eq x) ids late))
 
 pub none_late : (ids : Ids) → with_late ids [] ≡ ids
-none_late ids = same_ids _ _ (λ x. contains-with_late ids [] x ∙ or-false (set.contains ids x))
+none_late ids = same_ids _ _ (λ x. grind (arith, set.members))
 
 pub known_laid : (ids : Ids) (late : List ℤ) (id : ℤ) → set.contains ids id ≡ true → set.contains (with_late ids late) id ≡ true
-known_laid ids late id e = contains-with_late ids late id ∙ ap (λ b. b || list_any (int_eq id) late) e
+known_laid ids late id e = grind (arith, set.members)
 
 pub new_late : (ids : Ids) (late : List ℤ) (id : ℤ) → set.contains ids id ≡ false → set.contains (with_late ids late) id ≡ list_any (int_eq id) late
-new_late ids late id e = contains-with_late ids late id ∙ ap (λ b. b || list_any (int_eq id) late) e
+new_late ids late id e = grind (arith, set.members)
 
 pub empty_late : (ids : Ids) (late : List ℤ) → length late ≡ 0 → with_late ids late ≡ ids
 empty_late ids [] none = none_late ids

@@ -1,15 +1,15 @@
 -- What a growing set knows of its pages.
-use Rattle.std.proofs.Common.{◌≡◌, true, false, ◌||◌, List, ℤ, refl, sym, ap, ◌∙◌, arith}
+use Rattle.std.proofs.Common.{inl, inr, List, ℤ, sym, ◌∙◌, arith}
 use Rattle.std.specs.List.{list_any}
 use Rattle.std.specs.Ordering.{int_eq}
-use Rattle.std.specs.Cmp.{int_cmp_total}
 use Rattle.std.specs.FinSet as set
+use Rattle.std.proofs.lemmas.Bool.{or_cases}
 use Rattle.std.proofs.lemmas.Int.{ints}
 use Rattle.osm_ids.specs.declared.page.PageIds.{PageIds}
 use Rattle.osm_ids.specs.Order.{IsAbove, IsReached, AreLate}
 use Rattle.osm_ids.specs.Windows.{IsKept}
 use Rattle.osm_ids.proofs.Sets.{Ids, insert_has}
-use Rattle.osm_ids.proofs.Rising.{other}
+use Rattle.osm_ids.proofs.Rising.{other_above}
 use Rattle.osm_ids.proofs.OrderLemmas.{with_late, contains-with_late, known_laid}
 
 -- a greater id leaves true what a page says
@@ -25,7 +25,7 @@ kept_insert ids id page up k =
           let reached = k.reached x low below in
           let high = up reached.0 reached.1 in
           let most = reached.2 in
-          set.contains-insert int_cmp_total ids id x ∙ ap (λ b. b || set.contains ids x) (other x id (λ same. omega (arith, ints, high, most, same))) ∙ k.answer x low below;
+          grind (arith, set.members, other_above x id (omega (arith, ints, high, most)), k.answer x low below);
       reached = λ x low below. let reached = k.reached x low below in (reached.0, insert_has ids id reached.0 reached.1, reached.2);
     }
 
@@ -34,10 +34,10 @@ pub reached_laid : (ids : Ids) (late : List ℤ) (id : ℤ) → AreLate ids late
 reached_laid ids late id l reached =
     let x = reached.0 in
     let low = reached.2 in
-    elim (set.contains ids x) as (λ b. set.contains ids x ≡ b → (b || list_any (int_eq x) late) ≡ true → IsReached ids id) [
-      | true ↦ λ there _. (x, there, low)
-      | false ↦ λ _ old. let further = (l x old).1 in let high = further.2 in (further.0, further.1, omega (arith, ints, low, high))
-    ] refl (sym (contains-with_late ids late x) ∙ reached.1)
+    elim (or_cases (set.contains ids x) (list_any (int_eq x) late) (sym (contains-with_late ids late x) ∙ reached.1)) [
+      | inl there ↦ (x, there, low)
+      | inr old ↦ let further = (l x old).1 in let high = further.2 in (further.0, further.1, omega (arith, ints, low, high))
+    ]
 
 pub reached_all : (ids : Ids) (late : List ℤ) (id : ℤ) → IsReached ids id → IsReached (with_late ids late) id
 reached_all ids late id reached = (reached.0, known_laid ids late reached.0 reached.1, reached.2)

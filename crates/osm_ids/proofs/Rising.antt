@@ -1,19 +1,17 @@
 -- Rising ids, and where an id can be among them.
-use Rattle.std.proofs.Common.{◌≡◌, true, false, ◌||◌, ◌⊎◌, inl, inr, List, [], ◌∷◌, ◌++◌, length, ℤ, ◌<ℤ◌, ◌≤ℤ◌, refl, sym, ap, ◌∙◌, arith, Less, Equal, Greater, true≢false}
+use Rattle.std.proofs.Common.{◌≡◌, true, false, ◌⊎◌, inl, inr, List, [], ◌∷◌, length, ℤ, ◌<ℤ◌, ◌≤ℤ◌, refl, sym, ap, ◌∙◌, arith, Less, Equal, Greater, true≢false}
 use Rattle.std.specs.List.{list_any}
 use Rattle.std.specs.List.Sorted.{IsStrictlySortedBy}
 use Rattle.std.specs.BTreeSet.{insert_key}
 use Rattle.std.specs.Ordering.{int_eq, int_cmp, match_ordering}
 use Rattle.std.specs.Cmp.{int_cmp_total, int_ranked}
 use Rattle.std.specs.FinSet as set
-use Rattle.std.proofs.lemmas.Bool.{false_from_ne_true, or_right}
+use Rattle.std.proofs.lemmas.Bool.{false_from_ne_true}
 use Rattle.std.proofs.lemmas.Bool.Decides.{Decides-int_eq}
 use Rattle.std.proofs.lemmas.Int.{ints}
 use Rattle.std.proofs.lemmas.Map.Keys.{sorted_head, sorted_tail}
-use Rattle.std.proofs.lemmas.List.Folds.{list_any-append}
-use Rattle.std.proofs.Math.Bool.{or-false}
 use Rattle.osm_ids.proofs.Sets.{Ids, ids_of, contains-ids_of, ids_of-insert_key}
-use Rattle.osm_ids.specs.Pages.{Rises, IsRising, last_of, in_order, rising}
+use Rattle.osm_ids.specs.Pages.{Rises, IsRising, in_order, rising}
 
 pub other : (a b : ℤ) → (a ≡ b → ⊥) → int_eq a b ≡ false
 other a b ne = false_from_ne_true (int_eq a b) (λ e. ne ((Decides-int_eq a b).0 e))
@@ -27,30 +25,6 @@ other_below a b h = other a b (λ e. omega (arith, ints))
 pub rising_tail : (low : ℤ) (ids : List ℤ) → Rises low ids → IsRising ids
 rising_tail low [] h = tt
 rising_tail low (id ∷ ids) h = h.1
-
-pub rises_front : (low : ℤ) (xs ys : List ℤ) → Rises low (xs ++ ys) → Rises low xs
-rises_front low [] ys h = tt
-rises_front low (x ∷ xs) ys h = (h.0, rises_front x xs ys h.1)
-
-pub rises_below : (low : ℤ) (xs : List ℤ) (y : ℤ) (ys : List ℤ) → Rises low (xs ++ y ∷ ys) → low <ℤ y
-rises_below low [] y ys h = h.0
-rises_below low (x ∷ xs) y ys h = let next = rises_below x xs y ys h.1 in let first = h.0 in omega (arith, ints)
-
-pub rises_back : (low : ℤ) (xs : List ℤ) (y : ℤ) (ys : List ℤ) → Rises low (xs ++ y ∷ ys) → Rises y ys
-rises_back low [] y ys h = h.1
-rises_back low (x ∷ xs) y ys h = rises_back x xs y ys h.1
-
-pub rising_back : (xs : List ℤ) (y : ℤ) (ys : List ℤ) → IsRising (xs ++ y ∷ ys) → Rises y ys
-rising_back [] y ys h = h
-rising_back (x ∷ xs) y ys h = rises_back x xs y ys h
-
--- no id at or above y comes before y
-pub none_below : (xs : List ℤ) (y : ℤ) (ys : List ℤ) (id : ℤ) → IsRising (xs ++ y ∷ ys) → y ≤ℤ id → list_any (int_eq id) xs ≡ false
-none_below [] y ys id h le = refl
-none_below (x ∷ xs) y ys id h le =
-    let below = rises_below x xs y ys h in
-    let apart : x <ℤ id = omega (arith, ints) in
-    rw (other_below id x apart) (none_below xs y ys id (rising_tail x (xs ++ y ∷ ys) h) le)
 
 -- no id at or below low comes after low
 pub none_above : (low : ℤ) (ids : List ℤ) (id : ℤ) → Rises low ids → id ≤ℤ low → list_any (int_eq id) ids ≡ false
@@ -81,46 +55,6 @@ pub rises_from : (low x : ℤ) (ids : List ℤ) → low <ℤ x → Rises x ids �
 rises_from low x [] h r = tt
 rises_from low x (id ∷ ids) h r = let up = r.0 in (omega (arith, ints), r.1)
 
-pub rises_skip : (low : ℤ) (xs ys : List ℤ) → Rises low (xs ++ ys) → Rises low ys
-rises_skip low [] ys h = h
-rises_skip low (x ∷ xs) ys h = rises_from low x ys h.0 (rises_skip x xs ys h.1)
-
--- ---- the last of rising ids
-
-pub low_last : (low : ℤ) (ids : List ℤ) → Rises low ids → low ≤ℤ last_of low ids
-low_last low [] h = omega (arith, ints)
-low_last low (id ∷ ids) h = let next = low_last id ids h.1 in let first = h.0 in omega (arith, ints)
-
-pub all_last : (low : ℤ) (ids : List ℤ) (x : ℤ) → Rises low ids → list_any (int_eq x) (low ∷ ids) ≡ true → x ≤ℤ last_of low ids
-all_last low [] x h e = let same : x ≡ low = (Decides-int_eq x low).0 (sym (or-false (int_eq x low)) ∙ e) in omega (arith, ints)
-all_last low (id ∷ ids) x h e =
-    let later = λ (among : list_any (int_eq x) (id ∷ ids) ≡ true). all_last id ids x h.1 among in
-    elim (int_eq x low) as (λ b. int_eq x low ≡ b → (b || list_any (int_eq x) (id ∷ ids)) ≡ true → x ≤ℤ last_of id ids) [
-      | true ↦ λ is _. let same : x ≡ low = (Decides-int_eq x low).0 is in let up = low_last id ids h.1 in let first = h.0 in omega (arith, ints)
-      | false ↦ λ _ among. later among
-    ] refl e
-
-pub last_among : (low : ℤ) (ids : List ℤ) → list_any (int_eq (last_of low ids)) (low ∷ ids) ≡ true
-last_among low [] = rw (Decides-int_eq low low).1 refl
-last_among low (id ∷ ids) = or_right (int_eq (last_of id ids) low) (list_any (int_eq (last_of id ids)) (id ∷ ids)) (last_among id ids)
-
--- ---- where an id can be
-
--- one of the parts has it, if the others do not
-pub any_in_middle : (xs ys zs : List ℤ) (id : ℤ) → list_any (int_eq id) xs ≡ false → list_any (int_eq id) zs ≡ false → list_any (int_eq id) (xs ++ (ys ++ zs)) ≡ list_any (int_eq id) ys
-any_in_middle xs ys zs id before after =
-    list_any-append (int_eq id) xs (ys ++ zs) ∙ rw before (list_any-append (int_eq id) ys zs ∙ rw after (or-false (list_any (int_eq id) ys)))
-
--- and an id of a part is one of all
-pub any_in_last : (xs ys zs : List ℤ) (id : ℤ) → list_any (int_eq id) zs ≡ true → list_any (int_eq id) (xs ++ (ys ++ zs)) ≡ true
-any_in_last xs ys zs id there =
-    list_any-append (int_eq id) xs (ys ++ zs)
-    ∙ or_right (list_any (int_eq id) xs) (list_any (int_eq id) (ys ++ zs)) (list_any-append (int_eq id) ys zs ∙ or_right (list_any (int_eq id) ys) (list_any (int_eq id) zs) there)
-
-pub any_of_middle : (xs ys zs : List ℤ) (id : ℤ) → list_any (int_eq id) ys ≡ true → list_any (int_eq id) (xs ++ (ys ++ zs)) ≡ true
-any_of_middle xs ys zs id there =
-    list_any-append (int_eq id) xs (ys ++ zs) ∙ rw (list_any-append (int_eq id) ys zs, there) (or_right (list_any (int_eq id) xs) true refl)
-
 -- ---- a set has one rising list
 
 pub cases_order : (x y : ℤ) → (x <ℤ y) ⊎ ((y <ℤ x) ⊎ (x ≡ y))
@@ -130,6 +64,9 @@ cases_order x y =
       | Equal ↦ λ e. inr (inr (int_ranked x y Equal (sym e)))
       | Greater ↦ λ e. inr (inl (int_ranked x y Greater (sym e)))
     ] refl
+
+pub below_other : (x y : ℤ) → x ≤ℤ y → (x ≡ y → ⊥) → x <ℤ y
+below_other x y le other = elim (cases_order x y) [ inl below ↦ below | inr more ↦ elim more [ inl above ↦ absurd (omega (arith, ints)) | inr same ↦ absurd (other same) ] ]
 
 pub first_among : (x : ℤ) (xs : List ℤ) → list_any (int_eq x) (x ∷ xs) ≡ true
 first_among x xs = rw (Decides-int_eq x x).1 refl
@@ -142,11 +79,7 @@ module _ (x : ℤ) (xs : List ℤ) (y : ℤ) (ys : List ℤ) (alike : (id : ℤ)
       true≢false (sym (first_among x xs) ∙ alike x ∙ none)
 
   tails_alike : x ≡ y → Rises x xs → Rises y ys → (id : ℤ) → list_any (int_eq id) xs ≡ list_any (int_eq id) ys
-  tails_alike e rises others id =
-      elim (int_eq id x) as (λ b. int_eq id x ≡ b → list_any (int_eq id) xs ≡ list_any (int_eq id) ys) [
-        | true ↦ λ is. let at : id ≡ x = (Decides-int_eq id x).0 is in none_above x xs id rises (omega (arith, ints)) ∙ sym (none_above y ys id others (omega (arith, ints)))
-        | false ↦ λ is. ap (λ b. b || list_any (int_eq id) xs) (sym is) ∙ alike id ∙ ap (λ b. b || list_any (int_eq id) ys) (ap (int_eq id) (sym e) ∙ is)
-      ] refl
+  tails_alike e rises others id = grind (arith, alike id, Decides-int_eq id x, e, none_above x xs x rises (omega (arith, ints)), none_above y ys y others (omega (arith, ints)))
 
 pub same_rising : (xs ys : List ℤ) → IsRising xs → IsRising ys → ((id : ℤ) → list_any (int_eq id) xs ≡ list_any (int_eq id) ys) → xs ≡ ys
 same_rising [] [] h k alike = refl

@@ -1,12 +1,13 @@
 -- The keys of an ordered set as a finite set.
-use Rattle.std.proofs.Common.{◌≡◌, Bool, true, false, ◌||◌, ℕ, zero, suc, List, [], ◌∷◌, ℤ, ◌≤ℤ◌, refl, sym, ap, ◌∙◌, arith, Less, Equal, Greater, Ordering}
+use Rattle.std.proofs.Common.{◌≡◌, Bool, true, false, ◌||◌, ◌⊎◌, inl, inr, ℕ, zero, suc, List, [], ◌∷◌, ℤ, ◌≤ℤ◌, refl, sym, ap, ◌∙◌, arith, Less, Equal, Greater, Ordering}
 use Rattle.std.specs.List.{list_any, AllByRecursion}
 use Rattle.std.proofs.Math.ListN.{set as set_at}
 use Rattle.std.specs.Ordering.{int_eq, int_cmp, eq_by_cmp, match_ordering}
 use Rattle.std.specs.Cmp.{IsTotalOrder, int_cmp_total}
 use Rattle.std.specs.BTreeSet.{insert_key}
 use Rattle.std.specs.FinSet as set
-use Rattle.std.proofs.lemmas.Bool.{or_right}
+use Rattle.std.proofs.lemmas.Bool.{or_cases, or_right}
+use Rattle.std.proofs.lemmas.Bool.Decides.{Decides-int_eq}
 use Rattle.std.proofs.lemmas.Int.{ints}
 
 or_same : (a b : Bool) → (a || b) ≡ (a || (a || b))
@@ -32,7 +33,7 @@ module _ {K : Type 0} {R : K → K → Ordering} (o : IsTotalOrder R) (same : se
   pub from_list-insert_key : (keys : List K) (new : K) → set.from_list {R = R} (insert_key R keys new) ≡ set.insert (set.from_list keys) new
   from_list-insert_key keys new =
       set.same_set o same _ _
-      (λ k. set.contains-from_list o (insert_key R keys new) k ∙ any-insert_key keys new k ∙ ap (λ b. eq_by_cmp R k new || b) (sym (set.contains-from_list o keys k)) ∙ sym (set.contains-insert o (set.from_list keys) new k))
+      (λ k. grind (arith, set.members, o, any-insert_key keys new k))
 
 -- ---- ids
 
@@ -54,6 +55,10 @@ pub all_set : {X : Type 0} (P : X → Type 0) (xs : List X) (i : ℕ) (y : X) �
 all_set P [] i y h p = tt
 all_set P (x ∷ xs) zero y h p = (p, h.1)
 all_set P (x ∷ xs) (suc i) y h p = (h.0, all_set P xs i y h.1 p)
+
+pub insert_cases : (s : Ids) (p x : ℤ) → set.contains (set.insert s p) x ≡ true → (x ≡ p) ⊎ (set.contains s x ≡ true)
+insert_cases s p x h =
+    elim (or_cases (int_eq x p) (set.contains s x) (sym (set.contains-insert int_cmp_total s p x) ∙ h)) [ inl e ↦ inl ((Decides-int_eq x p).0 e) | inr e ↦ inr e ]
 
 pub insert_has : (s : Ids) (p x : ℤ) → set.contains s x ≡ true → set.contains (set.insert s p) x ≡ true
 insert_has s p x h = set.contains-insert int_cmp_total s p x ∙ or_right (int_eq x p) (set.contains s x) h

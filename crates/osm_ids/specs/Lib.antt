@@ -2,6 +2,5 @@ pub mod Pages
 pub mod Order
 pub mod Index
 pub mod Windows
-pub mod Merging
 pub mod Links
 pub mod Looking

@@ -48,15 +48,21 @@ is_in work id = list_any (int_eq id) work
 abbrev pub missing_parents : List Link → set.FinSet int_cmp → ℕ
 missing_parents links ids = count_by (λ (l : Link). not (set.contains ids l.parent)) links
 
--- the parents of an id are added, each new one to the work
-pub record IsAdded (links : List Link) (id : ℤ) (old : set.FinSet int_cmp) (old_work : List ℤ) (new : set.FinSet int_cmp) (new_work : List ℤ) : Type 0 where
-  pub grows : Has old (set.contains new)
-  pub fresh : (x : ℤ) → set.contains new x ≡ true → (set.contains old x ≡ true) ⊎ (is_in new_work x ≡ true)
-  pub kept : (x : ℤ) → is_in old_work x ≡ true → is_in new_work x ≡ true
-  pub known : (x : ℤ) → is_in new_work x ≡ true → (is_in old_work x ≡ true) ⊎ (set.contains new x ≡ true)
-  pub parents : (l : Link) → is_link_among links l ≡ true → l.member ≡ id → set.contains new l.parent ≡ true
-  pub only : (test : ℤ → Bool) → IsClosed (is_link_among links) test → test id ≡ true → Has old test → Has new test
-  pub work : 2 * missing_parents links new + length new_work ≤ 2 * missing_parents links old + length old_work
+-- a set grows towards the least one: the work has ids whose links are still to be followed, and of one more id these links are
+pub record IsClosing (links rest : List Link) (start ids : set.FinSet int_cmp) (work : List ℤ) : Type 0 where
+  pub holds : Has start (set.contains ids)
+  pub known : (x : ℤ) → is_in work x ≡ true → set.contains ids x ≡ true
+  pub left : (l : Link) → is_link_among rest l ≡ true → (is_link_among links l ≡ true) × (set.contains ids l.member ≡ true)
+  pub done : (l : Link) → is_link_among links l ≡ true → set.contains ids l.member ≡ true → (is_in work l.member ≡ true) ⊎ ((set.contains ids l.parent ≡ true) ⊎ (is_link_among rest l ≡ true))
+  pub least : (test : ℤ → Bool) → Has start test → IsClosed (is_link_among links) test → Has ids test
+
+-- a measure of what is to be done
+abbrev pub to_follow : List Link → set.FinSet int_cmp → List ℤ → ℕ
+to_follow links ids work = 2 * missing_parents links ids + length work
+
+-- of one id these links were followed, and these are left
+abbrev pub Follows : List Link → List Link → List Link → set.FinSet int_cmp → List ℤ → set.FinSet int_cmp → List ℤ → Type 0
+Follows links all rest old old_work new new_work = (start : set.FinSet int_cmp) → IsClosing links all start old old_work → IsClosing links rest start new new_work × (to_follow links new new_work ≤ to_follow links old old_work)
 
 -- the parents are numbers of 64 bits
 abbrev pub ParentsFit : List Link → Type 0

@@ -8,11 +8,6 @@ use Rattle.std.specs.FinSet as set
 abbrev pub IsAbove : set.FinSet int_cmp → ℤ → Type 0
 IsAbove ids id = (x : ℤ) → set.contains ids x ≡ true → x <ℤ id
 
--- the greatest of the set, if it has any
-pub record IsGreatest (ids : set.FinSet int_cmp) (last : ℤ) : Type 0 where
-  pub most : (x : ℤ) → set.contains ids x ≡ true → x ≤ℤ last
-  pub there : (x : ℤ) → set.contains ids x ≡ true → set.contains ids last ≡ true
-
 -- one of the set is no less than the id
 abbrev pub IsReached : set.FinSet int_cmp → ℤ → Type 0
 IsReached ids id = (x : ℤ) × (set.contains ids x ≡ true) × (id ≤ℤ x)

@@ -1,13 +1,13 @@
 -- Rising ids in pages: what lies in the index and in the bytes.
 use Rattle.std.specs.Prelude.{◌≡◌, ℕ, zero, suc, ◌+◌, ◌-◌, ◌≤◌, List, [], ◌∷◌, ◌++◌, length, take, drop, ℤ, pos, ◌+ℤ◌, ◌-ℤ◌, ◌<ℤ◌, unsigned_abs, FitsSigned}
 use Rattle.std.specs.Int.{w64}
-use Rattle.std.specs.List.{flat_map}
+use Rattle.std.specs.List.{flat_map, AllByRecursion}
 use Rattle.std.specs.BTreeSet.{insert_key}
 use Rattle.std.specs.Ordering.{int_cmp}
 use Rattle.std.specs.FinSet as set
 use Rattle.osm_ids.specs.declared.index.PageStart.{PageStart}
 use Rattle.pbf_wire.specs.Columns.{packed}
-use Rattle.pbf_wire.specs.Packed.{numbers_of}
+use Rattle.pbf_wire.specs.Packed.{last_from, numbers_of}
 
 -- ---- pages
 
@@ -56,11 +56,6 @@ page_bytes page = packed (gaps page.first page.others)
 abbrev pub bytes_of_pages : List Page → List ℕ
 bytes_of_pages pages = flat_map page_bytes pages
 
--- the last of these ids, or a first one
-abbrev pub last_of : ℤ → List ℤ → ℤ
-last_of first [] = first
-last_of first (id ∷ ids) = last_of id ids
-
 -- the index of pages whose bytes begin at a place
 abbrev pub starts_from : ℕ → List Page → List PageStart
 starts_from at [] = []
@@ -91,23 +86,19 @@ IsRising [] = Unit {0}
 IsRising (id ∷ ids) = Rises id ids
 
 abbrev pub AllFit : List ℤ → Type 0
-AllFit [] = Unit {0}
-AllFit (id ∷ ids) = FitsSigned w64 id × AllFit ids
+AllFit ids = AllByRecursion (FitsSigned w64) ids
 
--- the index and the bytes are those of the pages
-pub record IsSealed (index : List PageStart) (bytes : List ℕ) (pages : List Page) : Type 0 where
-  pub starts : index ≡ starts_from 0 pages
-  pub spelled : bytes ≡ bytes_of_pages pages
-  pub filled : HasFullPages pages
-  pub rising : IsRising (ids_of_pages pages)
-  pub fits : AllFit (ids_of_pages pages)
+-- the index and the bytes are those of the pages of rising ids
+pub record IsSealed (index : List PageStart) (bytes : List ℕ) (ids : List ℤ) : Type 0 where
+  pub starts : index ≡ starts_from 0 (pages_of ids)
+  pub spelled : bytes ≡ bytes_of_pages (pages_of ids)
+  pub rising : IsRising ids
+  pub fits : AllFit ids
 
--- the bytes of a page that begins with that id, and of the others in it
-pub record IsSpelled (first : ℤ) (others : List ℤ) (bytes : List ℕ) : Type 0 where
-  pub rises : Rises first others
-  pub fits : AllFit (first ∷ others)
-  pub few : length others ≤ 127
-  pub spelled : bytes ≡ packed (gaps first others)
+-- these numbers are how far apart the ids are that are still to come after those of a page
+pub record Reads (all held : List ℤ) (left : List ℕ) : Type 0 where
+  pub fits : AllFit (raised (last_from (pos 0) held) left)
+  pub whole : all ≡ held ++ raised (last_from (pos 0) held) left
 
 -- ---- the rising list of a set
 

@@ -1,5 +1,5 @@
 -- What look-ups in a set learnt.
-use Rattle.std.specs.Prelude.{◌≡◌, ℕ, ◌<◌, ◌≤◌, ◌-◌, List, take, get_or, ℤ, pos, ◌<ℤ◌, ◌≤ℤ◌, ◌+ℤ◌, ◌-ℤ◌, nat_abs, true, false}
+use Rattle.std.specs.Prelude.{◌≡◌, ℕ, ◌<◌, ◌≤◌, ◌-◌, List, length, take, get_or, ℤ, pos, ◌<ℤ◌, ◌≤ℤ◌, ◌+ℤ◌, ◌-ℤ◌, nat_abs, true, false}
 use Rattle.std.specs.List.{list_any, AllByRecursion}
 use Rattle.std.specs.Ordering.{int_eq, int_cmp}
 use Rattle.std.specs.FinSet as set
@@ -9,7 +9,8 @@ use Rattle.osm_ids.specs.declared.page.Known.{Known}
 use Rattle.osm_ids.specs.declared.page.PageIds.{PageIds}
 use Rattle.osm_ids.specs.declared.window.Window.{Window}
 use Rattle.osm_ids.specs.Order.{IsReached}
-use Rattle.osm_ids.specs.Pages.{IsRising, last_of}
+use Rattle.pbf_wire.specs.Packed.{last_from}
+use Rattle.osm_ids.specs.Pages.{IsRising}
 
 -- ---- a span of ids
 
@@ -41,7 +42,7 @@ first_held page = get_or page.ids 0 (pos 0)
 
 -- the last of them
 abbrev pub last_held : PageIds → ℤ
-last_held page = last_of (pos 0) (held page)
+last_held page = last_from (pos 0) (held page)
 
 -- these are ids of the set, and it has no others from the first of them up to `below`, to which it reaches
 pub record IsKept (ids : set.FinSet int_cmp) (page : PageIds) : Type 0 where
@@ -65,6 +66,12 @@ pub record IsPageOf (ids : set.FinSet int_cmp) (id : ℤ) (page : PageIds) : Typ
   pub kept : IsKept ids page
   pub begun : IsBegun page id
   pub answer : set.contains ids id ≡ list_any (int_eq id) (held page)
+
+-- so many of the ids are below this one
+pub record IsPlaced (ids : List ℤ) (id : ℤ) (at : ℕ) : Type 0 where
+  pub within : at ≤ length ids
+  pub behind : 0 < at → get_or ids (at - 1) (pos 0) <ℤ id
+  pub ahead : at < length ids → id ≤ℤ get_or ids at (pos 0)
 
 -- the number after another, or the same
 pub record IsNext (number next : ℤ) : Type 0 where

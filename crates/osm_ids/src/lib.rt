@@ -5,7 +5,6 @@
 mod index;
 pub mod laws;
 mod links;
-mod merge;
 mod page;
 mod pages;
 mod set;

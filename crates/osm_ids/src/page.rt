@@ -1,11 +1,12 @@
 //! The ids of one page, as numbers. A look-up is inlined; to read a page is a call, which few look-ups take.
 
-ghost use Rattle.std.specs.Prelude.{◌≡◌, ◌+◌, ◌<◌, ◌≤◌, ◌++◌, ◌<ℤ◌, ◌≤ℤ◌, int_lt, length, List, [], ◌∷◌, ℤ, IsTrue};
+ghost use Rattle.std.specs.Prelude.{◌≡◌, ◌+◌, ◌<◌, ◌≤◌, ◌++◌, ◌<ℤ◌, ◌≤ℤ◌, int_lt, length, take, List, [], ◌∷◌, ℕ, ℤ, IsTrue};
 ghost use Rattle.std.specs.List.{list_any};
 ghost use Rattle.std.specs.Ordering.{int_eq, int_cmp};
 ghost use Rattle.std.specs.FinSet as set;
-ghost use Rattle.osm_ids.specs.Pages.{AllFit, IsSpelled, last_of, raised};
-ghost use Rattle.osm_ids.specs.Windows.{IsBegun, IsKept, IsKnown, IsNext, IsRun, Tells, held, first_held, last_held};
+ghost use Rattle.pbf_wire.specs.Packed.{numbers_of};
+ghost use Rattle.osm_ids.specs.Pages.{AllFit, IsRising, Reads, raised};
+ghost use Rattle.osm_ids.specs.Windows.{IsBegun, IsKept, IsKnown, IsNext, IsPlaced, IsRun, Tells, held, first_held, last_held};
 
 use crate::pages::SealedIds;
 use pbf_wire::{Column, Span};
@@ -72,14 +73,13 @@ impl PageIds {
         self.round(id)
     }
 
-    /// Reads a page with that first id whose bytes these are. No other page follows, as long as none is named.
+    /// Reads a page with that first id: 128 ids, or fewer if the bytes end. No other page follows, as long as none is named.
     #[inline(never)]
     pub(crate) fn read(&mut self, first: i64, bytes: &[u8])
         ensures count { (0 < self.new.count) × (self.new.count ≤ 128) }
-        ensures ids { (others : List ℤ) → IsSpelled first others bytes.now
-            → held self.new ≡ first ∷ others }
-        ensures below { (others : List ℤ) → IsSpelled first others bytes.now
-            → IsNext (last_of first others) self.new.below }
+        ensures ids { AllFit (raised first (take 127 (numbers_of bytes.now)))
+            → held self.new ≡ first ∷ raised first (take 127 (numbers_of bytes.now)) }
+        ensures below { IsNext (last_held self.new) self.new.below }
     {
         let mut gaps = Column::packed(bytes);
         self.ids[0] = first;
@@ -102,8 +102,8 @@ impl PageIds {
         requires some { 0 < self.old.count }
         requires within { self.old.count + length gaps.now ≤ 128 }
         ensures count { self.new.count ≡ self.old.count + length gaps.now }
-        ensures ids { AllFit (raised (last_held self.old) gaps.now)
-            → held self.new ≡ held self.old ++ raised (last_held self.old) gaps.now }
+        ensures ids { (all : List ℤ) (more : List ℕ)
+            → Reads all (held self.old) (gaps.now ++ more) → Reads all (held self.new) more }
     {
         let mut last = self.ids[self.count - 1];
         let mut count = self.count;
@@ -122,7 +122,7 @@ impl PageIds {
         ensures known { (ids : set.FinSet int_cmp) → IsKept ids self.now → IsKnown ids result }
     {
         let ids = &self.ids[..self.count];
-        let at = ids.partition_point(|other| is_below(other, id));
+        let at = place_of(ids, id);
         if at == ids.len() {
             return told(false, ids[at - 1], self.below);
         }
@@ -132,6 +132,14 @@ impl PageIds {
         let to = run_after(ids, at);
         told(true, before(ids[at]), after(ids[to]))
     }
+}
+
+/// How many of rising ids are below an id.
+fn place_of(ids: &[i64], id: i64) -> usize
+    requires { IsRising ids.now }
+    ensures { IsPlaced ids.now id result }
+{
+    ids.partition_point(|other| is_below(other, id))
 }
 
 /// Whether a number is below an id.

@@ -1,13 +1,14 @@
 //! Rising ids in pages.
 
-ghost use Rattle.std.specs.Prelude.{◌≡◌, ◌<◌, ◌≤◌, ◌*◌, length, take, drop, List, ℤ, true, false, IfSome, IfNone, OnOk, OnErr};
+ghost use Rattle.std.specs.Prelude.{◌≡◌, ◌<◌, length, List, ℤ, true, false, IfSome, IfNone, OnOk, OnErr};
 ghost use Rattle.std.specs.Int.{div_ceil};
 ghost use Rattle.std.specs.FinSet as set;
 ghost use Rattle.osm_ids.specs.Pages.{IsRising, pages_of, bytes_of_pages, rising};
+ghost use Rattle.osm_ids.specs.Index.{HasPage, ArePassed, IsRead};
 ghost use Rattle.osm_ids.specs.Order.{IsAbove, IsReached};
-ghost use Rattle.osm_ids.specs.Windows.{IsPageOf, Tells, held};
+ghost use Rattle.osm_ids.specs.Windows.{IsPageOf, Tells};
 
-use crate::index::{PAGE, PageStart, begun_by, known_first, known_whole, read_before};
+use crate::index::{PAGE, PageStart, begins_up_to, bytes_from, first_id};
 use crate::page::{Known, PageIds, told};
 use pbf_wire::put_varint;
 use std::alloc::{AllocError, Global};
@@ -26,13 +27,13 @@ pub struct SealedIds {
 }
 
 impl Model for SealedIds {
-    ghost use Rattle.std.specs.Prelude.{◌≡◌, List, length};
+    ghost use Rattle.std.specs.Prelude.{◌≡◌, ◌<◌, List, length, ℤ, pos};
     ghost use Rattle.std.specs.Ordering.{int_cmp};
     ghost use Rattle.std.specs.Coded.{coded_ℤ};
     ghost use Rattle.std.specs.FinSet as set;
-    ghost use Rattle.osm_ids.specs.Pages.{Page, IsSealed, ids_of_pages};
+    ghost use Rattle.pbf_wire.specs.Packed.{last_from};
+    ghost use Rattle.osm_ids.specs.Pages.{IsSealed};
     ghost use Rattle.osm_ids.specs.Index.{set_in};
-    ghost use Rattle.osm_ids.specs.Order.{IsGreatest};
 
     ghost Value = { set.FinSet int_cmp };
 
@@ -40,9 +41,8 @@ impl Model for SealedIds {
 
     ghost view = { λ a. set_in a.index.items a.bytes.items };
 
-    ghost invariant = { λ a. (pages : List Page) × IsSealed a.index.items a.bytes.items pages
-        × (a.count ≡ length (ids_of_pages pages))
-        × IsGreatest (set_in a.index.items a.bytes.items) a.last };
+    ghost invariant = { λ a. (ids : List ℤ) × IsSealed a.index.items a.bytes.items ids
+        × (a.count ≡ length ids) × (0 < length ids → a.last ≡ last_from (pos 0) ids) };
 }
 
 impl SealedIds {
@@ -124,23 +124,48 @@ impl SealedIds {
         if self.last < id {
             return Some(told(false, self.last, i64::MAX));
         }
-        let begun = begun_by(&self.index, id);
+        let begun = self.begun(id);
         if begun == 0 {
-            return Some(known_first(&self.index));
+            return Some(told(false, i64::MIN, first_id(&self.index)));
         }
-        if let Some(known) = known_whole(&self.index, begun) {
+        if let Some(known) = self.whole(begun) {
             return Some(known);
         }
-        read_before(&self.index, &self.bytes, begun, page);
+        self.read(begun - 1, page);
         None
+    }
+
+    /// How many pages begin at or below the id.
+    fn begun(&self, id: i64) -> usize
+        ensures { ArePassed (rising self.now) id result }
+    {
+        self.index.partition_point(|start| begins_up_to(start, id))
+    }
+
+    /// The ids of the page before a place of the index, if the next page begins 128 above its first: it has 128, so the set has
+    /// all between. None is read then.
+    fn whole(&self, begun: usize) -> Option<Known>
+        requires { 0 < begun }
+        ensures { (id : ℤ) → ArePassed (rising self.now) id begun
+            → IfSome result (λ known. Tells self.now id known) }
+    {
+        let next = self.index.get(begun)?;
+        let first = self.index[begun - 1].first;
+        if next.first.abs_diff(first) != PAGE {
+            return None;
+        }
+        Some(told(true, first, next.first))
     }
 
     /// Reads the ids of a page.
     pub(crate) fn read(&self, page: usize, ids: &mut PageIds)
-        requires { page < div_ceil (set.len self.now) 128 }
-        ensures ids { held ids.new ≡ take 128 (drop (128 * page) (rising self.now)) }
-        ensures within { ids.new.count ≤ 128 }
+        requires { HasPage (rising self.now) page }
+        ensures { IsRead (rising self.now) page ids.new }
     {
-        read_before(&self.index, &self.bytes, page + 1, ids);
+        let start = self.index[page];
+        ids.read(start.first, bytes_from(&self.bytes, start.place));
+        if page + 1 < self.index.len() {
+            ids.below = self.index[page + 1].first;
+        }
     }
 }

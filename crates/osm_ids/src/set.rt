@@ -2,12 +2,11 @@
 
 ghost use Rattle.std.specs.Prelude.{◌≡◌, not, IfOk, IfErr, OnOk, OnErr};
 ghost use Rattle.std.specs.FinSet as set;
-ghost use Rattle.osm_ids.specs.Pages.{IsRising};
-ghost use Rattle.osm_ids.specs.Order.{IsReached};
+ghost use Rattle.osm_ids.specs.Order.{AreLate, IsReached};
 
-use crate::merge::Merged;
 use crate::page::PageIds;
 use crate::pages::SealedIds;
+use crate::walk::Walk;
 use crate::window::{IdLookup, Window};
 use std::alloc::{AllocError, Global};
 use std::collections::BTreeSet;
@@ -81,19 +80,19 @@ impl IdSet {
         Ok(self.late.insert(id)?)
     }
 
-    /// The ids in rising order.
+    /// The ids, in no order.
     pub(crate) fn to_vec(&self) -> Result<Vec<i64>, AllocError>
         ensures { IfOk result (λ ids. set.from_list ids.items ≡ self.now) }
     {
-        self.rising().collect(self.alloc)
-    }
-
-    /// The ids in rising order.
-    fn rising(&self) -> Merged<'_>
-        ensures same { set.from_list result ≡ self.now }
-        ensures rising { IsRising result }
-    {
-        Merged::new(&self.pages, &self.late)
+        let mut ids = Vec::new(self.alloc);
+        let mut walk = Walk::new(&self.pages);
+        'ids: while let Some(id) = walk.next() {
+            ids.push(id)?;
+        }
+        for id in self.late.iter() {
+            ids.push(*id)?;
+        }
+        Ok(ids)
     }
 
     /// Sorts the ids that came out of order among the others, so that all are looked up alike. Allocates only if there are any. The
@@ -102,7 +101,7 @@ impl IdSet {
         ensures { self.new ≡ self.old }
     {
         if !self.late.is_empty() {
-            self.pages = pages_of(self.alloc, self.rising())?;
+            self.pages = merged(self.alloc, &self.pages, &self.late)?;
             self.late = BTreeSet::new(self.alloc);
             self.here = PageIds::new();
         }
@@ -117,7 +116,7 @@ impl IdSet {
         if self.late.is_empty() {
             return Ok(self.pages);
         }
-        match pages_of(self.alloc, self.rising()) {
+        match merged(self.alloc, &self.pages, &self.late) {
             Ok(pages) => Ok(pages),
             Err(error) => Err((self, error)),
         }
@@ -138,14 +137,25 @@ impl IdLookup for IdSet {
     }
 }
 
-/// Rising ids, in pages.
-fn pages_of(alloc: Global, ids: Merged<'_>) -> Result<SealedIds, AllocError>
-    requires { IsRising ids }
-    ensures { IfOk result (λ pages. pages ≡ set.from_list ids.entry) }
+/// The ids of a set and late ones beside it, in new pages.
+fn merged(alloc: Global, ids: &SealedIds, late: &BTreeSet<i64>) -> Result<SealedIds, AllocError>
+    requires { AreLate ids.now late.now.keys }
+    ensures { IfOk result (λ all. all ≡ set.union ids.now (set.from_list late.now.keys)) }
 {
-    let mut pages = SealedIds::new(alloc);
-    for id in ids {
-        pages.push(id)?;
+    let mut all = SealedIds::new(alloc);
+    let mut late = late.iter();
+    let mut next = late.next().copied();
+    let mut walk = Walk::new(ids);
+    // Each late id is below one of the set, so none is left over.
+    'ids: while let Some(id) = walk.next() {
+        'late: while let Some(other) = next {
+            if id < other {
+                break 'late;
+            }
+            all.push(other)?;
+            next = late.next().copied();
+        }
+        all.push(id)?;
     }
-    Ok(pages)
+    Ok(all)
 }

@@ -4,6 +4,7 @@ ghost use Rattle.std.specs.Prelude.{◌≡◌};
 ghost use Rattle.std.specs.Iterator.{YieldsFirst};
 ghost use Rattle.osm_ids.specs.Pages.{rising};
 
+use crate::index::PAGE;
 use crate::page::PageIds;
 use crate::pages::SealedIds;
 use std::marker::Model;
@@ -12,23 +13,23 @@ use std::marker::Model;
 #[derive(Drop)]
 pub(crate) struct Walk<'a> {
     ids: &'a SealedIds,
-    /// The page whose ids come, and how many of them came.
+    /// How many ids came.
+    came: usize,
+    /// The page of the last of them.
     here: PageIds,
-    at: usize,
-    /// The page after it.
-    page: usize,
 }
 
 impl<'a> Model for Walk<'a> {
-    ghost use Rattle.std.specs.Prelude.{List, ℤ, ◌++◌, ◌*◌, ◌≤◌, drop};
+    ghost use Rattle.std.specs.Prelude.{◌≡◌, ◌<◌, ◌*◌, ◌/◌, ◌%◌, List, ℤ, take, drop};
     ghost use Rattle.osm_ids.specs.Pages.{rising};
     ghost use Rattle.osm_ids.specs.Windows.{held};
 
     ghost Value = { List ℤ };
 
-    ghost view = { λ a. drop a.at (held a.here) ++ drop (128 * a.page) (rising a.ids.now) };
+    ghost view = { λ a. drop a.came (rising a.ids.now) };
 
-    ghost invariant = { λ a. (a.at ≤ a.here.count) × (a.here.count ≤ 128) };
+    ghost invariant = { λ a. 0 < a.came % 128
+        → held a.here ≡ take 128 (drop (128 * (a.came / 128)) (rising a.ids.now)) };
 }
 
 impl<'a> Walk<'a> {
@@ -38,9 +39,8 @@ impl<'a> Walk<'a> {
     {
         Walk {
             ids,
+            came: 0,
             here: PageIds::new(),
-            at: 0,
-            page: 0,
         }
     }
 
@@ -48,16 +48,14 @@ impl<'a> Walk<'a> {
     pub(crate) fn next(&mut self) -> Option<i64>
         ensures { YieldsFirst (λ ids. ids) self.old result self.new }
     {
-        if self.at == self.here.count {
-            if self.page as u64 >= self.ids.pages() {
-                return None;
-            }
-            self.ids.read(self.page, &mut self.here);
-            self.at = 0;
-            self.page += 1;
+        if self.came as u64 >= self.ids.count() {
+            return None;
         }
-        let id = self.here.ids[self.at];
-        self.at += 1;
+        if self.came % PAGE as usize == 0 {
+            self.ids.read(self.came / PAGE as usize, &mut self.here);
+        }
+        let id = self.here.ids[self.came % PAGE as usize];
+        self.came += 1;
         Some(id)
     }
 }

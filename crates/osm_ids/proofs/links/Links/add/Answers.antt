@@ -1,9 +1,8 @@
-use Rattle.std.proofs.Common.{◌≡◌, Bool, not, ap, subst, sym, ◌∙◌, to_z, of_z, w64}
+use Rattle.std.proofs.Common.{arith, ◌≡◌, ap, subst, sym, ◌∙◌, to_z, of_z, w64}
 use Rattle.std.specs.BTreeSet.{insert_key}
-use Rattle.std.specs.FinSet as set
 use Rattle.std.proofs.lemmas.Int.{to_z-of_z}
 use Rattle.osm_ids.specs.declared.links.Link.{Link}
-use Rattle.osm_ids.specs.Links.{link_cmp, is_link_among, ParentsFit}
+use Rattle.osm_ids.specs.Links.{link_cmp, ParentsFit}
 use Rattle.osm_ids.proofs.LinkOrder.{contains-links, links-insert_key, fit_more}
 use Rattle.osm_ids.proofs.links.Links.add.Goals as goal
 use Rattle.osm_ids.proofs.links.Links.add.Goals.{In_ok-insert}
@@ -18,18 +17,7 @@ invariant_of-self-2 c =
     subst ParentsFit (sym (c.in_ok-insert.ensures.keys ∙ ap (insert_key link_cmp c.self.inside.links.keys) (link_is c))) (fit_more c.self.inside.links.keys new c.self.invariant c.ranges.parent)
 
 pub returns-clause-new : goal.returns-clause-new
-returns-clause-new c =
-    let keys = c.self.inside.links.keys in
-    let new : Link = record { member = c.args.member; parent = c.args.parent } in
-    c.in_ok-insert.ensures.added
-    ∙ ap (λ l. not (is_link_among keys l)) (link_is c)
-    ∙ ap (λ (test : Link → Bool). not (test new)) (sym (contains-links keys))
-    ∙ ap (λ s. not (set.contains s new)) c.self.view_is
+returns-clause-new c = grind (arith, link_is c, c.in_ok-insert.ensures.added, contains-links c.self.inside.links.keys, c.self.view_is)
 
 pub returns-clause-ok : goal.returns-clause-ok
-returns-clause-ok c =
-    let keys = c.self.inside.links.keys in
-    let new : Link = record { member = c.args.member; parent = c.args.parent } in
-    ap set.from_list (c.in_ok-insert.ensures.keys ∙ ap (insert_key link_cmp keys) (link_is c))
-    ∙ links-insert_key keys new
-    ∙ ap (λ s. set.insert s new) c.self.view_is
+returns-clause-ok c = grind (arith, link_is c, c.in_ok-insert.ensures.keys, links-insert_key c.self.inside.links.keys (record { member = c.args.member; parent = c.args.parent }), c.self.view_is)

@@ -1,4 +1,4 @@
-use Rattle.std.proofs.Common.{◌≡◌, sym, ap, subst, ◌∙◌, w64}
+use Rattle.std.proofs.Common.{arith, ◌≡◌, sym, ap, subst, ◌∙◌, w64}
 use Rattle.std.specs.List.{list_any}
 use Rattle.std.specs.Ordering.{int_eq}
 use Rattle.std.specs.FinSet as set
@@ -19,15 +19,7 @@ returns-clause-told c =
       | else-not-covers w ↦ subst (IsKept ids) (sym w.self-is) c.requires
     ] in
     let answer : set.contains ids id ≡ list_any (int_eq id) (held page) = elim c.if-not-covers.branch [
-      | then-not-covers+in_default w ↦
-          subst (λ (p : PageIds). set.contains ids id ≡ list_any (int_eq id) (held p)) (sym w.self-is)
-          (subst (λ z. set.contains ids z ≡ list_any (int_eq z) (held w.look.new.page)) same w.in_default.ensures.none.answer)
-      | else-not-covers w ↦
-          let near = c.covers.ensures w.if-not-covers.false in
-          subst (λ (p : PageIds). set.contains ids id ≡ list_any (int_eq id) (held p)) (sym w.self-is)
-          (subst (λ z. set.contains ids z ≡ list_any (int_eq z) (held c.args.self.now)) same (c.requires.answer _ near.0 near.1))
+      | then-not-covers+in_default w ↦ grind (arith, same, w.self-is, w.in_default.ensures.none.answer)
+      | else-not-covers w ↦ let near = c.covers.ensures w.if-not-covers.false in grind (arith, same, w.self-is, c.requires.answer _ near.0 near.1)
     ] in
-    record {
-      known = c.round.ensures.known ids kept;
-      there = answer ∙ ap (λ z. list_any (int_eq z) (held page)) (sym same) ∙ sym c.round.ensures.there;
-    }
+    record { known = c.round.ensures.known ids kept; there = grind (arith, same, answer, c.round.ensures.there) }

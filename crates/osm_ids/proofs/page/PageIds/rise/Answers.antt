@@ -1,9 +1,11 @@
-use Rattle.std.proofs.Common.{◌≡◌, ◌<◌, ◌+◌, ◌-◌, ◌∷◌, length, drop, pos, get_or, sym, ap, subst, ◌∙◌, arith, rules, to_z, w64}
+use Rattle.std.proofs.Common.{◌≡◌, ◌<◌, ◌+◌, ◌-◌, ◌∷◌, ◌++◌, ℕ, List, length, take, drop, pos, get_or, sym, ap, subst, ◌∙◌, arith, rules, to_z, w64}
 use mir.Val.{SFits}
 use Rattle.std.proofs.lemmas.Int.{to_z-of_z}
-use Rattle.std.proofs.lemmas.List.{drop_more, length-set}
-use Rattle.osm_ids.specs.Windows.{held, last_held}
-use Rattle.osm_ids.proofs.Reading.{Adds, last_at, adds_start, adds_turn, wrapped_sum}
+use Rattle.std.proofs.lemmas.List.{drop_all, drop_more, length-set, take_more_set}
+use Rattle.pbf_wire.specs.Packed.{last_from}
+use Rattle.osm_ids.specs.Pages.{Reads}
+use Rattle.osm_ids.proofs.Places.{last_at, last_push}
+use Rattle.osm_ids.proofs.Reading.{reads_next, wrapped_sum}
 use Rattle.osm_ids.proofs.page.PageIds.rise.Goals as goal
 
 pub loop-gap-init : goal.loop-gap-init
@@ -15,21 +17,33 @@ loop-gap-init c =
       some = c.requires.some;
       sum = omega arith;
       long = long;
-      adds = adds_start page.ids page.count _ c.args.gaps.now (to_z-of_z w64 _ fits ∙ sym (last_at page.ids page.count c.requires.some (omega (arith, c.requires.within, long))));
+      last_is = to_z-of_z w64 _ fits ∙ sym (last_at page.ids page.count c.requires.some (omega (arith, c.requires.within, long)));
+      reading = λ all more r. r;
     }
 
 pub loop-gap-preserved : goal.loop-gap-preserved
 loop-gap-preserved c =
     let l = c.loop-gap in
-    let page = c.args.self.now in
     let gaps = c.args.gaps.now in
     let last = to_z w64 l.last-bits in
+    let gap = c.from.result in
     let last_fits : SFits w64 last = search rules in
     let lt : l.gap-index < length gaps = c.loop-gap-test.true in
-    let next : drop l.gap-index gaps ≡ c.from.result ∷ drop (l.gap-index + 1) gaps = drop_more gaps l.gap-index 0 lt ∙ ap (λ n. n ∷ drop (l.gap-index + 1) gaps) (sym c.from.ensures) in
+    let room : l.count < length l.self.ids = omega (arith, l.invariant.sum, l.invariant.long, lt, c.requires.within) in
+    let next : drop l.gap-index gaps ≡ gap ∷ drop (l.gap-index + 1) gaps = drop_more gaps l.gap-index 0 lt ∙ ap (λ n. n ∷ drop (l.gap-index + 1) gaps) (sym c.from.ensures) in
+    let one = take_more_set l.self.ids l.count _ room in
     record {
       some = omega arith;
       sum = omega (arith, l.invariant.sum);
       long = length-set l.self.ids l.count _ ∙ l.invariant.long;
-      adds = adds_turn (last_held page) gaps (held page) l.self.ids l.count last _ c.from.result (drop (l.gap-index + 1) gaps) (subst (Adds (last_held page) gaps (held page) l.self.ids l.count last) next l.invariant.adds) (omega (arith, l.invariant.sum, l.invariant.long, lt, c.requires.within)) (wrapped_sum last c.from.result c.wrapping_add_unsigned-last.result last_fits c.wrapping_add_unsigned-last.ensures);
+      last_is = sym (ap (last_from (pos 0)) one ∙ last_push (pos 0) (take l.count l.self.ids) _);
+      reading = λ all more r.
+          reads_next all (take l.count l.self.ids) _ gap (drop (l.gap-index + 1) gaps ++ more) _
+          (subst (λ (ns : List ℕ). Reads all (take l.count l.self.ids) (ns ++ more)) next (l.invariant.reading all more r)) one
+          (wrapped_sum last _ gap c.wrapping_add_unsigned-last.result l.invariant.last_is last_fits c.wrapping_add_unsigned-last.ensures);
     }
+
+pub returns-clause-ids : goal.returns-clause-ids
+returns-clause-ids c = λ all more r.
+    let l = c.loop-gap in
+    subst (λ (ns : List ℕ). Reads all (take l.count l.self.ids) (ns ++ more)) (drop_all l.gap-index c.args.gaps.now (omega (arith, c.loop-gap-test.false))) (l.invariant.reading all more r)

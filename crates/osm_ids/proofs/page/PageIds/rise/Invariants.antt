@@ -1,6 +1,7 @@
-use Rattle.std.proofs.Common.{◌≡◌, ◌+◌, ◌<◌, length, drop}
-use Rattle.osm_ids.specs.Windows.{held, last_held}
-use Rattle.osm_ids.proofs.Reading.{Adds}
+use Rattle.std.proofs.Common.{◌≡◌, ◌+◌, ◌<◌, ◌++◌, length, take, drop, pos, List, ℕ, ℤ}
+use Rattle.pbf_wire.specs.Packed.{last_from}
+use Rattle.osm_ids.specs.Pages.{Reads}
+use Rattle.osm_ids.specs.Windows.{held}
 use Rattle.osm_ids.proofs.page.PageIds.rise.Given as goal
 
 abbrev pub invariant-loop-gap : goal.invariant-loop-gap
@@ -8,5 +9,6 @@ invariant-loop-gap l = record {
   some : 0 < l.count;
   sum : l.count ≡ l.fn.self.count + l.gap-index;
   long : length l.self.ids ≡ 128;
-  adds : Adds (last_held l.fn.self) l.fn.gaps (held l.fn.self) l.self.ids l.count l.last (drop l.gap-index l.gaps);
+  last_is : l.last ≡ last_from (pos 0) (take l.count l.self.ids);
+  reading : (all : List ℤ) (more : List ℕ) → Reads all (held l.fn.self) (l.fn.gaps ++ more) → Reads all (take l.count l.self.ids) (drop l.gap-index l.gaps ++ more);
 }

@@ -1,97 +1,57 @@
-use Rattle.std.proofs.Common.{◌≡◌, ◌-◌, ◌≤ℤ◌, ◌<ℤ◌, int_lt, pos, false, true, ℤ, length, get_or, refl, sym, ap, subst, ◌∙◌, arith, rules, of_z, w64}
+use Rattle.std.proofs.Common.{◌≡◌, ◌-◌, pos, length, get_or, sym, ap, ◌∙◌, arith, rules, of_z, w64, subst, ◌≤ℤ◌}
 use mir.Val.{SFits}
-use Rattle.std.specs.List.Sorted.{IsPartitionPoint}
 use Rattle.std.proofs.lemmas.Int.{to_z-of_z, ints}
-use Rattle.std.proofs.lemmas.List.{length-take-le}
-use Rattle.std.proofs.lemmas.List.Sorted.{IsPartitionPoint-from_clause}
+use Rattle.std.proofs.lemmas.List.{length-take}
 use Rattle.osm_ids.specs.declared.page.Known.{Known}
 use Rattle.osm_ids.specs.Windows.{IsNext, held}
-use Rattle.osm_ids.proofs.Rounds.{placed, parted, not_there, some_before, gap_known, run_known}
+use Rattle.osm_ids.proofs.Places.{any_at}
+use Rattle.osm_ids.proofs.Rounds.{not_there, some_before, gap_known, run_known, told_known}
 use Rattle.osm_ids.proofs.page.PageIds.round.Goals as goal
-
-pub overflow_sub-at : goal.overflow_sub-at
-overflow_sub-at c =
-    let id = c.args.id in
-    let page = c.args.self.now in
-    let long : length page.ids ≡ 128 = search rules in
-    let size = length-take-le page.count page.ids (omega (arith, c.requires.within, long)) in
-    omega (arith, c.if-at-ids.true, size, c.requires.some)
-
-pub overflow_sub-at-then-ids-at : goal.overflow_sub-at-then-ids-at
-overflow_sub-at-then-ids-at c =
-    let id = c.args.id in
-    let page = c.args.self.now in
-    let at = c.partition_point-at.result in
-    let long : length page.ids ≡ 128 = search rules in
-    let size = length-take-le page.count page.ids (omega (arith, c.requires.within, long)) in
-    let point : IsPartitionPoint (λ (z : ℤ). int_lt z id ≡ true) (λ (z : ℤ). int_lt z id ≡ false) (held page) at = IsPartitionPoint-from_clause (λ (z : ℤ). int_lt z id) _ _ c.partition_point-at.ensures.partitioned (parted (held page) id c.requires.rising) (λ a r q k. search rules) in
-    some_before page id at c.requires (omega (arith, size, c.requires.some)) (placed (held page) id at point c.partition_point-at.ensures.bound) (λ lt e. c.if-ids-at.true (ap (of_z w64) e))
 
 pub returns-then-at-ids-clause-there : goal.returns-then-at-ids-clause-there
 returns-then-at-ids-clause-there c =
-    let id = c.args.id in
-    let page = c.args.self.now in
-    let at = c.partition_point-at.result in
-    let point : IsPartitionPoint (λ (z : ℤ). int_lt z id ≡ true) (λ (z : ℤ). int_lt z id ≡ false) (held page) at = IsPartitionPoint-from_clause (λ (z : ℤ). int_lt z id) _ _ c.partition_point-at.ensures.partitioned (parted (held page) id c.requires.rising) (λ a r q k. search rules) in
     ap (λ (k : Known). k.there) c.told.ensures
-    ∙ sym (not_there (held page) id at c.requires.rising (placed (held page) id at point c.partition_point-at.ensures.bound) (λ lt _. omega (arith, lt, c.if-at-ids.true)))
+    ∙ sym (not_there c.args.self.now c.args.id _ c.place_of-at.result (to_z-of_z w64 c.args.id c.ranges.id) c.requires c.place_of-at.ensures (λ lt _. omega (arith, lt, c.if-at-ids.true)))
 
 pub returns-then-at-ids-clause-known : goal.returns-then-at-ids-clause-known
-returns-then-at-ids-clause-known c = λ ids kept x above below.
+returns-then-at-ids-clause-known c = λ ids kept.
     let page = c.args.self.now in
-    let at = c.partition_point-at.result in
+    let at = c.place_of-at.result in
     let long : length page.ids ≡ 128 = search rules in
-    let size = length-take-le page.count page.ids (omega (arith, c.requires.within, long)) in
-    let last : ℤ = get_or (held page) (at - 1) (pos 0) in
-    let low_fits : SFits w64 last = search rules in
-    let high_fits : SFits w64 page.below = search rules in
-    let low = subst (λ z. z <ℤ x) (ap (λ (k : Known). k.span.above) c.told.ensures ∙ to_z-of_z w64 last low_fits) above in
-    let high = subst (λ z. x <ℤ z) (ap (λ (k : Known). k.span.below) c.told.ensures ∙ to_z-of_z w64 page.below high_fits) below in
-    gap_known ids page at page.below kept c.requires.some (omega (arith, c.if-at-ids.true, size, c.requires.some)) c.partition_point-at.ensures.bound (λ _. refl) (λ lt. absurd (omega (arith, lt, c.if-at-ids.true))) x low high
-    ∙ sym (ap (λ (k : Known). k.there) c.told.ensures)
+    let low : SFits w64 (get_or (held page) (at - 1) (pos 0)) = search rules in
+    let high : SFits w64 page.below = search rules in
+    told_known ids _ _ _ _ _ _ c.told.ensures (to_z-of_z w64 _ low) (to_z-of_z w64 _ high)
+    (gap_known ids page at page.below kept (omega (arith, c.if-at-ids.true, length-take page.count page.ids, long, c.requires.some)) c.place_of-at.ensures.within (omega (arith, ints)) (λ lt. absurd (omega (arith, lt, c.if-at-ids.true))))
 
 pub returns-then-ids-at-clause-there : goal.returns-then-ids-at-clause-there
 returns-then-ids-at-clause-there c =
-    let id = c.args.id in
-    let page = c.args.self.now in
-    let at = c.partition_point-at.result in
-    let point : IsPartitionPoint (λ (z : ℤ). int_lt z id ≡ true) (λ (z : ℤ). int_lt z id ≡ false) (held page) at = IsPartitionPoint-from_clause (λ (z : ℤ). int_lt z id) _ _ c.partition_point-at.ensures.partitioned (parted (held page) id c.requires.rising) (λ a r q k. search rules) in
     ap (λ (k : Known). k.there) c.told-then-ids-at.ensures
-    ∙ sym (not_there (held page) id at c.requires.rising (placed (held page) id at point c.partition_point-at.ensures.bound) (λ lt e. c.if-ids-at.true (ap (of_z w64) e)))
+    ∙ sym (not_there c.args.self.now c.args.id _ c.place_of-at.result (to_z-of_z w64 c.args.id c.ranges.id) c.requires c.place_of-at.ensures (λ lt e. c.if-ids-at.true (ap (of_z w64) e)))
 
 pub returns-then-ids-at-clause-known : goal.returns-then-ids-at-clause-known
-returns-then-ids-at-clause-known c = λ ids kept x above below.
+returns-then-ids-at-clause-known c = λ ids kept.
     let page = c.args.self.now in
-    let at = c.partition_point-at.result in
-    let id = c.args.id in
+    let at = c.place_of-at.result in
     let long : length page.ids ≡ 128 = search rules in
-    let size = length-take-le page.count page.ids (omega (arith, c.requires.within, long)) in
-    let point : IsPartitionPoint (λ (z : ℤ). int_lt z id ≡ true) (λ (z : ℤ). int_lt z id ≡ false) (held page) at = IsPartitionPoint-from_clause (λ (z : ℤ). int_lt z id) _ _ c.partition_point-at.ensures.partitioned (parted (held page) id c.requires.rising) (λ a r q k. search rules) in
-    let begun = some_before page id at c.requires (omega (arith, size, c.requires.some)) (placed (held page) id at point c.partition_point-at.ensures.bound) (λ lt e. c.if-ids-at.true (ap (of_z w64) e)) in
-    let last : ℤ = get_or (held page) (at - 1) (pos 0) in
-    let next : ℤ = get_or (held page) at (pos 0) in
-    let low_fits : SFits w64 last = search rules in
-    let high_fits : SFits w64 next = search rules in
-    let e = c.told-then-ids-at.ensures in
-    let low = subst (λ z. z <ℤ x) (ap (λ (k : Known). k.span.above) e ∙ to_z-of_z w64 last low_fits) above in
-    let high = subst (λ z. x <ℤ z) (ap (λ (k : Known). k.span.below) e ∙ to_z-of_z w64 next high_fits) below in
-    gap_known ids page at next kept c.requires.some begun c.partition_point-at.ensures.bound (λ end. absurd (c.if-at-ids.false end)) (λ _. refl) x low high
-    ∙ sym (ap (λ (k : Known). k.there) e)
+    let low : SFits w64 (get_or (held page) (at - 1) (pos 0)) = search rules in
+    let high : SFits w64 (get_or (held page) at (pos 0)) = search rules in
+    let some = some_before page c.args.id _ at (to_z-of_z w64 c.args.id c.ranges.id) c.requires c.place_of-at.ensures (λ lt e. c.if-ids-at.true (ap (of_z w64) e)) (omega (arith, length-take page.count page.ids, long, c.requires.some)) in
+    told_known ids _ _ _ _ _ _ c.told-then-ids-at.ensures (to_z-of_z w64 _ low) (to_z-of_z w64 _ high)
+    (gap_known ids page at _ kept some c.place_of-at.ensures.within (kept.top _ (any_at (held page) at (omega (arith, c.if-at-ids.false, c.place_of-at.ensures.within)))) (λ _. omega (arith, ints)))
 
 pub returns-clause-known : goal.returns-clause-known
-returns-clause-known c = λ ids kept x above below.
+returns-clause-known c = λ ids kept.
     let page = c.args.self.now in
-    let at = c.partition_point-at.result in
+    let at = c.place_of-at.result in
     let to = c.run_after-to.result in
-    let low_fits : SFits w64 c.before-2.result = search rules in
-    let high_fits : SFits w64 c.after.result = search rules in
-    let first_fits : SFits w64 (get_or (held page) at (pos 0)) = search rules in
-    let last_fits : SFits w64 (get_or (held page) to (pos 0)) = search rules in
-    let e = c.told-2.ensures in
-    let low = subst (λ z. z <ℤ x) (ap (λ (k : Known). k.span.above) e ∙ to_z-of_z w64 c.before-2.result low_fits) above in
-    let high = subst (λ z. x <ℤ z) (ap (λ (k : Known). k.span.below) e ∙ to_z-of_z w64 c.after.result high_fits) below in
-    let begins = subst (λ z. z ≤ℤ x) (to_z-of_z w64 _ first_fits) (c.before-2.ensures x low) in
-    let next = subst (λ z. IsNext z c.after.result) (to_z-of_z w64 _ last_fits) c.after.ensures in
+    let run = c.run_after-to.ensures in
+    let low : SFits w64 c.before-2.result = search rules in
+    let high : SFits w64 c.after.result = search rules in
+    let first : SFits w64 (get_or (held page) at (pos 0)) = search rules in
+    let last : SFits w64 (get_or (held page) to (pos 0)) = search rules in
+    told_known ids _ _ _ _ _ _ c.told-2.ensures (to_z-of_z w64 _ low) (to_z-of_z w64 _ high)
+    (λ x above below.
+    let begins = subst (λ z. z ≤ℤ x) (to_z-of_z w64 _ first) (c.before-2.ensures x above) in
+    let next = subst (λ z. IsNext z c.after.result) (to_z-of_z w64 _ last) c.after.ensures in
     let up = next.high in
-    run_known ids page at to kept c.run_after-to.ensures.high.0 c.run_after-to.ensures.high.1 c.run_after-to.ensures.run x begins (omega (arith, ints, up, high))
-    ∙ sym (ap (λ (k : Known). k.there) e)
+    run_known ids page at to kept run.high.0 run.high.1 run.run x begins (omega (arith, ints, up, below)))

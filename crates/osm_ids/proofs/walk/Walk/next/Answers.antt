@@ -1,59 +1,46 @@
-use Rattle.std.proofs.Common.{◌≡◌, ◌<◌, ◌≤◌, ◌*◌, ◌+◌, ◌++◌, ◌∷◌, pos, List, ℤ, length, drop, get_or, sym, ap, subst, ◌∙◌, arith, rules, w64}
+use Rattle.std.proofs.Common.{◌≡◌, ◌<◌, ◌*◌, ◌+◌, ◌%◌, ◌/◌, ◌∷◌, pos, List, ℤ, length, take, drop, get_or, sym, ap, subst, ◌∙◌, arith, rules, w64}
 use mir.Val.{SFits}
 use Rattle.std.proofs.lemmas.Int.{to_z-of_z}
-use Rattle.std.proofs.lemmas.List.{length-take}
+use Rattle.std.proofs.lemmas.List.{drop_all}
 use Rattle.osm_ids.specs.declared.walk.Walk.TheInside.{Inside}
 use Rattle.osm_ids.specs.Pages.{rising}
 use Rattle.osm_ids.specs.Windows.{held}
-use Rattle.osm_ids.proofs.Walking.{walk_end, next_page, some_next, step}
+use Rattle.osm_ids.proofs.Walking.{len_is, walked}
 use Rattle.osm_ids.proofs.walk.Walk.next.Goals as goal
-use Rattle.osm_ids.proofs.walk.Walk.next.Goals.{then-self+else-self-pages, else-self}
+use Rattle.osm_ids.proofs.walk.Walk.next.Goals.{Joined-self-eq0, then-self-eq0, else-self-eq0}
 
--- an id is next in this state
-record IsReady (all : List ℤ) (v : Inside) : Type 0 where
-  same : all ≡ drop v.at (held v.here) ++ drop (128 * v.page) (rising v.ids.now)
-  more : v.at < length (held v.here)
-  few : v.here.count ≤ 128
-
-ready : (c : goal.After-self-2-1) → IsReady c.args.self.now c.if-self.self-inside
-ready c =
-    elim c.if-self.branch [
-      | then-self+else-self-pages w ↦
-          let ids = c.self.inside.ids.now in
-          let n = c.self.inside.page in
-          let page = w.read.ensures.ids in
-          subst (IsReady c.args.self.now) (sym w.self-inside-is) (record {
-            same = sym c.self.view_is ∙ next_page ids c.self.inside.here w.read.new.ids c.self.inside.at n (omega (arith, w.if-self.true)) page;
-            more = some_next ids w.read.new.ids n (omega (arith, w.pages.ensures, w.if-self-pages.false)) page;
-            few = w.read.ensures.within;
-          })
-      | else-self w ↦
-          let here = c.self.inside.here in
-          let long : length here.ids ≡ 128 = search rules in
-          subst (IsReady c.args.self.now) (sym w.self-inside-is) (record {
-            same = sym c.self.view_is;
-            more = omega (arith, length-take here.count here.ids, long, w.if-self.false, c.self.invariant.0, c.self.invariant.1);
-            few = c.self.invariant.1;
-          })
-    ]
-
-pub returns-then-self-pages : goal.returns-then-self-pages
-returns-then-self-pages c =
-    let e = sym c.self.view_is ∙ walk_end c.self.inside.ids.now c.self.inside.here c.self.inside.at c.self.inside.page c.pages.result (omega (arith, c.if-self.true)) c.pages.ensures c.if-self-pages.true in
+pub returns-then-self-count : goal.returns-then-self-count
+returns-then-self-count c =
+    let e = sym c.self.view_is ∙ drop_all c.self.inside.came (rising c.self.inside.ids.now) (omega (arith, len_is c.self.inside.ids.now, c.count.ensures, c.if-self-count.true)) in
     (e, e)
 
+pub read-requires : goal.read-requires
+read-requires c = omega (arith, len_is c.self.inside.ids.now, c.count.ensures, c.if-self-count.false)
+
+-- the page of the next id
+record IsReady (all : List ℤ) (v : Inside) : Type 0 where
+  same : all ≡ drop v.came (rising v.ids.now)
+  more : v.came < length (rising v.ids.now)
+  here : held v.here ≡ take 128 (drop (128 * (v.came / 128)) (rising v.ids.now))
+
+ready : (c : Joined-self-eq0) → IsReady c.args.self.now c.if-self-eq0.self-inside
+ready c =
+    let more : c.self.inside.came < length (rising c.self.inside.ids.now) = omega (arith, len_is c.self.inside.ids.now, c.count.ensures, c.if-self-count.false) in
+    elim c.if-self-eq0.branch [
+      | then-self-eq0 w ↦ subst (IsReady c.args.self.now) (sym w.self-inside-is) (record { same = sym c.self.view_is; more = more; here = w.read.ensures.held_is })
+      | else-self-eq0 w ↦ subst (IsReady c.args.self.now) (sym w.self-inside-is) (record { same = sym c.self.view_is; more = more; here = c.self.invariant (omega (arith, w.if-self-eq0.false)) })
+    ]
+
 pub invariant_of-self : goal.invariant_of-self
-invariant_of-self c =
-    let r = ready c in
-    let here = c.if-self.self-inside.here in
-    (omega (arith, r.more, length-take here.count here.ids), r.few)
+invariant_of-self c = λ some.
+    let v = c.if-self-eq0.self-inside in
+    let same : v.came / 128 ≡ (v.came + 1) / 128 = omega (arith, some) in
+    subst (λ n. held v.here ≡ take 128 (drop (128 * n) (rising v.ids.now))) same (ready c.before.before.before).here
 
 pub returns : goal.returns
 returns c =
-    let v = c.if-self.self-inside in
-    let r = ready c in
-    let id : ℤ = get_or v.here.ids v.at (pos 0) in
+    let v = c.if-self-eq0.self-inside in
+    let r = ready c.before.before.before in
+    let id : ℤ = get_or v.here.ids (v.came % 128) (pos 0) in
     let fits : SFits w64 id = search rules in
-    r.same
-    ∙ step v.here v.at (drop (128 * v.page) (rising v.ids.now)) r.more
-    ∙ ap (λ z. z ∷ (drop (v.at + 1) (held v.here) ++ drop (128 * v.page) (rising v.ids.now))) (sym (to_z-of_z w64 id fits))
+    r.same ∙ walked (rising v.ids.now) v.here v.came r.more r.here ∙ ap (λ z. z ∷ drop (v.came + 1) (rising v.ids.now)) (sym (to_z-of_z w64 id fits))

@@ -1,0 +1,73 @@
+use Rattle.std.proofs.Common.{◌≡◌, ◌∷◌, ◌<ℤ◌, [], List, ℤ, Option, IfNone, Some, length, sym, ap, subst, ◌∙◌, arith, rules, to_z, of_z, w64}
+use mir.Val.{SFits}
+use Rattle.std.specs.List.{cons_option}
+use Rattle.std.specs.FinSet as set
+use Rattle.std.proofs.lemmas.Int.{to_z-of_z, ints}
+use Rattle.osm_ids.specs.Pages.{Rises}
+use Rattle.osm_ids.proofs.Sets.{Ids}
+use Rattle.osm_ids.proofs.Rising.{rising_from_sorted}
+use Rattle.osm_ids.proofs.OrderLemmas.{with_late}
+use Rattle.osm_ids.proofs.MergeLemmas.{Merging, merging_start, merging_id, merging_late, merging_end, taken, taken_none, up_some, up_none}
+use Rattle.osm_ids.proofs.set.merged.Goals as goal
+use Rattle.osm_ids.proofs.set.merged.Goals.{in-Some-next+then-id-other, in_default-next}
+
+pub ids-init : goal.ids-init
+ids-init c =
+    let ids = c.args.ids.now in
+    let keys = c.args.late.now.keys in
+    let all = with_late ids keys in
+    record {
+      merging = subst (λ (s : Ids). Merging all s (cons_option c.copied-next.result c.next.new.self) c.new-walk.result) (sym c.new-all.ensures)
+          (subst (λ (l : List ℤ). Merging all set.empty l c.new-walk.result) (sym c.iter-late.ensures.rest ∙ taken _ _ _ _ c.next.ensures.steps c.copied-next.ensures)
+          (subst (Merging all set.empty keys) (sym c.new-walk.ensures) (merging_start ids keys c.requires (rising_from_sorted keys c.iter-late.ensures.ordered))));
+      rest = taken_none _ _ _ _ c.next.ensures.steps c.copied-next.ensures;
+    }
+
+pub late-smaller : goal.late-smaller
+late-smaller c =
+    let l = c.late in
+    omega (arith, ap (λ (o : Option ℤ). length (cons_option o l.late)) c.in-Some-next.is, ap length (taken _ _ _ _ c.next-in-Some-next.ensures.steps c.copied-next-in-Some-next.ensures))
+
+pub late-preserved : goal.late-preserved
+late-preserved c =
+    let l = c.late in
+    let id = to_z w64 (of_z w64 c.in-Some.id) in
+    let other = to_z w64 (of_z w64 c.in-Some-next.other) in
+    let left = id ∷ c.next-in-ids.new.self in
+    let all = with_late c.args.ids.now c.args.late.now.keys in
+    let fits : SFits w64 c.in-Some-next.other = search rules in
+    let next = c.in-Some-next.is ∙ ap Some (sym (to_z-of_z w64 c.in-Some-next.other fits)) in
+    let m : Merging all l.all (other ∷ l.late) left = subst (λ (o : Option ℤ). Merging all l.all (cons_option o l.late) left) next l.invariant.merging in
+    let rest = taken _ _ _ _ c.next-in-Some-next.ensures.steps c.copied-next-in-Some-next.ensures in
+    record {
+      merging = subst (λ (s : Ids). Merging all s (cons_option c.copied-next-in-Some-next.result c.next-in-Some-next.new.self) left) (sym c.in_ok-push.ensures.ok)
+          (subst (λ (late : List ℤ). Merging all (set.insert l.all other) late left) rest (merging_late all l.all l.late c.next-in-ids.new.self other id m (let h = c.if-id-other.false in grind (arith, ints))));
+      rest = taken_none _ _ _ _ c.next-in-Some-next.ensures.steps c.copied-next-in-Some-next.ensures;
+    }
+
+pub ids-preserved : goal.ids-preserved
+ids-preserved c =
+    let l = c.late in
+    let id = to_z w64 (of_z w64 c.in-Some.id) in
+    let all = with_late c.args.ids.now c.args.late.now.keys in
+    let m = l.invariant.merging in
+    let kept : c.match-next-2.next ≡ l.next = elim c.match-next-2.branch [
+      | in-Some-next+then-id-other w ↦ w.next-is ∙ sym w.in-Some-next.is
+      | in_default-next w ↦ w.next-is
+    ] in
+    let up : Rises id (cons_option l.next l.late) = elim c.match-next-2.branch [
+      | in-Some-next+then-id-other w ↦
+          let other = w.in-Some-next.other in
+          let fits : SFits w64 other = search rules in
+          let lower : id <ℤ other = let h = w.if-id-other.true in grind (arith, ints, to_z-of_z w64 other fits) in
+          up_some l.next l.late other id w.in-Some-next.is lower m.rises.0
+      | in_default-next w ↦ up_none l.next l.late id w.in_default-next.is l.invariant.rest
+    ] in
+    record {
+      merging = subst (λ (o : Option ℤ). Merging all c.push-in-Some.new.self (cons_option o l.late) c.next-in-ids.new.self) (sym kept)
+          (subst (λ (s : Ids). Merging all s (cons_option l.next l.late) c.next-in-ids.new.self) (sym c.in_ok-push-2.ensures.ok) (merging_id all l.all (cons_option l.next l.late) c.next-in-ids.new.self id m up));
+      rest = subst (λ (o : Option ℤ). IfNone o (l.late ≡ [])) (sym kept) l.invariant.rest;
+    }
+
+pub returns : goal.returns
+returns c = merging_end _ c.ids.all _ c.ids.walk c.ids.invariant.merging c.in_default.ensures.0
