@@ -29,6 +29,6 @@ returns-clause-made g c = λ used.
 pub returns-clause-held : goal.returns-clause-held
 returns-clause-held g c = λ none.
     let made = returns-clause-made g c in
-    relation_held c.args.self.now c.begin.new.self _ _ _ _ _ _ _ _ _ _ (texts_after c.put_members.new.table []) (relation_of c.args.relation.now) _ none c.in_ok-begin.ensures.held (ap (λ (ts : List TagSpec). length ts) c.tags.ensures) c.in_ok-begin.ensures.columns refl refl refl refl refl refl
+    relation_held c.args.self.now c.begin.new.self _ _ _ _ (texts_after c.put_members.new.table []) (relation_of c.args.relation.now) _ none c.in_ok-begin.ensures.held (ap (λ (ts : List TagSpec). length ts) c.tags.ensures) c.in_ok-begin.ensures.columns
     (c.in_ok-put_members.ensures.roles [] ∙ ap (map (role_index (texts_after c.put_members.new.table []))) c.members.ensures)
     (c.in_ok-put_members.ensures.ids ∙ ap (map (λ m. m.id)) c.members.ensures) (c.in_ok-put_members.ensures.kinds ∙ ap (map (λ m. kind_number m.kind)) c.members.ensures) (made [])

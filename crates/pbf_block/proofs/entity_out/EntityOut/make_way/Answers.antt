@@ -17,5 +17,5 @@ returns-clause-made g c = λ used.
 pub returns-clause-held : goal.returns-clause-held
 returns-clause-held g c = λ none.
     let made = returns-clause-made g c in
-    way_held c.args.self.now c.begin.new.self _ _ _ _ _ _ _ _ _ _ (texts_after c.begin.new.table []) (way_of c.args.way.now) _ none c.in_ok-begin.ensures.held (ap (λ (ts : List TagSpec). length ts) c.tags.ensures) c.in_ok-begin.ensures.columns refl refl refl refl refl refl
+    way_held c.args.self.now c.begin.new.self _ _ _ _ (texts_after c.begin.new.table []) (way_of c.args.way.now) _ none c.in_ok-begin.ensures.held (ap (λ (ts : List TagSpec). length ts) c.tags.ensures) c.in_ok-begin.ensures.columns
     (c.in_ok-put_refs.ensures ∙ c.refs.ensures) (c.in_ok-put_locations.ensures.lats ∙ ap (map (λ l. l.0)) c.locations.ensures) (c.in_ok-put_locations.ensures.lons ∙ ap (map (λ l. l.1)) c.locations.ensures) (made [])
