@@ -4,20 +4,16 @@ use Rattle.std.specs.List.{flat_map, AllByRecursion}
 use Rattle.std.proofs.lemmas.Bool.{le-ltb}
 use Rattle.std.proofs.lemmas.List.{map-id}
 use Rattle.std.proofs.lemmas.List.Concat.{flat_map_single}
-use Rattle.pbf_wire.specs.Faults.{fields_in}
 use Rattle.pbf_wire.specs.Message.{Each, message}
 use Rattle.pbf_wire.proofs.AllLemmas.{all_left, all_right, all_weaker}
 use Rattle.pbf_wire.proofs.NoFaultLemmas.{field_count}
-use Rattle.pbf_strings.specs.TableOut.{has_text, table_of}
+use Rattle.pbf_strings.specs.TableOut.{table_of}
 use Rattle.osm_entity.specs.declared.scale.Scale.{Scale}
 use Rattle.osm_entity.specs.Entity.{WaySpec, RelationSpec, EntitySpec, node, way, relation, entity_scale}
 use Rattle.osm_entity.specs.EntityTexts.{entity_texts}
 use Rattle.osm_entity.specs.Ranges.{EntityFits, EntityTyped}
 use Rattle.pbf_dense.specs.WrittenDense.{dense_message, dense_info_message}
 use Rattle.pbf_block.specs.declared.group.TheConstants.{DENSE, WAYS, RELATIONS}
-use Rattle.pbf_block.specs.Way.{way_in}
-use Rattle.pbf_block.specs.Relation.{relation_in}
-use Rattle.pbf_block.specs.PrimitiveBlock.{indexed}
 use Rattle.pbf_block.specs.WrittenBlock.{nodes_among, ways_among, relations_among, group_message}
 use Rattle.pbf_block.specs.WrittenEntity.{way_message, relation_message}
 use Rattle.pbf_block.proofs.EntityLaw.{AreAmong}

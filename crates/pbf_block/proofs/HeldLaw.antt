@@ -1,10 +1,8 @@
 -- What is held of a way or a relation while it is written: its columns, its message and its texts.
-use Rattle.std.proofs.Common.{◌≡◌, ℕ, ◌+◌, ◌*◌, ◌≤◌, ℤ, List, length, map, ap, arith}
+use Rattle.std.proofs.Common.{◌≡◌, ℕ, ◌+◌, ◌*◌, ◌≤◌, ℤ, List, length, map, arith}
 use Rattle.std.specs.List.{sum_by}
-use Rattle.std.proofs.lemmas.List.{length-map}
 use Rattle.pbf_wire.specs.Columns.{packed}
 use Rattle.pbf_wire.specs.Sums.{deltas}
-use Rattle.pbf_wire.proofs.LengthLemmas.{packed_short}
 use Rattle.pbf_strings.specs.TableOut.{texts_after, text_held}
 use Rattle.pbf_strings.proofs.UsedTexts.{length_after}
 use Rattle.osm_entity.specs.Entity.{TagSpec, MetaSpec, WaySpec, RelationSpec}

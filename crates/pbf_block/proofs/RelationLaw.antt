@@ -1,5 +1,5 @@
 -- A written relation has no fault and is read as what it was written for.
-use Rattle.std.proofs.Common.{◌≡◌, ℕ, ◌%◌, ◌^◌, ◌<◌, ◌≤◌, ◌==◌, ◌&&◌, true, ℤ, List, [], ◌∷◌, ◌++◌, length, map, refl, ap₂, subst, sym, ◌∙◌, arith, pos}
+use Rattle.std.proofs.Common.{◌≡◌, ℕ, ◌%◌, ◌^◌, ◌<◌, ◌≤◌, true, ℤ, List, [], ◌∷◌, ◌++◌, length, map, refl, ap₂, subst, sym, ◌∙◌, arith, pos}
 use Rattle.std.specs.List.{AllByRecursion, flat_map}
 use Rattle.std.specs.Option.{option_to_list}
 use Rattle.std.proofs.lemmas.Bool.Decides.{nat_tests}
@@ -16,7 +16,7 @@ use Rattle.osm_entity.specs.declared.member.MemberKind.{MemberKind}
 use Rattle.osm_entity.specs.declared.member.MemberKind.TheVariants as kind
 use Rattle.osm_entity.specs.Entity.{MemberSpec, RelationSpec, relation}
 use Rattle.osm_entity.specs.EntityTexts.{tag_texts, relation_texts}
-use Rattle.osm_entity.specs.Ranges.{IsStored, MemberFits, RelationFits, EntityTyped}
+use Rattle.osm_entity.specs.Ranges.{IsStored, RelationFits, EntityTyped}
 use Rattle.osm_entity.specs.Sources.{member_kind, column_members}
 use Rattle.pbf_wire.proofs.AllLemmas.{all_left, all_right, all_weaker, all_map}
 use Rattle.pbf_dense.proofs.InfoLaw.{deltas_length, wide_good}

@@ -1,5 +1,5 @@
 -- A written way has no fault and is read as what it was written for.
-use Rattle.std.proofs.Common.{◌≡◌, ◌⊎◌, inl, inr, ℕ, ◌^◌, ◌<◌, ◌≤◌, ◌==◌, ◌&&◌, ◌||◌, true, ℤ, List, [], ◌∷◌, length, map, refl, ap, ◌∙◌, arith, pos}
+use Rattle.std.proofs.Common.{◌≡◌, inl, inr, ℕ, ◌^◌, ◌≤◌, ◌==◌, ◌&&◌, ◌||◌, true, ℤ, List, [], ◌∷◌, length, map, refl, ap, ◌∙◌, arith, pos}
 use Rattle.std.specs.List.{zip, AllByRecursion}
 use Rattle.std.specs.Option.{option_to_list}
 use Rattle.std.proofs.lemmas.Bool.Decides.{nat_tests}

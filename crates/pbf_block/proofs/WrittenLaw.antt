@@ -1,6 +1,6 @@
 -- Entities that may share one block are written as a block that has no fault and holds them.
-use Rattle.std.proofs.Common.{◌≡◌, ℕ, ◌*◌, ◌^◌, ◌<◌, ◌≤◌, ◌&&◌, ℤ, Bool, true, false, List, [], ◌∷◌, length, map, None, refl, sym, arith}
-use Rattle.std.specs.List.{flat_map, list_all, sum_by, AllByRecursion}
+use Rattle.std.proofs.Common.{◌≡◌, ℕ, ◌^◌, ◌<◌, ◌≤◌, ℤ, Bool, true, false, List, [], ◌∷◌, length, map, None, refl, sym, arith}
+use Rattle.std.specs.List.{flat_map, AllByRecursion}
 use Rattle.std.specs.Option.{is_some}
 use Rattle.std.specs.Ordering.{int_eq}
 use Rattle.std.proofs.lemmas.Int.{ints}
