@@ -38,10 +38,8 @@ unfolding items_past
 few_none = omega arith
 
 few_inside : (place : ℕ) (c : Content) → inside (table_structure place) c ≡ [] → length (texts (bytes_held c)) ≤ 1048576
-few_inside place (Number v) s = few_none
-few_inside place (Eight bytes) s = few_none
-few_inside place (Four bytes) s = few_none
 few_inside place (Bytes bytes at) s = few_texts place bytes s
+few_inside place c s = few_none
 
 few_if : (os : List Occurrence) (last : Option Occurrence) → AllByRecursion (λ o. part_structure o ≡ []) os → last_of STRINGTABLE os ≡ last → length (texts (occurrence_text last)) ≤ 1048576
 few_if os None all e = few_none
