@@ -170,7 +170,7 @@ module _ (texts : List (List ℕ)) (id : ℤ) (meta : MetaSpec) (tags : List Tag
       let named = tags_named texts tags ready.named in
       let keys = named_good texts ready.good.few (joined KEYS os) (map (key_index texts) tags) keys_column named.0 in
       let values = named_good texts ready.good.few (joined VALS os) (map (value_index texts) tags) values_column named.1 in
-      let infos = fields_quiet (entered INFO (info_values limit)) at slots (quiet (info_values limit) (λ place begin. info_quiet texts meta ready.good place begin info_short)) fits room in
+      let infos = fields_quiet (entered INFO (info_values limit)) at slots (quiet (info_values limit) (λ place begin. info_quiet texts meta ready.good begin info_short place)) fits room in
       rw (keys, values, infos) refl
 
   pub entity_written : IsWritten texts id meta tags a b c at (message slots)
@@ -184,7 +184,7 @@ module _ (texts : List (List ℕ)) (id : ℤ) (meta : MetaSpec) (tags : List Tag
     firsts = counted_written WAY_KINDS 8 at slots refl known fits room ∙ ap (λ (ns : List ℕ). length ns) (append-nil a);
     seconds = counted_written WAY_KINDS 9 at slots refl known fits room ∙ ap (λ (ns : List ℕ). length ns) (append-nil b);
     thirds = counted_written WAY_KINDS 10 at slots refl known fits room ∙ ap (λ (ns : List ℕ). length ns) (append-nil c);
-    wire = λ place. no_fault_within WAY_KINDS (entered INFO (leaf_faults INFO_KINDS)) at slots known (quiet (leaf_faults INFO_KINDS) (λ place begin. info_wire texts meta ready.good place begin info_short)) fits room;
+    wire = λ place. no_fault_within WAY_KINDS (entered INFO (leaf_faults INFO_KINDS)) at slots known (quiet (leaf_faults INFO_KINDS) (λ place begin. info_wire texts meta ready.good begin info_short place)) fits room;
     structure = no_structure;
     id_value = no_id_value;
     values = no_value;

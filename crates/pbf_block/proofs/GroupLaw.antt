@@ -33,7 +33,7 @@ pub record MemberGood (table : List (List ℕ)) (scale : Scale) (k : ℕ) (m : L
 pub record GroupGood (table : List (List ℕ)) (scale : Scale) (group : List ℕ) (es : List EntitySpec) : Type 0 where
   pub wire : (place at : ℕ) → group_wire place at group ≡ []
   pub structure : (place at : ℕ) → group_structure place at group ≡ []
-  pub values : (place at : ℕ) → flat_map (member_values (length table)) (fields_in at group) ≡ []
+  pub values : (at : ℕ) → flat_map (member_values (length table)) (fields_in at group) ≡ []
   pub entities : (at : ℕ) → flat_map (member_entities indexed table scale) (fields_in at group) ≡ es
   pub weights : (at : ℕ) → flat_map (member_weights indexed table scale) (fields_in at group) ≡ []
 
@@ -44,7 +44,7 @@ all_numbered k at [] = tt
 all_numbered k at (m ∷ ms) = (refl, all_numbered k (at + length (spelling (Whole k m))) ms)
 
 -- the first that holds entities has that number, if there is one
-pub first_same : (k : ℕ) (os : List Occurrence) → AllByRecursion (λ o. o.number ≡ k) os → unwrap_or (first_member os) k ≡ k
+first_same : (k : ℕ) (os : List Occurrence) → AllByRecursion (λ o. o.number ≡ k) os → unwrap_or (first_member os) k ≡ k
 first_same k [] h = refl
 first_same k (o ∷ os) h = by (is_member o.number) (first_same k os h.1)
   where
@@ -52,7 +52,7 @@ first_same k (o ∷ os) h = by (is_member o.number) (first_same k os h.1)
     by true more = h.0
     by false more = more
 
-not_mixed : (k : ℕ) (os : List Occurrence) → AllByRecursion (λ o. o.number ≡ k) os → is_other (first_member os) k ≡ false
+pub not_mixed : (k : ℕ) (os : List Occurrence) → AllByRecursion (λ o. o.number ≡ k) os → is_other (first_member os) k ≡ false
 not_mixed k os h =
     let same : (k == k) ≡ true = grind arith in
     rw (first_same k os h, same) (and-false (is_member k))
@@ -99,7 +99,7 @@ module _ (table : List (List ℕ)) (scale : Scale) (k : ℕ) {W : Type 0} (messa
         record {
           wire = λ place at. no_fault_within GROUP_KINDS member_wire at slots (field.known, tt) (quiet member_wire (λ w g. g.wire)) fits short;
           structure = sound;
-          values = λ place at. fields_quiet (member_values (length table)) at slots (quiet (member_values (length table)) (λ w g. g.values)) fits short;
+          values = λ at. fields_quiet (member_values (length table)) at slots (quiet (member_values (length table)) (λ w g. g.values)) fits short;
           entities = λ at. fields_give entities at ((Each k (map message_of ws), flat_map held ws) ∷ []) (each_gives entities message_of held k ws (all_weaker IsGood _ (λ w g. g.entities) ws h), tt) fits short ∙ append-nil _;
           weights = λ at. fields_quiet weights at slots (quiet weights (λ w g place begin. ap (flat_map (weight_fault place)) (g.entities place begin) ∙ g.light place)) fits short;
         }

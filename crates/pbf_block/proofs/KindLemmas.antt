@@ -1,20 +1,17 @@
 -- The entities of some kinds, field by field, are those of the whole list that are of these kinds.
 use Rattle.std.proofs.Common.{◌≡◌, ℕ, Bool, true, false, List, [], ◌∷◌, ◌++◌, map, refl, ap, ap₂, sym, ◌∙◌}
 use Rattle.std.specs.Prelude.{filter, if◌then◌else◌, ◌==◌}
-use Rattle.std.specs.List.{flat_map, AllByRecursion}
+use Rattle.std.specs.List.{flat_map}
 use Rattle.std.proofs.lemmas.List.Elements.{filter-append}
 use Rattle.pbf_wire.specs.Faults.{inside, fields_in}
-use Rattle.pbf_wire.specs.Occurrence.{Content, Number, Eight, Four, Bytes, Occurrence}
+use Rattle.pbf_wire.specs.Occurrence.{Content, Bytes, Occurrence}
 use Rattle.osm_entity.specs.declared.scale.Scale.{Scale}
-use Rattle.osm_entity.specs.Entity.{NodeSpec, EntitySpec, node, way, relation}
+use Rattle.osm_entity.specs.Entity.{NodeSpec, EntitySpec, node}
 use Rattle.pbf_block.specs.Group.{in_group, message_entities, member_entities}
 use Rattle.pbf_block.specs.declared.kinds.Kinds.{Kinds}
 use Rattle.pbf_block.specs.declared.primitive_block.TheConstants.{PRIMITIVEGROUP}
 use Rattle.pbf_block.specs.declared.group.TheConstants.{NODES, DENSE, WAYS, RELATIONS}
 use Rattle.pbf_block.specs.Entity.{Decoding}
-use Rattle.pbf_block.specs.Node.{node_in}
-use Rattle.pbf_block.specs.Way.{way_in}
-use Rattle.pbf_block.specs.Relation.{relation_in}
 use Rattle.pbf_block.specs.Kinds.{is_among, holds_kind, member_entities_among, group_entities_among, entities_among}
 
 -- all are of all kinds

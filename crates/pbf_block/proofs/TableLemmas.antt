@@ -6,7 +6,7 @@ use Rattle.pbf_wire.specs.declared.fault.Reason.TheVariants.{TooManyStrings}
 use Rattle.std.specs.Prelude.{nat_lt, if◌then◌else◌, Option, Some, None}
 use Rattle.std.specs.List.{flat_map, AllByRecursion}
 use Rattle.std.specs.Result.{is_err}
-use Rattle.pbf_wire.specs.Occurrence.{Content, Number, Eight, Four, Bytes, Occurrence, items_past}
+use Rattle.pbf_wire.specs.Occurrence.{Content, Bytes, Occurrence, items_past}
 use Rattle.pbf_wire.specs.Reading.{bytes_held, occurrence_text, last_of}
 use Rattle.pbf_wire.specs.Faults.{inside, entered, fields_in}
 use Rattle.pbf_wire.proofs.FaultLemmas.{held_short}
