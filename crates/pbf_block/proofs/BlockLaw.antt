@@ -34,7 +34,7 @@ use Rattle.pbf_block.specs.PrimitiveBlock.{part_wire, wire_faults, table_structu
 use Rattle.pbf_block.specs.WrittenBlock.{unless_default, block_slots}
 use Rattle.pbf_block.specs.declared.scale.TheConstants.{DEFAULT_SCALE}
 use Rattle.pbf_wire.proofs.AllLemmas.{all_map, all_weaker}
-use Rattle.pbf_header.proofs.OneNumber.{slot_count, number_in, no_slot, number_read, number_quiet}
+use Rattle.pbf_header.proofs.OneNumber.{numbers_for, all_given, number_read, number_quiet}
 use Rattle.pbf_block.proofs.InfoLaw.{int32_fits}
 use Rattle.pbf_block.proofs.GroupLaw.{GroupGood}
 
@@ -130,7 +130,7 @@ module _ (scale : Scale) (used : List (List ℕ)) (group : List ℕ) (es : List 
   unfolding structure_faults
   structure_sound at =
       let there : missing STRINGTABLE at (fields_in at (message slots)) ≡ [] = present_written STRINGTABLE at at slots fits short (omega arith) in
-      let once : twice STRINGTABLE (fields_in at (message slots)) ≡ [] = once_written STRINGTABLE at slots fits short (omega (arith, ap (λ (ns : List ℕ). length ns) (no_slot STRINGTABLE slots refl))) in
+      let once : twice STRINGTABLE (fields_in at (message slots)) ≡ [] = once_written STRINGTABLE at slots fits short (omega (arith, ap (λ (ns : List ℕ). length ns) (all_given STRINGTABLE slots))) in
       let parts = fields_quiet part_structure at slots (parts_quiet table_structure group_structure counted good.structure) fits short in
       rw (there, once, parts) refl
 
@@ -138,18 +138,18 @@ module _ (scale : Scale) (used : List (List ℕ)) (group : List ℕ) (es : List 
 
   table_is : (at : ℕ) → stored_texts (fields_in at (message slots)) ≡ table
   table_is at =
-      let held = last_held STRINGTABLE at slots (table_message used) fits short refl (no_slot STRINGTABLE slots refl) in
+      let held = last_held STRINGTABLE at slots (table_message used) fits short refl (all_given STRINGTABLE slots) in
       ap (λ (o : Option Occurrence). texts (occurrence_text o)) held.2 ∙ table_read
 
-  number_is : (at k : ℕ) (one : slot_count k slots ≤ 1) (read : ℕ → ℤ) (default z : ℤ) → number_in k slots ≡ unless_default default z → read (sign_extended z) ≡ z → number_or default read k (fields_in at (message slots)) ≡ z
-  number_is at k one read default z is back = ap (λ (o : Option ℕ). option_map_or read o default) (number_read at slots fits short k one ∙ is) ∙ default_read read default z back
+  number_is : (at k : ℕ) (read : ℕ → ℤ) (default z : ℤ) → numbers_for k slots ≡ unless_default default z ∷ [] → read (sign_extended z) ≡ z → number_or default read k (fields_in at (message slots)) ≡ z
+  number_is at k read default z one back = ap (λ (o : Option ℕ). option_map_or read o default) (number_read at slots fits short k (unless_default default z) one) ∙ default_read read default z back
 
   scale_is : (at : ℕ) → scale_of (fields_in at (message slots)) ≡ scale
   scale_is at =
-      let places = number_is at GRANULARITY (omega arith) low_i32 DEFAULT_SCALE.granularity scale.granularity refl (low_signs_read scale.granularity typed.granularity.0 typed.granularity.1) in
-      let dates = number_is at DATE_GRANULARITY (omega arith) low_i32 DEFAULT_SCALE.date_granularity scale.date_granularity refl (low_signs_read scale.date_granularity typed.date_granularity.0 typed.date_granularity.1) in
-      let lats = number_is at LAT_OFFSET (omega arith) low_i64 DEFAULT_SCALE.lat_offset scale.lat_offset refl (signs_read scale.lat_offset typed.lat_offset.0 typed.lat_offset.1) in
-      let lons = number_is at LON_OFFSET (omega arith) low_i64 DEFAULT_SCALE.lon_offset scale.lon_offset refl (signs_read scale.lon_offset typed.lon_offset.0 typed.lon_offset.1) in
+      let places = number_is at GRANULARITY low_i32 DEFAULT_SCALE.granularity scale.granularity refl (low_signs_read scale.granularity typed.granularity.0 typed.granularity.1) in
+      let dates = number_is at DATE_GRANULARITY low_i32 DEFAULT_SCALE.date_granularity scale.date_granularity refl (low_signs_read scale.date_granularity typed.date_granularity.0 typed.date_granularity.1) in
+      let lats = number_is at LAT_OFFSET low_i64 DEFAULT_SCALE.lat_offset scale.lat_offset refl (signs_read scale.lat_offset typed.lat_offset.0 typed.lat_offset.1) in
+      let lons = number_is at LON_OFFSET low_i64 DEFAULT_SCALE.lon_offset scale.lon_offset refl (signs_read scale.lon_offset typed.lon_offset.0 typed.lon_offset.1) in
       rw (places, dates, lats, lons) refl
 
   -- ---- values
@@ -159,8 +159,8 @@ module _ (scale : Scale) (used : List (List ℕ)) (group : List ℕ) (es : List 
   values_good at =
       let quiet = number_quiet at slots fits short in
       let none = λ (reason : Reason) (default z : ℤ) (typed : IsInt32 z) (le : pos 1 ≤ℤ z). default_all (λ v. (place : ℕ) → positive reason place v ≡ []) default z (positive_quiet reason z typed le) in
-      let places = quiet GRANULARITY (omega arith) (positive Granularity) (none Granularity DEFAULT_SCALE.granularity scale.granularity typed.granularity fit.places) in
-      let dates = quiet DATE_GRANULARITY (omega arith) (positive DateGranularity) (none DateGranularity DEFAULT_SCALE.date_granularity scale.date_granularity typed.date_granularity fit.dates) in
+      let places = quiet GRANULARITY _ refl (positive Granularity) (none Granularity DEFAULT_SCALE.granularity scale.granularity typed.granularity fit.places) in
+      let dates = quiet DATE_GRANULARITY _ refl (positive DateGranularity) (none DateGranularity DEFAULT_SCALE.date_granularity scale.date_granularity typed.date_granularity fit.dates) in
       rw (places, dates, groups_quiet (member_values (length table)) at good.values) refl
 
   values_sound : (at : ℕ) → value_faults (length (stored_texts (fields_in at (message slots)))) at (message slots) ≡ []

@@ -8,7 +8,7 @@ use Rattle.pbf_wire.specs.declared.fault.Fault.{Fault}
 use Rattle.pbf_wire.specs.Faults.{below_fault, fields_in, leaf_faults}
 use Rattle.pbf_wire.proofs.NoFaultLemmas.{leaf_quiet}
 use Rattle.std.proofs.lemmas.Bool.{lt-ltb}
-use Rattle.pbf_wire.specs.Message.{SlotFits}
+use Rattle.pbf_wire.specs.Message.{Scalar, SlotFits}
 use Rattle.pbf_wire.specs.Signed.{is_within, low_i32, low_i64, sign_extended}
 use Rattle.pbf_wire.proofs.SumLemmas.{within_true, signs_read, signs_fit, low_signs_read}
 use Rattle.pbf_strings.specs.Texts.{text}
@@ -23,7 +23,7 @@ use Rattle.pbf_block.specs.declared.info.TheConstants.{INFO_KINDS}
 use Rattle.pbf_block.specs.Info.{out_of_range, info_values, info_in}
 use Rattle.pbf_block.specs.WrittenEntity.{info_slots, info_message}
 use Rattle.osm_entity.proofs.RangeLemmas.{present}
-use Rattle.pbf_wire.proofs.SlotLemmas.{IfSome, scalar_fits}
+use Rattle.pbf_wire.proofs.SlotLemmas.{IfSome}
 use Rattle.pbf_header.proofs.OneNumber.{number_read, number_quiet}
 
 -- ---- texts and their indexes
@@ -78,15 +78,15 @@ any (Some b) = tt
 -- ---- one field
 
 -- a value that may be absent is written as a number that fits, is read back, and has no fault
-record IsField {X : Type 0} (write : X → ℕ) (read : ℕ → X) (judge : ℕ → ℕ → List Fault) (value : Option X) : Type 0 where
-  fits : IfSome (λ x. write x < 2 ^ 64) value
+record IsField {X : Type 0} (k : ℕ) (write : X → ℕ) (read : ℕ → X) (judge : ℕ → ℕ → List Fault) (value : Option X) : Type 0 where
+  fits : SlotFits (Scalar k (option_map write value))
   back : option_map read (option_map write value) ≡ value
   quiet : AllByRecursion (λ v. (place : ℕ) → judge place v ≡ []) (option_to_list (option_map write value))
 
-is_field : {X : Type 0} (write : X → ℕ) (read : ℕ → X) (judge : ℕ → ℕ → List Fault) (P : X → Type 0) → ((x : X) → P x → write x < 2 ^ 64) → ((x : X) → P x → read (write x) ≡ x) → ((x : X) → P x → (place : ℕ) → judge place (write x) ≡ [])
-    → (value : Option X) → IfSome P value → IsField write read judge value
-is_field write read judge P fit back quiet None h = record { fits = tt; back = refl; quiet = tt }
-is_field write read judge P fit back quiet (Some x) h = record { fits = fit x h; back = ap Some (back x h); quiet = (quiet x h, tt) }
+module _ {X : Type 0} (k : ℕ) (positive : 0 < k) (small : k < 2 ^ 29) (write : X → ℕ) (read : ℕ → X) (judge : ℕ → ℕ → List Fault) (P : X → Type 0) where
+  is_field : ((x : X) → P x → write x < 2 ^ 64) → ((x : X) → P x → read (write x) ≡ x) → ((x : X) → P x → (place : ℕ) → judge place (write x) ≡ []) → (value : Option X) → IfSome P value → IsField k write read judge value
+  is_field fit back quiet None h = record { fits = tt; back = refl; quiet = tt }
+  is_field fit back quiet (Some x) h = record { fits = (positive, small, fit x h); back = ap Some (back x h); quiet = (quiet x h, tt) }
 
 abbrev unjudged : ℕ → ℕ → List Fault
 unjudged place v = []
@@ -115,48 +115,38 @@ module _ (texts : List (List ℕ)) (meta : MetaSpec) (h : MetaReady texts meta) 
       let below : index_in texts t % 2 ^ 32 < length table = omega (arith, low_index texts h.few t s, index_below texts t s) in
       rw (lt-ltb (index_in texts t % 2 ^ 32) (length table) below) refl
 
-  version : IsField sign_extended low_i32 unjudged meta.version
-  version = is_field sign_extended low_i32 unjudged IsInt32 int32_fits int32_read (λ _ _ _. refl) meta.version (present IsInt32 meta.version h.version)
+  version : IsField VERSION sign_extended low_i32 unjudged meta.version
+  version = is_field VERSION (omega arith) (omega arith) sign_extended low_i32 unjudged IsInt32 int32_fits int32_read (λ _ _ _. refl) meta.version (present IsInt32 meta.version h.version)
 
-  time : (z : Option ℤ) → IfPresent IsStored z → IsField sign_extended low_i64 (out_of_range 62 low_i64) z
-  time z s = is_field sign_extended low_i64 (out_of_range 62 low_i64) IsStored stored_fits stored_read stored_quiet z (present IsStored z s)
+  timestamp : IsField TIMESTAMP sign_extended low_i64 (out_of_range 62 low_i64) meta.timestamp
+  timestamp = is_field TIMESTAMP (omega arith) (omega arith) sign_extended low_i64 _ IsStored stored_fits stored_read stored_quiet meta.timestamp (present IsStored meta.timestamp h.fits.timestamp)
 
-  uid : IsField sign_extended low_i32 (out_of_range 30 low_i32) meta.uid
-  uid = is_field sign_extended low_i32 (out_of_range 30 low_i32) IsUid uid_fits uid_read uid_quiet meta.uid (present IsUid meta.uid h.fits.uid)
+  changeset : IsField CHANGESET sign_extended low_i64 (out_of_range 62 low_i64) meta.changeset
+  changeset = is_field CHANGESET (omega arith) (omega arith) sign_extended low_i64 _ IsStored stored_fits stored_read stored_quiet meta.changeset (present IsStored meta.changeset h.fits.changeset)
 
-  user : IsField (index_in texts) (named table) (λ place v. below_fault StringIndex (length table) (v, place)) meta.user
-  user = is_field (index_in texts) (named table) _ (IsAmong texts) (index_fits texts h.few) (named_read texts h.few) user_quiet meta.user h.user
+  uid : IsField UID sign_extended low_i32 (out_of_range 30 low_i32) meta.uid
+  uid = is_field UID (omega arith) (omega arith) sign_extended low_i32 _ IsUid uid_fits uid_read uid_quiet meta.uid (present IsUid meta.uid h.fits.uid)
 
-  visible : IsField bit_of (λ n. not (n == 0)) unjudged meta.visible
-  visible = is_field bit_of (λ n. not (n == 0)) unjudged (λ b. Unit {0}) (λ b _. bit_small b) (λ b _. bit_read b) (λ _ _ _. refl) meta.visible (any meta.visible)
+  user : IsField USER_SID (index_in texts) (named table) (λ place v. below_fault StringIndex (length table) (v, place)) meta.user
+  user = is_field USER_SID (omega arith) (omega arith) (index_in texts) (named table) _ (IsAmong texts) (index_fits texts h.few) (named_read texts h.few) user_quiet meta.user h.user
 
-  pub info_fits : AllByRecursion SlotFits (info_slots texts meta)
-  info_fits =
-      let signed = λ (k : ℕ) (positive : 0 < k) (small : k < 2 ^ 29) (z : Option ℤ) (fits : IfSome (λ z. sign_extended z < 2 ^ 64) z). scalar_fits sign_extended _ (λ x lt. lt) k positive small z fits in (
-        signed VERSION (omega arith) (omega arith) meta.version version.fits,
-        (
-          signed TIMESTAMP (omega arith) (omega arith) meta.timestamp (time meta.timestamp h.fits.timestamp).fits,
-          (
-            signed CHANGESET (omega arith) (omega arith) meta.changeset (time meta.changeset h.fits.changeset).fits,
-            (
-              signed UID (omega arith) (omega arith) meta.uid uid.fits,
-              (scalar_fits (index_in texts) _ (λ x lt. lt) USER_SID (omega arith) (omega arith) meta.user user.fits, (scalar_fits bit_of _ (λ x lt. lt) VISIBLE (omega arith) (omega arith) meta.visible visible.fits, tt)),
-            ),
-          ),
-        ),
-      )
+  visible : IsField VISIBLE bit_of (λ n. not (n == 0)) unjudged meta.visible
+  visible = is_field VISIBLE (omega arith) (omega arith) bit_of _ unjudged (λ b. Unit {0}) (λ b _. bit_small b) (λ b _. bit_read b) (λ _ _ _. refl) meta.visible (any meta.visible)
+
+  info_fits : AllByRecursion SlotFits (info_slots texts meta)
+  info_fits = (version.fits, (timestamp.fits, (changeset.fits, (uid.fits, (user.fits, (visible.fits, tt))))))
 
   module _ (at : ℕ) (room : length (info_message texts meta) < 2 ^ 64) where
     pub info_read : info_in table (fields_in at (info_message texts meta)) ≡ meta
     unfolding info_message
     info_read =
         let read = number_read at (info_slots texts meta) info_fits room in
-        let versions = ap (option_map low_i32) (read VERSION (omega arith)) ∙ version.back in
-        let timestamps = ap (option_map low_i64) (read TIMESTAMP (omega arith)) ∙ (time meta.timestamp h.fits.timestamp).back in
-        let changesets = ap (option_map low_i64) (read CHANGESET (omega arith)) ∙ (time meta.changeset h.fits.changeset).back in
-        let uids = ap (option_map low_i32) (read UID (omega arith)) ∙ uid.back in
-        let users = ap (option_map (named table)) (read USER_SID (omega arith)) ∙ user.back in
-        let visibles = ap (option_map (λ n. not (n == 0))) (read VISIBLE (omega arith)) ∙ visible.back in
+        let versions = ap (option_map low_i32) (read VERSION _ refl) ∙ version.back in
+        let timestamps = ap (option_map low_i64) (read TIMESTAMP _ refl) ∙ timestamp.back in
+        let changesets = ap (option_map low_i64) (read CHANGESET _ refl) ∙ changeset.back in
+        let uids = ap (option_map low_i32) (read UID _ refl) ∙ uid.back in
+        let users = ap (option_map (named table)) (read USER_SID _ refl) ∙ user.back in
+        let visibles = ap (option_map (λ n. not (n == 0))) (read VISIBLE _ refl) ∙ visible.back in
         rw (versions, timestamps, changesets, uids, users, visibles) refl
 
     -- ---- it has no fault
@@ -169,8 +159,8 @@ module _ (texts : List (List ℕ)) (meta : MetaSpec) (h : MetaReady texts meta) 
     unfolding info_message
     info_quiet place =
         let quiet = number_quiet at (info_slots texts meta) info_fits room in
-        let timestamps = quiet TIMESTAMP (omega arith) (out_of_range 62 low_i64) (time meta.timestamp h.fits.timestamp).quiet in
-        let changesets = quiet CHANGESET (omega arith) (out_of_range 62 low_i64) (time meta.changeset h.fits.changeset).quiet in
-        let uids = quiet UID (omega arith) (out_of_range 30 low_i32) uid.quiet in
-        let users = quiet USER_SID (omega arith) (λ place v. below_fault StringIndex (length table) (v, place)) user.quiet in
+        let timestamps = quiet TIMESTAMP _ refl (out_of_range 62 low_i64) timestamp.quiet in
+        let changesets = quiet CHANGESET _ refl (out_of_range 62 low_i64) changeset.quiet in
+        let uids = quiet UID _ refl (out_of_range 30 low_i32) uid.quiet in
+        let users = quiet USER_SID _ refl (λ place v. below_fault StringIndex (length table) (v, place)) user.quiet in
         rw (timestamps, changesets, uids, users) refl

@@ -25,7 +25,7 @@ use Rattle.pbf_header.proofs.HeaderLemmas.{header_out_twice}
 use Rattle.pbf_wire.proofs.LengthLemmas.{each_room, message_short}
 use Rattle.osm_entity.proofs.RangeLemmas.{present}
 use Rattle.pbf_wire.proofs.SlotLemmas.{IfSome, option_few, option_read, last_text_of, scalar_fits}
-use Rattle.pbf_header.proofs.OneNumber.{no_slot, number_read}
+use Rattle.pbf_header.proofs.OneNumber.{all_given, number_read}
 use Rattle.pbf_header.specs.declared.write.TheConstants.{MOST_HEADER_TEXT}
 
 -- ---- the box
@@ -91,9 +91,9 @@ header_read at h fits room =
     let source : last_text SOURCE os ≡ h.source = ap (λ (ts : List (List ℕ)). last_or None ts) (each_written SOURCE at slots good room) ∙ last_text_of h.source in
     let url : last_text REPLICATION_URL os ≡ h.url = ap (λ (ts : List (List ℕ)). last_or None ts) (each_written REPLICATION_URL at slots good room) ∙ last_text_of h.url in
     let timestamp : option_map low_i64 (last_number REPLICATION_TIMESTAMP os) ≡ h.timestamp =
-    ap (option_map low_i64) (number_read at slots good room REPLICATION_TIMESTAMP (omega arith)) ∙ option_read sign_extended low_i64 IsInt64 int64_read h.timestamp (present IsInt64 h.timestamp fits.timestamp) in
+    ap (option_map low_i64) (number_read at slots good room REPLICATION_TIMESTAMP _ refl) ∙ option_read sign_extended low_i64 IsInt64 int64_read h.timestamp (present IsInt64 h.timestamp fits.timestamp) in
     let sequence : option_map low_i64 (last_number REPLICATION_SEQUENCE os) ≡ h.sequence =
-    ap (option_map low_i64) (number_read at slots good room REPLICATION_SEQUENCE (omega arith)) ∙ option_read sign_extended low_i64 IsInt64 int64_read h.sequence (present IsInt64 h.sequence fits.sequence) in
+    ap (option_map low_i64) (number_read at slots good room REPLICATION_SEQUENCE _ refl) ∙ option_read sign_extended low_i64 IsInt64 int64_read h.sequence (present IsInt64 h.sequence fits.sequence) in
     rw (bbox, required, optional, program, source, url, timestamp, sequence) refl
 
 -- ---- it has no fault
@@ -175,7 +175,7 @@ module _ (at : ℕ) (h : HeaderSpec) (fits : HeaderFits h) (room : length (heade
       let f = edge_faults in
       let box = each_box (λ m. (place at : ℕ) → edge_faults place at m ≡ []) h.bbox (λ b e lt place at. box_edges place at b e lt) boxes in
       let few = option_few (option_map box_message h.bbox) in
-      let none = ap (λ (ns : List ℕ). length ns) (no_slot BBOX slots refl) in
+      let none = ap (λ (ns : List ℕ). length ns) (all_given BBOX slots) in
       let once : twice BBOX (fields_in at (message slots)) ≡ [] = once_written BBOX at slots good room (omega (arith, few, none)) in
       let edges : flat_map (entered BBOX f) (fields_in at (message slots)) ≡ [] =
       fields_quiet (entered BBOX f) at slots
