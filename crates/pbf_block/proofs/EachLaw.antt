@@ -46,13 +46,13 @@ unfolding dense_message dense_info_message message
 no_dense texts = refl
 
 module _ (texts : List (List ℕ)) where
-  only_ways : (es : List EntitySpec) → AllByRecursion (λ e. number_of e ≡ WAYS) es → (nodes_among es ≡ []) × (map (way_message texts) (ways_among es) ≡ map (message_of texts) es) × (relations_among es ≡ [])
+  pub only_ways : (es : List EntitySpec) → AllByRecursion (λ e. number_of e ≡ WAYS) es → (nodes_among es ≡ []) × (map (way_message texts) (ways_among es) ≡ map (message_of texts) es) × (relations_among es ≡ [])
   only_ways [] h = (refl, refl, refl)
   only_ways (node n ∷ es) h = absurd (omega (arith, h.0))
   only_ways (way w ∷ es) h = let rest = only_ways es h.1 in (rest.0, ap (λ (ms : List (List ℕ)). way_message texts w ∷ ms) rest.1, rest.2)
   only_ways (relation r ∷ es) h = absurd (omega (arith, h.0))
 
-  only_relations : (es : List EntitySpec) → AllByRecursion (λ e. number_of e ≡ RELATIONS) es → (nodes_among es ≡ []) × (ways_among es ≡ []) × (map (relation_message texts) (relations_among es) ≡ map (message_of texts) es)
+  pub only_relations : (es : List EntitySpec) → AllByRecursion (λ e. number_of e ≡ RELATIONS) es → (nodes_among es ≡ []) × (ways_among es ≡ []) × (map (relation_message texts) (relations_among es) ≡ map (message_of texts) es)
   only_relations [] h = (refl, refl, refl)
   only_relations (node n ∷ es) h = absurd (omega (arith, h.0))
   only_relations (way w ∷ es) h = absurd (omega (arith, h.0))

@@ -1,10 +1,10 @@
 -- What entities take as they are written, beside what they weigh: a written block is no longer than twice its weight and a little
 -- more, and what is held of it while it is open no longer than that.
-use Rattle.std.proofs.Common.{◌≡◌, ℕ, zero, suc, ◌+◌, ◌*◌, ◌/◌, ◌%◌, ◌^◌, ◌<◌, ◌≤◌, ◌&&◌, Bool, true, false, cond, ltb, ℤ, pos, List, [], ◌∷◌, ◌++◌, length, map, Option, Some, None, arith, length-append}
+use Rattle.std.proofs.Common.{◌≡◌, ℕ, zero, suc, ◌+◌, ◌*◌, ◌/◌, ◌%◌, ◌^◌, ◌<◌, ◌≤◌, ◌&&◌, Bool, true, false, cond, ltb, ℤ, pos, List, [], ◌∷◌, ◌++◌, length, map, Option, Some, None, refl, arith, length-append}
 use Rattle.std.specs.Prelude.{nat_le}
 use Rattle.std.specs.List.{flat_map, filter_map, cons_option, sum_by}
 use Rattle.std.specs.Option.{option_map, option_to_list}
-use Rattle.std.proofs.lemmas.Bool.{lt-ltb, leb-true, and_parts}
+use Rattle.std.proofs.lemmas.Bool.{lt-ltb, leb-true, le-leb, and_parts}
 use Rattle.std.proofs.lemmas.List.{length-map}
 use Rattle.std.proofs.lemmas.List.Sums.{sum_by-cons}
 use Rattle.pbf_wire.specs.Columns.{packed}
@@ -330,6 +330,10 @@ block_parts es h =
     let first = and_parts (all_alike es) (nat_le (length es) MOST_ENTITIES && nat_le (sum_by entity_weight es) HIGHEST_WEIGHT) h in
     let second = and_parts (nat_le (length es) MOST_ENTITIES) (nat_le (sum_by entity_weight es) HIGHEST_WEIGHT) first.1 in
     record { alike = first.0; few = leb-true _ _ second.0; light = leb-true _ _ second.1 }
+
+pub block_from : (es : List EntitySpec) → IsSmall es → is_block es ≡ true
+unfolding is_block
+block_from es h = rw (h.alike, le-leb _ _ h.few, le-leb _ _ h.light) refl
 
 -- they are written as a block that a frame may have
 pub block_fits : (es : List EntitySpec) → is_block es ≡ true → length (block_message es) < 33554432

@@ -58,7 +58,7 @@ module _ (texts : List (List ℕ)) (scale : Scale) (ns : List NodeSpec) (h : Nod
 
 -- ---- the group is that message
 
-only_nodes : (es : List EntitySpec) → AllByRecursion (λ e. number_of e ≡ DENSE) es → (map node (nodes_among es) ≡ es) × (ways_among es ≡ []) × (relations_among es ≡ [])
+pub only_nodes : (es : List EntitySpec) → AllByRecursion (λ e. number_of e ≡ DENSE) es → (map node (nodes_among es) ≡ es) × (ways_among es ≡ []) × (relations_among es ≡ [])
 only_nodes [] h = (refl, refl, refl)
 only_nodes (node n ∷ es) h = let rest = only_nodes es h.1 in (ap (λ (es : List EntitySpec). node n ∷ es) rest.0, rest.1, rest.2)
 only_nodes (way w ∷ es) h = absurd (omega (arith, h.0))

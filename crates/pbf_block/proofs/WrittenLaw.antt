@@ -1,6 +1,6 @@
 -- Entities that may share one block are written as a block that has no fault and holds them.
 use Rattle.std.proofs.Common.{◌≡◌, ℕ, ◌^◌, ◌<◌, ◌≤◌, ℤ, Bool, true, false, List, [], ◌∷◌, length, map, None, refl, sym, arith}
-use Rattle.std.specs.List.{flat_map, AllByRecursion}
+use Rattle.std.specs.List.{flat_map, list_all, AllByRecursion}
 use Rattle.std.specs.Option.{is_some}
 use Rattle.std.specs.Ordering.{int_eq}
 use Rattle.std.proofs.lemmas.Int.{ints}
@@ -89,6 +89,17 @@ like (way v) (relation r) h = absurd cc
 like (relation q) (node n) h = absurd cc
 like (relation q) (way w) h = absurd cc
 
+-- entities that are like the first
+likes : (e : EntitySpec) (es : List EntitySpec) → AllByRecursion (λ f. are_alike e f ≡ true) es → AllByRecursion (IsLike e) (e ∷ es)
+likes e es same = (record { number = refl; scale = refl }, all_weaker (λ f. are_alike e f ≡ true) (IsLike e) (like e) es same)
+
+all_like : (e : EntitySpec) (es : List EntitySpec) → list_all (are_alike e) es ≡ true → AllByRecursion (λ f. are_alike e f ≡ true) es
+all_like e es h = recursion_from_All _ es (AllPass-from_list_all (are_alike e) es h)
+
+-- entities of one block are in one field
+pub block_number : (e : EntitySpec) (es : List EntitySpec) → is_block (e ∷ es) ≡ true → AllByRecursion (λ f. number_of f ≡ number_of e) (e ∷ es)
+block_number e es h = all_weaker (IsLike e) (λ f. number_of f ≡ number_of e) (λ f l. l.number) (e ∷ es) (likes e es (all_like e es (block_parts (e ∷ es) h).alike))
+
 -- ---- the group
 
 -- these entities are written in a group with these texts
@@ -113,17 +124,12 @@ no_entities texts scale h = nodes_good texts [] tt h.short scale (record {
   short = dense_short texts [] tt h.short;
 })
 
--- entities that are like the first
-module _ (texts : List (List ℕ)) (e : EntitySpec) (es : List EntitySpec) (same : AllByRecursion (λ f. are_alike e f ≡ true) es) (h : Ready texts (e ∷ es)) where
-  likes : AllByRecursion (IsLike e) (e ∷ es)
-  likes = (record { number = refl; scale = refl }, all_weaker (λ f. are_alike e f ≡ true) (IsLike e) (like e) es same)
-
-  others : ¬ (number_of e ≡ DENSE) → Good texts (entity_scale e) (e ∷ es)
-  others other = others_good texts h.few e other (e ∷ es) likes h.fit h.typed h.among h.short
+others : (texts : List (List ℕ)) (e : EntitySpec) (es : List EntitySpec) → AllByRecursion (λ f. are_alike e f ≡ true) es → Ready texts (e ∷ es) → ¬ (number_of e ≡ DENSE) → Good texts (entity_scale e) (e ∷ es)
+others texts e es same h other = others_good texts h.few e other (e ∷ es) (likes e es same) h.fit h.typed h.among h.short
 
 nodes_ready : (texts : List (List ℕ)) (m : NodeSpec) (es : List EntitySpec) → AllByRecursion (λ f. are_alike (node m) f ≡ true) es → Ready texts (node m ∷ es) → Good texts m.scale (node m ∷ es)
 nodes_ready texts m es same h =
-    let all = likes texts (node m) es same h in
+    let all = likes (node m) es same in
     let dense = all_weaker (IsLike (node m)) (λ f. number_of f ≡ DENSE) (λ f l. l.number) (node m ∷ es) all in
     let alike = nodes_all (λ f. are_alike (node m) f ≡ true) es same in
     nodes_good texts (node m ∷ es) dense h.short m.scale (record {
@@ -140,7 +146,7 @@ nodes_ready texts m es same h =
 -- what is like the first is a good group
 alike_good : (texts : List (List ℕ)) (es : List EntitySpec) → all_alike es ≡ true → Ready texts es → Good texts (scale_among es) es
 alike_good texts [] a h = no_entities texts (scale_among []) h
-alike_good texts (e ∷ es) a h = by e h (recursion_from_All _ es (AllPass-from_list_all (are_alike e) es a))
+alike_good texts (e ∷ es) a h = by e h (all_like e es a)
   where
     by : (e : EntitySpec) → Ready texts (e ∷ es) → AllByRecursion (λ f. are_alike e f ≡ true) es → Good texts (entity_scale e) (e ∷ es)
     by (node m) h same = nodes_ready texts m es same h
