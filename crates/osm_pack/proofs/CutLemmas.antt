@@ -1,57 +1,28 @@
 -- How entities that come one by one are cut.
-use Rattle.std.proofs.Common.{◌≡◌, ℕ, zero, suc, ◌+◌, ◌<◌, ◌≤◌, List, [], ◌∷◌, ◌++◌, Bool, true, false, ◌&&◌, leb, length, take, drop, refl, sym, ap, ◌∙◌, subst, arith, append_assoc, append-nil, length-append, inl, inr, true≢false}
+use Rattle.std.proofs.Common.{◌≡◌, ℕ, zero, suc, ◌+◌, ◌<◌, ◌≤◌, List, [], ◌∷◌, ◌++◌, Bool, true, false, ◌&&◌, length, take, drop, refl, sym, ap, ◌∙◌, subst, arith, append_assoc, append-nil, length-append, inl, inr, true≢false}
 use Rattle.std.specs.Prelude.{nat_le, if◌then◌else◌}
 use Rattle.std.specs.List.{sum_by, list_all, flat_map}
-use Rattle.std.proofs.lemmas.Bool.{and_parts, cases_eq, leb-true, le-leb}
+use Rattle.std.proofs.lemmas.Bool.{and_parts, cases_eq}
 use Rattle.std.proofs.Math.Bool.{and-true}
 use Rattle.std.proofs.lemmas.List.{take_at, drop_at, take_all, drop_all, length-drop, take-append-drop, take-take, length_push}
 use Rattle.std.proofs.lemmas.List.Sums.{sum_by-append, sum_by_push, sum_by-cons}
+use Rattle.std.proofs.lemmas.List.Folds.{list_all-append}
 use Rattle.osm_entity.specs.Entity.{EntitySpec}
 use Rattle.osm_entity.specs.Weight.{entity_weight}
-use Rattle.pbf_block.specs.WrittenBlock.{are_alike, all_alike, is_block}
+use Rattle.pbf_block.specs.WrittenBlock.{are_alike, is_block}
+use Rattle.pbf_block.proofs.LengthLaw.{block_parts, block_from}
 use Rattle.osm_pack.specs.Cuts.{extra, cuts_at_most, cuts, block_frame, written_entities, then_pending, then_written, at_end}
 use Rattle.osm_entity.specs.declared.weight.TheConstants.{HIGHEST_WEIGHT}
 use Rattle.pbf_block.specs.declared.block_write.TheConstants.{MOST_ENTITIES}
 
-and_assoc : (a b c : Bool) → ((a && b) && c) ≡ (a && (b && c))
-and_assoc true b c = refl
-and_assoc false b c = refl
-
-all_append : {X : Type 0} (test : X → Bool) (xs ys : List X) → list_all test (xs ++ ys) ≡ (list_all test xs && list_all test ys)
-all_append test [] ys = refl
-all_append test (x ∷ xs) ys = ap (λ b. test x && b) (all_append test xs ys) ∙ sym (and_assoc (test x) (list_all test xs) (list_all test ys))
-
-pub record Keeps (e : EntitySpec) (es : List EntitySpec) : Type 0 where
-  pub kinds : list_all (λ f. are_alike e f) es ≡ true
-  pub count : length es + 1 ≤ MOST_ENTITIES
-  pub weight : entity_weight e + sum_by entity_weight es ≤ HIGHEST_WEIGHT
-
-pub kept_parts : (e : EntitySpec) (es : List EntitySpec) → is_block (e ∷ es) ≡ true → Keeps e es
-unfolding is_block
-kept_parts e es h =
-    let all = and_parts (list_all (λ f. are_alike e f) es) (nat_le (length (e ∷ es)) MOST_ENTITIES && nat_le (sum_by entity_weight (e ∷ es)) HIGHEST_WEIGHT) h in
-    let sums = and_parts (nat_le (length (e ∷ es)) MOST_ENTITIES) (nat_le (sum_by entity_weight (e ∷ es)) HIGHEST_WEIGHT) all.1 in
-    record {
-      kinds = all.0;
-      count = omega (arith, leb-true (length (e ∷ es)) MOST_ENTITIES sums.0);
-      weight = omega (arith, leb-true (sum_by entity_weight (e ∷ es)) HIGHEST_WEIGHT sums.1, sum_by-cons entity_weight e es);
-    }
-
-kept_from : (e : EntitySpec) (es : List EntitySpec) → Keeps e es → is_block (e ∷ es) ≡ true
-unfolding is_block
-kept_from e es h =
-    let count : leb (suc (length es)) MOST_ENTITIES ≡ true = le-leb _ _ (omega (arith, h.count)) in
-    let weight : leb (sum_by entity_weight (e ∷ es)) HIGHEST_WEIGHT ≡ true = le-leb _ _ (omega (arith, h.weight, sum_by-cons entity_weight e es)) in
-    rw (h.kinds, count, weight) refl
-
 -- a prefix of what may be a block may be one
 pub kept_left : (e : EntitySpec) (xs ys : List EntitySpec) → is_block (e ∷ (xs ++ ys)) ≡ true → is_block (e ∷ xs) ≡ true
 kept_left e xs ys h =
-    let k = kept_parts e (xs ++ ys) h in
-    kept_from e xs (record {
-      kinds = (and_parts _ _ (sym (all_append (λ f. are_alike e f) xs ys) ∙ k.kinds)).0;
-      count = omega (arith, k.count, length-append xs ys);
-      weight = omega (arith, k.weight, sum_by-append entity_weight xs ys);
+    let k = block_parts (e ∷ (xs ++ ys)) h in
+    block_from (e ∷ xs) (record {
+      alike = (and_parts _ _ (sym (list_all-append (are_alike e) xs ys) ∙ k.alike)).0;
+      few = omega (arith, k.few, length-append xs ys);
+      light = omega (arith, k.light, sum_by-append entity_weight (e ∷ xs) ys);
     })
 
 pub kept_front : (e : EntitySpec) (es : List EntitySpec) (m n : ℕ) → m ≤ n → is_block (e ∷ take n es) ≡ true → is_block (e ∷ take m es) ≡ true
@@ -118,7 +89,6 @@ bytes_closed x xs e rest keep ends = ap (flat_map block_frame) (cuts_closed x xs
 pub bytes_last : (x : EntitySpec) (xs : List EntitySpec) → is_block (x ∷ xs) ≡ true → written_entities (x ∷ xs) ≡ block_frame (x ∷ xs)
 bytes_last x xs keep = ap (flat_map block_frame) (cuts_last x xs keep) ∙ append-nil _
 
--- whether one more may join
 -- whether entities are like those that are there
 abbrev pub like_first : List EntitySpec → EntitySpec → Bool
 like_first [] f = true
@@ -128,9 +98,8 @@ joins_more : (e : EntitySpec) (es : List EntitySpec) (f : EntitySpec) → is_blo
     → (are_alike e f && (nat_le (length (e ∷ es) + 1) MOST_ENTITIES && nat_le (sum_by entity_weight (e ∷ es) + entity_weight f) HIGHEST_WEIGHT)) ≡ is_block (e ∷ (es ++ f ∷ []))
 unfolding is_block
 joins_more e es f h =
-    let kept = kept_parts e es h in
-    let kinds : list_all (λ g. are_alike e g) (es ++ f ∷ []) ≡ are_alike e f =
-    all_append (λ g. are_alike e g) es (f ∷ []) ∙ (ap (λ b. b && (are_alike e f && true)) kept.kinds ∙ and-true _) in
+    let kinds : list_all (are_alike e) (es ++ f ∷ []) ≡ are_alike e f =
+    list_all-append (are_alike e) es (f ∷ []) ∙ (ap (λ b. b && (are_alike e f && true)) (block_parts (e ∷ es) h).alike ∙ and-true _) in
     let count : suc (length (es ++ f ∷ [])) ≡ suc (length es) + 1 = omega (arith, length_push es f) in
     let weight : sum_by entity_weight (e ∷ (es ++ f ∷ [])) ≡ sum_by entity_weight (e ∷ es) + entity_weight f = sum_by_push entity_weight (e ∷ es) f in
     rw (kinds, count, weight) refl
@@ -143,18 +112,14 @@ joins [] f h = refl
 joins (e ∷ es) f h = joins_more e es f h
 
 pub kept_bounds : (es : List EntitySpec) → is_block es ≡ true → (length es ≤ MOST_ENTITIES) × (sum_by entity_weight es ≤ HIGHEST_WEIGHT)
-unfolding is_block
-kept_bounds es h =
-    let all = and_parts (all_alike es) (nat_le (length es) MOST_ENTITIES && nat_le (sum_by entity_weight es) HIGHEST_WEIGHT) h in
-    let sums = and_parts (nat_le (length es) MOST_ENTITIES) (nat_le (sum_by entity_weight es) HIGHEST_WEIGHT) all.1 in
-    (leb-true (length es) MOST_ENTITIES sums.0, leb-true (sum_by entity_weight es) HIGHEST_WEIGHT sums.1)
+kept_bounds es h = let b = block_parts es h in (b.few, b.light)
 
 pub kept_none : is_block [] ≡ true
 unfolding is_block
 kept_none = refl
 
 pub kept_one : (e : EntitySpec) → entity_weight e ≤ HIGHEST_WEIGHT → is_block (e ∷ []) ≡ true
-kept_one e h = kept_from e [] (record { kinds = refl; count = omega arith; weight = omega (arith, h) })
+kept_one e h = block_from (e ∷ []) (record { alike = refl; few = omega arith; light = omega (arith, h, sum_by-cons entity_weight e []) })
 
 pub bytes_none : written_entities [] ≡ []
 unfolding cuts

@@ -1,11 +1,9 @@
 -- Nodes that are added to an open block many at a time.
-use Rattle.std.proofs.Common.{◌≡◌, ℕ, ◌+◌, ◌≤◌, List, [], ◌∷◌, ◌++◌, true, leb, length, map, refl, sym, ap, ◌∙◌, subst, arith, append_assoc, append-nil, length-append, true≢false}
-use Rattle.std.specs.List.{sum_by, flat_map, AllByRecursion}
-use Rattle.std.proofs.lemmas.Bool.{le-leb}
-use Rattle.std.proofs.lemmas.List.{length_push}
-use Rattle.std.proofs.lemmas.List.Sums.{sum_by_push, sum_by-cons}
+use Rattle.std.proofs.Common.{◌≡◌, ℕ, ◌+◌, ◌≤◌, List, [], ◌∷◌, ◌++◌, ◌&&◌, true, length, map, refl, sym, ap, ap₂, ◌∙◌, subst, arith, append-nil, length-append, true≢false}
+use Rattle.std.specs.List.{sum_by, flat_map, list_all, AllByRecursion}
+use Rattle.std.proofs.lemmas.List.Sums.{sum_by-cons}
 use Rattle.pbf_strings.specs.TableOut.{texts_after}
-use Rattle.pbf_strings.proofs.UsedTexts.{length_after}
+use Rattle.pbf_strings.proofs.UsedTexts.{used_later}
 use Rattle.osm_entity.specs.Entity.{NodeSpec, EntitySpec, node}
 use Rattle.osm_entity.specs.EntityTexts.{node_texts, entity_texts}
 use Rattle.osm_entity.specs.Weight.{entity_weight, node_weight}
@@ -15,71 +13,49 @@ use Rattle.pbf_block.specs.WrittenEntity.{writer_length}
 use Rattle.osm_pack.specs.declared.open_block.OpenBlock.{OpenBlock}
 use Rattle.osm_pack.specs.Likenesses.{likeness_of, has_like}
 use Rattle.osm_pack.specs.Open.{likeness_among, Holds}
-use Rattle.osm_pack.proofs.CutLemmas.{joins, kept_bounds}
-use Rattle.osm_pack.proofs.OpenLemmas.{alike_likeness, texts_later, nodes_node, messages_node}
+use Rattle.osm_pack.proofs.OpenLemmas.{alike_likeness, texts_append, room, nodes_append, of_nodes, messages_nodes}
 use Rattle.osm_entity.specs.declared.weight.TheConstants.{HIGHEST_WEIGHT}
-use Rattle.pbf_block.proofs.WrittenLaw.{all_count}
+use Rattle.pbf_block.proofs.LengthLaw.{block_parts, block_from}
+use Rattle.std.proofs.lemmas.List.{length-map}
+use Rattle.std.proofs.lemmas.List.Elements.{All-from_recursion}
+use Rattle.std.proofs.lemmas.List.Folds.{list_all-append, list_all-map, flat_map-map}
+use Rattle.std.proofs.lemmas.List.Sums.{sum_by-append, list_all-from_AllPass}
 use Rattle.pbf_block.specs.declared.block_write.TheConstants.{MOST_ENTITIES}
 
--- the first of them, and the others
-regrouped : (es : List EntitySpec) (n : NodeSpec) (ns : List NodeSpec) → (es ++ node n ∷ []) ++ map node ns ≡ es ++ map node (n ∷ ns)
-regrouped es n ns = append_assoc es (node n ∷ []) (map node ns)
-
 nodes_many : (es : List EntitySpec) (ns : List NodeSpec) → nodes_among (es ++ map node ns) ≡ nodes_among es ++ ns
-nodes_many es [] = ap nodes_among (append-nil es) ∙ sym (append-nil (nodes_among es))
-nodes_many es (n ∷ ns) =
-    ap nodes_among (sym (regrouped es n ns)) ∙ (nodes_many (es ++ node n ∷ []) ns ∙ (ap (λ (l : List NodeSpec). l ++ ns) (nodes_node es n) ∙ append_assoc (nodes_among es) (n ∷ []) ns))
+nodes_many es ns = nodes_append es (map node ns) ∙ ap (λ (l : List NodeSpec). nodes_among es ++ l) (of_nodes ns).0
 
 texts_many : (es : List EntitySpec) (ns : List NodeSpec) → texts_after (texts_of_all es) (flat_map node_texts ns) ≡ texts_of_all (es ++ map node ns)
-texts_many es [] = ap texts_of_all (sym (append-nil es))
-texts_many es (n ∷ ns) = texts_later es (node n) (flat_map node_texts ns) ∙ (texts_many (es ++ node n ∷ []) ns ∙ ap texts_of_all (regrouped es n ns))
+texts_many es ns = ap (texts_after (texts_of_all es)) (sym (flat_map-map entity_texts node ns)) ∙ sym (texts_append es (map node ns))
 
 -- texts that are used after these nodes are used after those of the nodes
 used_many : (es : List EntitySpec) (ns : List NodeSpec) (used : List (List ℕ)) → texts_after (texts_of_all es) (flat_map node_texts ns ++ used) ≡ texts_after (texts_of_all (es ++ map node ns)) used
-used_many es [] used = ap (λ (l : List EntitySpec). texts_after (texts_of_all l) used) (sym (append-nil es))
-used_many es (n ∷ ns) used =
-    ap (texts_after (texts_of_all es)) (append_assoc (node_texts n) (flat_map node_texts ns) used)
-    ∙ (texts_later es (node n) (flat_map node_texts ns ++ used) ∙ (used_many (es ++ node n ∷ []) ns used ∙ ap (λ (l : List EntitySpec). texts_after (texts_of_all l) used) (regrouped es n ns)))
+used_many es ns used = used_later (texts_of_all es) (texts_of_all (es ++ map node ns)) (flat_map node_texts ns) used (sym (texts_many es ns))
 
-messages_many : (texts : List (List ℕ)) (es : List EntitySpec) (ns : List NodeSpec) → messages_among texts es ≡ messages_among texts (es ++ map node ns)
-messages_many texts es [] = ap (messages_among texts) (sym (append-nil es))
-messages_many texts es (n ∷ ns) = messages_node texts es n ∙ (messages_many texts (es ++ node n ∷ []) ns ∙ ap (messages_among texts) (regrouped es n ns))
+weights_of : (ns : List NodeSpec) → sum_by entity_weight (map node ns) ≡ sum_by node_weight ns
+weights_of [] = refl
+weights_of (n ∷ ns) = omega (arith, weights_of ns, sum_by-cons node_weight n ns, sum_by-cons entity_weight (node n) (map node ns))
 
 weight_many : (es : List EntitySpec) (ns : List NodeSpec) → sum_by entity_weight (es ++ map node ns) ≡ sum_by entity_weight es + sum_by node_weight ns
-weight_many es [] = omega (arith, ap (λ (l : List EntitySpec). sum_by entity_weight l) (append-nil es))
-weight_many es (n ∷ ns) =
-    let more = weight_many (es ++ node n ∷ []) ns in
-    omega (arith, more, sum_by_push entity_weight es (node n), sum_by-cons node_weight n ns, ap (λ (l : List EntitySpec). sum_by entity_weight l) (regrouped es n ns))
+weight_many es ns = omega (arith, sum_by-append entity_weight es (map node ns), weights_of ns)
 
 length_many : (es : List EntitySpec) (ns : List NodeSpec) → length (es ++ map node ns) ≡ length es + length ns
-length_many es [] = omega (arith, ap (λ (l : List EntitySpec). length l) (append-nil es))
-length_many es (n ∷ ns) =
-    let more = length_many (es ++ node n ∷ []) ns in
-    omega (arith, more, length_push es (node n), ap (λ (l : List EntitySpec). length l) (regrouped es n ns))
+length_many es ns = omega (arith, length-append es (map node ns), length-map ns node)
 
 -- nodes that are like the first entity of a block may join it, if they aren't too many or too heavy
 block_many : (x : EntitySpec) (xs : List EntitySpec) (ns : List NodeSpec) → is_block (x ∷ xs) ≡ true → AllByRecursion (λ n. are_alike x (node n) ≡ true) ns → length (x ∷ xs) + length ns ≤ MOST_ENTITIES
     → sum_by entity_weight (x ∷ xs) + sum_by node_weight ns ≤ HIGHEST_WEIGHT → is_block (x ∷ (xs ++ map node ns)) ≡ true
-block_many x xs [] h like few light = ap (λ (l : List EntitySpec). is_block (x ∷ l)) (append-nil xs) ∙ h
-block_many x xs (n ∷ ns) h like few light =
-    let count : leb (length (x ∷ xs) + 1) MOST_ENTITIES ≡ true = le-leb _ _ (omega (arith, few)) in
-    let weight : leb (sum_by entity_weight (x ∷ xs) + entity_weight (node n)) HIGHEST_WEIGHT ≡ true = le-leb _ _ (omega (arith, light, sum_by-cons node_weight n ns)) in
-    let one : is_block (x ∷ (xs ++ node n ∷ [])) ≡ true = sym (joins (x ∷ xs) (node n) h) ∙ rw (like.0, count, weight) refl in
-    ap (λ (l : List EntitySpec). is_block (x ∷ l)) (sym (regrouped xs n ns))
-    ∙ block_many x (xs ++ node n ∷ []) ns one like.1 (omega (arith, few, length_push xs (node n))) (omega (arith, light, sum_by-cons node_weight n ns, sum_by_push entity_weight (x ∷ xs) (node n)))
-
-texts_joined : (es : List EntitySpec) (ns : List NodeSpec) → length (flat_map entity_texts (es ++ map node ns)) ≡ length (flat_map entity_texts es) + length (flat_map node_texts ns)
-texts_joined [] [] = refl
-texts_joined [] (n ∷ ns) =
-    omega (arith, texts_joined [] ns, length-append (node_texts n) (flat_map entity_texts (map node ns)), length-append (node_texts n) (flat_map node_texts ns))
-texts_joined (e ∷ es) ns =
-    omega (arith, texts_joined es ns, length-append (entity_texts e) (flat_map entity_texts (es ++ map node ns)), length-append (entity_texts e) (flat_map entity_texts es))
+block_many x xs ns h like few light =
+    let all : list_all (λ n. are_alike x (node n)) ns ≡ true = list_all-from_AllPass _ ns (All-from_recursion _ ns like) in
+    block_from (x ∷ (xs ++ map node ns)) (record {
+      alike = list_all-append (are_alike x) xs (map node ns) ∙ ap₂ (λ a b. a && b) (block_parts (x ∷ xs) h).alike (list_all-map (are_alike x) node ns ∙ all);
+      few = omega (arith, few, length_many xs ns);
+      light = omega (arith, light, weight_many (x ∷ xs) ns);
+    })
 
 -- there is room for the texts of nodes that may join
 room_many : (es : List EntitySpec) (ns : List NodeSpec) → is_block (es ++ map node ns) ≡ true → length (texts_of_all es) + length (flat_map node_texts ns) ≤ 1048575
-room_many es ns h =
-    let bound = (kept_bounds (es ++ map node ns) h).1 in
-    omega (arith, bound, all_count (es ++ map node ns), texts_joined es ns, length_after (flat_map entity_texts es) [])
+room_many es ns h = omega (arith, room es (map node ns) h, ap (λ (ts : List (List ℕ)). length ts) (flat_map-map entity_texts node ns))
 
 -- ---- in the block that is open
 
@@ -125,6 +101,6 @@ module _ {S H : Type 0} where
         nodes = subst (λ ts. HoldsNodes new.nodes ts (nodes_among (es ++ map node ns))) now
             (subst (λ (l : List NodeSpec). HoldsNodes new.nodes new.texts l) (sym (nodes_many es ns)) (d (nodes_among es) (subst (λ ts. HoldsNodes old.nodes ts (nodes_among es)) (sym h.texts) h.nodes)));
         messages = λ used.
-            ap (λ g. g.items) g ∙ (h.messages (flat_map node_texts ns ++ used) ∙ (ap (λ ts. messages_among ts es) (used_many es ns used) ∙ messages_many _ es ns));
+            ap (λ g. g.items) g ∙ (h.messages (flat_map node_texts ns ++ used) ∙ (ap (λ ts. messages_among ts es) (used_many es ns used) ∙ messages_nodes _ es ns));
         writer = ap writer_length e ∙ h.writer;
       }

@@ -1,9 +1,8 @@
 -- An open block, entity by entity.
-use Rattle.std.proofs.Common.{◌≡◌, ◌⊎◌, inl, inr, ℕ, ◌+◌, ◌^◌, ◌≤◌, List, [], ◌∷◌, ◌++◌, Bool, true, false, ◌&&◌, length, map, Some, None, refl, sym, ap, ◌∙◌, subst, arith, append_assoc, append-nil, true≢false}
+use Rattle.std.proofs.Common.{◌≡◌, ◌⊎◌, inl, inr, ℕ, ◌+◌, ◌^◌, ◌*◌, ◌≤◌, List, [], ◌∷◌, ◌++◌, Bool, true, false, ◌&&◌, length, map, Some, None, refl, sym, ap, ◌∙◌, subst, arith, append_assoc, append-nil, length-append}
 use Rattle.std.specs.Prelude.{unwrap_or, nat_le, min, ◌-◌, if◌then◌else◌}
 use Rattle.osm_entity.specs.declared.scale.Scale.{Scale}
-use Rattle.std.specs.List.{sum_by, flat_map, list_all}
-use Rattle.std.proofs.lemmas.Bool.{and_parts}
+use Rattle.std.specs.List.{sum_by, flat_map}
 use Rattle.std.proofs.lemmas.List.{length_push, map_push}
 use Rattle.std.proofs.lemmas.List.Sums.{sum_by_push}
 use Rattle.std.proofs.Math.Bool.{and-true}
@@ -11,7 +10,7 @@ use Rattle.pbf_wire.specs.Message.{Each, slot_bytes, message, unless_empty}
 use Rattle.pbf_wire.proofs.LengthLemmas.{each_short}
 use Rattle.pbf_wire.proofs.WritingLemmas.{each_none, each_joined, message_first, message_one}
 use Rattle.pbf_strings.specs.TableOut.{texts_after, table_message, text_held}
-use Rattle.pbf_strings.proofs.UsedTexts.{after_both, used_later, length_after}
+use Rattle.pbf_strings.proofs.UsedTexts.{after_both, used_later}
 use Rattle.osm_entity.specs.Entity.{NodeSpec, WaySpec, RelationSpec, EntitySpec, node, way, relation}
 use Rattle.osm_entity.specs.EntityTexts.{node_texts, way_texts, relation_texts, entity_texts}
 use Rattle.osm_entity.specs.Ranges.{EntityFits}
@@ -20,19 +19,22 @@ use Rattle.pbf_dense.specs.declared.dense_out.DenseOut.{DenseOut}
 use Rattle.pbf_dense.specs.WrittenDense.{HoldsNodes, columns_of, columns_held, dense_message, dense_length}
 use Rattle.pbf_block.specs.WrittenBlock.{are_alike, is_block, nodes_among, ways_among, relations_among, texts_of_all, messages_among, group_message, scale_among, block_slots, block_message}
 use Rattle.pbf_block.specs.declared.entity_out.EntityOut.{EntityOut}
-use Rattle.pbf_block.specs.WrittenEntity.{way_message, relation_message, writer_length, most_way_held, most_relation_held}
-use Rattle.pbf_block.proofs.LengthLaw.{open_short}
-use Rattle.pbf_block.proofs.HeldLaw.{after_held, way_beside, relation_beside}
+use Rattle.pbf_block.specs.WrittenEntity.{way_message, relation_message, writer_length}
+use Rattle.pbf_block.proofs.LengthLaw.{open_short, once_few, parts_are, block_parts}
+use Rattle.pbf_block.proofs.HeldLaw.{after_held}
 use Rattle.pbf_block.proofs.ClosingLaw.{table_fits, nodes_fit, group_fits, closing_fits}
 use Rattle.osm_pack.specs.declared.open_block.OpenBlock.{OpenBlock}
 use Rattle.osm_pack.specs.declared.open_block.Joining.{Joining}
 use Rattle.osm_pack.specs.declared.open_block.TheConstants.{MOST_HELD}
 use Rattle.osm_pack.specs.Likenesses.{likeness_of, same_likeness, is_like}
 use Rattle.osm_pack.specs.Open.{likeness_among, Holds, IsOpen, IsJoining, Encodes, Counts, IsClosing, block_held}
-use Rattle.osm_pack.proofs.CutLemmas.{like_first, joins, kept_parts, kept_bounds, kept_none, kept_one}
+use Rattle.osm_pack.proofs.CutLemmas.{like_first, joins, kept_bounds, kept_none, kept_one}
 use Rattle.osm_entity.specs.declared.weight.TheConstants.{HIGHEST_WEIGHT}
-use Rattle.pbf_block.proofs.EachLaw.{no_dense}
-use Rattle.pbf_block.proofs.WrittenLaw.{one_count, all_count}
+use Rattle.pbf_block.proofs.EachLaw.{number_of, no_dense, only_ways, only_relations}
+use Rattle.pbf_block.proofs.NodesLaw.{only_nodes}
+use Rattle.pbf_block.proofs.WrittenLaw.{block_number}
+use Rattle.pbf_wire.proofs.AllLemmas.{all_left, all_middle, all_weaker}
+use Rattle.std.proofs.lemmas.Grind.{flat_map-append}
 use Rattle.pbf_block.specs.declared.block_write.TheConstants.{MOST_ENTITIES}
 
 -- ---- what entities have in common
@@ -54,135 +56,84 @@ likeness_push (x ∷ es) e = refl
 
 -- ---- texts
 
-pub texts_push : (es : List EntitySpec) (e : EntitySpec) → texts_after (texts_of_all es) (entity_texts e) ≡ texts_of_all (es ++ e ∷ [])
-texts_push es e = sym (after_both (flat_map entity_texts es) (entity_texts e) []) ∙ ap (texts_after []) (joined es)
-  where
-    joined : (xs : List EntitySpec) → flat_map entity_texts xs ++ entity_texts e ≡ flat_map entity_texts (xs ++ e ∷ [])
-    joined [] = sym (append-nil (entity_texts e))
-    joined (x ∷ xs) = append_assoc (entity_texts x) (flat_map entity_texts xs) (entity_texts e) ∙ ap (λ ts. entity_texts x ++ ts) (joined xs)
+pub texts_append : (es fs : List EntitySpec) → texts_of_all (es ++ fs) ≡ texts_after (texts_of_all es) (flat_map entity_texts fs)
+texts_append es fs = ap (texts_after []) (flat_map-append entity_texts es fs) ∙ after_both (flat_map entity_texts es) (flat_map entity_texts fs) []
+
+texts_push : (es : List EntitySpec) (e : EntitySpec) → texts_after (texts_of_all es) (entity_texts e) ≡ texts_of_all (es ++ e ∷ [])
+texts_push es e = ap (texts_after (texts_of_all es)) (sym (append-nil (entity_texts e))) ∙ sym (texts_append es (e ∷ []))
 
 -- texts that are used after an entity are used after those of the entity
-pub texts_later : (es : List EntitySpec) (e : EntitySpec) (used : List (List ℕ)) → texts_after (texts_of_all es) (entity_texts e ++ used) ≡ texts_after (texts_of_all (es ++ e ∷ [])) used
+texts_later : (es : List EntitySpec) (e : EntitySpec) (used : List (List ℕ)) → texts_after (texts_of_all es) (entity_texts e ++ used) ≡ texts_after (texts_of_all (es ++ e ∷ [])) used
 texts_later es e used = used_later (texts_of_all es) (texts_of_all (es ++ e ∷ [])) (entity_texts e) used (sym (texts_push es e))
 
--- there is room for the texts of an entity that may join
-pub room : (es : List EntitySpec) (e : EntitySpec) → is_block (es ++ e ∷ []) ≡ true → length (texts_of_all es) + length (entity_texts e) ≤ 1048575
-room es e h =
-    let bound = (kept_bounds (es ++ e ∷ []) h).1 in
-    omega (arith, bound, sum_by_push entity_weight es e, all_count es, one_count e, length_after (flat_map entity_texts es) [])
+-- there is room for the texts of entities that may join
+pub room : (es fs : List EntitySpec) → is_block (es ++ fs) ≡ true → length (texts_of_all es) + length (flat_map entity_texts fs) ≤ 1048575
+room es fs h =
+    let joined = ap (λ (ts : List (List ℕ)). length ts) (flat_map-append entity_texts es fs) in
+    omega (arith, (block_parts (es ++ fs) h).light, (parts_are [] (es ++ fs)).few, joined, length-append (flat_map entity_texts es) (flat_map entity_texts fs), once_few es)
 
 -- ---- the entities of each kind
 
-pub nodes_node : (es : List EntitySpec) (n : NodeSpec) → nodes_among (es ++ node n ∷ []) ≡ nodes_among es ++ n ∷ []
-nodes_node [] n = refl
-nodes_node (node m ∷ es) n = ap (λ ns. m ∷ ns) (nodes_node es n)
-nodes_node (way w ∷ es) n = nodes_node es n
-nodes_node (relation r ∷ es) n = nodes_node es n
+pub nodes_append : (es fs : List EntitySpec) → nodes_among (es ++ fs) ≡ nodes_among es ++ nodes_among fs
+nodes_append [] fs = refl
+nodes_append (node n ∷ es) fs = ap (λ ns. n ∷ ns) (nodes_append es fs)
+nodes_append (way w ∷ es) fs = nodes_append es fs
+nodes_append (relation r ∷ es) fs = nodes_append es fs
 
-pub nodes_way : (es : List EntitySpec) (w : WaySpec) → nodes_among (es ++ way w ∷ []) ≡ nodes_among es
-nodes_way [] w = refl
-nodes_way (node m ∷ es) w = ap (λ ns. m ∷ ns) (nodes_way es w)
-nodes_way (way v ∷ es) w = nodes_way es w
-nodes_way (relation r ∷ es) w = nodes_way es w
+ways_append : (es fs : List EntitySpec) → ways_among (es ++ fs) ≡ ways_among es ++ ways_among fs
+ways_append [] fs = refl
+ways_append (node n ∷ es) fs = ways_append es fs
+ways_append (way w ∷ es) fs = ap (λ ws. w ∷ ws) (ways_append es fs)
+ways_append (relation r ∷ es) fs = ways_append es fs
 
-pub nodes_relation : (es : List EntitySpec) (r : RelationSpec) → nodes_among (es ++ relation r ∷ []) ≡ nodes_among es
-nodes_relation [] r = refl
-nodes_relation (node m ∷ es) r = ap (λ ns. m ∷ ns) (nodes_relation es r)
-nodes_relation (way v ∷ es) r = nodes_relation es r
-nodes_relation (relation q ∷ es) r = nodes_relation es r
+relations_append : (es fs : List EntitySpec) → relations_among (es ++ fs) ≡ relations_among es ++ relations_among fs
+relations_append [] fs = refl
+relations_append (node n ∷ es) fs = relations_append es fs
+relations_append (way w ∷ es) fs = relations_append es fs
+relations_append (relation r ∷ es) fs = ap (λ rs. r ∷ rs) (relations_append es fs)
 
-ways_node : (es : List EntitySpec) (n : NodeSpec) → ways_among (es ++ node n ∷ []) ≡ ways_among es
-ways_node [] n = refl
-ways_node (node m ∷ es) n = ways_node es n
-ways_node (way w ∷ es) n = ap (λ ws. w ∷ ws) (ways_node es n)
-ways_node (relation r ∷ es) n = ways_node es n
-
-ways_way : (es : List EntitySpec) (w : WaySpec) → ways_among (es ++ way w ∷ []) ≡ ways_among es ++ w ∷ []
-ways_way [] w = refl
-ways_way (node m ∷ es) w = ways_way es w
-ways_way (way v ∷ es) w = ap (λ ws. v ∷ ws) (ways_way es w)
-ways_way (relation r ∷ es) w = ways_way es w
-
-ways_relation : (es : List EntitySpec) (r : RelationSpec) → ways_among (es ++ relation r ∷ []) ≡ ways_among es
-ways_relation [] r = refl
-ways_relation (node m ∷ es) r = ways_relation es r
-ways_relation (way v ∷ es) r = ap (λ ws. v ∷ ws) (ways_relation es r)
-ways_relation (relation q ∷ es) r = ways_relation es r
-
-relations_node : (es : List EntitySpec) (n : NodeSpec) → relations_among (es ++ node n ∷ []) ≡ relations_among es
-relations_node [] n = refl
-relations_node (node m ∷ es) n = relations_node es n
-relations_node (way w ∷ es) n = relations_node es n
-relations_node (relation r ∷ es) n = ap (λ rs. r ∷ rs) (relations_node es n)
-
-relations_way : (es : List EntitySpec) (w : WaySpec) → relations_among (es ++ way w ∷ []) ≡ relations_among es
-relations_way [] w = refl
-relations_way (node m ∷ es) w = relations_way es w
-relations_way (way v ∷ es) w = relations_way es w
-relations_way (relation r ∷ es) w = ap (λ rs. r ∷ rs) (relations_way es w)
-
-relations_relation : (es : List EntitySpec) (r : RelationSpec) → relations_among (es ++ relation r ∷ []) ≡ relations_among es ++ r ∷ []
-relations_relation [] r = refl
-relations_relation (node m ∷ es) r = relations_relation es r
-relations_relation (way v ∷ es) r = relations_relation es r
-relations_relation (relation q ∷ es) r = ap (λ rs. q ∷ rs) (relations_relation es r)
+pub of_nodes : (ns : List NodeSpec) → (nodes_among (map node ns) ≡ ns) × (ways_among (map node ns) ≡ []) × (relations_among (map node ns) ≡ [])
+of_nodes [] = (refl, refl, refl)
+of_nodes (n ∷ ns) = let rest = of_nodes ns in (ap (λ ns. n ∷ ns) rest.0, rest.1, rest.2)
 
 -- ---- all of one kind
 
-like_node : (n : NodeSpec) (es : List EntitySpec) → list_all (are_alike (node n)) es ≡ true → (ways_among es ≡ []) × (relations_among es ≡ [])
-like_node n [] h = (refl, refl)
-like_node n (node m ∷ es) h = like_node n es (and_parts (are_alike (node n) (node m)) (list_all (are_alike (node n)) es) h).1
-like_node n (way v ∷ es) h = absurd (true≢false (sym h))
-like_node n (relation r ∷ es) h = absurd (true≢false (sym h))
-
-like_way : (w : WaySpec) (es : List EntitySpec) → list_all (are_alike (way w)) es ≡ true → (nodes_among es ≡ []) × (relations_among es ≡ [])
-like_way w [] h = (refl, refl)
-like_way w (node m ∷ es) h = absurd (true≢false (sym h))
-like_way w (way v ∷ es) h = like_way w es (and_parts (are_alike (way w) (way v)) (list_all (are_alike (way w)) es) h).1
-like_way w (relation r ∷ es) h = absurd (true≢false (sym h))
-
-like_relation : (r : RelationSpec) (es : List EntitySpec) → list_all (are_alike (relation r)) es ≡ true → nodes_among es ≡ []
-like_relation r [] h = refl
-like_relation r (node m ∷ es) h = absurd (true≢false (sym h))
-like_relation r (way v ∷ es) h = absurd (true≢false (sym h))
-like_relation r (relation q ∷ es) h = like_relation r es (and_parts (are_alike (relation r) (relation q)) (list_all (are_alike (relation r)) es) h).1
-
 -- a block has only nodes, or none
-pub nodes_or_others : (es : List EntitySpec) → is_block es ≡ true → (nodes_among es ≡ []) ⊎ ((ways_among es ≡ []) × (relations_among es ≡ []))
+nodes_or_others : (es : List EntitySpec) → is_block es ≡ true → (nodes_among es ≡ []) ⊎ ((ways_among es ≡ []) × (relations_among es ≡ []))
 nodes_or_others [] h = inl refl
-nodes_or_others (node n ∷ es) h = inr (like_node n es (kept_parts (node n) es h).kinds)
-nodes_or_others (way w ∷ es) h = inl (like_way w es (kept_parts (way w) es h).kinds).0
-nodes_or_others (relation r ∷ es) h = inl (like_relation r es (kept_parts (relation r) es h).kinds)
-
-like_joins : (es : List EntitySpec) (f : EntitySpec) → is_block es ≡ true → is_block (es ++ f ∷ []) ≡ true → like_first es f ≡ true
-like_joins es f h k = (and_parts (like_first es f) _ (joins es f h ∙ k)).0
+nodes_or_others (node n ∷ es) h = let only = only_nodes (node n ∷ es) (block_number (node n) es h) in inr (only.1, only.2)
+nodes_or_others (way w ∷ es) h = inl (only_ways [] (way w ∷ es) (block_number (way w) es h)).0
+nodes_or_others (relation r ∷ es) h = inl (only_relations [] (relation r ∷ es) (block_number (relation r) es h)).0
 
 -- a way joins no relations
-pub before_way : (es : List EntitySpec) (w : WaySpec) → is_block es ≡ true → is_block (es ++ way w ∷ []) ≡ true → relations_among es ≡ []
-before_way [] w h k = refl
-before_way (node n ∷ es) w h k = absurd (true≢false (sym (like_joins (node n ∷ es) (way w) h k)))
-before_way (way v ∷ es) w h k = (like_way v es (kept_parts (way v) es h).kinds).1
-before_way (relation r ∷ es) w h k = absurd (true≢false (sym (like_joins (relation r ∷ es) (way w) h k)))
+before_way : (es : List EntitySpec) (w : WaySpec) → is_block (es ++ way w ∷ []) ≡ true → relations_among es ≡ []
+before_way [] w h = refl
+before_way (x ∷ xs) w h =
+    let all = block_number x (xs ++ way w ∷ []) h in
+    let is : number_of (way w) ≡ number_of x = all_middle (λ f. number_of f ≡ number_of x) (x ∷ xs) (way w) [] all in
+    (only_ways [] (x ∷ xs) (all_weaker (λ f. number_of f ≡ number_of x) (λ f. number_of f ≡ number_of (way w)) (λ f e. e ∙ sym is) (x ∷ xs) (all_left _ (x ∷ xs) (way w ∷ []) all))).2
 
 -- ---- the bytes of a group
 
 pub no_messages : (texts : List (List ℕ)) → messages_among texts [] ≡ []
 no_messages texts = rw (each_none 3, each_none 4) refl
 
-pub messages_node : (texts : List (List ℕ)) (es : List EntitySpec) (n : NodeSpec) → messages_among texts es ≡ messages_among texts (es ++ node n ∷ [])
-messages_node texts es n = rw (ways_node es n, relations_node es n) refl
+pub messages_nodes : (texts : List (List ℕ)) (es : List EntitySpec) (ns : List NodeSpec) → messages_among texts es ≡ messages_among texts (es ++ map node ns)
+messages_nodes texts es ns =
+    let none = of_nodes ns in
+    rw (ways_append es (map node ns), relations_append es (map node ns), none.1, none.2, append-nil (ways_among es), append-nil (relations_among es)) refl
 
 pushed : {X : Type 0} (number : ℕ) (f : X → List ℕ) (xs : List X) (x : X) → slot_bytes (Each number (map f xs)) ++ slot_bytes (Each number (f x ∷ [])) ≡ slot_bytes (Each number (map f (xs ++ x ∷ [])))
 pushed number f xs x = sym (each_joined number (map f xs) (f x ∷ [])) ∙ ap (λ (ms : List (List ℕ)). slot_bytes (Each number ms)) (sym (map_push f xs x))
 
 messages_way : (texts : List (List ℕ)) (es : List EntitySpec) (w : WaySpec) → relations_among es ≡ [] → messages_among texts es ++ slot_bytes (Each 3 (way_message texts w ∷ [])) ≡ messages_among texts (es ++ way w ∷ [])
 messages_way texts es w none =
-    rw (ways_way es w, relations_way es w, none, each_none 4)
+    rw (ways_append es (way w ∷ []), relations_append es (way w ∷ []), none, each_none 4)
     (ap (λ (bs : List ℕ). bs ++ slot_bytes (Each 3 (way_message texts w ∷ []))) (append-nil (slot_bytes (Each 3 (map (way_message texts) (ways_among es))))) ∙ (pushed 3 (way_message texts) (ways_among es) w ∙ sym (append-nil _)))
 
 messages_relation : (texts : List (List ℕ)) (es : List EntitySpec) (r : RelationSpec) → messages_among texts es ++ slot_bytes (Each 4 (relation_message texts r ∷ [])) ≡ messages_among texts (es ++ relation r ∷ [])
 messages_relation texts es r =
-    rw (ways_relation es r, relations_relation es r, append_assoc) (ap (λ (bs : List ℕ). slot_bytes (Each 3 (map (way_message texts) (ways_among es))) ++ bs) (pushed 4 (relation_message texts) (relations_among es) r))
+    rw (ways_append es (relation r ∷ []), relations_append es (relation r ∷ []), append-nil (ways_among es), append_assoc) (ap (λ (bs : List ℕ). slot_bytes (Each 3 (map (way_message texts) (ways_among es))) ++ bs) (pushed 4 (relation_message texts) (relations_among es) r))
 
 group_parts : (texts : List (List ℕ)) (es : List EntitySpec) → group_message texts es ≡ slot_bytes (Each 2 (unless_empty (dense_message texts (nodes_among es)))) ++ messages_among texts es
 unfolding group_message
@@ -266,70 +217,54 @@ module _ {S H : Type 0} where
         weight = k.weight;
         texts = now;
         nodes = subst (λ ts. HoldsNodes new.nodes ts (nodes_among (es ++ node n ∷ []))) now
-            (subst (λ ns. HoldsNodes new.nodes new.texts ns) (sym (nodes_node es n)) (d (nodes_among es) (subst (λ ts. HoldsNodes old.nodes ts (nodes_among es)) (sym h.texts) h.nodes)));
-        messages = λ used. ap (λ g. g.items) g ∙ (messages_now old es (node n) used h ∙ messages_node _ es n);
+            (subst (λ ns. HoldsNodes new.nodes new.texts ns) (sym (nodes_append es (node n ∷ []))) (d (nodes_among es) (subst (λ ts. HoldsNodes old.nodes ts (nodes_among es)) (sym h.texts) h.nodes)));
+        messages = λ used. ap (λ g. g.items) g ∙ (messages_now old es (node n) used h ∙ messages_nodes _ es (n ∷ []));
         writer = ap writer_length e ∙ h.writer;
+      }
+
+  -- another entity, whose message is appended
+  other_encoded : (old new : OpenBlock S H) (es : List EntitySpec) (e : EntitySpec) (number : ℕ) (message_of : List (List ℕ) → List ℕ) → Holds old es → Kept old new → nodes_among (es ++ e ∷ []) ≡ nodes_among es
+      → ((texts : List (List ℕ)) → messages_among texts es ++ slot_bytes (Each number (message_of texts ∷ [])) ≡ messages_among texts (es ++ e ∷ []))
+      → new.texts ≡ texts_after old.texts (entity_texts e) → new.nodes ≡ old.nodes → ((used : List (List ℕ)) → new.group.items ≡ old.group.items ++ slot_bytes (Each number (message_of (texts_after new.texts used) ∷ [])))
+      → writer_length new.writer ≡ 0 → Encodes old new es e
+  other_encoded old new es e number message_of h k same more t d g w =
+      let now = used_now old new es e h t in
+      let all = texts_of_all (es ++ e ∷ []) in
+      record {
+        likeness = k.likeness;
+        count = k.count;
+        weight = k.weight;
+        texts = now;
+        nodes = subst (λ ns. HoldsNodes new.nodes all ns) (sym same) (subst (λ out. HoldsNodes out all (nodes_among es)) (sym d) (nodes_now old es e h));
+        messages = λ used.
+            g used ∙ (ap (λ ts. old.group.items ++ slot_bytes (Each number (message_of (texts_after ts used) ∷ []))) now
+            ∙ (ap (λ (bs : List ℕ). bs ++ slot_bytes (Each number (message_of (texts_after all used) ∷ []))) (messages_now old es e used h) ∙ more (texts_after all used)));
+        writer = w;
       }
 
   pub way_encoded : (old new : OpenBlock S H) (es : List EntitySpec) (w : WaySpec) → Holds old es → Kept old new → is_block (es ++ way w ∷ []) ≡ true
       → new.texts ≡ texts_after old.texts (way_texts w) → new.nodes ≡ old.nodes → ((used : List (List ℕ)) → new.group.items ≡ old.group.items ++ slot_bytes (Each 3 (way_message (texts_after new.texts used) w ∷ [])))
       → writer_length new.writer ≡ 0 → Encodes old new es (way w)
   way_encoded old new es w h k join t d g e =
-      let now = used_now old new es (way w) h t in
-      record {
-        likeness = k.likeness;
-        count = k.count;
-        weight = k.weight;
-        texts = now;
-        nodes = subst (λ ns. HoldsNodes new.nodes (texts_of_all (es ++ way w ∷ [])) ns) (sym (nodes_way es w)) (subst (λ out. HoldsNodes out (texts_of_all (es ++ way w ∷ [])) (nodes_among es)) (sym d) (nodes_now old es (way w) h));
-        messages = λ used.
-            g used ∙ (ap (λ ts. old.group.items ++ slot_bytes (Each 3 (way_message (texts_after ts used) w ∷ []))) now
-            ∙ (ap (λ (bs : List ℕ). bs ++ slot_bytes (Each 3 (way_message (texts_after (texts_of_all (es ++ way w ∷ [])) used) w ∷ []))) (messages_now old es (way w) used h)
-            ∙ messages_way _ es w (before_way es w h.block join)));
-        writer = e;
-      }
+      other_encoded old new es (way w) 3 (λ texts. way_message texts w) h k (nodes_append es (way w ∷ []) ∙ append-nil _) (λ texts. messages_way texts es w (before_way es w join)) t d g e
 
   pub relation_encoded : (old new : OpenBlock S H) (es : List EntitySpec) (r : RelationSpec) → Holds old es → Kept old new
       → new.texts ≡ texts_after old.texts (relation_texts r) → new.nodes ≡ old.nodes → ((used : List (List ℕ)) → new.group.items ≡ old.group.items ++ slot_bytes (Each 4 (relation_message (texts_after new.texts used) r ∷ [])))
       → writer_length new.writer ≡ 0 → Encodes old new es (relation r)
   relation_encoded old new es r h k t d g e =
-      let now = used_now old new es (relation r) h t in
-      record {
-        likeness = k.likeness;
-        count = k.count;
-        weight = k.weight;
-        texts = now;
-        nodes = subst (λ ns. HoldsNodes new.nodes (texts_of_all (es ++ relation r ∷ [])) ns) (sym (nodes_relation es r)) (subst (λ out. HoldsNodes out (texts_of_all (es ++ relation r ∷ [])) (nodes_among es)) (sym d) (nodes_now old es (relation r) h));
-        messages = λ used.
-            g used ∙ (ap (λ ts. old.group.items ++ slot_bytes (Each 4 (relation_message (texts_after ts used) r ∷ []))) now
-            ∙ (ap (λ (bs : List ℕ). bs ++ slot_bytes (Each 4 (relation_message (texts_after (texts_of_all (es ++ relation r ∷ [])) used) r ∷ []))) (messages_now old es (relation r) used h)
-            ∙ messages_relation _ es r));
-        writer = e;
-      }
+      other_encoded old new es (relation r) 4 (λ texts. relation_message texts r) h k (nodes_append es (relation r ∷ []) ∙ append-nil _) (λ texts. messages_relation texts es r) t d g e
 
-  -- what is held while the message of a way is appended: all that waits, the way's texts, columns and message, and its field
-  pub way_held : (b : OpenBlock S H) (es : List EntitySpec) (w : WaySpec) (texts used : List (List ℕ)) (out : EntityOut) → Holds b es → is_block (es ++ way w ∷ []) ≡ true
-      → texts ≡ texts_after b.texts (way_texts w) → out.message.items ≡ way_message used w → writer_length out ≤ most_way_held w
-      → sum_by text_held texts + dense_length (columns_held b.nodes) + length b.group.items + writer_length out + length (slot_bytes (Each 3 (out.message.items ∷ []))) ≤ MOST_HELD
-  way_held b es w texts used out h join t m held =
-      let ts = ap (λ (ts : List (List ℕ)). sum_by text_held ts) (t ∙ ap (λ (ts : List (List ℕ)). texts_after ts (way_texts w)) h.texts) in
+  -- what is held while the message of an entity is appended: all that waits, the entity's texts, columns and message, and its field
+  pub entity_held : (b : OpenBlock S H) (es : List EntitySpec) (e : EntitySpec) (number most : ℕ) (texts : List (List ℕ)) (message : List ℕ) (out : EntityOut) → Holds b es → is_block (es ++ e ∷ []) ≡ true → texts ≡ texts_after b.texts (entity_texts e)
+      → out.message.items ≡ message → 4 * (sum_by text_held (entity_texts e) + most + (20 + length message)) ≤ 9 * entity_weight e + 1216 → writer_length out ≤ most
+      → sum_by text_held texts + dense_length (columns_held b.nodes) + length b.group.items + writer_length out + length (slot_bytes (Each number (out.message.items ∷ []))) ≤ MOST_HELD
+  entity_held b es e number most texts message out h join t m beside held =
+      let ts = ap (λ (ts : List (List ℕ)). sum_by text_held ts) (t ∙ ap (λ (ts : List (List ℕ)). texts_after ts (entity_texts e)) h.texts) in
       let columns = ap dense_length (h.nodes.columns []) in
       let messages = ap (λ (bs : List ℕ). length bs) (h.messages []) in
       let made = ap (λ (bs : List ℕ). length bs) m in
-      let light = (kept_bounds (es ++ way w ∷ []) join).1 in
-      omega (arith, ts, after_held (texts_of_all es) (way_texts w), columns, messages, made, held, light, sum_by_push entity_weight es (way w), open_short (texts_of_all es) es, way_beside used w, field_short 3 out.message.items)
-
-  -- the same of a relation
-  pub relation_held : (b : OpenBlock S H) (es : List EntitySpec) (r : RelationSpec) (texts used : List (List ℕ)) (out : EntityOut) → Holds b es → is_block (es ++ relation r ∷ []) ≡ true
-      → texts ≡ texts_after b.texts (relation_texts r) → out.message.items ≡ relation_message used r → writer_length out ≤ most_relation_held r
-      → sum_by text_held texts + dense_length (columns_held b.nodes) + length b.group.items + writer_length out + length (slot_bytes (Each 4 (out.message.items ∷ []))) ≤ MOST_HELD
-  relation_held b es r texts used out h join t m held =
-      let ts = ap (λ (ts : List (List ℕ)). sum_by text_held ts) (t ∙ ap (λ (ts : List (List ℕ)). texts_after ts (relation_texts r)) h.texts) in
-      let columns = ap dense_length (h.nodes.columns []) in
-      let messages = ap (λ (bs : List ℕ). length bs) (h.messages []) in
-      let made = ap (λ (bs : List ℕ). length bs) m in
-      let light = (kept_bounds (es ++ relation r ∷ []) join).1 in
-      omega (arith, ts, after_held (texts_of_all es) (relation_texts r), columns, messages, made, held, light, sum_by_push entity_weight es (relation r), open_short (texts_of_all es) es, relation_beside used r, field_short 4 out.message.items)
+      let light = (kept_bounds (es ++ e ∷ []) join).1 in
+      omega (arith, ts, after_held (texts_of_all es) (entity_texts e), columns, messages, made, beside, held, light, sum_by_push entity_weight es e, open_short (texts_of_all es) es, field_short number out.message.items)
 
   -- an entity that is encoded and counted
   pub added : (old new block : OpenBlock S H) (es : List EntitySpec) (e : EntitySpec) → Holds old es → is_block (es ++ e ∷ []) ≡ true → Encodes old new es e
@@ -353,7 +288,7 @@ module _ {S H : Type 0} where
       added old new block es e h join n (k.likeness ∙ ap (λ l. Some (unwrap_or new.likeness l)) is.likeness) k.count (k.weight ∙ ap (λ m. new.weight + m) is.weight) k.texts k.nodes k.group k.writer
 
   pub room_held : (b : OpenBlock S H) (es : List EntitySpec) (e : EntitySpec) → Holds b es → is_block (es ++ e ∷ []) ≡ true → length b.texts + length (entity_texts e) ≤ 1048575
-  room_held b es e h join = rw h.texts (room es e join)
+  room_held b es e h join = rw h.texts (omega (arith, room es (e ∷ []) join, ap (λ (ts : List (List ℕ)). length ts) (append-nil (entity_texts e))))
 
   pub bounds : (b : OpenBlock S H) (es : List EntitySpec) (e : EntitySpec) → Holds b es → is_block (es ++ e ∷ []) ≡ true → (b.count + 1 ≤ MOST_ENTITIES) × (b.weight + entity_weight e ≤ HIGHEST_WEIGHT)
   bounds b es e h join =

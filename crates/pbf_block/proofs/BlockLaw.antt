@@ -1,5 +1,5 @@
 -- A written block has no fault and holds its entities, if its group does.
-use Rattle.std.proofs.Common.{◌≡◌, ℕ, ◌^◌, ◌<◌, ◌≤◌, ◌==◌, ℤ, pos, Bool, true, false, List, [], ◌∷◌, ◌++◌, length, take, drop, Option, Some, None, refl, sym, ap, ap₂, subst, ◌∙◌, arith}
+use Rattle.std.proofs.Common.{◌≡◌, ℕ, ◌^◌, ◌<◌, ◌≤◌, ◌==◌, ℤ, pos, Bool, true, false, List, [], ◌∷◌, ◌++◌, length, map, drop, Option, Some, None, refl, sym, ap, ap₂, ◌∙◌, arith}
 use Rattle.std.specs.Prelude.{◌≤ℤ◌, int_lt, nat_lt, if◌then◌else◌}
 use Rattle.std.specs.List.{flat_map, AllByRecursion}
 use Rattle.std.specs.Option.{option_map_or, option_to_list}
@@ -11,14 +11,14 @@ use Rattle.std.proofs.lemmas.List.{append-nil}
 use Rattle.pbf_wire.specs.declared.fault.Fault.{Fault}
 use Rattle.pbf_wire.specs.declared.fault.Reason.{Reason}
 use Rattle.pbf_wire.specs.declared.fault.Reason.TheVariants.{Granularity, DateGranularity}
-use Rattle.pbf_wire.specs.Occurrence.{Bytes, Occurrence, Number}
+use Rattle.pbf_wire.specs.Occurrence.{Occurrence, Number}
 use Rattle.pbf_wire.specs.Reading.{occurrence_text}
 use Rattle.pbf_wire.specs.Signed.{low_i32, low_i64, sign_extended}
-use Rattle.pbf_wire.specs.Faults.{fault_where, fields_in, leaf_faults, missing, twice, in_last, entered, inside}
-use Rattle.pbf_wire.specs.Message.{Slot, Scalar, Each, message, SlotFits, SlotIs, scalars_at}
-use Rattle.pbf_wire.proofs.MessageLemmas.{last_written, embedded_below}
+use Rattle.pbf_wire.specs.Faults.{fault_where, fields_in, leaf_faults, missing, twice, entered, inside}
+use Rattle.pbf_wire.specs.Message.{Slot, Scalar, Each, message, SlotFits, SlotIs}
+use Rattle.pbf_wire.proofs.MessageLemmas.{embedded_below}
 use Rattle.pbf_wire.proofs.SumLemmas.{signs_fit, signs_read, low_signs_read}
-use Rattle.pbf_wire.proofs.NoFaultLemmas.{field_at, SlotQuiet, SlotGives, scalar_quiet, quiet_gives, fields_quiet, fields_give, no_fault_within, leaf_quiet, present_written, once_written, last_held, in_last_written}
+use Rattle.pbf_wire.proofs.NoFaultLemmas.{field_at, SlotQuiet, SlotGives, scalar_quiet, quiet_gives, fields_quiet, fields_give, no_fault_within, leaf_quiet, present_written, once_written, last_held}
 use Rattle.pbf_strings.specs.Texts.{texts, table_kinds}
 use Rattle.pbf_strings.specs.TableOut.{table_message}
 use Rattle.pbf_strings.specs.TableOut.{table_of as written_table}
@@ -33,7 +33,8 @@ use Rattle.pbf_block.specs.Scale.{number_or, scale_of, stored_texts}
 use Rattle.pbf_block.specs.PrimitiveBlock.{part_wire, wire_faults, table_structure, part_structure, structure_faults, value_faults, payload_weights, block_fault, positive, indexed, entities}
 use Rattle.pbf_block.specs.WrittenBlock.{unless_default, block_slots}
 use Rattle.pbf_block.specs.declared.scale.TheConstants.{DEFAULT_SCALE}
-use Rattle.pbf_wire.proofs.SlotLemmas.{none_of, scalar_given, last_given}
+use Rattle.pbf_wire.proofs.AllLemmas.{all_map, all_weaker}
+use Rattle.pbf_header.proofs.OneNumber.{numbers_for, all_given, number_read, number_quiet}
 use Rattle.pbf_block.proofs.InfoLaw.{int32_fits}
 use Rattle.pbf_block.proofs.GroupLaw.{GroupGood}
 
@@ -63,6 +64,9 @@ positive_quiet reason z h le place =
 no_message : {X : Type 0} (k number place value : ℕ) (f : ℕ → ℕ → List ℕ → List X) → entered k f (field_at place number (Number value)) ≡ []
 no_message {X = X} k number place value f = elim (number == k) as (λ b. (if b then inside (f place) (Number value) else []) ≡ []) [ true ↦ refl | false ↦ refl ]
 
+no_group : {X : Type 0} (f : Occurrence → List X) (number place value : ℕ) → in_group f (field_at place number (Number value)) ≡ []
+no_group f number place value = no_message PRIMITIVEGROUP number place value (λ place at m. flat_map f (fields_in at m))
+
 -- ---- the block
 
 module _ (scale : Scale) (used : List (List ℕ)) (group : List ℕ) (es : List EntitySpec) (good : GroupGood (written_table used) scale group es) (typed : ScaleTyped scale) (fit : ScaleFits scale) (few : length used ≤ 1048575)
@@ -70,177 +74,120 @@ module _ (scale : Scale) (used : List (List ℕ)) (group : List ℕ) (es : List 
   abbrev slots : List Slot
   slots = block_slots scale used group
 
-  fits : AllByRecursion SlotFits (block_slots scale used group)
-  fits = (
-    (omega arith, omega arith),
-    (
-      (omega arith, omega arith),
-      (
-        default_fits GRANULARITY DEFAULT_SCALE.granularity scale.granularity (omega arith) (omega arith) (int32_fits scale.granularity typed.granularity),
-        (
-          default_fits DATE_GRANULARITY DEFAULT_SCALE.date_granularity scale.date_granularity (omega arith) (omega arith) (int32_fits scale.date_granularity typed.date_granularity),
-          (
-            default_fits LAT_OFFSET DEFAULT_SCALE.lat_offset scale.lat_offset (omega arith) (omega arith) (signs_fit scale.lat_offset typed.lat_offset.0 typed.lat_offset.1),
-            (default_fits LON_OFFSET DEFAULT_SCALE.lon_offset scale.lon_offset (omega arith) (omega arith) (signs_fit scale.lon_offset typed.lon_offset.0 typed.lon_offset.1), tt),
-          ),
-        ),
-      ),
-    ),
-  )
+  abbrev numbers : List Slot
+  numbers = drop 2 slots
 
-  known : AllByRecursion (SlotIs BLOCK_KINDS) (block_slots scale used group)
+  abbrev table : List (List ℕ)
+  table = written_table used
+
+  fits : AllByRecursion SlotFits slots
+  fits =
+      let places = default_fits GRANULARITY DEFAULT_SCALE.granularity scale.granularity (omega arith) (omega arith) (int32_fits scale.granularity typed.granularity) in
+      let dates = default_fits DATE_GRANULARITY DEFAULT_SCALE.date_granularity scale.date_granularity (omega arith) (omega arith) (int32_fits scale.date_granularity typed.date_granularity) in
+      let lats = default_fits LAT_OFFSET DEFAULT_SCALE.lat_offset scale.lat_offset (omega arith) (omega arith) (signs_fit scale.lat_offset typed.lat_offset.0 typed.lat_offset.1) in
+      let lons = default_fits LON_OFFSET DEFAULT_SCALE.lon_offset scale.lon_offset (omega arith) (omega arith) (signs_fit scale.lon_offset typed.lon_offset.0 typed.lon_offset.1) in
+      ((omega arith, omega arith), ((omega arith, omega arith), (places, (dates, (lats, (lons, tt))))))
+
+  known : AllByRecursion (SlotIs BLOCK_KINDS) slots
   known = (refl, (refl, (refl, (refl, (refl, (refl, tt))))))
 
   table_short : length (table_message used) < 2 ^ 64
-  table_short = (embedded_below (2 ^ 64) (block_slots scale used group) short).0.0
+  table_short = (embedded_below (2 ^ 64) slots short).0.0
 
-  -- what gives nothing at the numbers, and nothing for the table and the group
-  parts_quiet : (f : Occurrence → List Fault) → ((number : ℕ) (place value : ℕ) → f (field_at place number (Number value)) ≡ []) → ((place begin : ℕ) → f (field_at place STRINGTABLE (Bytes (table_message used) begin)) ≡ []) → ((place begin : ℕ) → f (field_at place PRIMITIVEGROUP (Bytes group begin)) ≡ [])
-      → AllByRecursion (SlotQuiet f) (block_slots scale used group)
-  parts_quiet f numbers table groups = (
-    (table, tt),
-    (
-      (groups, tt),
-      (
-        scalar_quiet f GRANULARITY (unless_default DEFAULT_SCALE.granularity scale.granularity) (numbers GRANULARITY),
-        (
-          scalar_quiet f DATE_GRANULARITY (unless_default DEFAULT_SCALE.date_granularity scale.date_granularity) (numbers DATE_GRANULARITY),
-          (
-            scalar_quiet f LAT_OFFSET (unless_default DEFAULT_SCALE.lat_offset scale.lat_offset) (numbers LAT_OFFSET),
-            (scalar_quiet f LON_OFFSET (unless_default DEFAULT_SCALE.lon_offset scale.lon_offset) (numbers LON_OFFSET), tt),
-          ),
-        ),
-      ),
-    ),
-  )
+  -- what gives nothing at the numbers
+  numbers_quiet : {X : Type 0} (f : Occurrence → List X) → ((number place value : ℕ) → f (field_at place number (Number value)) ≡ []) → AllByRecursion (SlotQuiet f) numbers
+  numbers_quiet f none = (scalar_quiet f GRANULARITY _ (none GRANULARITY), (scalar_quiet f DATE_GRANULARITY _ (none DATE_GRANULARITY), (scalar_quiet f LAT_OFFSET _ (none LAT_OFFSET), (scalar_quiet f LON_OFFSET _ (none LON_OFFSET), tt))))
+
+  -- and at what is in the table and in the group gives nothing at all
+  parts_quiet : (g h : ℕ → ℕ → List ℕ → List Fault) → ((place begin : ℕ) → g place begin (table_message used) ≡ []) → ((place begin : ℕ) → h place begin group ≡ []) → AllByRecursion (SlotQuiet (λ o. entered STRINGTABLE g o ++ entered PRIMITIVEGROUP h o)) slots
+  parts_quiet g h tables groups =
+      let f = λ (o : Occurrence). entered STRINGTABLE g o ++ entered PRIMITIVEGROUP h o in
+      let both = λ (number place value : ℕ). ap₂ (λ (xs ys : List Fault). xs ++ ys) (no_message STRINGTABLE number place value g) (no_message PRIMITIVEGROUP number place value h) in
+      (((λ place begin. ap (λ (fs : List Fault). fs ++ []) (tables place begin)), tt), ((groups, tt), numbers_quiet f both))
+
+  -- what gives nothing in the group gives nothing in the groups
+  groups_quiet : (f : Occurrence → List Fault) (at : ℕ) → ((at : ℕ) → flat_map f (fields_in at group) ≡ []) → flat_map (in_group f) (fields_in at (message slots)) ≡ []
+  groups_quiet f at none = fields_quiet (in_group f) at slots (((λ place begin. refl), tt), (((λ place begin. none begin), tt), numbers_quiet (in_group f) (no_group f))) fits short
 
   table_leaf : (place at : ℕ) → leaf_faults table_kinds place at (table_message used) ≡ []
-  table_leaf place at = leaf_quiet table_kinds place at (Each 1 (written_table used) ∷ []) (refl, tt) ((omega arith, omega arith), tt) table_short
+  table_leaf place at = leaf_quiet table_kinds place at (Each 1 table ∷ []) (refl, tt) ((omega arith, omega arith), tt) table_short
 
-  pub wire_sound : (at : ℕ) → wire_faults at (message (block_slots scale used group)) ≡ []
+  wire_sound : (at : ℕ) → wire_faults at (message slots) ≡ []
   unfolding wire_faults
-  wire_sound at =
-      no_fault_within BLOCK_KINDS part_wire at (block_slots scale used group) known
-      (parts_quiet part_wire
-      (λ number place value. ap₂ (λ (xs ys : List Fault). xs ++ ys) (no_message STRINGTABLE number place value (leaf_faults table_kinds)) (no_message PRIMITIVEGROUP number place value group_wire))
-      (λ place begin. ap (λ (fs : List Fault). fs ++ []) (table_leaf place begin)) good.wire)
-      fits short
+  wire_sound at = no_fault_within BLOCK_KINDS part_wire at slots known (parts_quiet (leaf_faults table_kinds) group_wire table_leaf good.wire) fits short
 
   -- ---- structure
 
-  only_table : flat_map (scalars_at STRINGTABLE) (block_slots scale used group) ≡ []
-  only_table = none_of STRINGTABLE (block_slots scale used group) (tt, (tt, (refl, (refl, (refl, (refl, tt))))))
-
-  table_read : texts (table_message used) ≡ written_table used
+  table_read : texts (table_message used) ≡ table
   table_read = written_texts used table_short
 
-  counted : (place : ℕ) → table_structure place 0 (table_message used) ≡ []
-  counted place =
+  counted : (place begin : ℕ) → table_structure place begin (table_message used) ≡ []
+  counted place begin =
       let e : nat_lt 1048576 (length (texts (table_message used))) ≡ false = le-ltb _ _ (omega (arith, ap (λ (ts : List (List ℕ)). length ts) table_read, few)) in
       rw e refl
 
-  pub structure_sound : (at : ℕ) → structure_faults at (message (block_slots scale used group)) ≡ []
+  structure_sound : (at : ℕ) → structure_faults at (message slots) ≡ []
   unfolding structure_faults
   structure_sound at =
-      let there : missing STRINGTABLE at (fields_in at (message (block_slots scale used group))) ≡ [] = present_written STRINGTABLE at at (block_slots scale used group) fits short (omega arith) in
-      let once : twice STRINGTABLE (fields_in at (message (block_slots scale used group))) ≡ [] = once_written STRINGTABLE at (block_slots scale used group) fits short (omega (arith, ap (λ (ns : List ℕ). length ns) only_table)) in
-      let parts : flat_map part_structure (fields_in at (message (block_slots scale used group))) ≡ [] =
-      fields_quiet part_structure at (block_slots scale used group)
-      (parts_quiet part_structure
-      (λ number place value. ap₂ (λ (xs ys : List Fault). xs ++ ys) (no_message STRINGTABLE number place value table_structure) (no_message PRIMITIVEGROUP number place value group_structure))
-      (λ place begin. ap (λ (fs : List Fault). fs ++ []) (counted place)) good.structure)
-      fits short in
+      let there : missing STRINGTABLE at (fields_in at (message slots)) ≡ [] = present_written STRINGTABLE at at slots fits short (omega arith) in
+      let once : twice STRINGTABLE (fields_in at (message slots)) ≡ [] = once_written STRINGTABLE at slots fits short (omega (arith, ap (λ (ns : List ℕ). length ns) (all_given STRINGTABLE slots))) in
+      let parts = fields_quiet part_structure at slots (parts_quiet table_structure group_structure counted good.structure) fits short in
       rw (there, once, parts) refl
 
   -- ---- the table and the scale
 
-  table_is : (at : ℕ) → stored_texts (fields_in at (message (block_slots scale used group))) ≡ written_table used
+  table_is : (at : ℕ) → stored_texts (fields_in at (message slots)) ≡ table
   table_is at =
-      let held = last_held STRINGTABLE at (block_slots scale used group) (table_message used) fits short refl only_table in
+      let held = last_held STRINGTABLE at slots (table_message used) fits short refl (all_given STRINGTABLE slots) in
       ap (λ (o : Option Occurrence). texts (occurrence_text o)) held.2 ∙ table_read
 
-  scale_is : (at : ℕ) → scale_of (fields_in at (message (block_slots scale used group))) ≡ scale
+  number_is : (at k : ℕ) (read : ℕ → ℤ) (default z : ℤ) → numbers_for k slots ≡ unless_default default z ∷ [] → read (sign_extended z) ≡ z → number_or default read k (fields_in at (message slots)) ≡ z
+  number_is at k read default z one back = ap (λ (o : Option ℕ). option_map_or read o default) (number_read at slots fits short k (unless_default default z) one) ∙ default_read read default z back
+
+  scale_is : (at : ℕ) → scale_of (fields_in at (message slots)) ≡ scale
   scale_is at =
-      let places : number_or DEFAULT_SCALE.granularity low_i32 GRANULARITY (fields_in at (message (block_slots scale used group))) ≡ scale.granularity =
-      ap (λ (o : Option ℕ). option_map_or low_i32 o DEFAULT_SCALE.granularity) (last_written GRANULARITY at (block_slots scale used group) fits short ∙ last_given GRANULARITY _ (take 2 (block_slots scale used group)) (drop 3 (block_slots scale used group)) refl (tt, (tt, tt)) (refl, (refl, (refl, tt))))
-      ∙ default_read low_i32 DEFAULT_SCALE.granularity scale.granularity (low_signs_read scale.granularity typed.granularity.0 typed.granularity.1) in
-      let dates : number_or DEFAULT_SCALE.date_granularity low_i32 DATE_GRANULARITY (fields_in at (message (block_slots scale used group))) ≡ scale.date_granularity =
-      ap (λ (o : Option ℕ). option_map_or low_i32 o DEFAULT_SCALE.date_granularity) (last_written DATE_GRANULARITY at (block_slots scale used group) fits short ∙ last_given DATE_GRANULARITY _ (take 3 (block_slots scale used group)) (drop 4 (block_slots scale used group)) refl (tt, (tt, (refl, tt))) (refl, (refl, tt)))
-      ∙ default_read low_i32 DEFAULT_SCALE.date_granularity scale.date_granularity (low_signs_read scale.date_granularity typed.date_granularity.0 typed.date_granularity.1) in
-      let lats : number_or DEFAULT_SCALE.lat_offset low_i64 LAT_OFFSET (fields_in at (message (block_slots scale used group))) ≡ scale.lat_offset =
-      ap (λ (o : Option ℕ). option_map_or low_i64 o DEFAULT_SCALE.lat_offset) (last_written LAT_OFFSET at (block_slots scale used group) fits short ∙ last_given LAT_OFFSET _ (take 4 (block_slots scale used group)) (drop 5 (block_slots scale used group)) refl (tt, (tt, (refl, (refl, tt)))) (refl, tt))
-      ∙ default_read low_i64 DEFAULT_SCALE.lat_offset scale.lat_offset (signs_read scale.lat_offset typed.lat_offset.0 typed.lat_offset.1) in
-      let lons : number_or DEFAULT_SCALE.lon_offset low_i64 LON_OFFSET (fields_in at (message (block_slots scale used group))) ≡ scale.lon_offset =
-      ap (λ (o : Option ℕ). option_map_or low_i64 o DEFAULT_SCALE.lon_offset) (last_written LON_OFFSET at (block_slots scale used group) fits short ∙ last_given LON_OFFSET _ (take 5 (block_slots scale used group)) (drop 6 (block_slots scale used group)) refl (tt, (tt, (refl, (refl, (refl, tt))))) tt)
-      ∙ default_read low_i64 DEFAULT_SCALE.lon_offset scale.lon_offset (signs_read scale.lon_offset typed.lon_offset.0 typed.lon_offset.1) in
+      let places = number_is at GRANULARITY low_i32 DEFAULT_SCALE.granularity scale.granularity refl (low_signs_read scale.granularity typed.granularity.0 typed.granularity.1) in
+      let dates = number_is at DATE_GRANULARITY low_i32 DEFAULT_SCALE.date_granularity scale.date_granularity refl (low_signs_read scale.date_granularity typed.date_granularity.0 typed.date_granularity.1) in
+      let lats = number_is at LAT_OFFSET low_i64 DEFAULT_SCALE.lat_offset scale.lat_offset refl (signs_read scale.lat_offset typed.lat_offset.0 typed.lat_offset.1) in
+      let lons = number_is at LON_OFFSET low_i64 DEFAULT_SCALE.lon_offset scale.lon_offset refl (signs_read scale.lon_offset typed.lon_offset.0 typed.lon_offset.1) in
       rw (places, dates, lats, lons) refl
 
   -- ---- values
 
-  scalar_good : (at k : ℕ) (f : ℕ → ℕ → List Fault) (default z : ℤ) → flat_map (scalars_at k) (block_slots scale used group) ≡ option_to_list (unless_default default z) → ((place : ℕ) → f place (sign_extended z) ≡ [])
-      → in_last k f (fields_in at (message (block_slots scale used group))) ≡ []
-  scalar_good at k f default z e h =
-      in_last_written k f at (block_slots scale used group) fits short
-      (subst (λ (vs : List ℕ). AllByRecursion (λ v. (place : ℕ) → f place v ≡ []) vs) (sym e) (default_all (λ v. (place : ℕ) → f place v ≡ []) default z h))
-
-  groups_good : (at : ℕ) → flat_map (in_group (member_values (length (written_table used)))) (fields_in at (message (block_slots scale used group))) ≡ []
-  groups_good at =
-      fields_quiet (in_group (member_values (length (written_table used)))) at (block_slots scale used group)
-      (parts_quiet (in_group (member_values (length (written_table used)))) (λ number place value. no_message PRIMITIVEGROUP number place value (λ place at m. flat_map (member_values (length (written_table used))) (fields_in at m))) (λ place begin. refl) good.values) fits short
-
-  values_good : (at : ℕ) → value_faults (length (written_table used)) at (message (block_slots scale used group)) ≡ []
+  values_good : (at : ℕ) → value_faults (length table) at (message slots) ≡ []
   unfolding value_faults
   values_good at =
-      let places = scalar_good at GRANULARITY (positive Granularity) DEFAULT_SCALE.granularity scale.granularity
-      (scalar_given GRANULARITY _ (take 2 (block_slots scale used group)) (drop 3 (block_slots scale used group)) refl (tt, (tt, tt)) (refl, (refl, (refl, tt)))) (positive_quiet Granularity scale.granularity typed.granularity fit.places) in
-      let dates = scalar_good at DATE_GRANULARITY (positive DateGranularity) DEFAULT_SCALE.date_granularity scale.date_granularity
-      (scalar_given DATE_GRANULARITY _ (take 3 (block_slots scale used group)) (drop 4 (block_slots scale used group)) refl (tt, (tt, (refl, tt))) (refl, (refl, tt))) (positive_quiet DateGranularity scale.date_granularity typed.date_granularity fit.dates) in
-      rw (places, dates, groups_good at) refl
+      let quiet = number_quiet at slots fits short in
+      let none = λ (reason : Reason) (default z : ℤ) (typed : IsInt32 z) (le : pos 1 ≤ℤ z). default_all (λ v. (place : ℕ) → positive reason place v ≡ []) default z (positive_quiet reason z typed le) in
+      let places = quiet GRANULARITY _ refl (positive Granularity) (none Granularity DEFAULT_SCALE.granularity scale.granularity typed.granularity fit.places) in
+      let dates = quiet DATE_GRANULARITY _ refl (positive DateGranularity) (none DateGranularity DEFAULT_SCALE.date_granularity scale.date_granularity typed.date_granularity fit.dates) in
+      rw (places, dates, groups_quiet (member_values (length table)) at good.values) refl
 
-  pub values_sound : (at : ℕ) → value_faults (length (stored_texts (fields_in at (message (block_slots scale used group))))) at (message (block_slots scale used group)) ≡ []
-  values_sound at = ap (λ (ts : List (List ℕ)). value_faults (length ts) at (message (block_slots scale used group))) (table_is at) ∙ values_good at
+  values_sound : (at : ℕ) → value_faults (length (stored_texts (fields_in at (message slots)))) at (message slots) ≡ []
+  values_sound at = ap (λ (ts : List (List ℕ)). value_faults (length ts) at (message slots)) (table_is at) ∙ values_good at
 
   -- ---- weights
 
-  pub weights_sound : (at : ℕ) → payload_weights at (message (block_slots scale used group)) ≡ []
+  weights_sound : (at : ℕ) → payload_weights at (message slots) ≡ []
   unfolding payload_weights
   weights_sound at =
-      ap₂ (λ (ts : List (List ℕ)) (s : Scale). flat_map (in_group (member_weights indexed ts s)) (fields_in at (message (block_slots scale used group)))) (table_is at) (scale_is at)
-      ∙ fields_quiet (in_group (member_weights indexed (written_table used) scale)) at (block_slots scale used group)
-      (parts_quiet (in_group (member_weights indexed (written_table used) scale)) (λ number place value. no_message PRIMITIVEGROUP number place value (λ place at m. flat_map (member_weights indexed (written_table used) scale) (fields_in at m))) (λ place begin. refl) (λ place begin. good.weights begin)) fits short
+      ap₂ (λ (ts : List (List ℕ)) (s : Scale). flat_map (in_group (member_weights indexed ts s)) (fields_in at (message slots))) (table_is at) (scale_is at) ∙ groups_quiet (member_weights indexed table scale) at good.weights
 
-  pub block_sound : (at : ℕ) → block_fault at (message (block_slots scale used group)) ≡ None
+  pub block_sound : (at : ℕ) → block_fault at (message slots) ≡ None
   unfolding block_fault
   block_sound at = rw (wire_sound at, structure_sound at, values_sound at, weights_sound at) refl
 
   -- ---- entities
 
-  pub block_read : (at : ℕ) → entities at (message (block_slots scale used group)) ≡ es
+  pub block_read : (at : ℕ) → entities at (message slots) ≡ es
   unfolding entities
   block_read at =
-      let f = in_group (member_entities indexed (written_table used) scale) in
-      let give = λ (number place value : ℕ). no_message PRIMITIVEGROUP number place value (λ place at m. flat_map (member_entities indexed (written_table used) scale) (fields_in at m)) in
-      ap₂ (λ (ts : List (List ℕ)) (s : Scale). flat_map (in_group (member_entities indexed ts s)) (fields_in at (message (block_slots scale used group)))) (table_is at) (scale_is at)
-      ∙ fields_give f at
-      ((Each STRINGTABLE (table_message used ∷ []), []) ∷ (Each PRIMITIVEGROUP (group ∷ []), es)
-      ∷ (Scalar GRANULARITY (unless_default DEFAULT_SCALE.granularity scale.granularity), []) ∷ (Scalar DATE_GRANULARITY (unless_default DEFAULT_SCALE.date_granularity scale.date_granularity), [])
-      ∷ (Scalar LAT_OFFSET (unless_default DEFAULT_SCALE.lat_offset scale.lat_offset), []) ∷ (Scalar LON_OFFSET (unless_default DEFAULT_SCALE.lon_offset scale.lon_offset), []) ∷ []) (
-        quiet_gives f (Each STRINGTABLE (table_message used ∷ [])) ((λ place begin. refl), tt),
-        (
-          one_group,
-          (
-            quiet_gives f (Scalar GRANULARITY (unless_default DEFAULT_SCALE.granularity scale.granularity)) (scalar_quiet f GRANULARITY (unless_default DEFAULT_SCALE.granularity scale.granularity) (give GRANULARITY)),
-            (
-              quiet_gives f (Scalar DATE_GRANULARITY (unless_default DEFAULT_SCALE.date_granularity scale.date_granularity)) (scalar_quiet f DATE_GRANULARITY (unless_default DEFAULT_SCALE.date_granularity scale.date_granularity) (give DATE_GRANULARITY)),
-              (
-                quiet_gives f (Scalar LAT_OFFSET (unless_default DEFAULT_SCALE.lat_offset scale.lat_offset)) (scalar_quiet f LAT_OFFSET (unless_default DEFAULT_SCALE.lat_offset scale.lat_offset) (give LAT_OFFSET)),
-                (quiet_gives f (Scalar LON_OFFSET (unless_default DEFAULT_SCALE.lon_offset scale.lon_offset)) (scalar_quiet f LON_OFFSET (unless_default DEFAULT_SCALE.lon_offset scale.lon_offset) (give LON_OFFSET)), tt),
-              ),
-            ),
-          ),
-        ),
-      )
+      let f = in_group (member_entities indexed table scale) in
+      let rest = numbers_quiet f (no_group (member_entities indexed table scale)) in
+      ap₂ (λ (ts : List (List ℕ)) (s : Scale). flat_map (in_group (member_entities indexed ts s)) (fields_in at (message slots))) (table_is at) (scale_is at)
+      ∙ fields_give f at ((Each STRINGTABLE (table_message used ∷ []), []) ∷ (Each PRIMITIVEGROUP (group ∷ []), es) ∷ map (λ s. (s, [])) numbers)
+      (quiet_gives f (Each STRINGTABLE (table_message used ∷ [])) ((λ place begin. refl), tt), (one_group, all_map (λ (g : Slot × List EntitySpec). SlotGives f g.0 g.1) (λ s. (s, [])) numbers (all_weaker (SlotQuiet f) _ (quiet_gives f) numbers rest)))
       fits short ∙ append-nil es
     where
-      one_group : SlotGives (in_group (member_entities indexed (written_table used) scale)) (Each PRIMITIVEGROUP (group ∷ [])) es
+      one_group : SlotGives (in_group (member_entities indexed table scale)) (Each PRIMITIVEGROUP (group ∷ [])) es
       one_group = λ at. append-nil _ ∙ good.entities _

@@ -1,6 +1,6 @@
 -- Messages in which the phases before the weights find no fault: a column, a way, a group of ways and a payload, by their parts.
-use Rattle.std.proofs.Common.{◌≡◌, ◌==◌, ℕ, ◌+◌, ◌<◌, ◌≤◌, ◌^◌, List, [], ◌∷◌, ◌++◌, length, drop, filter, refl, sym, ap, ap₂, ◌∙◌, arith}
-use Rattle.std.specs.Prelude.{Result, Ok, Err, Option, None, Some, unwrap_or}
+use Rattle.std.proofs.Common.{false, ◌≡◌, ◌==◌, ℕ, ◌+◌, ◌<◌, ◌≤◌, ◌^◌, List, [], ◌∷◌, ◌++◌, length, drop, filter, refl, sym, ap, ap₂, ◌∙◌, arith}
+use Rattle.std.specs.Prelude.{Result, Ok, Err, Option, None, Some}
 use Rattle.std.specs.List.{AllByRecursion, flat_map}
 use Rattle.std.proofs.lemmas.List.{length-drop}
 use Rattle.pbf_wire.specs.declared.fault.Fault.{Fault}
@@ -10,7 +10,7 @@ use Rattle.pbf_wire.specs.declared.message.Message.{Message}
 use Rattle.pbf_wire.specs.Columns.{entries, entry_fault, placed, read_entries}
 use Rattle.pbf_wire.specs.Faults.{below_fault, fields_in, in_last, index_faults, message_faults, missing, or_more, twice}
 use Rattle.pbf_wire.specs.Least.{least}
-use Rattle.pbf_wire.specs.Occurrence.{Content, Number, Eight, Four, Bytes, Occurrence, Item, items, found}
+use Rattle.pbf_wire.specs.Occurrence.{Content, Bytes, Occurrence, Item, items, found}
 use Rattle.pbf_wire.specs.Short.{IsShort}
 use Rattle.pbf_wire.specs.Signed.{low_i64}
 use Rattle.pbf_wire.specs.Varint.{moved_by, varint_at}
@@ -23,10 +23,12 @@ use Rattle.pbf_block.specs.declared.plain.PlainWay.{PlainWay}
 use Rattle.pbf_block.specs.declared.plain.PlainInfo.{PlainInfo}
 use Rattle.pbf_block.specs.declared.primitive_block.TheConstants.{BLOCK_KINDS, GRANULARITY, DATE_GRANULARITY, PRIMITIVEGROUP, STRINGTABLE}
 use Rattle.pbf_block.specs.Clean.{AreCleanWays, AreTags, HoldsCleanWay, IsCleanBlock, IsCleanMember, IsCleanWay, IsNamed, part_faults}
-use Rattle.pbf_block.specs.Group.{first_member, group_structure, in_group, member_structure, member_values, member_wire}
+use Rattle.pbf_block.specs.Group.{entities_structure, first_member, group_structure, in_group, member_structure, member_values, member_wire}
 use Rattle.pbf_block.specs.Info.{info_values, out_of_range}
 use Rattle.pbf_block.specs.Plain.{IsPlainWay, IsPlainInfo}
 use Rattle.pbf_block.specs.PrimitiveBlock.{part_structure, part_wire, positive, structure_faults, value_faults, wire_faults}
+use Rattle.pbf_wire.proofs.AllLemmas.{all_weaker}
+use Rattle.pbf_block.proofs.GroupLaw.{not_mixed}
 use Rattle.pbf_block.proofs.PlainLemmas.{built, formed, none_where, valued}
 
 -- ---- a column whose numbers are counted and tested one by one
@@ -83,60 +85,53 @@ clean_way message way info limit place p q id meta tags few short =
 
 -- ---- a group of ways
 
-module _ (limit : ℕ) where
-  form_more : (place k : ℕ) (c : Content) (is : List Item) → k ≡ WAYS → HoldsCleanWay limit place c → message_faults GROUP_KINDS member_wire is ≡ []
-      → message_faults GROUP_KINDS member_wire (Ok (record { place = place; number = k; content = c }) ∷ is) ≡ []
-  form_more place k (Number v) is same h more = absurd h
-  form_more place k (Eight bytes) is same h more = absurd h
-  form_more place k (Four bytes) is same h more = absurd h
-  form_more place k (Bytes bytes at) is same h more = rw (same, h.form, more) refl
+-- a field in which nothing is wrong
+record IsQuiet (limit : ℕ) (o : Occurrence) : Type 0 where
+  number : o.number ≡ WAYS
+  kind : reason_in (kind_of GROUP_KINDS o.number) o.content ≡ None
+  wire : member_wire o ≡ []
+  structure : entities_structure o ≡ []
+  values : member_values limit o ≡ []
 
-  pub ways_form : (is : List Item) → AllByRecursion (IsCleanMember limit) is → message_faults GROUP_KINDS member_wire is ≡ []
+none_given : {X : Type 0} (f : X → List Fault) (xs : List X) → AllByRecursion (λ x. f x ≡ []) xs → flat_map f xs ≡ []
+none_given f [] h = refl
+none_given f (x ∷ xs) h = ap₂ (λ (a b : List Fault). a ++ b) h.0 (none_given f xs h.1)
+
+none_at : (k : ℕ) (os : List Occurrence) → ¬ (WAYS ≡ k) → AllByRecursion (λ o. o.number ≡ WAYS) os → filter (λ (o : Occurrence). o.number == k) os ≡ []
+none_at k [] other h = refl
+none_at k (o ∷ os) other h = let no : (o.number == k) ≡ false = grind (arith, h.0, other) in rw no (none_at k os other h.1)
+
+module _ (limit : ℕ) where
+  way_quiet : (place k : ℕ) (c : Content) → k ≡ WAYS → HoldsCleanWay limit place c → IsQuiet limit (record { place = place; number = k; content = c })
+  way_quiet place k (Bytes bytes at) same h = record { number = same; kind = rw same refl; wire = rw (same, h.form) refl; structure = rw (same, h.structure) refl; values = rw (same, h.values) refl }
+  way_quiet place k c same h = absurd h
+
+  all_quiet : (is : List Item) → AllByRecursion (IsCleanMember limit) is → AllByRecursion (IsQuiet limit) (found is)
+  all_quiet [] h = tt
+  all_quiet (Ok o ∷ is) h = (way_quiet o.place o.number o.content h.0.0 h.0.1, all_quiet is h.1)
+  all_quiet (Err e ∷ is) h = absurd h.0
+
+  ways_form : (is : List Item) → AllByRecursion (IsCleanMember limit) is → message_faults GROUP_KINDS member_wire is ≡ []
   ways_form [] h = refl
-  ways_form (Ok o ∷ is) h = form_more o.place o.number o.content is h.0.0 h.0.1 (ways_form is h.1)
+  ways_form (Ok o ∷ is) h = let q = way_quiet o.place o.number o.content h.0.0 h.0.1 in rw (q.kind, q.wire) (ways_form is h.1)
   ways_form (Err e ∷ is) h = absurd h.0
 
-  structure_one : (first : Option ℕ) (place k : ℕ) (c : Content) → unwrap_or first WAYS ≡ WAYS → k ≡ WAYS → HoldsCleanWay limit place c → member_structure first (record { place = place; number = k; content = c }) ≡ []
-  structure_one first place k (Number v) one same h = absurd h
-  structure_one first place k (Eight bytes) one same h = absurd h
-  structure_one first place k (Four bytes) one same h = absurd h
-  structure_one first place k (Bytes bytes at) one same h = rw (same, one, h.structure) refl
-
-  structure_all : (first : Option ℕ) (is : List Item) → unwrap_or first WAYS ≡ WAYS → AllByRecursion (IsCleanMember limit) is → flat_map (member_structure first) (found is) ≡ []
-  structure_all first [] one h = refl
-  structure_all first (Ok o ∷ is) one h = ap₂ (λ (a b : List Fault). a ++ b) (structure_one first o.place o.number o.content one h.0.0 h.0.1) (structure_all first is one h.1)
-  structure_all first (Err e ∷ is) one h = absurd h.0
-
-  none_dense : (is : List Item) → AllByRecursion (IsCleanMember limit) is → filter (λ (o : Occurrence). o.number == DENSE) (found is) ≡ []
-  none_dense [] h = refl
-  none_dense (Ok o ∷ is) h = rw (h.0.0, none_dense is h.1) refl
-  none_dense (Err e ∷ is) h = absurd h.0
-
-  first_way : (is : List Item) → AllByRecursion (IsCleanMember limit) is → unwrap_or (first_member (found is)) WAYS ≡ WAYS
-  first_way [] h = refl
-  first_way (Ok o ∷ is) h = rw h.0.0 refl
-  first_way (Err e ∷ is) h = absurd h.0
-
-  pub ways_structure : (place at : ℕ) (m : List ℕ) → AreCleanWays limit at m → group_structure place at m ≡ []
+  ways_structure : (place at : ℕ) (m : List ℕ) → AreCleanWays limit at m → group_structure place at m ≡ []
   ways_structure place at m h =
-      let is = items at m in
-      rw (none_dense is h) (structure_all (first_member (found is)) is (first_way is h) h)
+      let os = fields_in at m in
+      let quiet = all_quiet (items at m) h in
+      let numbered = all_weaker (IsQuiet limit) (λ o. o.number ≡ WAYS) (λ o q. q.number) os quiet in
+      let f = member_structure (first_member os) in
+      rw (none_at DENSE os (λ n. omega (arith, n)) numbered)
+      (none_given f os (all_weaker (IsQuiet limit) (λ o. f o ≡ []) (λ o q. rw (q.structure, q.number, not_mixed WAYS os numbered) refl) os quiet))
 
-  values_one : (place k : ℕ) (c : Content) → k ≡ WAYS → HoldsCleanWay limit place c → member_values limit (record { place = place; number = k; content = c }) ≡ []
-  values_one place k (Number v) same h = absurd h
-  values_one place k (Eight bytes) same h = absurd h
-  values_one place k (Four bytes) same h = absurd h
-  values_one place k (Bytes bytes at) same h = rw (same, h.values) refl
-
-  pub ways_values : (is : List Item) → AllByRecursion (IsCleanMember limit) is → flat_map (member_values limit) (found is) ≡ []
-  ways_values [] h = refl
-  ways_values (Ok o ∷ is) h = ap₂ (λ (a b : List Fault). a ++ b) (values_one o.place o.number o.content h.0.0 h.0.1) (ways_values is h.1)
-  ways_values (Err e ∷ is) h = absurd h.0
+  ways_values : (at : ℕ) (m : List ℕ) → AreCleanWays limit at m → flat_map (member_values limit) (fields_in at m) ≡ []
+  ways_values at m h = none_given (member_values limit) (fields_in at m) (all_weaker (IsQuiet limit) _ (λ o q. q.values) (fields_in at m) (all_quiet (items at m) h))
 
   -- ---- the field of a payload that holds it
 
   pub clean_group : (place k at : ℕ) (m : List ℕ) → k ≡ PRIMITIVEGROUP → AreCleanWays limit at m → part_faults limit (record { place = place; number = k; content = Bytes m at }) ≡ []
-  clean_group place k at m same h = rw (same, ways_form (items at m) h, ways_structure place at m h, ways_values (items at m) h) refl
+  clean_group place k at m same h = rw (same, ways_form (items at m) h, ways_structure place at m h, ways_values at m h) refl
 
   -- ---- a payload
 
@@ -153,17 +148,11 @@ module _ (limit : ℕ) where
         ap₂ (λ (a b : List Fault). a ++ b) (both_nil (part_wire o) (part_structure o) early.0).0 (more both.1)
   form_left (Err e ∷ is) h = absurd (cc)
 
-  structure_left : (os : List Occurrence) → AllByRecursion (IsSound BLOCK_KINDS (part_faults limit)) os → flat_map part_structure os ≡ []
-  structure_left [] h = refl
-  structure_left (o ∷ os) h =
-      let early = both_nil (part_wire o ++ part_structure o) (in_group (member_values limit) o) h.0.1 in
-      ap₂ (λ (a b : List Fault). a ++ b) (both_nil (part_wire o) (part_structure o) early.0).1 (structure_left os h.1)
-
-  values_left : (os : List Occurrence) → AllByRecursion (IsSound BLOCK_KINDS (part_faults limit)) os → flat_map (in_group (member_values limit)) os ≡ []
-  values_left [] h = refl
-  values_left (o ∷ os) h =
-      let early = both_nil (part_wire o ++ part_structure o) (in_group (member_values limit) o) h.0.1 in
-      ap₂ (λ (a b : List Fault). a ++ b) early.1 (values_left os h.1)
+  -- what a field without a fault shows
+  apart : (o : Occurrence) → IsSound BLOCK_KINDS (part_faults limit) o → (part_structure o ≡ []) × (in_group (member_values limit) o ≡ [])
+  apart o h =
+      let early = both_nil (part_wire o ++ part_structure o) (in_group (member_values limit) o) h.1 in
+      ((both_nil (part_wire o) (part_structure o) early.0).1, early.1)
 
   pub clean_block : (at : ℕ) (m : List ℕ) → None ≡ least (missing STRINGTABLE at (fields_in at m) ++ twice STRINGTABLE (fields_in at m))
       → None ≡ least (in_last GRANULARITY (positive Granularity) (fields_in at m) ++ in_last DATE_GRANULARITY (positive DateGranularity) (fields_in at m))
@@ -171,9 +160,10 @@ module _ (limit : ℕ) where
   unfolding wire_faults structure_faults value_faults
   clean_block at m table scale parts =
       let none = no_least _ (sym parts) in
-      let sound = fields_sound BLOCK_KINDS (part_faults limit) (items at m) none in
+      let os = fields_in at m in
+      let sound = all_weaker _ _ apart os (fields_sound BLOCK_KINDS (part_faults limit) (items at m) none) in
       record {
         form = form_left (items at m) none;
-        structure = ap₂ (λ (a b : List Fault). a ++ b) (no_least _ (sym table)) (structure_left (fields_in at m) sound);
-        values = ap₂ (λ (a b : List Fault). a ++ b) (no_least _ (sym scale)) (values_left (fields_in at m) sound);
+        structure = ap₂ (λ (a b : List Fault). a ++ b) (no_least _ (sym table)) (none_given part_structure os (all_weaker _ _ (λ o p. p.0) os sound));
+        values = ap₂ (λ (a b : List Fault). a ++ b) (no_least _ (sym scale)) (none_given (in_group (member_values limit)) os (all_weaker _ _ (λ o p. p.1) os sound));
       }

@@ -1,149 +1,113 @@
 -- Written groups of ways and of relations: a message for each.
-use Rattle.pbf_wire.specs.Faults.{fields_in}
-use Rattle.std.proofs.Common.{◌≡◌, ℕ, ◌^◌, ◌<◌, ◌≤◌, ◌==◌, false, true, List, [], ◌∷◌, length, map, Some, refl, sym, ap, subst, ◌∙◌, arith}
+use Rattle.std.proofs.Common.{◌≡◌, ℕ, ◌^◌, ◌<◌, ◌≤◌, List, [], ◌∷◌, length, map, refl, sym, ap, subst, ◌∙◌, arith}
 use Rattle.std.specs.List.{flat_map, AllByRecursion}
 use Rattle.std.proofs.lemmas.Bool.{le-ltb}
-use Rattle.pbf_wire.specs.declared.kind.Kind.TheVariants as kind
-use Rattle.pbf_wire.specs.Wire.{kind_of}
+use Rattle.std.proofs.lemmas.List.{map-id}
+use Rattle.std.proofs.lemmas.List.Concat.{flat_map_single}
 use Rattle.pbf_wire.specs.Message.{Each, message}
-use Rattle.pbf_wire.proofs.MessageLemmas.{embedded_below}
+use Rattle.pbf_wire.proofs.AllLemmas.{all_left, all_right, all_weaker}
 use Rattle.pbf_wire.proofs.NoFaultLemmas.{field_count}
 use Rattle.pbf_strings.specs.TableOut.{table_of}
 use Rattle.osm_entity.specs.declared.scale.Scale.{Scale}
-use Rattle.osm_entity.specs.Entity.{WaySpec, RelationSpec, EntitySpec, way, relation}
-use Rattle.osm_entity.specs.EntityTexts.{way_texts, relation_texts}
-use Rattle.osm_entity.specs.Ranges.{WayFits, RelationFits, EntityTyped}
+use Rattle.osm_entity.specs.Entity.{WaySpec, RelationSpec, EntitySpec, node, way, relation, entity_scale}
+use Rattle.osm_entity.specs.EntityTexts.{entity_texts}
+use Rattle.osm_entity.specs.Ranges.{EntityFits, EntityTyped}
 use Rattle.pbf_dense.specs.WrittenDense.{dense_message, dense_info_message}
-use Rattle.pbf_block.specs.declared.group.TheConstants.{GROUP_KINDS, DENSE, WAYS, RELATIONS, CHANGESETS}
-use Rattle.pbf_block.specs.Way.{way_in}
-use Rattle.pbf_block.specs.Relation.{relation_in}
-use Rattle.pbf_block.specs.PrimitiveBlock.{indexed}
-use Rattle.pbf_block.specs.Group.{is_member}
+use Rattle.pbf_block.specs.declared.group.TheConstants.{DENSE, WAYS, RELATIONS}
 use Rattle.pbf_block.specs.WrittenBlock.{nodes_among, ways_among, relations_among, group_message}
 use Rattle.pbf_block.specs.WrittenEntity.{way_message, relation_message}
 use Rattle.pbf_block.proofs.EntityLaw.{AreAmong}
 use Rattle.pbf_block.proofs.WayLaw.{way_read, way_no_wire, way_no_structure, way_no_value}
 use Rattle.pbf_block.proofs.RelationLaw.{relation_read, relation_no_wire, relation_no_structure, relation_no_value}
-use Rattle.pbf_block.proofs.GroupLaw.{MemberGood, GroupGood, group_good}
+use Rattle.pbf_block.proofs.GroupLaw.{MemberGood, GroupGood, IsField, group_good}
 
--- ---- a message for each
+-- the field of a group that an entity is in
+abbrev pub number_of : EntitySpec → ℕ
+number_of (node n) = DENSE
+number_of (way w) = WAYS
+number_of (relation r) = RELATIONS
 
-module _ {W : Type 0} (table : List (List ℕ)) (scale : Scale) (k : ℕ) (message_of : W → List ℕ) (entity : W → EntitySpec) where
-  abbrev with_entity : W → List ℕ × List EntitySpec
-  with_entity w = (message_of w, entity w ∷ [])
+-- its message there; nodes have one together
+abbrev message_of : List (List ℕ) → EntitySpec → List ℕ
+message_of texts (node n) = []
+message_of texts (way w) = way_message texts w
+message_of texts (relation r) = relation_message texts r
 
-  messages_are : (ws : List W) → map (λ h. h.0) (map with_entity ws) ≡ map message_of ws
-  messages_are [] = refl
-  messages_are (w ∷ ws) = ap (λ (ms : List (List ℕ)). message_of w ∷ ms) (messages_are ws)
+-- it may be in the group of another
+pub record IsLike (e f : EntitySpec) : Type 0 where
+  pub number : number_of f ≡ number_of e
+  pub scale : entity_scale f ≡ entity_scale e
 
-  entities_are : (ws : List W) → flat_map (λ h. h.1) (map with_entity ws) ≡ map entity ws
-  entities_are [] = refl
-  entities_are (w ∷ ws) = ap (λ (es : List EntitySpec). entity w ∷ es) (entities_are ws)
-
-  module _ (P : W → Type 0) (each : (w : W) → P w → length (message_of w) < 2 ^ 64 → MemberGood table scale k (message_of w) (entity w ∷ [])) where
-    all_good : (ws : List W) → AllByRecursion P ws → AllByRecursion (λ m. length m < 2 ^ 64) (map message_of ws) → AllByRecursion (λ h. MemberGood table scale k h.0 h.1) (map with_entity ws)
-    all_good [] h room = tt
-    all_good (w ∷ ws) h room = (each w h.0 room.0, all_good ws h.1 room.1)
-
-    group_of_each : (ws : List W) → AllByRecursion P ws → 0 < k → k < 2 ^ 29 → kind_of GROUP_KINDS k ≡ Some kind.Bytes → is_member k ≡ true → (k == CHANGESETS) ≡ false → ((ms : List (List ℕ)) → field_count DENSE (Each k ms ∷ []) ≤ 1)
-        → length (message (Each k (map message_of ws) ∷ [])) < 2 ^ 64 → GroupGood table scale (message (Each k (map message_of ws) ∷ [])) (map entity ws)
-    group_of_each ws h positive small known member other once short =
-        let room = embedded_below (2 ^ 64) (Each k (map message_of ws) ∷ []) short in
-        let shorter = subst (λ (ms : List (List ℕ)). length (message (Each k ms ∷ [])) < 2 ^ 64) (sym (messages_are ws)) short in
-        let good = group_good table scale k (map with_entity ws) (all_good ws h room.0) positive small known member other (once _) shorter in
-        subst (λ (es : List EntitySpec). GroupGood table scale (message (Each k (map message_of ws) ∷ [])) es) (entities_are ws)
-        (subst (λ (ms : List (List ℕ)). GroupGood table scale (message (Each k ms ∷ [])) (flat_map (λ h. h.1) (map with_entity ws))) (messages_are ws) good)
+-- ---- the group is these messages
 
 -- no nodes are no dense message
 pub no_dense : (texts : List (List ℕ)) → dense_message texts [] ≡ []
 unfolding dense_message dense_info_message message
 no_dense texts = refl
 
--- ---- ways
+module _ (texts : List (List ℕ)) where
+  pub only_ways : (es : List EntitySpec) → AllByRecursion (λ e. number_of e ≡ WAYS) es → (nodes_among es ≡ []) × (map (way_message texts) (ways_among es) ≡ map (message_of texts) es) × (relations_among es ≡ [])
+  only_ways [] h = (refl, refl, refl)
+  only_ways (node n ∷ es) h = absurd (omega (arith, h.0))
+  only_ways (way w ∷ es) h = let rest = only_ways es h.1 in (rest.0, ap (λ (ms : List (List ℕ)). way_message texts w ∷ ms) rest.1, rest.2)
+  only_ways (relation r ∷ es) h = absurd (omega (arith, h.0))
 
--- a way that can be written, of this scale, with its texts among these
-pub record WayHeld (texts : List (List ℕ)) (scale : Scale) (w : WaySpec) : Type 0 where
-  pub fits : WayFits w
-  pub typed : EntityTyped (way w)
-  pub scaled : w.scale ≡ scale
-  pub among : AreAmong texts (way_texts w)
-  pub few : length (table_of texts) ≤ 1048576
+  pub only_relations : (es : List EntitySpec) → AllByRecursion (λ e. number_of e ≡ RELATIONS) es → (nodes_among es ≡ []) × (ways_among es ≡ []) × (map (relation_message texts) (relations_among es) ≡ map (message_of texts) es)
+  only_relations [] h = (refl, refl, refl)
+  only_relations (node n ∷ es) h = absurd (omega (arith, h.0))
+  only_relations (way w ∷ es) h = absurd (omega (arith, h.0))
+  only_relations (relation r ∷ es) h = let rest = only_relations es h.1 in (rest.0, rest.1, ap (λ (ms : List (List ℕ)). relation_message texts r ∷ ms) rest.2)
 
-way_good : (texts : List (List ℕ)) (scale : Scale) (w : WaySpec) → WayHeld texts scale w → length (way_message texts w) < 2 ^ 64 → MemberGood (table_of texts) scale WAYS (way_message texts w) (way w ∷ [])
-way_good texts scale w h room = record {
-  wire = λ place begin. rw (way_no_wire texts w h.fits h.typed h.among h.few begin room place) refl;
-  structure = λ place begin. rw (way_no_structure texts w h.fits h.typed h.among h.few begin room place) refl;
-  values = λ place begin. rw (way_no_value texts w h.fits h.typed h.among h.few begin room place) refl;
-  entities = λ place begin.
-      ap (λ (s : Scale). way (way_in indexed (table_of texts) s (fields_in begin (way_message texts w))) ∷ []) (sym h.scaled)
-      ∙ ap (λ (w : WaySpec). way w ∷ []) (way_read texts w h.fits h.typed h.among h.few begin room);
-  light = λ place. rw (le-ltb _ _ h.fits.light) refl;
-}
+  group_is : (e : EntitySpec) (es : List EntitySpec) → ¬ (number_of e ≡ DENSE) → AllByRecursion (λ f. number_of f ≡ number_of e) es → group_message texts es ≡ message (Each (number_of e) (map (message_of texts) es) ∷ [])
+  unfolding group_message message
+  group_is (node n) es other h = absurd (other refl)
+  group_is (way w) es other h = let only = only_ways es h in rw (only.0, only.1, only.2, no_dense texts) refl
+  group_is (relation r) es other h = let only = only_relations es h in rw (only.0, only.1, only.2, no_dense texts) refl
 
-ways_are : (ws : List WaySpec) → ways_among (map way ws) ≡ ws
-ways_are [] = refl
-ways_are (w ∷ ws) = ap (λ (ws : List WaySpec). w ∷ ws) (ways_are ws)
+  -- ---- each message is good
 
-no_nodes : (ws : List WaySpec) → nodes_among (map way ws) ≡ []
-no_nodes [] = refl
-no_nodes (w ∷ ws) = no_nodes ws
+  module _ (few : length (table_of texts) ≤ 1048576) where
+    entity_good : (e : EntitySpec) → ¬ (number_of e ≡ DENSE) → EntityFits e → EntityTyped e → AreAmong texts (entity_texts e) → MemberGood (table_of texts) (entity_scale e) (number_of e) (message_of texts e) (e ∷ [])
+    entity_good (node n) other fits typed among = absurd (other refl)
+    entity_good (way w) other fits typed among = record {
+      wire = λ place begin. rw (way_no_wire texts w fits typed among few place begin) refl;
+      structure = λ place begin. rw (way_no_structure texts w fits typed among few place begin) refl;
+      values = λ place begin. rw (way_no_value texts w fits typed among few place begin) refl;
+      entities = λ place begin. ap (λ (w : WaySpec). way w ∷ []) (way_read texts w fits typed among few begin);
+      light = λ place. rw (le-ltb _ _ fits.light) refl;
+    }
+    entity_good (relation r) other fits typed among = record {
+      wire = λ place begin. rw (relation_no_wire texts r fits typed among few place begin) refl;
+      structure = λ place begin. rw (relation_no_structure texts r fits typed among few place begin) refl;
+      values = λ place begin. rw (relation_no_value texts r fits typed among few place begin) refl;
+      entities = λ place begin. ap (λ (r : RelationSpec). relation r ∷ []) (relation_read texts r fits typed among few begin);
+      light = λ place. rw (le-ltb _ _ fits.light) refl;
+    }
 
-no_relations : (ws : List WaySpec) → relations_among (map way ws) ≡ []
-no_relations [] = refl
-no_relations (w ∷ ws) = no_relations ws
+    module _ (e : EntitySpec) (other : ¬ (number_of e ≡ DENSE)) where
+      abbrev IsGood : EntitySpec → Type 0
+      IsGood f = MemberGood (table_of texts) (entity_scale e) (number_of e) (message_of texts f) (f ∷ [])
 
-group_of_ways : (texts : List (List ℕ)) (ws : List WaySpec) → group_message texts (map way ws) ≡ message (Each WAYS (map (way_message texts) ws) ∷ [])
-unfolding group_message message
-group_of_ways texts ws = rw (ways_are ws, no_nodes ws, no_relations ws, no_dense texts) refl
+      all_good : (es : List EntitySpec) → AllByRecursion (IsLike e) es → AllByRecursion EntityFits es → AllByRecursion EntityTyped es → AreAmong texts (flat_map entity_texts es) → AllByRecursion IsGood es
+      all_good [] like fit typed among = tt
+      all_good (f ∷ es) like fit typed among =
+          let one = entity_good f (λ n. other (sym like.0.number ∙ n)) fit.0 typed.0 (all_left _ (entity_texts f) (flat_map entity_texts es) among) in (
+            subst (λ (k : ℕ). MemberGood (table_of texts) (entity_scale e) k (message_of texts f) (f ∷ [])) like.0.number
+                (subst (λ (s : Scale). MemberGood (table_of texts) s (number_of f) (message_of texts f) (f ∷ [])) like.0.scale one),
+            all_good es like.1 fit.1 typed.1 (all_right _ (entity_texts f) (flat_map entity_texts es) among),
+          )
 
--- a written group of ways has no fault and holds these ways
-pub ways_good : (texts : List (List ℕ)) (scale : Scale) (ws : List WaySpec) → AllByRecursion (WayHeld texts scale) ws → length (group_message texts (map way ws)) < 2 ^ 64 → GroupGood (table_of texts) scale (group_message texts (map way ws)) (map way ws)
-ways_good texts scale ws h short =
-    subst (λ (g : List ℕ). GroupGood (table_of texts) scale g (map way ws)) (sym (group_of_ways texts ws))
-    (group_of_each (table_of texts) scale WAYS (way_message texts) way (WayHeld texts scale) (way_good texts scale) ws h (omega arith) (omega arith) refl refl refl (λ ms. omega arith)
-    (subst (λ (g : List ℕ). length g < 2 ^ 64) (group_of_ways texts ws) short))
+      is_field : (f : EntitySpec) → ¬ (number_of f ≡ DENSE) → IsField (number_of f) × ((ms : List (List ℕ)) → field_count DENSE (Each (number_of f) ms ∷ []) ≤ 1)
+      is_field (node n) other = absurd (other refl)
+      is_field (way w) other = (record { positive = omega arith; small = omega arith; known = refl; other = refl }, λ ms. omega arith)
+      is_field (relation r) other = (record { positive = omega arith; small = omega arith; known = refl; other = refl }, λ ms. omega arith)
 
--- ---- relations
-
--- a relation that can be written, of this scale, with its texts among these
-pub record RelationHeld (texts : List (List ℕ)) (scale : Scale) (r : RelationSpec) : Type 0 where
-  pub fits : RelationFits r
-  pub typed : EntityTyped (relation r)
-  pub scaled : r.scale ≡ scale
-  pub among : AreAmong texts (relation_texts r)
-  pub few : length (table_of texts) ≤ 1048576
-
-relation_good : (texts : List (List ℕ)) (scale : Scale) (r : RelationSpec) → RelationHeld texts scale r → length (relation_message texts r) < 2 ^ 64 → MemberGood (table_of texts) scale RELATIONS (relation_message texts r) (relation r ∷ [])
-relation_good texts scale r h room = record {
-  wire = λ place begin. rw (relation_no_wire texts r h.fits h.typed h.among h.few begin room place) refl;
-  structure = λ place begin. rw (relation_no_structure texts r h.fits h.typed h.among h.few begin room place) refl;
-  values = λ place begin. rw (relation_no_value texts r h.fits h.typed h.among h.few begin room place) refl;
-  entities = λ place begin.
-      ap (λ (s : Scale). relation (relation_in indexed (table_of texts) s (fields_in begin (relation_message texts r))) ∷ []) (sym h.scaled)
-      ∙ ap (λ (r : RelationSpec). relation r ∷ []) (relation_read texts r h.fits h.typed h.among h.few begin room);
-  light = λ place. rw (le-ltb _ _ h.fits.light) refl;
-}
-
-relations_are : (rs : List RelationSpec) → relations_among (map relation rs) ≡ rs
-relations_are [] = refl
-relations_are (r ∷ rs) = ap (λ (rs : List RelationSpec). r ∷ rs) (relations_are rs)
-
-no_nodes_there : (rs : List RelationSpec) → nodes_among (map relation rs) ≡ []
-no_nodes_there [] = refl
-no_nodes_there (r ∷ rs) = no_nodes_there rs
-
-no_ways_there : (rs : List RelationSpec) → ways_among (map relation rs) ≡ []
-no_ways_there [] = refl
-no_ways_there (r ∷ rs) = no_ways_there rs
-
-group_of_relations : (texts : List (List ℕ)) (rs : List RelationSpec) → group_message texts (map relation rs) ≡ message (Each RELATIONS (map (relation_message texts) rs) ∷ [])
-unfolding group_message message
-group_of_relations texts rs = rw (relations_are rs, no_nodes_there rs, no_ways_there rs, no_dense texts) refl
-
--- a written group of relations has no fault and holds these relations
-pub relations_good : (texts : List (List ℕ)) (scale : Scale) (rs : List RelationSpec) → AllByRecursion (RelationHeld texts scale) rs → length (group_message texts (map relation rs)) < 2 ^ 64
-    → GroupGood (table_of texts) scale (group_message texts (map relation rs)) (map relation rs)
-relations_good texts scale rs h short =
-    subst (λ (g : List ℕ). GroupGood (table_of texts) scale g (map relation rs)) (sym (group_of_relations texts rs))
-    (group_of_each (table_of texts) scale RELATIONS (relation_message texts) relation (RelationHeld texts scale) (relation_good texts scale) rs h (omega arith) (omega arith) refl refl refl (λ ms. omega arith)
-    (subst (λ (g : List ℕ). length g < 2 ^ 64) (group_of_relations texts rs) short))
+      -- a written group of ways, or of relations, has no fault and holds these
+      pub others_good : (es : List EntitySpec) → AllByRecursion (IsLike e) es → AllByRecursion EntityFits es → AllByRecursion EntityTyped es → AreAmong texts (flat_map entity_texts es) → length (group_message texts es) < 2 ^ 64
+          → GroupGood (table_of texts) (entity_scale e) (group_message texts es) es
+      others_good es like fit typed among short =
+          let same = group_is e es other (all_weaker (IsLike e) _ (λ f l. l.number) es like) in
+          let field = is_field e other in
+          let good = group_good (table_of texts) (entity_scale e) (number_of e) (message_of texts) (λ f. f ∷ []) es (all_good es like fit typed among) field.0 (field.1 _) (subst (λ (g : List ℕ). length g < 2 ^ 64) same short) in
+          subst (λ (g : List ℕ). GroupGood (table_of texts) (entity_scale e) g es) (sym same)
+          (subst (λ (fs : List EntitySpec). GroupGood (table_of texts) (entity_scale e) (message (Each (number_of e) (map (message_of texts) es) ∷ [])) fs) (flat_map_single (λ f. f) es ∙ map-id es) good)

@@ -10,6 +10,7 @@ use Rattle.pbf_strings.specs.TableOut.{with_text, texts_after, index_in}
 use Rattle.pbf_strings.proofs.UsedTexts.{index_stays, length_with, room_left, used_both, used_later}
 use Rattle.osm_entity.specs.Entity.{TagSpec, MetaSpec, MemberSpec, WaySpec, RelationSpec}
 use Rattle.osm_entity.specs.EntityTexts.{tag_texts, relation_texts}
+use Rattle.pbf_block.proofs.LengthLaw.{own_columns}
 use Rattle.pbf_block.specs.WrittenEntity.{key_index, value_index, role_index, kind_number, info_message, entity_slots, way_message, relation_message}
 
 -- one more number at the end of a column, and one less before it
@@ -22,9 +23,6 @@ pub record ArePut (start : List (List ℕ)) (all : List TagSpec) (texts : List (
   pub keys_are : (used : List (List ℕ)) → keys ++ map (key_index (texts_after texts (tag_texts left ++ used))) left ≡ map (key_index (texts_after texts (tag_texts left ++ used))) all
   pub values_are : (used : List (List ℕ)) → values ++ map (value_index (texts_after texts (tag_texts left ++ used))) left ≡ map (value_index (texts_after texts (tag_texts left ++ used))) all
   pub room : length texts + length (tag_texts left) ≤ 1048575
-
-pub none_put : (start : List (List ℕ)) (all : List TagSpec) → length start + length (tag_texts all) ≤ 1048575 → ArePut start all start [] [] all
-none_put start all room = record { texts_are = refl; keys_are = λ used. refl; values_are = λ used. refl; room = room }
 
 pub one_put : (start : List (List ℕ)) (all : List TagSpec) (texts : List (List ℕ)) (keys values : List ℕ) (tag : TagSpec) (left : List TagSpec) (key value : ℕ)
     → ArePut start all texts keys values (tag ∷ left) → key ≡ index_in (with_text texts tag.0) tag.0 → value ≡ index_in (with_text (with_text texts tag.0) tag.1) tag.1
@@ -90,25 +88,29 @@ begun middle texts user used id meta tags keys values info e ks vs i =
     let values_are : values ≡ map (value_index (texts_after texts used)) tags = vs (user ++ used) ∙ ap (λ (ts : List (List ℕ)). map (value_index ts) tags) later in
     rw (keys_are, values_are, i) refl
 
+-- its own columns after that
+own_put : (texts : List (List ℕ)) (id : ℤ) (meta : MetaSpec) (tags : List TagSpec) (a b c m m1 m2 m3 : List ℕ)
+    → m ≡ message (entity_slots texts id meta tags []) → m1 ≡ m ++ slot_bytes (Column 8 a) → m2 ≡ m1 ++ slot_bytes (Column 9 b) → m3 ≡ m2 ++ slot_bytes (Column 10 c)
+    → m3 ≡ message (entity_slots texts id meta tags (own_columns a b c))
+own_put texts id meta tags a b c m m1 m2 m3 h h1 h2 h3 =
+    let one = slot_put (entity_slots texts id meta tags []) (Column 8 a) m m1 h h1 in
+    let two = slot_put (entity_slots texts id meta tags (Column 8 a ∷ [])) (Column 9 b) m1 m2 one h2 in
+    slot_put (entity_slots texts id meta tags (Column 8 a ∷ Column 9 b ∷ [])) (Column 10 c) m2 m3 two h3
+
 pub way_made : (texts : List (List ℕ)) (w : WaySpec) (id : ℤ) (meta : MetaSpec) (tags : List TagSpec) (refs lats lons : List ℤ) (m m1 m2 m3 : List ℕ)
     → id ≡ w.id → meta ≡ w.meta → tags ≡ w.tags → refs ≡ w.refs → lats ≡ map (λ l. l.0) w.locations → lons ≡ map (λ l. l.1) w.locations
     → m ≡ message (entity_slots texts id meta tags []) → m1 ≡ m ++ slot_bytes (Column 8 (deltas refs)) → m2 ≡ m1 ++ slot_bytes (Column 9 (deltas lats)) → m3 ≡ m2 ++ slot_bytes (Column 10 (deltas lons))
     → m3 ≡ way_message texts w
 unfolding way_message
 way_made texts w id meta tags refs lats lons m m1 m2 m3 ei em et er ea eo h h1 h2 h3 =
-    slot_put (entity_slots texts id meta tags (Column 8 (deltas refs) ∷ Column 9 (deltas lats) ∷ [])) (Column 10 (deltas lons)) m2 m3
-    (slot_put (entity_slots texts id meta tags (Column 8 (deltas refs) ∷ [])) (Column 9 (deltas lats)) m1 m2 (slot_put (entity_slots texts id meta tags []) (Column 8 (deltas refs)) m m1 h h1) h2) h3
-    ∙ rw (ei, em, et, er, ea, eo) refl
+    own_put texts id meta tags (deltas refs) (deltas lats) (deltas lons) m m1 m2 m3 h h1 h2 h3 ∙ rw (ei, em, et, er, ea, eo) refl
 
 pub relation_made : (texts : List (List ℕ)) (r : RelationSpec) (id : ℤ) (meta : MetaSpec) (tags : List TagSpec) (roles kinds : List ℕ) (ids : List ℤ) (m m1 m2 m3 : List ℕ)
     → id ≡ r.id → meta ≡ r.meta → tags ≡ r.tags → roles ≡ map (role_index texts) r.members → ids ≡ map (λ m. m.id) r.members → kinds ≡ map (λ m. kind_number m.kind) r.members
     → m ≡ message (entity_slots texts id meta tags []) → m1 ≡ m ++ slot_bytes (Column 8 roles) → m2 ≡ m1 ++ slot_bytes (Column 9 (deltas ids)) → m3 ≡ m2 ++ slot_bytes (Column 10 kinds)
     → m3 ≡ relation_message texts r
 unfolding relation_message
-relation_made texts r id meta tags roles kinds ids m m1 m2 m3 ei em et er ea eo h h1 h2 h3 =
-    slot_put (entity_slots texts id meta tags (Column 8 roles ∷ Column 9 (deltas ids) ∷ [])) (Column 10 kinds) m2 m3
-    (slot_put (entity_slots texts id meta tags (Column 8 roles ∷ [])) (Column 9 (deltas ids)) m1 m2 (slot_put (entity_slots texts id meta tags []) (Column 8 roles) m m1 h h1) h2) h3
-    ∙ rw (ei, em, et, er, ea, eo) refl
+relation_made texts r id meta tags roles kinds ids m m1 m2 m3 ei em et er ea eo h h1 h2 h3 = own_put texts id meta tags roles (deltas ids) kinds m m1 m2 m3 h h1 h2 h3 ∙ rw (ei, em, et, er, ea, eo) refl
 
 -- the roles are used after the tags and the user
 pub roles_used : (start middle texts : List (List ℕ)) (r : RelationSpec) (meta : MetaSpec) (tags : List TagSpec) (members : List MemberSpec) → meta ≡ r.meta → tags ≡ r.tags → members ≡ r.members

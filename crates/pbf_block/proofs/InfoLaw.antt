@@ -1,17 +1,15 @@
 -- A written Info is read as the metadata that it was written for.
-use Rattle.std.proofs.Common.{pos, sym, [], ◌≡◌, ℕ, ◌%◌, ◌^◌, ◌<◌, ◌≤◌, ◌==◌, Bool, true, false, not, ℤ, List, [], length, take, drop, Option, Some, None, unwrap_or, refl, ap, ◌∙◌, subst, arith}
-use Rattle.std.specs.List.{flat_map, AllByRecursion}
+use Rattle.std.proofs.Common.{pos, [], ◌≡◌, ℕ, ◌%◌, ◌^◌, ◌<◌, ◌≤◌, ◌==◌, Bool, true, false, not, ℤ, List, [], length, Option, Some, None, unwrap_or, refl, ap, ◌∙◌, arith}
+use Rattle.std.specs.List.{AllByRecursion}
 use Rattle.std.specs.Option.{option_map, option_to_list}
 use Rattle.std.proofs.lemmas.Int.{ints}
 use Rattle.pbf_wire.specs.declared.fault.Reason.TheVariants.{StringIndex}
 use Rattle.pbf_wire.specs.declared.fault.Fault.{Fault}
 use Rattle.pbf_wire.specs.Faults.{below_fault, fields_in, leaf_faults}
-use Rattle.pbf_wire.proofs.NoFaultLemmas.{leaf_quiet, in_last_written}
+use Rattle.pbf_wire.proofs.NoFaultLemmas.{leaf_quiet}
 use Rattle.std.proofs.lemmas.Bool.{lt-ltb}
-use Rattle.pbf_wire.specs.Message.{scalars_at, SlotFits, message}
-use Rattle.pbf_wire.specs.Reading.{last_number}
+use Rattle.pbf_wire.specs.Message.{Scalar, SlotFits}
 use Rattle.pbf_wire.specs.Signed.{is_within, low_i32, low_i64, sign_extended}
-use Rattle.pbf_wire.proofs.MessageLemmas.{last_written}
 use Rattle.pbf_wire.proofs.SumLemmas.{within_true, signs_read, signs_fit, low_signs_read}
 use Rattle.pbf_strings.specs.Texts.{text}
 use Rattle.pbf_strings.specs.TableOut.{has_text, index_in, table_of}
@@ -25,7 +23,8 @@ use Rattle.pbf_block.specs.declared.info.TheConstants.{INFO_KINDS}
 use Rattle.pbf_block.specs.Info.{out_of_range, info_values, info_in}
 use Rattle.pbf_block.specs.WrittenEntity.{info_slots, info_message}
 use Rattle.osm_entity.proofs.RangeLemmas.{present}
-use Rattle.pbf_wire.proofs.SlotLemmas.{IfSome, scalar_given, given_all, option_read, scalar_fits, last_given}
+use Rattle.pbf_wire.proofs.SlotLemmas.{IfSome}
+use Rattle.pbf_header.proofs.OneNumber.{number_read, number_quiet}
 
 -- ---- texts and their indexes
 
@@ -64,20 +63,39 @@ uid_fits z h = signs_fit z (omega (arith, ints, h.above)) (omega (arith, ints, h
 uid_read : (z : ℤ) → IsUid z → low_i32 (sign_extended z) ≡ z
 uid_read z h = low_signs_read z (omega (arith, ints, h.above)) (omega (arith, ints, h.below))
 
-abbrev IsAny : Bool → Type 0
-IsAny b = Unit {0}
+bit_small : (b : Bool) → bit_of b < 2 ^ 64
+bit_small true = omega arith
+bit_small false = omega arith
 
-bit_fits : (b : Bool) → IsAny b → bit_of b < 2 ^ 64
-bit_fits true h = omega arith
-bit_fits false h = omega arith
+bit_read : (b : Bool) → not (bit_of b == 0) ≡ b
+bit_read true = refl
+bit_read false = refl
 
-bit_read : (b : Bool) → IsAny b → not (bit_of b == 0) ≡ b
-bit_read true h = refl
-bit_read false h = refl
-
-any : (b : Option Bool) → IfSome IsAny b
+any : (b : Option Bool) → IfSome (λ b. Unit {0}) b
 any None = tt
 any (Some b) = tt
+
+-- ---- one field
+
+-- a value that may be absent is written as a number that fits, is read back, and has no fault
+record IsField {X : Type 0} (k : ℕ) (write : X → ℕ) (read : ℕ → X) (judge : ℕ → ℕ → List Fault) (value : Option X) : Type 0 where
+  fits : SlotFits (Scalar k (option_map write value))
+  back : option_map read (option_map write value) ≡ value
+  quiet : AllByRecursion (λ v. (place : ℕ) → judge place v ≡ []) (option_to_list (option_map write value))
+
+module _ {X : Type 0} (k : ℕ) (positive : 0 < k) (small : k < 2 ^ 29) (write : X → ℕ) (read : ℕ → X) (judge : ℕ → ℕ → List Fault) (P : X → Type 0) where
+  is_field : ((x : X) → P x → write x < 2 ^ 64) → ((x : X) → P x → read (write x) ≡ x) → ((x : X) → P x → (place : ℕ) → judge place (write x) ≡ []) → (value : Option X) → IfSome P value → IsField k write read judge value
+  is_field fit back quiet None h = record { fits = tt; back = refl; quiet = tt }
+  is_field fit back quiet (Some x) h = record { fits = (positive, small, fit x h); back = ap Some (back x h); quiet = (quiet x h, tt) }
+
+abbrev unjudged : ℕ → ℕ → List Fault
+unjudged place v = []
+
+stored_quiet : (z : ℤ) → IsStored z → (place : ℕ) → out_of_range 62 low_i64 place (sign_extended z) ≡ []
+stored_quiet z s place = let e : is_within (pos (2 ^ 62)) (low_i64 (sign_extended z)) ≡ true = ap (is_within (pos (2 ^ 62))) (stored_read z s) ∙ within_true (pos (2 ^ 62)) z s in rw e refl
+
+uid_quiet : (z : ℤ) → IsUid z → (place : ℕ) → out_of_range 30 low_i32 place (sign_extended z) ≡ []
+uid_quiet z s place = let e : is_within (pos (2 ^ 30)) (low_i32 (sign_extended z)) ≡ true = ap (is_within (pos (2 ^ 30))) (uid_read z s) ∙ within_true (pos (2 ^ 30)) z s in rw e refl
 
 -- ---- the Info
 
@@ -89,72 +107,60 @@ pub record MetaReady (texts : List (List ℕ)) (meta : MetaSpec) : Type 0 where
   pub few : length (table_of texts) ≤ 1048576
 
 module _ (texts : List (List ℕ)) (meta : MetaSpec) (h : MetaReady texts meta) where
-  pub info_fits : AllByRecursion SlotFits (info_slots texts meta)
-  info_fits =
-      let version = scalar_fits sign_extended IsInt32 int32_fits VERSION (omega arith) (omega arith) meta.version (present IsInt32 meta.version h.version) in
-      let timestamp = scalar_fits sign_extended IsStored stored_fits TIMESTAMP (omega arith) (omega arith) meta.timestamp (present IsStored meta.timestamp h.fits.timestamp) in
-      let changeset = scalar_fits sign_extended IsStored stored_fits CHANGESET (omega arith) (omega arith) meta.changeset (present IsStored meta.changeset h.fits.changeset) in
-      let uid = scalar_fits sign_extended IsUid uid_fits UID (omega arith) (omega arith) meta.uid (present IsUid meta.uid h.fits.uid) in
-      let user = scalar_fits (index_in texts) (IsAmong texts) (index_fits texts h.few) USER_SID (omega arith) (omega arith) meta.user h.user in
-      let visible = scalar_fits bit_of IsAny bit_fits VISIBLE (omega arith) (omega arith) meta.visible (any meta.visible) in
-      (version, (timestamp, (changeset, (uid, (user, (visible, tt))))))
+  abbrev table : List (List ℕ)
+  table = table_of texts
 
-  pub info_read : (at : ℕ) → length (info_message texts meta) < 2 ^ 64 → info_in (table_of texts) (fields_in at (info_message texts meta)) ≡ meta
-  unfolding info_message
-  info_read at room =
-      let slots = info_slots texts meta in
-      let os = fields_in at (message slots) in
-      let fits = info_fits in
-      let version : option_map low_i32 (last_number VERSION os) ≡ meta.version =
-      ap (option_map low_i32) (last_written VERSION at slots fits room ∙ last_given VERSION _ (take 0 slots) (drop 1 slots) refl tt (refl, (refl, (refl, (refl, (refl, tt))))))
-      ∙ option_read sign_extended low_i32 IsInt32 int32_read meta.version (present IsInt32 meta.version h.version) in
-      let timestamp : option_map low_i64 (last_number TIMESTAMP os) ≡ meta.timestamp =
-      ap (option_map low_i64) (last_written TIMESTAMP at slots fits room ∙ last_given TIMESTAMP _ (take 1 slots) (drop 2 slots) refl (refl, tt) (refl, (refl, (refl, (refl, tt)))))
-      ∙ option_read sign_extended low_i64 IsStored stored_read meta.timestamp (present IsStored meta.timestamp h.fits.timestamp) in
-      let changeset : option_map low_i64 (last_number CHANGESET os) ≡ meta.changeset =
-      ap (option_map low_i64) (last_written CHANGESET at slots fits room ∙ last_given CHANGESET _ (take 2 slots) (drop 3 slots) refl (refl, (refl, tt)) (refl, (refl, (refl, tt))))
-      ∙ option_read sign_extended low_i64 IsStored stored_read meta.changeset (present IsStored meta.changeset h.fits.changeset) in
-      let uid : option_map low_i32 (last_number UID os) ≡ meta.uid =
-      ap (option_map low_i32) (last_written UID at slots fits room ∙ last_given UID _ (take 3 slots) (drop 4 slots) refl (refl, (refl, (refl, tt))) (refl, (refl, tt)))
-      ∙ option_read sign_extended low_i32 IsUid uid_read meta.uid (present IsUid meta.uid h.fits.uid) in
-      let user : option_map (named (table_of texts)) (last_number USER_SID os) ≡ meta.user =
-      ap (option_map (named (table_of texts))) (last_written USER_SID at slots fits room ∙ last_given USER_SID _ (take 4 slots) (drop 5 slots) refl (refl, (refl, (refl, (refl, tt)))) (refl, tt))
-      ∙ option_read (index_in texts) (named (table_of texts)) (IsAmong texts) (named_read texts h.few) meta.user h.user in
-      let visible : option_map (λ n. not (n == 0)) (last_number VISIBLE os) ≡ meta.visible =
-      ap (option_map (λ n. not (n == 0))) (last_written VISIBLE at slots fits room ∙ last_given VISIBLE _ (take 5 slots) (drop 6 slots) refl (refl, (refl, (refl, (refl, (refl, tt))))) tt)
-      ∙ option_read bit_of (λ n. not (n == 0)) IsAny bit_read meta.visible (any meta.visible) in
-      rw (version, timestamp, changeset, uid, user, visible) refl
-
-  -- ---- it has no fault
-
-  pub info_wire : (place at : ℕ) → length (info_message texts meta) < 2 ^ 64 → leaf_faults INFO_KINDS place at (info_message texts meta) ≡ []
-  unfolding info_message
-  info_wire place at room = leaf_quiet INFO_KINDS place at (info_slots texts meta) (refl, (refl, (refl, (refl, (refl, (refl, tt)))))) info_fits room
-
-  stored_quiet : (z : ℤ) → IsStored z → (place : ℕ) → out_of_range 62 low_i64 place (sign_extended z) ≡ []
-  stored_quiet z s place = let e : is_within (pos (2 ^ 62)) (low_i64 (sign_extended z)) ≡ true = ap (is_within (pos (2 ^ 62))) (stored_read z s) ∙ within_true (pos (2 ^ 62)) z s in rw e refl
-
-  uid_quiet : (z : ℤ) → IsUid z → (place : ℕ) → out_of_range 30 low_i32 place (sign_extended z) ≡ []
-  uid_quiet z s place = let e : is_within (pos (2 ^ 30)) (low_i32 (sign_extended z)) ≡ true = ap (is_within (pos (2 ^ 30))) (uid_read z s) ∙ within_true (pos (2 ^ 30)) z s in rw e refl
-
-  user_quiet : (t : List ℕ) → IsAmong texts t → (place : ℕ) → below_fault StringIndex (length (table_of texts)) (index_in texts t, place) ≡ []
+  user_quiet : (t : List ℕ) → IsAmong texts t → (place : ℕ) → below_fault StringIndex (length table) (index_in texts t, place) ≡ []
   user_quiet t s place =
-      let below : index_in texts t % 2 ^ 32 < length (table_of texts) = omega (arith, low_index texts h.few t s, index_below texts t s) in
-      rw (lt-ltb (index_in texts t % 2 ^ 32) (length (table_of texts)) below) refl
+      let below : index_in texts t % 2 ^ 32 < length table = omega (arith, low_index texts h.few t s, index_below texts t s) in
+      rw (lt-ltb (index_in texts t % 2 ^ 32) (length table) below) refl
 
-  pub info_quiet : (place at : ℕ) → length (info_message texts meta) < 2 ^ 64 → info_values (length (table_of texts)) place at (info_message texts meta) ≡ []
-  unfolding info_message
-  info_quiet place at room =
-      let slots = info_slots texts meta in
-      let fits = info_fits in
-      let all = λ (k : ℕ) (f : ℕ → ℕ → List Fault) (value : Option ℕ) (e : flat_map (scalars_at k) slots ≡ option_to_list value) (g : AllByRecursion (λ v. (place : ℕ) → f place v ≡ []) (option_to_list value)).
-      in_last_written k f at slots fits room (subst (λ (vs : List ℕ). AllByRecursion (λ v. (place : ℕ) → f place v ≡ []) vs) (sym e) g) in
-      let timestamp = all TIMESTAMP (out_of_range 62 low_i64) _ (scalar_given TIMESTAMP _ (take 1 slots) (drop 2 slots) refl (refl, tt) (refl, (refl, (refl, (refl, tt)))))
-      (given_all sign_extended IsStored (λ v. (place : ℕ) → out_of_range 62 low_i64 place v ≡ []) stored_quiet meta.timestamp (present IsStored meta.timestamp h.fits.timestamp)) in
-      let changeset = all CHANGESET (out_of_range 62 low_i64) _ (scalar_given CHANGESET _ (take 2 slots) (drop 3 slots) refl (refl, (refl, tt)) (refl, (refl, (refl, tt))))
-      (given_all sign_extended IsStored (λ v. (place : ℕ) → out_of_range 62 low_i64 place v ≡ []) stored_quiet meta.changeset (present IsStored meta.changeset h.fits.changeset)) in
-      let uid = all UID (out_of_range 30 low_i32) _ (scalar_given UID _ (take 3 slots) (drop 4 slots) refl (refl, (refl, (refl, tt))) (refl, (refl, tt)))
-      (given_all sign_extended IsUid (λ v. (place : ℕ) → out_of_range 30 low_i32 place v ≡ []) uid_quiet meta.uid (present IsUid meta.uid h.fits.uid)) in
-      let user = all USER_SID (λ place v. below_fault StringIndex (length (table_of texts)) (v, place)) _ (scalar_given USER_SID _ (take 4 slots) (drop 5 slots) refl (refl, (refl, (refl, (refl, tt)))) (refl, tt))
-      (given_all (index_in texts) (IsAmong texts) (λ v. (place : ℕ) → below_fault StringIndex (length (table_of texts)) (v, place) ≡ []) user_quiet meta.user h.user) in
-      rw (timestamp, changeset, uid, user) refl
+  version : IsField VERSION sign_extended low_i32 unjudged meta.version
+  version = is_field VERSION (omega arith) (omega arith) sign_extended low_i32 unjudged IsInt32 int32_fits int32_read (λ _ _ _. refl) meta.version (present IsInt32 meta.version h.version)
+
+  timestamp : IsField TIMESTAMP sign_extended low_i64 (out_of_range 62 low_i64) meta.timestamp
+  timestamp = is_field TIMESTAMP (omega arith) (omega arith) sign_extended low_i64 _ IsStored stored_fits stored_read stored_quiet meta.timestamp (present IsStored meta.timestamp h.fits.timestamp)
+
+  changeset : IsField CHANGESET sign_extended low_i64 (out_of_range 62 low_i64) meta.changeset
+  changeset = is_field CHANGESET (omega arith) (omega arith) sign_extended low_i64 _ IsStored stored_fits stored_read stored_quiet meta.changeset (present IsStored meta.changeset h.fits.changeset)
+
+  uid : IsField UID sign_extended low_i32 (out_of_range 30 low_i32) meta.uid
+  uid = is_field UID (omega arith) (omega arith) sign_extended low_i32 _ IsUid uid_fits uid_read uid_quiet meta.uid (present IsUid meta.uid h.fits.uid)
+
+  user : IsField USER_SID (index_in texts) (named table) (λ place v. below_fault StringIndex (length table) (v, place)) meta.user
+  user = is_field USER_SID (omega arith) (omega arith) (index_in texts) (named table) _ (IsAmong texts) (index_fits texts h.few) (named_read texts h.few) user_quiet meta.user h.user
+
+  visible : IsField VISIBLE bit_of (λ n. not (n == 0)) unjudged meta.visible
+  visible = is_field VISIBLE (omega arith) (omega arith) bit_of _ unjudged (λ b. Unit {0}) (λ b _. bit_small b) (λ b _. bit_read b) (λ _ _ _. refl) meta.visible (any meta.visible)
+
+  info_fits : AllByRecursion SlotFits (info_slots texts meta)
+  info_fits = (version.fits, (timestamp.fits, (changeset.fits, (uid.fits, (user.fits, (visible.fits, tt))))))
+
+  module _ (at : ℕ) (room : length (info_message texts meta) < 2 ^ 64) where
+    pub info_read : info_in table (fields_in at (info_message texts meta)) ≡ meta
+    unfolding info_message
+    info_read =
+        let read = number_read at (info_slots texts meta) info_fits room in
+        let versions = ap (option_map low_i32) (read VERSION _ refl) ∙ version.back in
+        let timestamps = ap (option_map low_i64) (read TIMESTAMP _ refl) ∙ timestamp.back in
+        let changesets = ap (option_map low_i64) (read CHANGESET _ refl) ∙ changeset.back in
+        let uids = ap (option_map low_i32) (read UID _ refl) ∙ uid.back in
+        let users = ap (option_map (named table)) (read USER_SID _ refl) ∙ user.back in
+        let visibles = ap (option_map (λ n. not (n == 0))) (read VISIBLE _ refl) ∙ visible.back in
+        rw (versions, timestamps, changesets, uids, users, visibles) refl
+
+    -- ---- it has no fault
+
+    pub info_wire : (place : ℕ) → leaf_faults INFO_KINDS place at (info_message texts meta) ≡ []
+    unfolding info_message
+    info_wire place = leaf_quiet INFO_KINDS place at (info_slots texts meta) (refl, (refl, (refl, (refl, (refl, (refl, tt)))))) info_fits room
+
+    pub info_quiet : (place : ℕ) → info_values (length table) place at (info_message texts meta) ≡ []
+    unfolding info_message
+    info_quiet place =
+        let quiet = number_quiet at (info_slots texts meta) info_fits room in
+        let timestamps = quiet TIMESTAMP _ refl (out_of_range 62 low_i64) timestamp.quiet in
+        let changesets = quiet CHANGESET _ refl (out_of_range 62 low_i64) changeset.quiet in
+        let uids = quiet UID _ refl (out_of_range 30 low_i32) uid.quiet in
+        let users = quiet USER_SID _ refl (λ place v. below_fault StringIndex (length table) (v, place)) user.quiet in
+        rw (timestamps, changesets, uids, users) refl

@@ -1,20 +1,17 @@
 -- The entities of some kinds, field by field, are those of the whole list that are of these kinds.
 use Rattle.std.proofs.Common.{◌≡◌, ℕ, Bool, true, false, List, [], ◌∷◌, ◌++◌, map, refl, ap, ap₂, sym, ◌∙◌}
 use Rattle.std.specs.Prelude.{filter, if◌then◌else◌, ◌==◌}
-use Rattle.std.specs.List.{flat_map, AllByRecursion}
+use Rattle.std.specs.List.{flat_map}
 use Rattle.std.proofs.lemmas.List.Elements.{filter-append}
 use Rattle.pbf_wire.specs.Faults.{inside, fields_in}
-use Rattle.pbf_wire.specs.Occurrence.{Content, Number, Eight, Four, Bytes, Occurrence}
+use Rattle.pbf_wire.specs.Occurrence.{Content, Bytes, Occurrence}
 use Rattle.osm_entity.specs.declared.scale.Scale.{Scale}
-use Rattle.osm_entity.specs.Entity.{NodeSpec, EntitySpec, node, way, relation}
+use Rattle.osm_entity.specs.Entity.{NodeSpec, EntitySpec, node}
 use Rattle.pbf_block.specs.Group.{in_group, message_entities, member_entities}
 use Rattle.pbf_block.specs.declared.kinds.Kinds.{Kinds}
 use Rattle.pbf_block.specs.declared.primitive_block.TheConstants.{PRIMITIVEGROUP}
 use Rattle.pbf_block.specs.declared.group.TheConstants.{NODES, DENSE, WAYS, RELATIONS}
 use Rattle.pbf_block.specs.Entity.{Decoding}
-use Rattle.pbf_block.specs.Node.{node_in}
-use Rattle.pbf_block.specs.Way.{way_in}
-use Rattle.pbf_block.specs.Relation.{relation_in}
 use Rattle.pbf_block.specs.Kinds.{is_among, holds_kind, member_entities_among, group_entities_among, entities_among}
 
 -- all are of all kinds
@@ -33,9 +30,8 @@ kept_nodes kinds [] false e = refl
 kept_nodes kinds (n ∷ ns) true e = rw e (ap (λ (rest : List EntitySpec). node n ∷ rest) (kept_nodes kinds ns true e))
 kept_nodes kinds (n ∷ ns) false e = rw e (kept_nodes kinds ns false e)
 
-kept_one : (kinds : Kinds) (e : EntitySpec) (b : Bool) → is_among kinds e ≡ b → filter (is_among kinds) (e ∷ []) ≡ (if b then e ∷ [] else [])
-kept_one kinds e true h = rw h refl
-kept_one kinds e false h = rw h refl
+abbrev no_entities : List EntitySpec
+no_entities = []
 
 -- one field of a group, by which of the four it is
 choose : (p : EntitySpec → Bool) (is_node is_dense is_way is_relation nodes ways relations : Bool) (a b c d : List EntitySpec)
@@ -48,38 +44,31 @@ choose p false false true is_relation nodes ways relations a b c d ha hb hc hd =
 choose p false false false true nodes ways relations a b c d ha hb hc hd = hd
 choose p false false false false nodes ways relations a b c d ha hb hc hd = refl
 
-none_else_none : (b : Bool) (none : List EntitySpec) → none ≡ [] → (if b then none else []) ≡ none
-none_else_none true none e = refl
-none_else_none false none e = sym e
+none_either : (b : Bool) → (if b then no_entities else []) ≡ []
+none_either true = refl
+none_either false = refl
 
 module _ (kinds : Kinds) (how : Decoding) (table : List (List ℕ)) (scale : Scale) where
-  one_kept : (e : EntitySpec) → (if is_among kinds e then e ∷ [] else []) ≡ filter (is_among kinds) (e ∷ [])
-  one_kept e = sym (kept_one kinds e (is_among kinds e) refl)
-
   message_kept : (k : ℕ) (os : List Occurrence) → (if holds_kind kinds k then message_entities how table scale k os else []) ≡ filter (is_among kinds) (message_entities how table scale k os)
   message_kept k os =
       choose (is_among kinds) (k == NODES) (k == DENSE) (k == WAYS) (k == RELATIONS) kinds.nodes kinds.ways kinds.relations _ _ _ _
-      (one_kept (node (node_in table scale os)))
+      refl
       (sym (kept_nodes kinds (how.dense table scale os) kinds.nodes refl))
-      (one_kept (way (way_in how table scale os)))
-      (one_kept (relation (relation_in how table scale os)))
+      refl
+      refl
 
   content_kept : (k : ℕ) (c : Content)
       → (if holds_kind kinds k then inside (λ at m. message_entities how table scale k (fields_in at m)) c else []) ≡ filter (is_among kinds) (inside (λ at m. message_entities how table scale k (fields_in at m)) c)
-  content_kept k (Number v) = none_else_none (holds_kind kinds k) [] refl
-  content_kept k (Eight bytes) = none_else_none (holds_kind kinds k) [] refl
-  content_kept k (Four bytes) = none_else_none (holds_kind kinds k) [] refl
   content_kept k (Bytes bytes at) = message_kept k (fields_in at bytes)
+  content_kept k c = none_either (holds_kind kinds k)
 
   member_kept : (o : Occurrence) → member_entities_among kinds how table scale o ≡ filter (is_among kinds) (member_entities how table scale o)
   member_kept o = content_kept o.number o.content
 
   inner_kept : (c : Content)
       → inside (λ at m. flat_map (member_entities_among kinds how table scale) (fields_in at m)) c ≡ filter (is_among kinds) (inside (λ at m. flat_map (member_entities how table scale) (fields_in at m)) c)
-  inner_kept (Number v) = refl
-  inner_kept (Eight bytes) = refl
-  inner_kept (Four bytes) = refl
   inner_kept (Bytes bytes at) = kept_parts (is_among kinds) (member_entities how table scale) (member_entities_among kinds how table scale) member_kept (fields_in at bytes)
+  inner_kept c = refl
 
   if_group : (b : Bool) (x y : List EntitySpec) → x ≡ filter (is_among kinds) y → (if b then x else []) ≡ filter (is_among kinds) (if b then y else [])
   if_group true x y e = e
@@ -94,12 +83,3 @@ module _ (kinds : Kinds) (how : Decoding) (table : List (List ℕ)) (scale : Sca
 -- if all kinds are wanted, a field gives all its entities
 pub member_of_all : (kinds : Kinds) (how : Decoding) (table : List (List ℕ)) (scale : Scale) → ((e : EntitySpec) → is_among kinds e ≡ true) → (o : Occurrence) → member_entities_among kinds how table scale o ≡ member_entities how table scale o
 member_of_all kinds how table scale all o = member_kept kinds how table scale o ∙ filter_every (is_among kinds) all (member_entities how table scale o)
-
--- what holds of all holds of those that are kept
-all_next : (P : EntitySpec → Type 0) (p : EntitySpec → Bool) (e : EntitySpec) (es : List EntitySpec) (b : Bool) → p e ≡ b → P e → AllByRecursion P (filter p es) → AllByRecursion P (filter p (e ∷ es))
-all_next P p e es true h first rest = rw h (first, rest)
-all_next P p e es false h first rest = rw h rest
-
-pub all_among : (P : EntitySpec → Type 0) (p : EntitySpec → Bool) (es : List EntitySpec) → AllByRecursion P es → AllByRecursion P (filter p es)
-all_among P p [] h = tt
-all_among P p (e ∷ es) h = all_next P p e es (p e) refl h.0 (all_among P p es h.1)

@@ -1,135 +1,186 @@
--- A written block is no longer than twice its weight and a little more, and what is held of it while it is open no longer than that.
-use Rattle.std.proofs.Common.{◌≡◌, ℕ, suc, ◌+◌, ◌*◌, ◌^◌, ◌<◌, ◌≤◌, ◌&&◌, Bool, true, false, cond, ℤ, pos, List, [], ◌∷◌, ◌++◌, length, map, Option, Some, None, arith, length-append}
+-- What entities take as they are written, beside what they weigh: a written block is no longer than twice its weight and a little
+-- more, and what is held of it while it is open no longer than that.
+use Rattle.std.proofs.Common.{◌≡◌, ℕ, zero, suc, ◌+◌, ◌*◌, ◌/◌, ◌%◌, ◌^◌, ◌<◌, ◌≤◌, ◌&&◌, Bool, true, false, cond, ltb, ℤ, pos, List, [], ◌∷◌, ◌++◌, length, map, Option, Some, None, refl, arith, length-append}
 use Rattle.std.specs.Prelude.{nat_le}
 use Rattle.std.specs.List.{flat_map, filter_map, cons_option, sum_by}
 use Rattle.std.specs.Option.{option_map, option_to_list}
-use Rattle.std.proofs.lemmas.Bool.{leb-true, and_parts}
+use Rattle.std.proofs.lemmas.Bool.{lt-ltb, leb-true, le-leb, and_parts}
 use Rattle.std.proofs.lemmas.List.{length-map}
 use Rattle.std.proofs.lemmas.List.Sums.{sum_by-cons}
 use Rattle.pbf_wire.specs.Columns.{packed}
-use Rattle.pbf_wire.specs.Message.{Each, slot_bytes, message, unless_empty}
+use Rattle.pbf_wire.specs.Message.{Slot, Column, Each, slot_bytes, message, unless_empty}
 use Rattle.pbf_wire.specs.Signed.{sign_extended}
 use Rattle.pbf_wire.specs.Sums.{deltas}
+use Rattle.pbf_wire.specs.Varint.{shortest, spelled_within}
 use Rattle.pbf_strings.specs.TableOut.{has_text, with_text, texts_after, index_in, table_of, text_held}
+use Rattle.pbf_strings.proofs.UsedTexts.{length_after}
+use Rattle.osm_entity.specs.declared.member.MemberKind.{MemberKind}
+use Rattle.osm_entity.specs.declared.member.MemberKind.TheVariants as kind
 use Rattle.osm_entity.specs.Entity.{TagSpec, MetaSpec, MemberSpec, NodeSpec, WaySpec, RelationSpec, EntitySpec, node, way, relation}
-use Rattle.osm_entity.specs.EntityTexts.{tag_texts, node_texts, way_texts, relation_texts, entity_texts}
-use Rattle.osm_entity.specs.Weight.{tags_weight, members_weight, text_weight, node_weight, way_weight, relation_weight, entity_weight}
+use Rattle.osm_entity.specs.EntityTexts.{tag_texts, entity_texts}
+use Rattle.osm_entity.specs.Weight.{tags_weight, members_weight, text_weight, entity_weight}
 use Rattle.osm_entity.specs.Ranges.{WayFits, RelationFits}
 use Rattle.pbf_dense.specs.Info.{InfoSpec}
 use Rattle.pbf_dense.specs.WrittenDense.{bit_of, tag_numbers, run_of, info_columns, dense_info_slots, dense_info_message, columns_of, dense_slots, dense_message, info_length, dense_length}
 use Rattle.pbf_dense.proofs.InfoLaw.{deltas_length}
-use Rattle.pbf_block.specs.WrittenEntity.{key_index, value_index, role_index, kind_number, info_slots, info_message, way_slots, way_message, relation_slots, relation_message}
+use Rattle.pbf_block.specs.WrittenEntity.{key_index, value_index, role_index, kind_number, info_slots, info_message, entity_slots, way_message, relation_message}
 use Rattle.pbf_block.specs.WrittenBlock.{all_alike, is_block, nodes_among, ways_among, relations_among, group_slots, group_message, block_slots, scale_among, texts_of_all, messages_among, block_message}
 use Rattle.pbf_wire.proofs.LengthLemmas.{packed_short, each_room, each_short, message_short}
 use Rattle.osm_entity.specs.declared.weight.TheConstants.{HIGHEST_WEIGHT}
 use Rattle.pbf_block.specs.declared.block_write.TheConstants.{MOST_ENTITIES}
 
--- ---- parts
+-- ---- small numbers have few bytes
 
-each_append : (xs ys : List (List ℕ)) → each_room (xs ++ ys) ≡ each_room xs + each_room ys
-each_append [] ys = omega arith
-each_append (x ∷ xs) ys = let rest = each_append xs ys in omega (arith, rest)
+abbrev below : ℕ → ℕ
+below zero = 128
+below (suc k) = 128 * below k
+
+spelled_below : (k n v : ℕ) → k ≤ n → v < below k → length (spelled_within n v) ≤ k + 1
+unfolding spelled_within
+spelled_below zero zero v le h = omega arith
+spelled_below zero (suc n) v le h = rw (lt-ltb v 128 h) (omega arith)
+spelled_below (suc k) zero v le h = absurd (omega (arith, le))
+spelled_below (suc k) (suc n) v le h =
+    elim (ltb v 128) as (λ b. length (cond b (v ∷ []) ((v % 128 + 128) ∷ spelled_within n (v / 128))) ≤ suc k + 1)
+    [ true ↦ omega arith | false ↦ omega (arith, spelled_below k n (v / 128) (omega (arith, le)) (omega (arith, h))) ]
+
+pub one_byte : (v : ℕ) → v < 128 → length (shortest v) ≤ 1
+unfolding shortest
+one_byte v h = spelled_below 0 9 v (omega arith) h
+
+pub five_bytes : (v : ℕ) → v < 34359738368 → length (shortest v) ≤ 5
+unfolding shortest
+five_bytes v h = spelled_below 4 9 v (omega arith) h
+
+-- ---- texts: their bytes, and how many they are
+
+abbrev pub text_bytes : List (List ℕ) → ℕ
+text_bytes [] = 0
+text_bytes (text ∷ texts) = length text + text_bytes texts
+
+bytes_append : (xs ys : List (List ℕ)) → text_bytes (xs ++ ys) ≡ text_bytes xs + text_bytes ys
+bytes_append [] ys = omega arith
+bytes_append (x ∷ xs) ys = let rest = bytes_append xs ys in omega (arith, rest)
+
+with_bytes : (texts : List (List ℕ)) (text : List ℕ) → text_bytes (with_text texts text) ≤ text_bytes texts + length text
+with_bytes texts text =
+    elim (has_text texts text) as (λ b. text_bytes (cond b texts (texts ++ text ∷ [])) ≤ text_bytes texts + length text) [ true ↦ omega arith | false ↦ omega (arith, bytes_append texts (text ∷ [])) ]
+
+pub after_bytes : (texts used : List (List ℕ)) → text_bytes (texts_after texts used) ≤ text_bytes texts + text_bytes used
+after_bytes texts [] = omega arith
+after_bytes texts (text ∷ used) = omega (arith, after_bytes (with_text texts text) used, with_bytes texts text)
+
+-- as fields, and as they are held
+fields_bytes : (texts : List (List ℕ)) → each_room texts ≡ text_bytes texts + 20 * length texts
+fields_bytes [] = omega arith
+fields_bytes (text ∷ texts) = let rest = fields_bytes texts in omega (arith, rest)
+
+pub held_bytes : (texts : List (List ℕ)) → sum_by text_held texts ≡ text_bytes texts + 4 * length texts
+held_bytes [] = omega arith
+held_bytes (text ∷ texts) = let rest = held_bytes texts in omega (arith, rest, sum_by-cons text_held text texts)
+
+-- ---- an entity weighs 160, 32 for each of its parts, and its texts
+
+tags_weigh : (tags : List TagSpec) → (tags_weight tags ≡ 32 * length tags + text_bytes (tag_texts tags)) × (length (tag_texts tags) ≡ 2 * length tags)
+tags_weigh [] = (omega arith, omega arith)
+tags_weigh (tag ∷ tags) = let rest = tags_weigh tags in (omega (arith, rest.0), omega (arith, rest.1))
+
+roles_weigh : (members : List MemberSpec) → members_weight members ≡ 32 * length members + text_bytes (map (λ m. m.role) members)
+roles_weigh [] = omega arith
+roles_weigh (m ∷ ms) = let rest = roles_weigh ms in omega (arith, rest)
+
+user_weighs : (user : Option (List ℕ)) → (text_weight user ≡ text_bytes (option_to_list user)) × (length (option_to_list user) ≤ 1)
+user_weighs None = (omega arith, omega arith)
+user_weighs (Some text) = (omega arith, omega arith)
+
+-- so many tags, members, and refs and locations; the texts are two a tag, one a member, and the user
+pub record Weighs (e : EntitySpec) (tags members others : ℕ) : Type 0 where
+  pub weight : entity_weight e ≡ 160 + 32 * (tags + members + others) + text_bytes (entity_texts e)
+  pub few : length (entity_texts e) ≤ 2 * tags + members + 1
+
+-- of nodes and ways
+tags_and_user : (tags : List TagSpec) (user : Option (List ℕ))
+    → (text_weight user + tags_weight tags ≡ 32 * length tags + text_bytes (tag_texts tags ++ option_to_list user)) × (length (tag_texts tags ++ option_to_list user) ≤ 2 * length tags + 1)
+tags_and_user tags user =
+    let t = tags_weigh tags in
+    let u = user_weighs user in
+    (omega (arith, t.0, u.0, bytes_append (tag_texts tags) (option_to_list user)), omega (arith, t.1, u.1, length-append (tag_texts tags) (option_to_list user)))
+
+node_weighs : (n : NodeSpec) → Weighs (node n) (length n.tags) 0 0
+node_weighs n = let h = tags_and_user n.tags n.meta.user in record { weight = omega (arith, h.0); few = omega (arith, h.1) }
+
+pub way_weighs : (w : WaySpec) → Weighs (way w) (length w.tags) 0 (length w.refs + length w.locations)
+way_weighs w = let h = tags_and_user w.tags w.meta.user in record { weight = omega (arith, h.0); few = omega (arith, h.1) }
+
+pub relation_weighs : (r : RelationSpec) → Weighs (relation r) (length r.tags) (length r.members) 0
+relation_weighs r =
+    let user = option_to_list r.meta.user in
+    let roles = map (λ (m : MemberSpec). m.role) r.members in
+    let t = tags_weigh r.tags in
+    let u = user_weighs r.meta.user in
+    record {
+      weight = omega (arith, t.0, u.0, roles_weigh r.members, bytes_append (tag_texts r.tags) (user ++ roles), bytes_append user roles);
+      few = omega (arith, t.1, u.1, length-map r.members (λ m. m.role), length-append (tag_texts r.tags) (user ++ roles), length-append user roles);
+    }
+
+-- ---- messages
 
 unless_room : (m : List ℕ) → each_room (unless_empty m) ≤ 20 + length m
 unless_room [] = omega arith
 unless_room (b ∷ bs) = omega arith
 
-user_room : (user : Option (List ℕ)) → each_room (option_to_list user) ≤ 20 + text_weight user
-user_room None = omega arith
-user_room (Some text) = omega arith
+pub numbers_short : {X : Type 0} (f : X → ℕ) (xs : List X) → length (packed (map f xs)) ≤ 10 * length xs
+numbers_short f xs = omega (arith, packed_short (map f xs), length-map xs f)
 
--- ---- texts
+pub deltas_short : (values : List ℤ) → length (packed (deltas values)) ≤ 10 * length values
+deltas_short values = omega (arith, packed_short (deltas values), deltas_length values)
 
-with_room : (texts : List (List ℕ)) (text : List ℕ) → each_room (with_text texts text) ≤ each_room texts + (20 + length text)
-with_room texts text =
-    elim (has_text texts text) as (λ b. each_room (cond b texts (texts ++ text ∷ [])) ≤ each_room texts + (20 + length text)) [ true ↦ omega arith | false ↦ omega (arith, each_append texts (text ∷ [])) ]
+pub values_short : {X : Type 0} (f : X → ℤ) (xs : List X) → length (packed (deltas (map f xs))) ≤ 10 * length xs
+values_short f xs = omega (arith, deltas_short (map f xs), length-map xs f)
 
-after_room : (texts used : List (List ℕ)) → each_room (texts_after texts used) ≤ each_room texts + each_room used
-after_room texts [] = omega arith
-after_room texts (text ∷ used) = omega (arith, after_room (with_text texts text) used, with_room texts text)
+kind_short : (k : MemberKind) → length (shortest (kind_number k)) ≤ 1
+kind_short kind.Node = one_byte 0 (omega arith)
+kind_short kind.Way = one_byte 1 (omega arith)
+kind_short kind.Relation = one_byte 2 (omega arith)
 
--- what the texts of tags take, and two indexes each
-tags_room : (tags : List TagSpec) → each_room (tag_texts tags) + 20 * length tags ≤ 2 * tags_weight tags
-tags_room [] = omega arith
-tags_room (tag ∷ tags) = let rest = tags_room tags in omega (arith, rest)
+pub kinds_short : (members : List MemberSpec) → length (packed (map (λ m. kind_number m.kind) members)) ≤ length members
+kinds_short [] = omega arith
+kinds_short (m ∷ ms) = let rest = kinds_short ms in omega (arith, length-append (shortest (kind_number m.kind)) (packed (map (λ m. kind_number m.kind) ms)), kind_short m.kind, rest)
 
--- the same of roles, and three numbers each
-roles_room : (members : List MemberSpec) → each_room (map (λ m. m.role) members) + 30 * length members ≤ 2 * members_weight members
-roles_room [] = omega arith
-roles_room (m ∷ ms) = let rest = roles_room ms in omega (arith, rest)
-
--- ---- ways and relations
-
-pub info_room : (texts : List (List ℕ)) (meta : MetaSpec) → each_room (unless_empty (info_message texts meta)) ≤ 140
+pub info_short : (texts : List (List ℕ)) (meta : MetaSpec) → length (info_message texts meta) ≤ 120
 unfolding info_message
-info_room texts meta = omega (arith, unless_room (message (info_slots texts meta)), message_short (info_slots texts meta))
+info_short texts meta = message_short (info_slots texts meta)
+
+-- the three columns that a way and a relation each have of their own
+abbrev pub own_columns : (a b c : List ℕ) → List Slot
+own_columns a b c = Column 8 a ∷ Column 9 b ∷ Column 10 c ∷ []
+
+entity_room : (texts : List (List ℕ)) (id : ℤ) (meta : MetaSpec) (tags : List TagSpec) (a b c : List ℕ)
+    → length (message (entity_slots texts id meta tags (own_columns a b c))) ≤ 260 + 20 * length tags + length (packed a) + length (packed b) + length (packed c)
+entity_room texts id meta tags a b c =
+    omega (
+      arith,
+      message_short (entity_slots texts id meta tags (own_columns a b c)),
+      unless_room (info_message texts meta),
+      info_short texts meta,
+      numbers_short (key_index texts) tags,
+      numbers_short (value_index texts) tags,
+    )
 
 pub way_room : (texts : List (List ℕ)) (w : WaySpec) → length (way_message texts w) ≤ 260 + 20 * length w.tags + 10 * length w.refs + 20 * length w.locations
 unfolding way_message
 way_room texts w =
-    let keys = packed_short (map (key_index texts) w.tags) in
-    let values = packed_short (map (value_index texts) w.tags) in
-    let refs = packed_short (deltas w.refs) in
-    let lats = packed_short (deltas (map (λ l. l.0) w.locations)) in
-    let lons = packed_short (deltas (map (λ l. l.1) w.locations)) in
-    omega (
-      arith,
-      message_short (way_slots texts w),
-      info_room texts w.meta,
-      keys,
-      length-map w.tags (key_index texts),
-      values,
-      length-map w.tags (value_index texts),
-      refs,
-      deltas_length w.refs,
-      lats,
-      deltas_length (map (λ l. l.0) w.locations),
-      length-map w.locations (λ l. l.0),
-      lons,
-      deltas_length (map (λ l. l.1) w.locations),
-      length-map w.locations (λ l. l.1),
-    )
+    let lats = map (λ l. l.0) w.locations in
+    let lons = map (λ l. l.1) w.locations in
+    omega (arith, entity_room texts w.id w.meta w.tags (deltas w.refs) (deltas lats) (deltas lons), deltas_short w.refs, values_short (λ l. l.0) w.locations, values_short (λ l. l.1) w.locations)
 
--- a way and its texts
-pub way_part : (texts : List (List ℕ)) (w : WaySpec) → each_room (way_texts w) + (20 + length (way_message texts w)) ≤ 2 * way_weight w
-way_part texts w = omega (arith, way_room texts w, each_append (tag_texts w.tags) (option_to_list w.meta.user), tags_room w.tags, user_room w.meta.user)
-
-relation_room : (texts : List (List ℕ)) (r : RelationSpec) → length (relation_message texts r) ≤ 260 + 20 * length r.tags + 30 * length r.members
+pub relation_room : (texts : List (List ℕ)) (r : RelationSpec) → length (relation_message texts r) ≤ 260 + 20 * length r.tags + 21 * length r.members
 unfolding relation_message
 relation_room texts r =
-    let keys = packed_short (map (key_index texts) r.tags) in
-    let values = packed_short (map (value_index texts) r.tags) in
-    let roles = packed_short (map (role_index texts) r.members) in
-    let ids = packed_short (deltas (map (λ m. m.id) r.members)) in
-    let kinds = packed_short (map (λ m. kind_number m.kind) r.members) in
-    omega (
-      arith,
-      message_short (relation_slots texts r),
-      info_room texts r.meta,
-      keys,
-      length-map r.tags (key_index texts),
-      values,
-      length-map r.tags (value_index texts),
-      roles,
-      length-map r.members (role_index texts),
-      ids,
-      deltas_length (map (λ m. m.id) r.members),
-      length-map r.members (λ m. m.id),
-      kinds,
-      length-map r.members (λ m. kind_number m.kind),
-    )
-
-pub relation_part : (texts : List (List ℕ)) (r : RelationSpec) → each_room (relation_texts r) + (20 + length (relation_message texts r)) ≤ 2 * relation_weight r
-relation_part texts r =
-    omega (
-      arith,
-      relation_room texts r,
-      each_append (tag_texts r.tags) (option_to_list r.meta.user ++ map (λ m. m.role) r.members),
-      each_append (option_to_list r.meta.user) (map (λ m. m.role) r.members),
-      tags_room r.tags,
-      user_room r.meta.user,
-      roles_room r.members,
-    )
+    let roles = map (role_index texts) r.members in
+    let ids = map (λ m. m.id) r.members in
+    let kinds = map (λ m. kind_number m.kind) r.members in
+    omega (arith, entity_room texts r.id r.meta r.tags roles (deltas ids) kinds, numbers_short (role_index texts) r.members, values_short (λ m. m.id) r.members, kinds_short r.members)
 
 -- ---- nodes
 
@@ -141,7 +192,7 @@ numbers_room : (f : MetaSpec → Option ℕ) (metas : List MetaSpec) → length 
 numbers_room f metas = omega (arith, packed_short (filter_map f metas), filter_short f metas)
 
 sums_room : (f : MetaSpec → Option ℤ) (metas : List MetaSpec) → length (packed (deltas (filter_map f metas))) ≤ 10 * length metas
-sums_room f metas = omega (arith, packed_short (deltas (filter_map f metas)), deltas_length (filter_map f metas), filter_short f metas)
+sums_room f metas = omega (arith, deltas_short (filter_map f metas), filter_short f metas)
 
 -- the columns of metadata
 info_columns_room : (texts : List (List ℕ)) (metas : List MetaSpec) → info_length (info_columns texts metas) ≤ 60 * length metas
@@ -176,15 +227,12 @@ runs_room : (tagged : Bool) (runs : List ℕ) → length (packed (cond tagged ru
 runs_room true runs = omega arith
 runs_room false runs = omega arith
 
-column_room : (f : NodeSpec → ℤ) (ns : List NodeSpec) → length (packed (deltas (map f ns))) ≤ 10 * length ns
-column_room f ns = omega (arith, packed_short (deltas (map f ns)), deltas_length (map f ns), length-map ns f)
-
 -- all columns
 pub columns_room : (texts : List (List ℕ)) (ns : List NodeSpec) → dense_length (columns_of texts ns) ≤ 100 * length ns + 20 * tag_count ns
 columns_room texts ns =
-    let ids = column_room (λ n. n.id) ns in
-    let lats = column_room (λ n. n.lat) ns in
-    let lons = column_room (λ n. n.lon) ns in
+    let ids = values_short (λ n. n.id) ns in
+    let lats = values_short (λ n. n.lat) ns in
+    let lons = values_short (λ n. n.lon) ns in
     let infos = info_columns_room texts (map (λ n. n.meta) ns) in
     let runs = packed_short (flat_map (λ n. run_of texts n.tags) ns) in
     omega (arith, ids, lats, lons, infos, length-map ns (λ n. n.meta), runs, runs_long texts ns)
@@ -197,20 +245,58 @@ dense_room texts ns =
 
 -- ---- the block
 
--- what the messages of all entities take, but for the fields that dense columns have once
+-- what the message of an entity takes in a group, or a node in the columns
+abbrev part : List (List ℕ) → EntitySpec → ℕ
+part texts (node n) = 100 + 20 * length n.tags
+part texts (way w) = 20 + length (way_message texts w)
+part texts (relation r) = 20 + length (relation_message texts r)
+
+-- what those of all entities take, but for the fields that dense columns have once
 abbrev pub beside : List (List ℕ) → List EntitySpec → ℕ
 beside texts es =
     100 * length (nodes_among es) + 20 * tag_count (nodes_among es)
     + (each_room (map (way_message texts) (ways_among es)) + each_room (map (relation_message texts) (relations_among es)))
 
-node_part : (n : NodeSpec) → each_room (node_texts n) + (100 + 20 * length n.tags) ≤ 2 * node_weight n
-node_part n = omega (arith, each_append (tag_texts n.tags) (option_to_list n.meta.user), tags_room n.tags, user_room n.meta.user)
+beside_more : (texts : List (List ℕ)) (e : EntitySpec) (es : List EntitySpec) → beside texts (e ∷ es) ≡ part texts e + beside texts es
+beside_more texts (node n) es = omega arith
+beside_more texts (way w) es = omega arith
+beside_more texts (relation r) es = omega arith
 
-parts_room : (texts : List (List ℕ)) (es : List EntitySpec) → beside texts es + each_room (flat_map entity_texts es) ≤ 2 * sum_by entity_weight es
-parts_room texts [] = omega arith
-parts_room texts (node n ∷ es) = let rest = parts_room texts es in omega (arith, rest, sum_by-cons entity_weight (node n) es, node_part n, each_append (node_texts n) (flat_map entity_texts es))
-parts_room texts (way w ∷ es) = let rest = parts_room texts es in omega (arith, rest, sum_by-cons entity_weight (way w) es, way_part texts w, each_append (way_texts w) (flat_map entity_texts es))
-parts_room texts (relation r ∷ es) = let rest = parts_room texts es in omega (arith, rest, sum_by-cons entity_weight (relation r) es, relation_part texts r, each_append (relation_texts r) (flat_map entity_texts es))
+-- so many entities take so much beside these texts: with the texts as fields less than twice their weight, and with short fields
+-- hardly more than it
+pub record IsRoom (beside : ℕ) (used : List (List ℕ)) (weight count : ℕ) : Type 0 where
+  pub twice : beside + text_bytes used + 20 * length used ≤ 2 * weight
+  pub once : beside + text_bytes used + 6 * length used ≤ weight + 126 * count
+  pub few : 16 * length used ≤ weight
+
+pub entity_is : (texts : List (List ℕ)) (e : EntitySpec) → IsRoom (part texts e) (entity_texts e) (entity_weight e) 1
+entity_is texts (node n) = let h = node_weighs n in record { twice = omega (arith, h.weight, h.few); once = omega (arith, h.weight, h.few); few = omega (arith, h.weight, h.few) }
+entity_is texts (way w) =
+    let h = way_weighs w in
+    let m = way_room texts w in
+    record { twice = omega (arith, h.weight, h.few, m); once = omega (arith, h.weight, h.few, m); few = omega (arith, h.weight, h.few) }
+entity_is texts (relation r) =
+    let h = relation_weighs r in
+    let m = relation_room texts r in
+    record { twice = omega (arith, h.weight, h.few, m); once = omega (arith, h.weight, h.few, m); few = omega (arith, h.weight, h.few) }
+
+pub parts_are : (texts : List (List ℕ)) (es : List EntitySpec) → IsRoom (beside texts es) (flat_map entity_texts es) (sum_by entity_weight es) (length es)
+parts_are texts [] = record { twice = omega arith; once = omega arith; few = omega arith }
+parts_are texts (e ∷ es) =
+    let one = entity_is texts e in
+    let rest = parts_are texts es in
+    let b = beside_more texts e es in
+    let w = sum_by-cons entity_weight e es in
+    let n = length-append (entity_texts e) (flat_map entity_texts es) in
+    let t = bytes_append (entity_texts e) (flat_map entity_texts es) in
+    record { twice = omega (arith, b, w, n, t, one.twice, rest.twice); once = omega (arith, b, w, n, t, one.once, rest.once); few = omega (arith, w, n, one.few, rest.few) }
+
+-- what the texts of all take in a table, each once
+pub once_bytes : (es : List EntitySpec) → text_bytes (texts_of_all es) ≤ text_bytes (flat_map entity_texts es)
+once_bytes es = omega (arith, after_bytes [] (flat_map entity_texts es))
+
+pub once_few : (es : List EntitySpec) → length (texts_of_all es) ≤ length (flat_map entity_texts es)
+once_few es = omega (arith, length_after (flat_map entity_texts es) [])
 
 pub group_room : (texts : List (List ℕ)) (es : List EntitySpec) → length (group_message texts es) ≤ 240 + beside texts es
 unfolding group_message
@@ -224,24 +310,36 @@ block_short es =
       arith,
       message_short (block_slots (scale_among es) texts (group_message texts es)),
       message_short (Each 1 (table_of texts) ∷ []),
-      after_room [] (flat_map entity_texts es),
+      fields_bytes texts,
+      once_bytes es,
+      once_few es,
       group_room texts es,
-      parts_room texts es,
+      (parts_are texts es).twice,
     )
 
--- entities that may share one block are written as a block that a frame may have
-pub block_fits : (es : List EntitySpec) → is_block es ≡ true → length (block_message es) < 33554432
+-- ---- entities that may share one block
+
+pub record IsSmall (es : List EntitySpec) : Type 0 where
+  pub alike : all_alike es ≡ true
+  pub few : length es ≤ MOST_ENTITIES
+  pub light : sum_by entity_weight es ≤ HIGHEST_WEIGHT
+
+pub block_parts : (es : List EntitySpec) → is_block es ≡ true → IsSmall es
 unfolding is_block
-block_fits es h =
-    let few = (and_parts (all_alike es) (nat_le (length es) MOST_ENTITIES && nat_le (sum_by entity_weight es) HIGHEST_WEIGHT) h).1 in
-    let light = leb-true _ _ (and_parts (nat_le (length es) MOST_ENTITIES) (nat_le (sum_by entity_weight es) HIGHEST_WEIGHT) few).1 in
-    omega (arith, light, block_short es)
+block_parts es h =
+    let first = and_parts (all_alike es) (nat_le (length es) MOST_ENTITIES && nat_le (sum_by entity_weight es) HIGHEST_WEIGHT) h in
+    let second = and_parts (nat_le (length es) MOST_ENTITIES) (nat_le (sum_by entity_weight es) HIGHEST_WEIGHT) first.1 in
+    record { alike = first.0; few = leb-true _ _ second.0; light = leb-true _ _ second.1 }
+
+pub block_from : (es : List EntitySpec) → IsSmall es → is_block es ≡ true
+unfolding is_block
+block_from es h = rw (h.alike, le-leb _ _ h.few, le-leb _ _ h.light) refl
+
+-- they are written as a block that a frame may have
+pub block_fits : (es : List EntitySpec) → is_block es ≡ true → length (block_message es) < 33554432
+block_fits es h = omega (arith, (block_parts es h).light, block_short es)
 
 -- ---- a block that is open
-
-texts_room : (texts : List (List ℕ)) → sum_by text_held texts ≤ each_room texts
-texts_room [] = omega arith
-texts_room (text ∷ texts) = let rest = texts_room texts in omega (arith, rest, sum_by-cons text_held text texts)
 
 pub messages_room : (texts : List (List ℕ)) (es : List EntitySpec) → length (messages_among texts es) ≤ each_room (map (way_message texts) (ways_among es)) + each_room (map (relation_message texts) (relations_among es))
 unfolding slot_bytes
@@ -253,12 +351,12 @@ messages_room texts es =
 -- the texts of its entities, the columns of its nodes and the messages of the others are no longer than twice its weight
 pub open_short : (texts : List (List ℕ)) (es : List EntitySpec) → sum_by text_held (texts_of_all es) + dense_length (columns_of texts (nodes_among es)) + length (messages_among texts es) ≤ 2 * sum_by entity_weight es
 open_short texts es =
-    omega (arith, texts_room (texts_of_all es), after_room [] (flat_map entity_texts es), columns_room texts (nodes_among es), messages_room texts es, parts_room texts es)
+    omega (arith, held_bytes (texts_of_all es), once_bytes es, once_few es, columns_room texts (nodes_among es), messages_room texts es, (parts_are texts es).twice)
 
 -- ---- entities that fit
 
 pub way_short : (texts : List (List ℕ)) (w : WaySpec) → WayFits w → length (way_message texts w) < 2 ^ 64
-way_short texts w h = omega (arith, h.light, way_part texts w)
+way_short texts w h = omega (arith, h.light, (entity_is texts (way w)).twice)
 
 pub relation_short : (texts : List (List ℕ)) (r : RelationSpec) → RelationFits r → length (relation_message texts r) < 2 ^ 64
-relation_short texts r h = omega (arith, h.light, relation_part texts r)
+relation_short texts r h = omega (arith, h.light, (entity_is texts (relation r)).twice)

@@ -1,12 +1,11 @@
 -- Messages whose fields come once each, in the order of their numbers: what they begin with, and that they have no faults.
-use Rattle.std.proofs.Common.{◌≡◌, ℕ, ℤ, ◌+◌, ◌-◌, ◌/◌, ◌%◌, ◌^◌, ◌<◌, ◌≤◌, ltb, eqb, Bool, true, false, pos, List, [], ◌∷◌, ◌++◌, length, take, drop, get_or, refl, sym, ap, subst, ◌∙◌, arith, append-nil, eq-eqb}
-use Rattle.std.specs.Prelude.{Ok, Option, None, Some, nat_lt, not, if◌then◌else◌}
+use Rattle.std.proofs.Common.{◌≡◌, ℕ, ℤ, ◌+◌, ◌-◌, ◌/◌, ◌^◌, ◌<◌, ◌≤◌, ltb, eqb, Bool, true, false, pos, List, [], ◌∷◌, ◌++◌, length, take, drop, get_or, refl, sym, ap, subst, ◌∙◌, arith, append-nil, eq-eqb}
+use Rattle.std.specs.Prelude.{Ok, None, Some, not}
 use Rattle.std.specs.List.{AllByRecursion, zip}
 use Rattle.std.proofs.lemmas.Bool.{lt-ltb, le-ltb}
 use Rattle.std.proofs.lemmas.List.{take_rest, drop-drop, length-drop, get_or-drop}
-use Rattle.pbf_wire.specs.declared.fault.Fault.{Fault}
 use Rattle.pbf_wire.specs.declared.fault.Reason.{Reason}
-use Rattle.pbf_wire.specs.declared.fault.Reason.TheVariants.{StringIndex, OutOfRange}
+use Rattle.pbf_wire.specs.declared.fault.Reason.TheVariants.{OutOfRange}
 use Rattle.pbf_wire.specs.declared.fields.Fields.{Fields}
 use Rattle.pbf_wire.specs.declared.message.Message.{Message}
 use Rattle.pbf_wire.specs.Cursors.{fields_left}
@@ -14,7 +13,7 @@ use Rattle.pbf_wire.specs.Varint.{varint_at}
 use Rattle.pbf_wire.specs.Columns.{entries, entry_fault, read_entries, placed, joined, column}
 use Rattle.pbf_wire.specs.Occurrence.{Number, Bytes, Item, body_at, occurrence_at, items, found}
 use Rattle.pbf_wire.specs.Faults.{embedded, fault_where, index_faults, nested_faults, sum_faults, ends_in, fields_in, found_in}
-use Rattle.pbf_wire.specs.Least.{lesser, least, rank, is_less}
+use Rattle.pbf_wire.specs.Least.{least}
 use Rattle.pbf_wire.specs.Short.{IsShort}
 use Rattle.pbf_wire.specs.Signed.{low_i32, low_i64, is_within}
 use Rattle.pbf_wire.proofs.Columns.{placed_numbers}
@@ -132,21 +131,6 @@ built way place at m p same =
 pub none_where : (b : Bool) (p q : ℕ) (r : Reason) → None ≡ least (fault_where b p r) → fault_where b q r ≡ []
 none_where true p q r e = absurd (cc)
 none_where false p q r e = refl
-
-least_some : (f : Fault) (w : Option Fault) → None ≡ lesser (Some f) w → ⊥
-least_some f None e = cc
-least_some f (Some g) e = by (is_less (rank g) (rank f)) e where
-  by : (b : Bool) → ◌≡◌ {A = Option Fault} None (if b then Some g else Some f) → ⊥
-  by true e = cc
-  by false e = cc
-
-pub none_indexed : (limit p q : ℕ) (ns : List ℕ) → None ≡ least (index_faults limit (placed p ns)) → index_faults limit (placed q ns ++ []) ≡ []
-none_indexed limit p q [] e = refl
-none_indexed limit p q (n ∷ ns) e = by (nat_lt (n % 2 ^ 32) limit) e (none_indexed limit p q ns) where
-  by : (b : Bool) → None ≡ least (fault_where (not b) p StringIndex ++ index_faults limit (placed p ns)) → (None ≡ least (index_faults limit (placed p ns)) → index_faults limit (placed q ns ++ []) ≡ [])
-      → fault_where (not b) q StringIndex ++ index_faults limit (placed q ns ++ []) ≡ []
-  by true e more = more e
-  by false e more = absurd (least_some (record { offset = p; reason = StringIndex }) (least (index_faults limit (placed p ns))) e)
 
 all_placed : (place : ℕ) (ns : List ℕ) → AllByRecursion (λ v. v < 2 ^ 35) ns → AllByRecursion (λ (x : ℕ × ℕ). x.0 < 2 ^ 35) (placed place ns ++ [])
 all_placed place [] h = tt

@@ -1,15 +1,13 @@
 -- A written relation has no fault and is read as what it was written for.
-use Rattle.std.proofs.Common.{◌≡◌, ℕ, ◌%◌, ◌^◌, ◌<◌, ◌≤◌, ◌==◌, ◌&&◌, true, ℤ, List, [], ◌∷◌, ◌++◌, length, map, refl, ap₂, subst, sym, ◌∙◌, arith}
+use Rattle.std.proofs.Common.{◌≡◌, ℕ, ◌%◌, ◌^◌, ◌<◌, ◌≤◌, true, ℤ, List, [], ◌∷◌, ◌++◌, length, map, refl, ap₂, subst, sym, ◌∙◌, arith, pos}
 use Rattle.std.specs.List.{AllByRecursion, flat_map}
 use Rattle.std.specs.Option.{option_to_list}
 use Rattle.std.proofs.lemmas.Bool.Decides.{nat_tests}
-use Rattle.std.proofs.lemmas.List.{append-nil, length-map}
+use Rattle.std.proofs.lemmas.List.{length-map}
 use Rattle.pbf_wire.specs.declared.fault.Reason.TheVariants.{MemberKind as WrongKind}
-use Rattle.pbf_wire.specs.Columns.{column, joined}
+use Rattle.pbf_wire.specs.Columns.{joined}
 use Rattle.pbf_wire.specs.Faults.{fields_in, below_fault, nested_faults}
-use Rattle.pbf_wire.specs.Message.{Slot, Column, message, SlotFits}
 use Rattle.pbf_wire.specs.Sums.{deltas}
-use Rattle.pbf_wire.proofs.MessageLemmas.{column_written}
 use Rattle.pbf_wire.proofs.NoFaultLemmas.{below_good}
 use Rattle.pbf_wire.proofs.SumLemmas.{deltas_fit}
 use Rattle.pbf_strings.specs.TableOut.{has_text, table_of}
@@ -18,24 +16,21 @@ use Rattle.osm_entity.specs.declared.member.MemberKind.{MemberKind}
 use Rattle.osm_entity.specs.declared.member.MemberKind.TheVariants as kind
 use Rattle.osm_entity.specs.Entity.{MemberSpec, RelationSpec, relation}
 use Rattle.osm_entity.specs.EntityTexts.{tag_texts, relation_texts}
-use Rattle.osm_entity.specs.Ranges.{IsStored, MemberFits, RelationFits, EntityTyped}
+use Rattle.osm_entity.specs.Ranges.{IsStored, RelationFits, EntityTyped}
 use Rattle.osm_entity.specs.Sources.{member_kind, column_members}
-use Rattle.pbf_wire.proofs.AllLemmas.{all_left, all_right, all_weaker}
-use Rattle.pbf_dense.proofs.InfoLaw.{deltas_length}
+use Rattle.pbf_wire.proofs.AllLemmas.{all_left, all_right, all_weaker, all_map}
+use Rattle.pbf_dense.proofs.InfoLaw.{deltas_length, wide_good}
 use Rattle.pbf_block.specs.declared.relation.TheConstants.{RELATION_KINDS, ROLES_SID, MEMIDS, TYPES}
 use Rattle.pbf_block.specs.declared.entity.TheConstants.{INFO}
 use Rattle.pbf_block.specs.declared.info.TheConstants.{INFO_KINDS}
 use Rattle.pbf_block.specs.Relation.{relation_in, are_members, relation_structure, relation_values}
 use Rattle.pbf_block.specs.PrimitiveBlock.{indexed}
-use Rattle.pbf_block.specs.WrittenEntity.{kind_number, role_index, relation_slots, relation_message}
+use Rattle.pbf_block.specs.WrittenEntity.{kind_number, role_index, relation_message}
 use Rattle.pbf_block.proofs.InfoLaw.{named_read}
-use Rattle.pbf_block.proofs.EntityLaw.{AreAmong, IsNamed, AreKnown, IsOwn, IsReady, user_among, named_fit, named_good, values_read, count_is, sums_good, entity_fits, id_read, tags_read, meta_read, entity_wire, no_structure, id_quiet, no_value}
+use Rattle.pbf_block.proofs.EntityLaw.{AreAmong, IsNamed, IsReady, IsWritten, user_among, named_fit, named_good, values_read, entity_written}
+use Rattle.pbf_block.proofs.LengthLaw.{relation_short}
 
 -- ---- members
-
-ids_stored : (members : List MemberSpec) → AllByRecursion MemberFits members → AllByRecursion IsStored (map (λ m. m.id) members)
-ids_stored [] h = tt
-ids_stored (m ∷ ms) h = (h.0, ids_stored ms h.1)
 
 roles_named : (texts : List (List ℕ)) (members : List MemberSpec) → AreAmong texts (map (λ m. m.role) members) → AllByRecursion (IsNamed texts) (map (role_index texts) members)
 roles_named texts [] h = tt
@@ -65,100 +60,65 @@ members_given texts (m ∷ ms) few h =
     ap₂ (λ (x : MemberSpec) (xs : List MemberSpec). x ∷ xs)
     (ap₂ (λ (k : MemberKind) (role : List ℕ). member_with k m.id role) (kind_back m.kind) (named_read texts few m.role h.0)) (members_given texts ms few h.1)
 
-alike : (n : ℕ) → (n == n && n == n) ≡ true
-alike n = grind (arith, nat_tests)
-
 -- ---- the relation
 
-known : AreKnown RELATION_KINDS
-known = record { ids = refl; keys = refl; vals = refl; infos = refl }
+module _ (texts : List (List ℕ)) (r : RelationSpec) (h : RelationFits r) (typed : EntityTyped (relation r)) (among : AllByRecursion (λ text. has_text texts text ≡ true) (relation_texts r)) (few : length (table_of texts) ≤ 1048576) where
+  abbrev roles : List ℕ
+  roles = map (role_index texts) r.members
 
-module _ (texts : List (List ℕ)) (r : RelationSpec) (h : RelationFits r) (typed : EntityTyped (relation r)) (among : AreAmong texts (relation_texts r)) (few : length (table_of texts) ≤ 1048576) where
+  abbrev ids : List ℤ
+  ids = map (λ m. m.id) r.members
+
+  abbrev kinds : List ℕ
+  kinds = map (λ m. kind_number m.kind) r.members
+
   behind : AreAmong texts (option_to_list r.meta.user ++ map (λ m. m.role) r.members)
-  behind = all_right (λ t. has_text texts t ≡ true) (tag_texts r.tags) (option_to_list r.meta.user ++ map (λ m. m.role) r.members) among
+  behind = all_right _ (tag_texts r.tags) _ among
 
-  roles : AreAmong texts (map (λ m. m.role) r.members)
-  roles = all_right (λ t. has_text texts t ≡ true) (option_to_list r.meta.user) (map (λ m. m.role) r.members) behind
-
-  abbrev own : List Slot
-  own = Column ROLES_SID (map (role_index texts) r.members) ∷ Column MEMIDS (deltas (map (λ m. m.id) r.members)) ∷ Column TYPES (map (λ m. kind_number m.kind) r.members) ∷ []
-
-  own_is : IsOwn RELATION_KINDS own
-  own_is =
-      let sids = named_fit texts few (map (role_index texts) r.members) (roles_named texts r.members roles) in
-      let ids = deltas_fit (map (λ m. m.id) r.members) (ids_stored r.members h.members) in
-      let kinds = all_weaker (λ v. v < 3) (λ v. v < 2 ^ 64) (λ v lt. omega (arith, lt)) (map (λ m. kind_number m.kind) r.members) (kinds_small r.members) in
-      record {
-        ids = (refl, (refl, (refl, tt)));
-        keys = (refl, (refl, (refl, tt)));
-        vals = (refl, (refl, (refl, tt)));
-        infos = (refl, (refl, (refl, tt)));
-        fits = ((omega arith, omega arith, sids), ((omega arith, omega arith, ids), ((omega arith, omega arith, kinds), tt)));
-        known = (refl, (refl, (refl, tt)));
-      }
+  roles_among : AreAmong texts (map (λ m. m.role) r.members)
+  roles_among = all_right _ (option_to_list r.meta.user) _ behind
 
   ready : IsReady texts r.id r.meta r.tags
   ready = record {
     stored = h.id;
-    good = record { version = typed.version; fits = h.meta; user = user_among texts r.meta.user (all_left (λ t. has_text texts t ≡ true) (option_to_list r.meta.user) (map (λ m. m.role) r.members) behind); few = few };
-    named = all_left (λ t. has_text texts t ≡ true) (tag_texts r.tags) (option_to_list r.meta.user ++ map (λ m. m.role) r.members) among;
+    good = record { version = typed.version; fits = h.meta; user = user_among texts r.meta.user (all_left _ (option_to_list r.meta.user) (map (λ m. m.role) r.members) behind); few = few };
+    named = all_left _ (tag_texts r.tags) (option_to_list r.meta.user ++ map (λ m. m.role) r.members) among;
   }
 
-  fits : AllByRecursion SlotFits (relation_slots texts r)
-  fits = entity_fits RELATION_KINDS known texts r.id r.meta r.tags own ready own_is
+  ids_stored : AllByRecursion IsStored ids
+  ids_stored = all_map IsStored (λ m. m.id) r.members h.members
 
-  module _ (at : ℕ) (room : length (message (relation_slots texts r)) < 2 ^ 64) where
-    roles_column : column ROLES_SID (fields_in at (message (relation_slots texts r))) ≡ map (role_index texts) r.members
-    roles_column = column_written ROLES_SID at (relation_slots texts r) fits room ∙ append-nil _
+  written : (at : ℕ) → IsWritten texts r.id r.meta r.tags roles (deltas ids) kinds at (relation_message texts r)
+  unfolding relation_message
+  written at =
+      let sids = named_fit texts few roles (roles_named texts r.members roles_among) in
+      let small = all_weaker (λ v. v < 3) (λ v. v < 2 ^ 64) (λ v lt. omega (arith, lt)) kinds (kinds_small r.members) in
+      entity_written texts r.id r.meta r.tags roles (deltas ids) kinds ready (sids, deltas_fit ids ids_stored, small) at (relation_short texts r h)
 
-    ids_column : column MEMIDS (fields_in at (message (relation_slots texts r))) ≡ deltas (map (λ m. m.id) r.members)
-    ids_column = column_written MEMIDS at (relation_slots texts r) fits room ∙ append-nil _
+  pub relation_read : (at : ℕ) → relation_in indexed (table_of texts) r.scale (fields_in at (relation_message texts r)) ≡ r
+  unfolding relation_in
+  relation_read at =
+      let e = written at in
+      rw (e.id_read, e.meta_read, e.tags_read, e.third, values_read MEMIDS (fields_in at (relation_message texts r)) ids e.second, e.first, members_given texts r.members few roles_among) refl
 
-    kinds_column : column TYPES (fields_in at (message (relation_slots texts r))) ≡ map (λ m. kind_number m.kind) r.members
-    kinds_column = column_written TYPES at (relation_slots texts r) fits room ∙ append-nil _
+  pub relation_no_wire : (place at : ℕ) → nested_faults RELATION_KINDS INFO INFO_KINDS place at (relation_message texts r) ≡ []
+  relation_no_wire place at = (written at).wire place
 
-    slots_read : relation_in indexed (table_of texts) r.scale (fields_in at (message (relation_slots texts r))) ≡ r
-    unfolding relation_in
-    slots_read =
-        let id = id_read RELATION_KINDS known texts r.id r.meta r.tags own ready own_is at room in
-        let meta = meta_read RELATION_KINDS known texts r.id r.meta r.tags own ready own_is at room in
-        let tags = tags_read RELATION_KINDS known texts r.id r.meta r.tags own ready own_is at room in
-        let ids = values_read MEMIDS (fields_in at (message (relation_slots texts r))) (map (λ m. m.id) r.members) ids_column in
-        rw (id, meta, tags, kinds_column, ids, roles_column, members_given texts r.members few roles) refl
+  pub relation_no_structure : (place at : ℕ) → relation_structure place at (relation_message texts r) ≡ []
+  relation_no_structure place at =
+      let e = written at in
+      let sids = e.firsts ∙ length-map r.members (role_index texts) in
+      let memids = e.seconds ∙ deltas_length ids ∙ length-map r.members (λ m. m.id) in
+      let types = e.thirds ∙ length-map r.members (λ m. kind_number m.kind) in
+      let good : are_members (fields_in at (relation_message texts r)) ≡ true = grind (arith, nat_tests, sids, memids, types) in
+      rw (e.structure place, good) refl
 
-    slots_structure : (place : ℕ) → relation_structure place at (message (relation_slots texts r)) ≡ []
-    slots_structure place =
-        let counted = count_is RELATION_KINDS known texts r.id r.meta r.tags own ready own_is at room in
-        let roles = counted ROLES_SID (map (role_index texts) r.members) refl roles_column ∙ length-map r.members (role_index texts) in
-        let ids = counted MEMIDS (deltas (map (λ m. m.id) r.members)) refl ids_column ∙ deltas_length (map (λ m. m.id) r.members) ∙ length-map r.members (λ m. m.id) in
-        let kinds = counted TYPES (map (λ m. kind_number m.kind) r.members) refl kinds_column ∙ length-map r.members (λ m. kind_number m.kind) in
-        let good : are_members (fields_in at (message (relation_slots texts r))) ≡ true = rw (roles, ids, kinds) (alike (length r.members)) in
-        rw (no_structure RELATION_KINDS known texts r.id r.meta r.tags own ready own_is at room place, good) refl
-
-    slots_values : (place : ℕ) → relation_values (length (table_of texts)) place at (message (relation_slots texts r)) ≡ []
-    slots_values place =
-        let id = id_quiet RELATION_KINDS known texts r.id r.meta r.tags own ready own_is at room in
-        let common = no_value RELATION_KINDS known texts r.id r.meta r.tags own ready own_is at room in
-        let sids = named_good texts few (joined ROLES_SID (fields_in at (message (relation_slots texts r)))) (map (role_index texts) r.members) roles_column (roles_named texts r.members roles) in
-        let ids = sums_good (joined MEMIDS (fields_in at (message (relation_slots texts r)))) (map (λ m. m.id) r.members) ids_column (ids_stored r.members h.members) in
-        let low = all_weaker (λ v. v < 3) (λ v. v % 2 ^ 32 < 3) (λ v lt. omega (arith, lt)) (map (λ m. kind_number m.kind) r.members) (kinds_small r.members) in
-        let kinds : flat_map (below_fault WrongKind 3) (joined TYPES (fields_in at (message (relation_slots texts r)))) ≡ [] =
-        below_good WrongKind 3 (joined TYPES (fields_in at (message (relation_slots texts r)))) (subst (λ (ns : List ℕ). AllByRecursion (λ v. v % 2 ^ 32 < 3) ns) (sym kinds_column) low) in
-        rw (id, common, sids, ids, kinds) refl
-
-  module _ (at : ℕ) (room : length (relation_message texts r) < 2 ^ 64) where
-    pub relation_read : relation_in indexed (table_of texts) r.scale (fields_in at (relation_message texts r)) ≡ r
-    unfolding relation_message
-    relation_read = slots_read at room
-
-    pub relation_no_wire : (place : ℕ) → nested_faults RELATION_KINDS INFO INFO_KINDS place at (relation_message texts r) ≡ []
-    unfolding relation_message
-    relation_no_wire place = entity_wire RELATION_KINDS known texts r.id r.meta r.tags own ready own_is at room place
-
-    pub relation_no_structure : (place : ℕ) → relation_structure place at (relation_message texts r) ≡ []
-    unfolding relation_message
-    relation_no_structure place = slots_structure at room place
-
-    pub relation_no_value : (place : ℕ) → relation_values (length (table_of texts)) place at (relation_message texts r) ≡ []
-    unfolding relation_message
-    relation_no_value place = slots_values at room place
+  pub relation_no_value : (place at : ℕ) → relation_values (length (table_of texts)) place at (relation_message texts r) ≡ []
+  relation_no_value place at =
+      let e = written at in
+      let os = fields_in at (relation_message texts r) in
+      let sids = named_good texts few (joined ROLES_SID os) roles e.first (roles_named texts r.members roles_among) in
+      let memids = wide_good (pos (2 ^ 62)) (joined MEMIDS os) ids e.second ids_stored in
+      let low = all_weaker (λ v. v < 3) (λ v. v % 2 ^ 32 < 3) (λ v lt. omega (arith, lt)) kinds (kinds_small r.members) in
+      let types : flat_map (below_fault WrongKind 3) (joined TYPES os) ≡ [] = below_good WrongKind 3 (joined TYPES os) (subst (λ (ns : List ℕ). AllByRecursion (λ v. v % 2 ^ 32 < 3) ns) (sym e.third) low) in
+      rw (e.id_value, e.values, sids, memids, types) refl

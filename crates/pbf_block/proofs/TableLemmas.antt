@@ -6,7 +6,7 @@ use Rattle.pbf_wire.specs.declared.fault.Reason.TheVariants.{TooManyStrings}
 use Rattle.std.specs.Prelude.{nat_lt, if◌then◌else◌, Option, Some, None}
 use Rattle.std.specs.List.{flat_map, AllByRecursion}
 use Rattle.std.specs.Result.{is_err}
-use Rattle.pbf_wire.specs.Occurrence.{Content, Number, Eight, Four, Bytes, Occurrence, items_past}
+use Rattle.pbf_wire.specs.Occurrence.{Content, Bytes, Occurrence, items_past}
 use Rattle.pbf_wire.specs.Reading.{bytes_held, occurrence_text, last_of}
 use Rattle.pbf_wire.specs.Faults.{inside, entered, fields_in}
 use Rattle.pbf_wire.proofs.FaultLemmas.{held_short}
@@ -38,10 +38,8 @@ unfolding items_past
 few_none = omega arith
 
 few_inside : (place : ℕ) (c : Content) → inside (table_structure place) c ≡ [] → length (texts (bytes_held c)) ≤ 1048576
-few_inside place (Number v) s = few_none
-few_inside place (Eight bytes) s = few_none
-few_inside place (Four bytes) s = few_none
 few_inside place (Bytes bytes at) s = few_texts place bytes s
+few_inside place c s = few_none
 
 few_if : (os : List Occurrence) (last : Option Occurrence) → AllByRecursion (λ o. part_structure o ≡ []) os → last_of STRINGTABLE os ≡ last → length (texts (occurrence_text last)) ≤ 1048576
 few_if os None all e = few_none

@@ -84,7 +84,7 @@ impl<'a> UnjudgedBlock<'a> {
 
     /// The entities of these kinds, in order, those of a dense message together, if the block has no fault; otherwise some entities,
     /// which may not be writable. Messages of other kinds aren't read. Does not allocate.
-    #[tactic(auto, using(crate::proofs::AmongLemmas::among_same, crate::proofs::AmongLemmas::among_fit))]
+    #[tactic(auto, using(crate::proofs::ByIndexLemmas::among_same, crate::proofs::ByIndexLemmas::among_fit))]
     pub fn runs_among(&self, kinds: Kinds) -> Runs<'_>
         ensures exact { block_fault self.now.at self.now.payload.now ≡ None
             → joined_runs (runs_left result)

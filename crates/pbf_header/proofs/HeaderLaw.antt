@@ -1,5 +1,5 @@
 -- A written header is read as what it was written for.
-use Rattle.std.proofs.Common.{◌+◌, ◌≤◌, Bool, true, false, cond, codes, ◌∷◌, [], subst, length, ◌≡◌, ℕ, ◌^◌, ◌<◌, ℤ, pos, negsuc, List, length, take, drop, Option, Some, None, refl, ap, ◌∙◌, arith}
+use Rattle.std.proofs.Common.{◌+◌, ◌≤◌, Bool, true, false, cond, codes, ◌∷◌, [], subst, length, ◌≡◌, ℕ, ◌^◌, ◌<◌, ℤ, pos, negsuc, List, length, Option, Some, None, refl, ap, ◌∙◌, arith}
 use Rattle.std.specs.Prelude.{unwrap_or}
 use Rattle.std.specs.List.{flat_map, last_or, AllByRecursion}
 use Rattle.std.specs.Option.{option_map, option_to_list}
@@ -24,7 +24,8 @@ use Rattle.pbf_header.specs.WrittenHeader.{known_features, header_out, header_ou
 use Rattle.pbf_header.proofs.HeaderLemmas.{header_out_twice}
 use Rattle.pbf_wire.proofs.LengthLemmas.{each_room, message_short}
 use Rattle.osm_entity.proofs.RangeLemmas.{present}
-use Rattle.pbf_wire.proofs.SlotLemmas.{IfSome, none_given, option_few, option_read, last_text_of, scalar_fits, last_given}
+use Rattle.pbf_wire.proofs.SlotLemmas.{IfSome, option_few, option_read, last_text_of, scalar_fits}
+use Rattle.pbf_header.proofs.OneNumber.{all_given, number_read}
 use Rattle.pbf_header.specs.declared.write.TheConstants.{MOST_HEADER_TEXT}
 
 -- ---- the box
@@ -90,11 +91,9 @@ header_read at h fits room =
     let source : last_text SOURCE os ≡ h.source = ap (λ (ts : List (List ℕ)). last_or None ts) (each_written SOURCE at slots good room) ∙ last_text_of h.source in
     let url : last_text REPLICATION_URL os ≡ h.url = ap (λ (ts : List (List ℕ)). last_or None ts) (each_written REPLICATION_URL at slots good room) ∙ last_text_of h.url in
     let timestamp : option_map low_i64 (last_number REPLICATION_TIMESTAMP os) ≡ h.timestamp =
-    ap (option_map low_i64) (last_written REPLICATION_TIMESTAMP at slots good room ∙ last_given REPLICATION_TIMESTAMP _ (take 5 slots) (drop 6 slots) refl (tt, (tt, (tt, (tt, (tt, tt))))) (refl, (tt, tt)))
-    ∙ option_read sign_extended low_i64 IsInt64 int64_read h.timestamp (present IsInt64 h.timestamp fits.timestamp) in
+    ap (option_map low_i64) (number_read at slots good room REPLICATION_TIMESTAMP _ refl) ∙ option_read sign_extended low_i64 IsInt64 int64_read h.timestamp (present IsInt64 h.timestamp fits.timestamp) in
     let sequence : option_map low_i64 (last_number REPLICATION_SEQUENCE os) ≡ h.sequence =
-    ap (option_map low_i64) (last_written REPLICATION_SEQUENCE at slots good room ∙ last_given REPLICATION_SEQUENCE _ (take 6 slots) (drop 7 slots) refl (tt, (tt, (tt, (tt, (tt, (refl, tt)))))) (tt, tt))
-    ∙ option_read sign_extended low_i64 IsInt64 int64_read h.sequence (present IsInt64 h.sequence fits.sequence) in
+    ap (option_map low_i64) (number_read at slots good room REPLICATION_SEQUENCE _ refl) ∙ option_read sign_extended low_i64 IsInt64 int64_read h.sequence (present IsInt64 h.sequence fits.sequence) in
     rw (bbox, required, optional, program, source, url, timestamp, sequence) refl
 
 -- ---- it has no fault
@@ -176,7 +175,7 @@ module _ (at : ℕ) (h : HeaderSpec) (fits : HeaderFits h) (room : length (heade
       let f = edge_faults in
       let box = each_box (λ m. (place at : ℕ) → edge_faults place at m ≡ []) h.bbox (λ b e lt place at. box_edges place at b e lt) boxes in
       let few = option_few (option_map box_message h.bbox) in
-      let none = none_given BBOX slots (tt, (tt, (tt, (tt, (tt, (refl, (refl, (tt, tt)))))))) in
+      let none = ap (λ (ns : List ℕ). length ns) (all_given BBOX slots) in
       let once : twice BBOX (fields_in at (message slots)) ≡ [] = once_written BBOX at slots good room (omega (arith, few, none)) in
       let edges : flat_map (entered BBOX f) (fields_in at (message slots)) ≡ [] =
       fields_quiet (entered BBOX f) at slots

@@ -1,3 +1,4 @@
+pub mod OneNumber
 pub mod Parts
 pub mod HeaderLemmas
 pub mod WritingLemmas

@@ -1,4 +1,4 @@
-use Rattle.std.proofs.Common.{rules, w32, ◌≡◌, ◌++◌, ◌∙◌, sym, ap, subst, [], ◌∷◌, ℕ, ℤ, List}
+use Rattle.std.proofs.Common.{w64, rules, w32, ◌≡◌, ◌++◌, ◌∙◌, sym, ap, subst, [], ◌∷◌, ℕ, ℤ, List}
 use Rattle.std.proofs.lemmas.Int.{to_z-of_z}
 use Rattle.osm_entity.specs.declared.scale.Scale.{Scale}
 use Rattle.pbf_wire.specs.Message.{Scalar, Each, Slot, slot_bytes, message}
@@ -6,7 +6,6 @@ use Rattle.pbf_wire.proofs.WritingLemmas.{one_more, all_written}
 use Rattle.pbf_strings.specs.TableOut.{table_message}
 use Rattle.pbf_block.specs.WrittenBlock.{unless_default, block_slots}
 use Rattle.pbf_block.specs.declared.scale.TheConstants.{DEFAULT_SCALE}
-use Rattle.pbf_block.proofs.WritingLemmas.{same}
 use Rattle.pbf_block.proofs.block_write.put_block.Goals as goal
 
 -- six slots, one after another
@@ -28,8 +27,8 @@ same_default k old out default other v p h = subst (λ (d : ℤ). out ≡ old ++
 
 pub returns : goal.returns
 returns c = λ texts e.
-    scale_put c.args.scale texts c.args.group.now c.args.out.now.items _ _ _ _ _ (same c.from-2.result (search rules) ∙ (c.from-2.ensures ∙ to_z-of_z w32 c.args.scale.granularity (search rules))) (same c.from-4.result (search rules) ∙ (c.from-4.ensures ∙ to_z-of_z w32 c.args.scale.date_granularity (search rules))) (same c.args.scale.lat_offset (search rules)) (same c.args.scale.lon_offset (search rules))
+    scale_put c.args.scale texts c.args.group.now c.args.out.now.items _ _ _ _ _ (to_z-of_z w64 c.from-2.result (search rules) ∙ (c.from-2.ensures ∙ to_z-of_z w32 c.args.scale.granularity (search rules))) (to_z-of_z w64 c.from-4.result (search rules) ∙ (c.from-4.ensures ∙ to_z-of_z w32 c.args.scale.date_granularity (search rules))) (to_z-of_z w64 c.args.scale.lat_offset (search rules)) (to_z-of_z w64 c.args.scale.lon_offset (search rules))
     (slots_put _ _ _ _ _ _ _ _ _ _ _ _ _ (c.in_ok-put_bytes.ensures ∙ ap (λ (m : List ℕ). c.args.out.now.items ++ slot_bytes (Each 1 (m ∷ []))) e) c.in_ok-put_bytes-2.ensures
-    (same_default _ _ _ _ _ _ (same c.from.result (search rules) ∙ c.from.ensures) c.in_ok-put_unless_default.ensures)
-    (same_default _ _ _ _ _ _ (same c.from-3.result (search rules) ∙ c.from-3.ensures) c.in_ok-put_unless_default-2.ensures)
+    (same_default _ _ _ _ _ _ (to_z-of_z w64 c.from.result (search rules) ∙ c.from.ensures) c.in_ok-put_unless_default.ensures)
+    (same_default _ _ _ _ _ _ (to_z-of_z w64 c.from-3.result (search rules) ∙ c.from-3.ensures) c.in_ok-put_unless_default-2.ensures)
     c.in_ok-put_unless_default-3.ensures c.in_ok-put_unless_default-4.ensures)

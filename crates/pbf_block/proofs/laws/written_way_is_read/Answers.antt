@@ -1,15 +1,14 @@
 use Rattle.pbf_block.proofs.WayLaw.{way_read, way_no_wire, way_no_structure, way_no_value}
-use Rattle.pbf_block.proofs.LengthLaw.{way_short}
 use Rattle.pbf_block.proofs.laws.written_way_is_read.Goals as goal
 
 pub returns-clause-read : goal.returns-clause-read
-returns-clause-read c texts w fits typed among few at = way_read texts w fits typed among few at (way_short texts w fits)
+returns-clause-read c = way_read
 
 pub returns-clause-wire : goal.returns-clause-wire
-returns-clause-wire c texts w fits typed among few place at = way_no_wire texts w fits typed among few at (way_short texts w fits) place
+returns-clause-wire c = way_no_wire
 
 pub returns-clause-structure : goal.returns-clause-structure
-returns-clause-structure c texts w fits typed among few place at = way_no_structure texts w fits typed among few at (way_short texts w fits) place
+returns-clause-structure c = way_no_structure
 
 pub returns-clause-values : goal.returns-clause-values
-returns-clause-values c texts w fits typed among few place at = way_no_value texts w fits typed among few at (way_short texts w fits) place
+returns-clause-values c = way_no_value

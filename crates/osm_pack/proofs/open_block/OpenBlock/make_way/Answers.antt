@@ -2,7 +2,8 @@ use Rattle.std.proofs.Common.{refl, []}
 use Rattle.osm_entity.specs.Entity.{way}
 use Rattle.osm_entity.specs.Views.{way_of}
 use Rattle.pbf_strings.specs.TableOut.{texts_after}
-use Rattle.osm_pack.proofs.OpenLemmas.{room_held, way_held}
+use Rattle.pbf_block.proofs.HeldLaw.{way_beside}
+use Rattle.osm_pack.proofs.OpenLemmas.{room_held, entity_held}
 use Rattle.osm_pack.proofs.open_block.OpenBlock.make_way.Goals as goal
 
 pub make_way-requires-clause-room : goal.make_way-requires-clause-room
@@ -23,5 +24,5 @@ returns-clause-made g c = record {
 pub returns-clause-room : goal.returns-clause-room
 returns-clause-room g c =
     let was = c.requires.«open» in
-    way_held c.args.self.now was.entities (way_of c.args.view.now) c.make_way.new.table (texts_after c.make_way.new.table []) c.make_way.new.self was.held (c.requires.joins was.entities was.held) c.in_ok-make_way.ensures.texts
-    (c.in_ok-make_way.ensures.made []) (c.in_ok-make_way.ensures.held was.held.writer)
+    entity_held c.args.self.now was.entities (way (way_of c.args.view.now)) _ _ c.make_way.new.table _ c.make_way.new.self was.held (c.requires.joins was.entities was.held) c.in_ok-make_way.ensures.texts
+    (c.in_ok-make_way.ensures.made []) (way_beside (texts_after c.make_way.new.table []) (way_of c.args.view.now)) (c.in_ok-make_way.ensures.held was.held.writer)

@@ -2,7 +2,7 @@ use Rattle.std.proofs.Common.{ap, ◌∙◌}
 use Rattle.pbf_wire.specs.Faults.{fields_in}
 use Rattle.pbf_block.specs.Numbers.{counts_of}
 use Rattle.pbf_block.specs.Scale.{scale_of, stored_texts}
-use Rattle.pbf_block.proofs.EndsLemmas.{ends_same}
+use Rattle.pbf_block.proofs.ByIndexLemmas.{ends_same}
 use Rattle.pbf_block.proofs.unjudged.UnjudgedBlock.counts.Goals as goal
 
 pub returns : goal.returns
