@@ -245,12 +245,10 @@ past_more (x ∷ ids) zero low id some =
     let page : Page = record { first = x; others = take 127 ids } in
     elim (cases_lt (length ids) 127) [
       | inl few ↦
+          let one = last_page x ids (omega (arith, few)) in
           let long = last_page x (ids ++ id ∷ []) (omega (arith, few, length-append ids (id ∷ []))) in
-          subst (λ (pages : List Page). IsLonger pages (pages_of (x ∷ (ids ++ id ∷ []))) (last_from x ids) id) (sym (last_page x ids (omega (arith, few))))
-          (subst (λ (more : List Page). IsLonger (record { first = x; others = ids } ∷ []) more (last_from x ids) id) (sym long) (longer_last x ids id))
-      | inr many ↦
-          subst (λ (more : List Page). IsLonger (page ∷ pages_past 127 ids) more (last_from x ids) id) (sym (full_page x ids (id ∷ []) many))
-          (longer_cons page (pages_past 127 ids) (pages_past 127 (ids ++ id ∷ [])) (last_from x ids) id (past_more ids 127 x id (omega (arith, some, many))))
+          rw (one, long) (longer_last x ids id)
+      | inr many ↦ rw (full_page x ids (id ∷ []) many) (longer_cons page (pages_past 127 ids) (pages_past 127 (ids ++ id ∷ [])) (last_from x ids) id (past_more ids 127 x id (omega (arith, some, many))))
     ]
 
 rises_push : (low : ℤ) (ids : List ℤ) (id : ℤ) → Rises low ids → last_from low ids <ℤ id → Rises low (ids ++ id ∷ [])
@@ -281,7 +279,7 @@ module _ (index : List PageStart) (bytes : List ℕ) (ids : List ℤ) (s : IsSea
   sealed_now all e = subst (IsSealed index bytes) (sym (sealed_rising all e)) s
 
   pub sealed_len : (all : Ids) → set_in index bytes ≡ all → length ids ≡ set.len all
-  sealed_len all e = sym (len-rising ids s.rising) ∙ ap (λ (l : List ℤ). set.len (ids_of l)) (sym sealed_ids) ∙ ap (λ (t : Ids). set.len t) e
+  sealed_len all e = grind (arith, len-rising ids s.rising, sealed_ids, e)
 
   pub page_count : length index ≡ div_ceil (length ids) 128
   page_count = omega (arith, ap length s.starts, starts_count 0 pages, past_count 0 ids)
@@ -353,7 +351,7 @@ module _ (index : List PageStart) (bytes : List ℕ) (ids : List ℤ) (s : IsSea
         let front = bytes_of_pages (take n pages) in
         let own = gaps this.first others in
         let read : raised first (take 127 (numbers_of seen)) ≡ others =
-            grind (arith, e, at, f, cut, drop-append_seam front (page_bytes this ++ back), gaps_read own back good.1, last_gaps, raised-gaps this.first others good.0) in
+        grind (arith, e, at, f, cut, drop-append_seam front (page_bytes this ++ back), gaps_read own back good.1, last_gaps, raised-gaps this.first others good.0) in
         let fit : AllFit others = all_take (FitsSigned w64) 127 (drop (suc (128 * n)) ids) (all_drop (FitsSigned w64) (suc (128 * n)) ids s.fits) in
         let same : suc (128 * n) ≡ 128 * n + 1 = omega arith in
         let cut = drop_more ids (128 * n) (pos 0) lt in

@@ -63,7 +63,7 @@ impl SealedIds {
         ensures above { result ≡ true → IsAbove self.now id }
         ensures reached { result ≡ false → IsReached self.now id }
     {
-        self.count == 0 || self.last < id
+        self.last < id || self.count == 0
     }
 
     /// Appends an id that is above all others: it begins a page if the last page is full. An `Err` leaves the ids as they were.

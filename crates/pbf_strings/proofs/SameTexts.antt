@@ -1,5 +1,5 @@
 -- Texts that are compared by numbers of four or eight bytes.
-use Rattle.std.proofs.Common.{◌≡◌, ℕ, inl, inr, Bool, false, ◌+◌, ◌-◌, ◌≤◌, ◌<◌, List, ◌++◌, length, take, drop, sym, ap, ◌∙◌, arith, IsTrue, nat_eq, take-append-drop, get_or, length-take-le}
+use Rattle.std.proofs.Common.{◌≡◌, ℕ, inl, inr, Bool, false, ◌+◌, ◌-◌, ◌≤◌, ◌<◌, List, length, take, drop, sym, ap, ◌∙◌, arith, IsTrue, nat_eq, take-append-drop, get_or, length-take-le}
 use Rattle.std.proofs.lemmas.List.{take_rest, take_all, drop-drop, length-drop, get_or-take, get_or_past}
 use Rattle.std.proofs.lemmas.Bool.Decides.{nat_tests}
 use Rattle.std.proofs.lemmas.Bool.{cases_lt}
@@ -17,8 +17,7 @@ pub meet : (n last : ℕ) (xs ys : List ℕ) → length xs ≡ length ys → las
 meet n last xs ys long whole close first e =
     let ends : drop last xs ≡ drop last ys = sym (take_all n (drop last xs) (omega (arith, length-drop last xs))) ∙ (e ∙ take_all n (drop last ys) (omega (arith, length-drop last ys))) in
     let there : last + (n - last) ≡ n = omega arith in
-    let rest : drop n xs ≡ drop n ys = ap (λ (k : ℕ). drop k xs) (sym there) ∙ (sym (drop-drop (n - last) last xs) ∙ (ap (drop (n - last)) ends ∙ (drop-drop (n - last) last ys ∙ ap (λ (k : ℕ). drop k ys) there))) in
-    sym (take-append-drop n xs) ∙ (ap (λ (w : List ℕ). w ++ drop n xs) first ∙ (ap (λ (w : List ℕ). take n ys ++ w) rest ∙ take-append-drop n ys))
+    grind (arith, there, ends, drop-drop (n - last) last xs, drop-drop (n - last) last ys, take-append-drop n xs, take-append-drop n ys, first)
 
 -- the bytes of a prefix are bytes
 pub small : (n : ℕ) (xs front : List ℕ) → n ≤ length xs → front ≡ take n xs → ((i : ℕ) → get_or xs i 0 < 256) → (i : ℕ) → get_or front i 0 < 256

@@ -1,5 +1,5 @@
 -- Texts, and the keys that hold them.
-use Rattle.std.proofs.Common.{◌≡◌, ℕ, zero, suc, arith, ◌+◌, ◌≤◌, length, length-append, add_comm, List, [], ◌∷◌, ◌++◌, Bool, true, false, cond, ◌||◌, Some, map, refl, sym, ap, ◌∙◌, subst, position, ◌<◌}
+use Rattle.std.proofs.Common.{◌≡◌, ℕ, zero, suc, arith, ◌+◌, ◌≤◌, length, length-append, add_comm, List, [], ◌∷◌, ◌++◌, true, false, cond, ◌||◌, Some, map, refl, sym, ap, ◌∙◌, subst, position, ◌<◌}
 use Rattle.std.proofs.lemmas.List.{map-append}
 use Rattle.std.specs.List.{list_any, position_or_len, AllByRecursion, IsDistinct}
 use Rattle.std.specs.Str.{bytes_eq}
@@ -19,7 +19,7 @@ place_push [] text = rw (same_text text) refl
 place_push (first ∷ texts) text = ap (λ n. cond (bytes_eq text first) 0 (1 + n)) (place_push texts text)
 
 pub place_with : (texts : List (List ℕ)) (text : List ℕ) → place_in (with_text texts text) text ≡ place_in texts text
-place_with texts text = elim (list_any (bytes_eq text) texts) as (λ b. place_in (cond b texts (texts ++ text ∷ [])) text ≡ place_in texts text) [ true ↦ refl | false ↦ place_push texts text ]
+place_with texts text = grind (arith, place_push texts text)
 
 module _ {K : Type 0} (items : K → List ℕ) where
   pub any_map : (text : List ℕ) (keys : List K) → list_any (bytes_eq text) (map items keys) ≡ list_any (λ key. bytes_eq text (items key)) keys
@@ -31,14 +31,7 @@ module _ {K : Type 0} (items : K → List ℕ) where
 
   pub added : (text : List ℕ) (keys : List K) (key : K) → items key ≡ text
       → map items (cond (list_any (λ k. bytes_eq (items key) (items k)) keys) keys (keys ++ key ∷ [])) ≡ with_text (map items keys) text
-  added text keys key h = subst (λ t. map items (cond (list_any (λ k. bytes_eq (items key) (items k)) keys) keys (keys ++ key ∷ [])) ≡ with_text (map items keys) t) h by_key
-    where
-      by : (b : Bool) → map items (cond b keys (keys ++ key ∷ [])) ≡ cond b (map items keys) (map items keys ++ items key ∷ [])
-      by true = refl
-      by false = map-append items keys (key ∷ [])
-
-      by_key : map items (cond (list_any (λ k. bytes_eq (items key) (items k)) keys) keys (keys ++ key ∷ [])) ≡ with_text (map items keys) (items key)
-      by_key = by _ ∙ ap (λ b. cond b (map items keys) (map items keys ++ items key ∷ [])) (sym (any_map (items key) keys))
+  added text keys key h = grind (arith, h, any_map (items key) keys, map-append items keys (key ∷ []))
 
   -- a text that is not found is not among them
   pub not_missing : (text : List ℕ) (keys : List K) → list_any (λ key. bytes_eq text (items key)) keys ≡ false → has_text (map items keys) text ≡ true → ⊥
@@ -54,14 +47,10 @@ module _ {K : Type 0} (items : K → List ℕ) where
 
 any_push : (texts : List (List ℕ)) (text : List ℕ) → list_any (bytes_eq text) (texts ++ text ∷ []) ≡ true
 any_push [] text = rw (same_text text) refl
-any_push (first ∷ texts) text = elim (bytes_eq text first) as (λ b. (b || list_any (bytes_eq text) (texts ++ text ∷ [])) ≡ true) [ true ↦ refl | false ↦ any_push texts text ]
+any_push (first ∷ texts) text = grind (arith, any_push texts text)
 
 pub any_with : (texts : List (List ℕ)) (text : List ℕ) → list_any (bytes_eq text) (with_text texts text) ≡ true
-any_with texts text = by (list_any (bytes_eq text) texts) refl
-  where
-    by : (b : Bool) → list_any (bytes_eq text) texts ≡ b → list_any (bytes_eq text) (with_text texts text) ≡ true
-    by true e = rw (e, e) refl
-    by false e = rw e (any_push texts text)
+any_with texts text = grind (arith, any_push texts text)
 
 same_if : (one other : List ℕ) → bytes_eq one other ≡ true → one ≡ other
 same_if one other h = (bytes_eq-Decides one other).0 h
@@ -71,39 +60,28 @@ at_next first texts n = let e : 1 + n ≡ suc n = omega arith in ap (λ (k : ℕ
 
 found_at : (texts : List (List ℕ)) (text : List ℕ) → list_any (bytes_eq text) texts ≡ true → slice_get texts (place_in texts text) ≡ Some text
 found_at [] text h = absurd cc
-found_at (first ∷ texts) text h = by (bytes_eq text first) refl h (found_at texts text)
-  where
-    by : (b : Bool) → bytes_eq text first ≡ b → (b || list_any (bytes_eq text) texts) ≡ true → (list_any (bytes_eq text) texts ≡ true → slice_get texts (place_in texts text) ≡ Some text) → slice_get (first ∷ texts) (cond b 0 (1 + place_in texts text)) ≡ Some text
-    by true e h more = ap Some (sym (same_if text first e))
-    by false e h more = at_next first texts (place_in texts text) ∙ more h
+found_at (first ∷ texts) text h = grind (arith, h, found_at texts text, bytes_eq-Decides text first, at_next first texts (place_in texts text))
 
 -- the table has a text that is among the texts at its index
 pub text_at_index : (texts : List (List ℕ)) (text : List ℕ) → has_text texts text ≡ true → slice_get (table_of texts) (index_in texts text) ≡ Some text
-text_at_index texts text h = ap (λ (n : ℕ). slice_get (table_of texts) n) (add_comm (place_in texts text) 1) ∙ at_next [] texts (place_in texts text) ∙ found_at texts text h
+text_at_index texts text h = grind (arith, add_comm (place_in texts text) 1, at_next [] texts (place_in texts text), found_at texts text h)
 
 pub text_named : (texts : List (List ℕ)) (text : List ℕ) → slice_get (table_of (with_text texts text)) (index_in (with_text texts text) text) ≡ Some text
 text_named texts text = text_at_index (with_text texts text) text (any_with texts text)
 
-with_known : (texts : List (List ℕ)) (text : List ℕ) → has_text texts text ≡ true → texts ≡ with_text texts text
-with_known texts text h = sym (ap (λ b. cond b texts (texts ++ text ∷ [])) h)
-
 -- the index of a text that is there
 pub recent_gives : {E : Type 0} (texts : List (List ℕ)) (text : List ℕ) (index : ℕ) → (has_text texts text ≡ true) × (index ≡ index_in texts text) → GivesIndex {E = E} text texts texts (Ok index)
 recent_gives texts text index found = record {
-  texts = with_known texts text found.0;
+  texts = grind (arith, found.0);
   index = found.1;
-  named = ap (λ (n : ℕ). slice_get (table_of texts) n) found.1 ∙ text_at_index texts text found.0;
+  named = grind (arith, found.1, text_at_index texts text found.0);
   known = λ _. refl;
   err = tt;
 }
 
 place_below : (texts : List (List ℕ)) (text : List ℕ) → has_text texts text ≡ true → place_in texts text < length texts
 place_below [] text h = absurd cc
-place_below (first ∷ texts) text h = by (bytes_eq text first) h (place_below texts text)
-  where
-    by : (b : Bool) → (b || list_any (bytes_eq text) texts) ≡ true → (list_any (bytes_eq text) texts ≡ true → place_in texts text < length texts) → cond b 0 (1 + place_in texts text) < suc (length texts)
-    by true h more = omega arith
-    by false h more = omega (arith, more h)
+place_below (first ∷ texts) text h = grind (arith, h, place_below texts text)
 
 pub index_below : (texts : List (List ℕ)) (text : List ℕ) → has_text texts text ≡ true → index_in texts text < length (table_of texts)
 index_below texts text h = omega (arith, place_below texts text h)
@@ -112,25 +90,17 @@ index_below texts text h = omega (arith, place_below texts text h)
 
 any_more : (texts : List (List ℕ)) (text other : List ℕ) → has_text texts text ≡ true → has_text (texts ++ other ∷ []) text ≡ true
 any_more [] text other h = absurd cc
-any_more (first ∷ texts) text other h = by (bytes_eq text first) h (any_more texts text other)
-  where
-    by : (b : Bool) → (b || list_any (bytes_eq text) texts) ≡ true → (list_any (bytes_eq text) texts ≡ true → list_any (bytes_eq text) (texts ++ other ∷ []) ≡ true) → (b || list_any (bytes_eq text) (texts ++ other ∷ [])) ≡ true
-    by true h more = refl
-    by false h more = more h
+any_more (first ∷ texts) text other h = grind (arith, h, any_more texts text other)
 
 has_more : (texts : List (List ℕ)) (text other : List ℕ) → has_text texts text ≡ true → has_text (with_text texts other) text ≡ true
-has_more texts text other h = elim (has_text texts other) as (λ b. has_text (cond b texts (texts ++ other ∷ [])) text ≡ true) [ true ↦ h | false ↦ any_more texts text other h ]
+has_more texts text other h = grind (arith, h, any_more texts text other)
 
 place_more : (texts : List (List ℕ)) (text other : List ℕ) → has_text texts text ≡ true → place_in (texts ++ other ∷ []) text ≡ place_in texts text
 place_more [] text other h = absurd cc
-place_more (first ∷ texts) text other h = by (bytes_eq text first) h (place_more texts text other)
-  where
-    by : (b : Bool) → (b || list_any (bytes_eq text) texts) ≡ true → (list_any (bytes_eq text) texts ≡ true → place_in (texts ++ other ∷ []) text ≡ place_in texts text) → cond b 0 (1 + place_in (texts ++ other ∷ []) text) ≡ cond b 0 (1 + place_in texts text)
-    by true h more = refl
-    by false h more = ap (λ n. 1 + n) (more h)
+place_more (first ∷ texts) text other h = grind (arith, h, place_more texts text other)
 
 place_kept : (texts : List (List ℕ)) (text other : List ℕ) → has_text texts text ≡ true → place_in (with_text texts other) text ≡ place_in texts text
-place_kept texts text other h = elim (has_text texts other) as (λ b. place_in (cond b texts (texts ++ other ∷ [])) text ≡ place_in texts text) [ true ↦ refl | false ↦ place_more texts text other h ]
+place_kept texts text other h = grind (arith, place_more texts text other h)
 
 pub has_after : (used texts : List (List ℕ)) (text : List ℕ) → has_text texts text ≡ true → has_text (texts_after texts used) text ≡ true
 has_after [] texts text h = h
@@ -155,7 +125,7 @@ after_both (text ∷ used) more texts = after_both used more (with_text texts te
 
 -- one more text at most
 pub length_with : (texts : List (List ℕ)) (text : List ℕ) → length (with_text texts text) ≤ length texts + 1
-length_with texts text = elim (has_text texts text) as (λ b. length (cond b texts (texts ++ text ∷ [])) ≤ length texts + 1) [ true ↦ omega arith | false ↦ omega (arith, length-append texts (text ∷ [])) ]
+length_with texts text = grind (arith, length-append texts (text ∷ []))
 
 pub length_after : (used texts : List (List ℕ)) → length (texts_after texts used) ≤ length texts + length used
 length_after [] texts = omega arith
@@ -163,18 +133,18 @@ length_after (text ∷ used) texts = let rest = length_after used (with_text tex
 
 -- an index that was given, in the table after more texts are used
 pub index_later : (used old new : List (List ℕ)) (text : List ℕ) (index : ℕ) → new ≡ with_text old text → index ≡ index_in new text → index ≡ index_in (texts_after new used) text
-index_later used old new text index e h = h ∙ (ap (λ (ts : List (List ℕ)). index_in ts text) e ∙ (sym (index_stays used old text) ∙ ap (λ (ts : List (List ℕ)). index_in (texts_after ts used) text) (sym e)))
+index_later used old new text index e h = grind (arith, e, h, index_stays used old text)
 
 -- there is room for the texts that are still to be used
 pub room_left : (start texts used : List (List ℕ)) (n : ℕ) → texts ≡ texts_after start used → length start + (length used + n) ≤ 1048575 → length texts + n ≤ 1048575
 room_left start texts used n e h = rw e (let l = length_after used start in omega (arith, l, h))
 
 pub used_both : (start middle texts used more : List (List ℕ)) → middle ≡ texts_after start used → texts ≡ texts_after middle more → texts ≡ texts_after start (used ++ more)
-used_both start middle texts used more e f = f ∙ (ap (λ (ts : List (List ℕ)). texts_after ts more) e ∙ sym (after_both used more start))
+used_both start middle texts used more e f = grind (arith, e, f, after_both used more start)
 
 -- the table with some texts used, and then others
 pub used_later : (middle texts more used : List (List ℕ)) → texts ≡ texts_after middle more → texts_after middle (more ++ used) ≡ texts_after texts used
-used_later middle texts more used e = after_both more used middle ∙ ap (λ (ts : List (List ℕ)). texts_after ts used) (sym e)
+used_later middle texts more used e = grind (arith, e, after_both more used middle)
 
 -- ---- a text that is somewhere, if none is there twice
 
@@ -182,7 +152,7 @@ module _ {K : Type 0} (items : K → List ℕ) where
   pub stands : (keys : List K) (i : ℕ) (key : K) → slice_get keys i ≡ Some key → has_text (map items keys) (items key) ≡ true
   stands [] i key h = absurd cc
   stands (first ∷ keys) zero key h = let e : first ≡ key = cc in rw (e, same_text (items key)) refl
-  stands (first ∷ keys) (suc i) key h = elim (bytes_eq (items key) (items first)) as (λ b. (b || list_any (bytes_eq (items key)) (map items keys)) ≡ true) [ true ↦ refl | false ↦ stands keys i key h ]
+  stands (first ∷ keys) (suc i) key h = grind (arith, stands keys i key h)
 
   unlike : (first : K) (keys : List K) → AllByRecursion (λ y. bytes_eq (items first) (items y) ≡ false) keys → (i : ℕ) (key : K) → slice_get keys i ≡ Some key → bytes_eq (items key) (items first) ≡ false
   unlike first [] all i key h = absurd cc

@@ -1,9 +1,8 @@
-use Rattle.std.proofs.Common.{arith, ◌≡◌, sym, ap, subst, ◌∙◌, w64}
+use Rattle.std.proofs.Common.{arith, ◌≡◌, sym, subst, w64}
 use Rattle.std.specs.List.{list_any}
 use Rattle.std.specs.Ordering.{int_eq}
 use Rattle.std.specs.FinSet as set
 use Rattle.std.proofs.lemmas.Int.{to_z-of_z}
-use Rattle.osm_ids.specs.declared.page.PageIds.{PageIds}
 use Rattle.osm_ids.specs.Windows.{IsKept, held}
 use Rattle.osm_ids.proofs.page.PageIds.find.Goals as goal
 use Rattle.osm_ids.proofs.page.PageIds.find.Goals.{then-not-covers+in_default, else-not-covers}

@@ -1,6 +1,5 @@
-use Rattle.std.proofs.Common.{◌≡◌, ◌∷◌, [], ◌++◌, sym, ap, subst, ◌∙◌, arith, length-append, to_z, of_z, rules, w64}
+use Rattle.std.proofs.Common.{length, ◌≡◌, ◌∷◌, [], ◌++◌, sym, ap, subst, ◌∙◌, arith, length-append, rules, w64}
 use mir.Val.{SFits}
-use Rattle.std.specs.FinSet as set
 use Rattle.std.proofs.lemmas.Int.{to_z-of_z}
 use Rattle.pbf_wire.specs.Varint.{shortest}
 use Rattle.osm_ids.specs.declared.pages.SealedIds.TheInside.{Inside}
@@ -26,12 +25,12 @@ after c =
     let above = subst (λ (s : Ids). IsAbove s id) (sym c.self.view_is) c.requires in
     elim c.if-self-eq0.branch [
       | then-self-eq0+in_ok-push w ↦
-          let begins = w.in_ok-push.ensures.items ∙ ap (λ z. index ++ record { first = z; place = w.len.result } ∷ []) same ∙ ap (λ n. index ++ record { first = id; place = n } ∷ []) (omega (arith, w.len.ensures, c.self.inside.bytes.ok.0)) in
+          let place : w.len.result ≡ length bytes = omega (arith, w.len.ensures, c.self.inside.bytes.ok.0) in
+          let begins : w.push.new.self.items ≡ index ++ record { first = id; place = length bytes } ∷ [] = grind (arith, w.in_ok-push.ensures.items, same, place) in
           let a = new_page index bytes ids sealed id above c.ranges.id (omega (arith, c.self.invariant.2, w.if-self-eq0.true)) in
           subst (λ (v : Inside). IsSealed v.index.items v.bytes.items (ids ++ id ∷ [])) (sym w.self-inside-is) (subst (λ i. IsSealed i bytes (ids ++ id ∷ [])) (sym begins) a)
       | else-self-eq0+in_ok-put_varint w ↦
-          let difference : w.abs_diff.result ≡ gap last id = w.abs_diff.ensures ∙ ap (λ z. gap (to_z w64 (of_z w64 last)) z) same ∙ ap (λ z. gap z id) (to_z-of_z w64 last fits) in
-          let more : w.put_varint.new.out.items ≡ bytes ++ shortest (gap last id) = w.in_ok-put_varint.ensures.ok ∙ ap (λ d. bytes ++ shortest d) difference in
+          let more : w.put_varint.new.out.items ≡ bytes ++ shortest (gap last id) = grind (arith, w.in_ok-put_varint.ensures.ok, w.abs_diff.ensures, same, to_z-of_z w64 last fits) in
           let a = longer_page index bytes ids sealed id above c.ranges.id last c.self.invariant.3 (omega (arith, c.self.invariant.2, w.if-self-eq0.false)) in
           subst (λ (v : Inside). IsSealed v.index.items v.bytes.items (ids ++ id ∷ [])) (sym w.self-inside-is) (subst (λ b. IsSealed index b (ids ++ id ∷ [])) (sym more) a)
     ]
@@ -61,5 +60,5 @@ invariant_of-self-2 c =
 
 pub returns-clause-ok : goal.returns-clause-ok
 returns-clause-ok c =
-    inserted _ _ _ c.self.invariant.1 c.args.id (subst (λ (s : Ids). IsAbove s c.args.id) (sym c.self.view_is) c.requires) c.ranges.id _ _ (sealed_ids _ _ _ (after c.before.before))
-    ∙ ap (λ s. set.insert s c.args.id) c.self.view_is
+    let above = subst (λ (s : Ids). IsAbove s c.args.id) (sym c.self.view_is) c.requires in
+    grind (arith, inserted _ _ _ c.self.invariant.1 c.args.id above c.ranges.id _ _ (sealed_ids _ _ _ (after c.before.before)), c.self.view_is)

@@ -1,13 +1,11 @@
-use Rattle.std.proofs.Common.{List, ℤ, ap, sym, ◌∙◌, true≢false}
+use Rattle.std.proofs.Common.{arith, List, ℤ, ap, sym, ◌∙◌, true≢false}
 use Rattle.std.specs.List.{list_any}
 use Rattle.std.specs.Ordering.{int_eq}
-use Rattle.osm_ids.proofs.OrderLemmas.{with_late, none_late}
+use Rattle.osm_ids.proofs.OrderLemmas.{none_late}
 use Rattle.osm_ids.proofs.set.IdSet.settle.Goals as goal
 
 pub returns-in_ok-self-inside : goal.returns-in_ok-self-inside
-returns-in_ok-self-inside c =
-    let laid = c.in_ok-self-inside.field-0 in
-    ap (with_late laid) c.new.ensures.empty ∙ none_late laid ∙ c.in_ok-self-inside.ensures ∙ c.self.view_is
+returns-in_ok-self-inside c = grind (arith, c.new.ensures.empty, none_late c.in_ok-self-inside.field-0, c.in_ok-self-inside.ensures, c.self.view_is)
 
 pub invariant_of-self : goal.invariant_of-self
 invariant_of-self c = (

@@ -44,9 +44,7 @@ returns g c =
     let text = c.args.text.now in
     let ok = c.in_ok-place.ensures {u = tt} in
     let copied = (c.in-Ok.ensures {u = tt}).items in
-    let more : map (λ k. k.items) c.insert_full.new.self.keys ≡ with_text (map (λ k. k.items) keys) text = rw ok.keys (added (λ k. k.items) text keys c.in-Ok.copy copied) in
-    let texts : map (λ k. k.items) c.insert_full.new.self.keys ≡ with_text old text = rw (← c.self.view_is) more in
-    let at : c.in_ok-place.place ≡ place_in (map (λ k. k.items) keys) text = ok.index ∙ (place_is (λ k. k.items) c.in-Ok.copy.items keys ∙ ap (λ t. place_in (map (λ k. k.items) keys) t) copied) in
-    let after : index_in (map (λ k. k.items) c.insert_full.new.self.keys) text ≡ index_in (map (λ k. k.items) keys) text = ap (λ ts. index_in ts text) more ∙ ap (λ n. n + 1) (place_with (map (λ k. k.items) keys) text) in
-    let index : 1 + c.in_ok-place.place ≡ index_in (map (λ k. k.items) c.insert_full.new.self.keys) text = omega (arith, at, after) in
+    let texts : map (λ k. k.items) c.insert_full.new.self.keys ≡ with_text old text = rw (← c.self.view_is) (rw ok.keys (added (λ k. k.items) text keys c.in-Ok.copy copied)) in
+    let at : c.in_ok-place.place ≡ place_in old text = grind (arith, ok.index, c.self.view_is, place_is (λ k. k.items) c.in-Ok.copy.items keys, copied) in
+    let index : 1 + c.in_ok-place.place ≡ index_in (map (λ k. k.items) c.insert_full.new.self.keys) text = grind (arith, at, texts, place_with old text) in
     record { texts = texts; index = index; named = rw (index, texts) (text_named old text); known = search rules; err = search rules }
