@@ -1,7 +1,7 @@
 -- Messages whose fields come once each, in the order of their numbers: what they begin with, and that they have no faults.
-use Rattle.std.proofs.Common.{◌≡◌, ℕ, ℤ, ◌+◌, ◌-◌, ◌/◌, ◌^◌, ◌<◌, ◌≤◌, ltb, eqb, Bool, true, false, pos, List, [], ◌∷◌, ◌++◌, length, take, drop, get_or, refl, sym, ap, subst, ◌∙◌, arith, append-nil, eq-eqb}
+use Rattle.std.proofs.Common.{◌≡◌, ℕ, ◌+◌, ◌-◌, ◌/◌, ◌^◌, ◌<◌, ◌≤◌, ltb, eqb, Bool, true, false, pos, List, [], ◌∷◌, ◌++◌, length, take, drop, get_or, refl, sym, ap, subst, ◌∙◌, arith, append-nil, eq-eqb}
 use Rattle.std.specs.Prelude.{Ok, None, Some, not}
-use Rattle.std.specs.List.{AllByRecursion, zip}
+use Rattle.std.specs.List.{AllByRecursion}
 use Rattle.std.proofs.lemmas.Bool.{lt-ltb, le-ltb}
 use Rattle.std.proofs.lemmas.List.{take_rest, drop-drop, length-drop, get_or-drop}
 use Rattle.pbf_wire.specs.declared.fault.Reason.{Reason}
@@ -20,17 +20,15 @@ use Rattle.pbf_wire.proofs.Columns.{placed_numbers}
 use Rattle.pbf_wire.proofs.Items.{items_none, items_ok}
 use Rattle.pbf_wire.proofs.Varints.{one_byte}
 use Rattle.pbf_wire.proofs.ShortLemmas.{short_numbers, small_sums}
-use Rattle.osm_entity.specs.declared.scale.Scale.{Scale}
-use Rattle.osm_entity.specs.Entity.{TagSpec, MetaSpec, LocationSpec, WaySpec}
+use Rattle.osm_entity.specs.Entity.{MetaSpec}
 use Rattle.osm_entity.specs.Sources.{named}
 use Rattle.pbf_block.specs.declared.plain.PlainWay.{PlainWay}
 use Rattle.pbf_block.specs.declared.plain.PlainInfo.{PlainInfo}
 use Rattle.pbf_block.specs.declared.entity.TheConstants.{ID, KEYS, VALS, INFO}
-use Rattle.pbf_block.specs.declared.way.TheConstants.{WAY_KINDS, REFS, WAY_LAT}
+use Rattle.pbf_block.specs.declared.way.TheConstants.{WAY_KINDS, REFS}
 use Rattle.pbf_block.specs.declared.info.TheConstants.{INFO_KINDS}
 use Rattle.pbf_block.specs.Info.{info_in, info_values, out_of_range}
 use Rattle.pbf_block.specs.Plain.{IsTag, number_field, bytes_field, BeginsWithNumber, BeginsWithBytes, IsPlainWay, IsPlainInfo}
-use Rattle.pbf_block.specs.Scale.{number_or}
 use Rattle.pbf_block.specs.Way.{way_structure, way_values}
 
 -- ---- what a message begins with
@@ -163,9 +161,6 @@ info_said table info = record {
   visible = None;
 }
 
-pub plain_id : (way : PlainWay) (at : ℕ) (m : List ℕ) → IsPlainWay way at m → number_or (pos 0) low_i64 ID (fields_in at m) ≡ low_i64 way.id
-plain_id way at m p = rw p.is refl
-
 pub plain_refs : (way : PlainWay) (at : ℕ) (m : List ℕ) → IsPlainWay way at m → read_entries (entries way.refs.now) ≡ column REFS (fields_in at m)
 plain_refs way at m p = rw p.is (sym (placed_numbers p.refs (read_entries (entries way.refs.now))))
 
@@ -175,23 +170,10 @@ plain_keys way at m p = rw p.is (sym (placed_numbers p.keys (read_entries (entri
 pub plain_vals : (way : PlainWay) (at : ℕ) (m : List ℕ) → IsPlainWay way at m → read_entries (entries way.vals.now) ≡ column VALS (fields_in at m)
 plain_vals way at m p = rw p.is (sym (placed_numbers p.vals (read_entries (entries way.vals.now))))
 
--- no locations
-pub plain_lats : (way : PlainWay) (at : ℕ) (m : List ℕ) → IsPlainWay way at m → column WAY_LAT (fields_in at m) ≡ []
-plain_lats way at m p = rw p.is refl
-
 -- what an Info says of which each number is there once
 pub plain_meta : (way : PlainWay) (info : PlainInfo) (table : List (List ℕ)) (at : ℕ) (m : List ℕ) → IsPlainWay way at m → ((at : ℕ) → IsPlainInfo info at way.info.now)
     → info_said table info ≡ info_in table (embedded INFO (fields_in at m))
 plain_meta way info table at m p q = rw (p.is, (q p.info_at).is) refl
-
-abbrev pub way_made : ℤ → MetaSpec → List TagSpec → List ℤ → List LocationSpec → Scale → WaySpec
-way_made id meta tags refs locations scale = record { id = id; meta = meta; tags = tags; refs = refs; locations = locations; scale = scale }
-
--- ways of the same parts
-pub same_way : (scale : Scale) (id i : ℤ) (meta m : MetaSpec) (tags t : List TagSpec) (refs r lats a lons o : List ℤ) (locations : List LocationSpec)
-    → id ≡ i → meta ≡ m → tags ≡ t → refs ≡ r → lats ≡ a → lons ≡ o → locations ≡ zip lats lons
-    → way_made id meta tags refs locations scale ≡ way_made i m t r (zip a o) scale
-same_way scale id i meta m tags t refs r lats a lons o locations same_id same_meta same_tags same_refs same_lats same_lons both = cc
 
 -- the second byte is a whole varint
 pub short_after : (m : List ℕ) → 1 < length m → get_or m 1 0 < 128 → varint_at (drop 1 m) ≡ Ok (get_or m 1 0, 1)

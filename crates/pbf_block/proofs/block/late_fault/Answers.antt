@@ -20,13 +20,6 @@ module _ (table : List (List ℕ)) (at : ℕ) (m : List ℕ) (texts : table ≡ 
   unfolding payload_weights
   weights_are scale scaled = ap₂ (λ (t : List (List ℕ)) (s : Scale). flat_map (in_group (member_weights indexed t s)) (fields_in at m)) texts scaled
 
-pub returns-in-Some : goal.returns-in-Some
-returns-in-Some c =
-    let at = c.args.payload.at in
-    let m = c.args.payload.bytes.now in
-    let values = sym c.in-Some.is ∙ c.value_fault.ensures ∙ ap (λ n. least (value_faults n at m)) c.len.ensures.exact ∙ ap least (values_are c.args.table.now at m c.requires.texts) in
-    ap (λ f. option_or f (least (payload_weights at m))) values
-
 pub returns : goal.returns
 returns c =
     let at = c.args.payload.at in

@@ -1,6 +1,5 @@
 use Rattle.std.proofs.Common.{◌≡◌, ap, sym, ◌∙◌}
-use Rattle.std.specs.Prelude.{Some, None, Err}
-use Rattle.std.proofs.lemmas.Result.{err_from_is_err_and}
+use Rattle.std.specs.Prelude.{Some, None}
 use Rattle.pbf_block.specs.PrimitiveBlock.{wire_faults, structure_faults}
 use Rattle.pbf_block.proofs.PhaseLemmas.{early_nil, first_early, first_late}
 use Rattle.pbf_block.proofs.block.Block.read.Goals as goal
@@ -10,12 +9,6 @@ returns-in-Some-clause-refused c = λ fault e. let same : c.in-Some.fault ≡ fa
 
 pub read_table-requires-clause-structure : goal.read_table-requires-clause-structure
 read_table-requires-clause-structure c = (early_nil (wire_faults c.args.at c.args.payload.now) (structure_faults c.args.at c.args.payload.now) (sym c.in_default.is ∙ c.early_fault.ensures)).1
-
-pub returns-in_err-table-clause-refused : goal.returns-in_err-table-clause-refused
-returns-in_err-table-clause-refused c = λ fault e.
-    let p = err_from_is_err_and c.from_residual.result c.from_residual.ensures.1 in
-    let both = ap Err (sym p.2) ∙ (sym p.1 ∙ e) in
-    absurd cc
 
 pub late_fault-requires-clause-wire : goal.late_fault-requires-clause-wire
 late_fault-requires-clause-wire c = (early_nil (wire_faults c.args.at c.args.payload.now) (structure_faults c.args.at c.args.payload.now) (sym c.in_default.is ∙ c.early_fault.ensures)).0
