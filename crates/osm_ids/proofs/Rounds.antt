@@ -70,7 +70,7 @@ module _ (page : PageIds) (id seen : ℤ) (at : ℕ) (e : seen ≡ id) (b : IsBe
   pub not_there : list_any (int_eq id) (held page) ≡ false
   not_there = none_at (held page) at id b.rising p.within p.behind apart
 
--- ---- what is known of the ids between two
+-- ---- the ids between two numbers
 
 pub told_known : (ids : Ids) (known : Known) (there : Bool) (above below above' below' : ℤ) → known ≡ record { span = record { above = above'; below = below' }; there = there } → above' ≡ above → below' ≡ below → ((x : ℤ) → above <ℤ x → x <ℤ below → set.contains ids x ≡ there) → IsKnown ids known
 told_known ids known there above below above' below' e low high known_is =
