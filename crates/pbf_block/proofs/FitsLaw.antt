@@ -260,22 +260,14 @@ all_flat P f [] each = tt
 all_flat P f (x ∷ xs) each = all_append P (f x) (flat_map f xs) (each x) (all_flat P f xs each)
 
 module _ (table : List (List ℕ)) (scale : Scale) (scaled : ScaleTyped scale) where
-  node_typed : (os : List Occurrence) → EntityTyped (node (node_in table scale os))
-  unfolding node_in
-  node_typed os = record { version = version_typed (last_number VERSION (embedded INFO os)); scale = scaled }
-
-  way_typed : (os : List Occurrence) → EntityTyped (way (way_in indexed table scale os))
-  unfolding way_in
-  way_typed os = record { version = version_typed (last_number VERSION (embedded INFO os)); scale = scaled }
-
-  relation_typed : (os : List Occurrence) → EntityTyped (relation (relation_in indexed table scale os))
-  unfolding relation_in
-  relation_typed os = record { version = version_typed (last_number VERSION (embedded INFO os)); scale = scaled }
-
   message_typed : (k : ℕ) (os : List Occurrence) → AllByRecursion EntityTyped (message_entities indexed table scale k os)
+  unfolding node_in way_in relation_in
   message_typed k os =
-      cond_all EntityTyped (eqb k NODES) _ _ (λ t. (node_typed os, tt)) (cond_all EntityTyped (eqb k DENSE) _ _ (λ t. all_map EntityTyped node _ (nodes_typed table scale scaled os))
-      (cond_all EntityTyped (eqb k WAYS) _ _ (λ t. (way_typed os, tt)) (cond_all EntityTyped (eqb k RELATIONS) _ _ (λ t. (relation_typed os, tt)) tt)))
+      let version = version_typed (last_number VERSION (embedded INFO os)) in
+      cond_all EntityTyped (eqb k NODES) _ _ (λ t. (record { version = version; scale = scaled }, tt))
+      (cond_all EntityTyped (eqb k DENSE) _ _ (λ t. all_map EntityTyped node _ (nodes_typed table scale scaled os))
+      (cond_all EntityTyped (eqb k WAYS) _ _ (λ t. (record { version = version; scale = scaled }, tt))
+      (cond_all EntityTyped (eqb k RELATIONS) _ _ (λ t. (record { version = version; scale = scaled }, tt)) tt)))
 
   inside_typed : (f : ℕ → List ℕ → List EntitySpec) (c : Content) → ((at : ℕ) (m : List ℕ) → AllByRecursion EntityTyped (f at m)) → AllByRecursion EntityTyped (inside f c)
   inside_typed f (Bytes bytes at) each = each at bytes
