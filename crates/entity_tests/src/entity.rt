@@ -2,7 +2,7 @@
 
 use osm_entity::{
     BoundingBox, BoxFault, ColumnMembers, EntityRef, HIGHEST_WEIGHT, Locations, Member, MemberKind,
-    Members, Meta, MetaRef, NodeRef, OwnedTags, PairedTags, Refs, Relation, RelationRef, RunTags,
+    Members, Meta, MetaRef, NodeRef, PairedTags, Refs, Relation, RelationRef, RunTags,
     Scale, SummedLocations, Tags, WayRef,
 };
 use pbf_strings::Table;
@@ -139,7 +139,7 @@ fn faults_by_their_names(rt: HostRuntime) -> Result<(), Fail> {
 
 /// A node without tags and metadata.
 fn bare_node<'a>(lat: i64, lon: i64, scale: Scale) -> NodeRef<'a> {
-    let tags = Tags::Owned(OwnedTags::new(&[]));
+    let tags = Tags::Owned(&[]);
     NodeRef::new(1, lat, lon, NO_META, tags, scale)
 }
 

@@ -9,19 +9,15 @@ use Rattle.osm_entity.specs.declared.member.Member.{Member}
 use Rattle.osm_entity.specs.declared.member.MemberKind.{MemberKind}
 use Rattle.osm_entity.specs.declared.member.MemberKind.TheVariants as kind
 use Rattle.osm_entity.specs.declared.member.MemberRef.{MemberRef}
-use Rattle.osm_entity.specs.declared.member.OwnedMembers.{OwnedMembers}
 use Rattle.osm_entity.specs.declared.member.ColumnMembers.{ColumnMembers}
 use Rattle.osm_entity.specs.declared.member.Members.{Members}
 use Rattle.osm_entity.specs.declared.member.Members.TheVariants as members
-use Rattle.osm_entity.specs.declared.tags.OwnedTags.{OwnedTags}
 use Rattle.osm_entity.specs.declared.tags.RunTags.{RunTags}
 use Rattle.osm_entity.specs.declared.tags.PairedTags.{PairedTags}
 use Rattle.osm_entity.specs.declared.tags.Tags.{Tags}
 use Rattle.osm_entity.specs.declared.tags.Tags.TheVariants as tags
-use Rattle.osm_entity.specs.declared.refs.OwnedRefs.{OwnedRefs}
 use Rattle.osm_entity.specs.declared.refs.Refs.{Refs}
 use Rattle.osm_entity.specs.declared.refs.Refs.TheVariants as refs
-use Rattle.osm_entity.specs.declared.locations.OwnedLocations.{OwnedLocations}
 use Rattle.osm_entity.specs.declared.locations.SummedLocations.{SummedLocations}
 use Rattle.osm_entity.specs.declared.locations.Locations.{Locations}
 use Rattle.osm_entity.specs.declared.locations.Locations.TheVariants as locations
@@ -61,9 +57,6 @@ run_tags table numbers = map (tag_of table) (run (map low_32 numbers))
 abbrev pub paired_tags : List (List ℕ) → List ℕ → List ℕ → List TagSpec
 paired_tags table keys values = map (tag_of table) (zip (map low_32 keys) (map low_32 values))
 
-abbrev pub owned_tags_left : OwnedTags → List TagSpec
-owned_tags_left source = map owned_tag source.rest.now
-
 abbrev pub run_tags_left : RunTags → List TagSpec
 run_tags_left source = run_tags source.table.now (numbers_left source.numbers)
 
@@ -71,29 +64,23 @@ abbrev pub paired_tags_left : PairedTags → List TagSpec
 paired_tags_left source = paired_tags source.table.now (numbers_left source.keys) (numbers_left source.values)
 
 abbrev pub tags_left : Tags → List TagSpec
-tags_left (tags.Owned source) = owned_tags_left source
+tags_left (tags.Owned rest) = map owned_tag rest.now
 tags_left (tags.Run source) = run_tags_left source
 tags_left (tags.Paired source) = paired_tags_left source
 
 -- ---- refs
 
-abbrev pub owned_refs_left : OwnedRefs → List ℤ
-owned_refs_left source = source.rest.now
-
 abbrev pub refs_left : Refs → List ℤ
-refs_left (refs.Owned source) = owned_refs_left source
+refs_left (refs.Owned rest) = rest.now
 refs_left (refs.Summed source) = sums_left source
 
 -- ---- locations, as long as both columns go on
-
-abbrev pub owned_locations_left : OwnedLocations → List LocationSpec
-owned_locations_left source = source.rest.now
 
 abbrev pub summed_locations_left : SummedLocations → List LocationSpec
 summed_locations_left source = zip (sums_left source.lats) (sums_left source.lons)
 
 abbrev pub locations_left : Locations → List LocationSpec
-locations_left (locations.Owned source) = owned_locations_left source
+locations_left (locations.Owned rest) = rest.now
 locations_left (locations.Summed source) = summed_locations_left source
 
 abbrev pub nano_locations_left : NanoLocations → List LocationSpec
@@ -118,12 +105,9 @@ member_of table parts = record { kind = member_kind parts.0; id = parts.1.0; rol
 abbrev pub column_members : List (List ℕ) → List ℕ → List ℤ → List ℕ → List MemberSpec
 column_members table kinds ids roles = map (member_of table) (zip kinds (zip ids roles))
 
-abbrev pub owned_members_left : OwnedMembers → List MemberSpec
-owned_members_left source = map owned_member source.rest.now
-
 abbrev pub column_members_left : ColumnMembers → List MemberSpec
 column_members_left source = column_members source.table.now (numbers_left source.kinds) (sums_left source.ids) (numbers_left source.roles)
 
 abbrev pub members_left : Members → List MemberSpec
-members_left (members.Owned source) = owned_members_left source
+members_left (members.Owned rest) = map owned_member rest.now
 members_left (members.Columns source) = column_members_left source

@@ -7,40 +7,6 @@ use crate::scale::Scale;
 use pbf_wire::Sums;
 use std::alloc::{AllocError, Global};
 
-/// The locations of an owned way that are still to come.
-#[derive(Clone, Copy)]
-pub struct OwnedLocations<'a> {
-    rest: &'a [(i64, i64)],
-}
-
-impl<'a> OwnedLocations<'a> {
-    ghost use Rattle.osm_entity.specs.Sources.{owned_locations_left};
-
-    /// All these locations.
-    pub fn new(locations: &'a [(i64, i64)]) -> OwnedLocations<'a>
-        ensures { owned_locations_left result ≡ locations.now }
-    {
-        OwnedLocations { rest: locations }
-    }
-}
-
-impl<'a> Iterator for OwnedLocations<'a> {
-    ghost use Rattle.std.specs.Iterator.{YieldsFirst, item_count};
-    ghost use Rattle.osm_entity.specs.Sources.{owned_locations_left};
-
-    type Item = (i64, i64);
-
-    ghost next_gives = { YieldsFirst owned_locations_left };
-
-    ghost remaining = { item_count owned_locations_left };
-
-    fn next(&mut self) -> Option<(i64, i64)> {
-        let (first, rest) = self.rest.split_first()?;
-        self.rest = rest;
-        Some(*first)
-    }
-}
-
 /// The locations of a way in a block that are still to come: the values of two columns.
 #[derive(Clone, Copy)]
 pub struct SummedLocations<'a> {
@@ -82,7 +48,7 @@ impl<'a> Iterator for SummedLocations<'a> {
 /// The locations of a way that are still to come, each a stored latitude and longitude.
 #[derive(Clone, Copy)]
 pub enum Locations<'a> {
-    Owned(OwnedLocations<'a>),
+    Owned(&'a [(i64, i64)]),
     Summed(SummedLocations<'a>),
 }
 
@@ -98,7 +64,11 @@ impl<'a> Iterator for Locations<'a> {
 
     fn next(&mut self) -> Option<(i64, i64)> {
         match self {
-            Locations::Owned(locations) => locations.next(),
+            Locations::Owned(locations) => {
+                let (first, rest) = locations.split_first()?;
+                *locations = rest;
+                Some(*first)
+            }
             Locations::Summed(locations) => locations.next(),
         }
     }

@@ -56,44 +56,6 @@ fn member_kind(number: u64) -> MemberKind
     }
 }
 
-/// The members of an owned relation that are still to come.
-#[derive(Clone, Copy)]
-pub struct OwnedMembers<'a> {
-    rest: &'a [Member],
-}
-
-impl<'a> OwnedMembers<'a> {
-    ghost use Rattle.osm_entity.specs.Sources.{owned_members_left};
-
-    /// All these members.
-    pub fn new(members: &'a [Member]) -> OwnedMembers<'a>
-        ensures { owned_members_left result ≡ map owned_member members.now }
-    {
-        OwnedMembers { rest: members }
-    }
-}
-
-impl<'a> Iterator for OwnedMembers<'a> {
-    ghost use Rattle.std.specs.Iterator.{YieldsFirstBy, item_count};
-    ghost use Rattle.osm_entity.specs.Sources.{owned_members_left, lent_member};
-
-    type Item = MemberRef<'a>;
-
-    ghost next_gives = { YieldsFirstBy lent_member owned_members_left };
-
-    ghost remaining = { item_count owned_members_left };
-
-    fn next(&mut self) -> Option<MemberRef<'a>> {
-        let (first, rest) = self.rest.split_first()?;
-        self.rest = rest;
-        Some(MemberRef {
-            kind: first.kind,
-            id: first.id,
-            role: first.role.as_slice(),
-        })
-    }
-}
-
 /// The members of a relation in a block that are still to come: the numbers of three columns.
 #[derive(Clone, Copy)]
 pub struct ColumnMembers<'a> {
@@ -153,7 +115,7 @@ impl<'a> Iterator for ColumnMembers<'a> {
 /// The members of a relation that are still to come.
 #[derive(Clone, Copy)]
 pub enum Members<'a> {
-    Owned(OwnedMembers<'a>),
+    Owned(&'a [Member]),
     Columns(ColumnMembers<'a>),
 }
 
@@ -169,7 +131,15 @@ impl<'a> Iterator for Members<'a> {
 
     fn next(&mut self) -> Option<MemberRef<'a>> {
         match self {
-            Members::Owned(members) => members.next(),
+            Members::Owned(members) => {
+                let (first, rest) = members.split_first()?;
+                *members = rest;
+                Some(MemberRef {
+                    kind: first.kind,
+                    id: first.id,
+                    role: first.role.as_slice(),
+                })
+            }
             Members::Columns(members) => members.next(),
         }
     }

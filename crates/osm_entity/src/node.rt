@@ -10,7 +10,7 @@ ghost use Rattle.osm_entity.specs.Views.{meta_of, node_of, owned_node};
 
 use crate::meta::{Meta, MetaRef};
 use crate::scale::Scale;
-use crate::tags::{OwnedTags, Tag, Tags, owned_tags};
+use crate::tags::{Tag, Tags, owned_tags};
 use crate::weight::{ENTITY_WEIGHT, id_fits, tags_weight, within_weight_limit};
 use std::alloc::{AllocError, Global};
 
@@ -36,7 +36,7 @@ impl Node {
             lat: self.lat,
             lon: self.lon,
             meta: self.meta.view(),
-            tags: Tags::Owned(OwnedTags::new(&self.tags)),
+            tags: Tags::Owned(&self.tags),
             scale: self.scale,
         }
     }

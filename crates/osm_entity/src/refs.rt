@@ -6,44 +6,10 @@ ghost use Rattle.osm_entity.specs.Sources.{refs_left};
 use pbf_wire::{Span, Sums};
 use std::alloc::{AllocError, Global};
 
-/// The refs of an owned way that are still to come.
-#[derive(Clone, Copy)]
-pub struct OwnedRefs<'a> {
-    rest: &'a [i64],
-}
-
-impl<'a> OwnedRefs<'a> {
-    ghost use Rattle.osm_entity.specs.Sources.{owned_refs_left};
-
-    /// All these refs.
-    pub fn new(refs: &'a [i64]) -> OwnedRefs<'a>
-        ensures { owned_refs_left result ≡ refs.now }
-    {
-        OwnedRefs { rest: refs }
-    }
-}
-
-impl<'a> Iterator for OwnedRefs<'a> {
-    ghost use Rattle.std.specs.Iterator.{YieldsFirst, item_count};
-    ghost use Rattle.osm_entity.specs.Sources.{owned_refs_left};
-
-    type Item = i64;
-
-    ghost next_gives = { YieldsFirst owned_refs_left };
-
-    ghost remaining = { item_count owned_refs_left };
-
-    fn next(&mut self) -> Option<i64> {
-        let (first, rest) = self.rest.split_first()?;
-        self.rest = rest;
-        Some(*first)
-    }
-}
-
 /// The refs of a way that are still to come, each the id of a node.
 #[derive(Clone, Copy)]
 pub enum Refs<'a> {
-    Owned(OwnedRefs<'a>),
+    Owned(&'a [i64]),
     Summed(Sums<'a>),
 }
 
@@ -91,7 +57,11 @@ impl<'a> Iterator for Refs<'a> {
     #[inline(always)]
     fn next(&mut self) -> Option<i64> {
         match self {
-            Refs::Owned(refs) => refs.next(),
+            Refs::Owned(refs) => {
+                let (first, rest) = refs.split_first()?;
+                *refs = rest;
+                Some(*first)
+            }
             Refs::Summed(refs) => refs.next(),
         }
     }

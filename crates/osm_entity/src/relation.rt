@@ -8,10 +8,10 @@ ghost use Rattle.osm_entity.specs.Views.{meta_of, relation_of, owned_relation};
 ghost use Rattle.osm_entity.specs.Weight.{members_weight, relation_weight};
 ghost use Rattle.osm_entity.specs.Ranges.{RelationFits};
 
-use crate::member::{Member, Members, OwnedMembers, owned_members};
+use crate::member::{Member, Members, owned_members};
 use crate::meta::{Meta, MetaRef};
 use crate::scale::Scale;
-use crate::tags::{OwnedTags, Tag, Tags, owned_tags};
+use crate::tags::{Tag, Tags, owned_tags};
 use crate::weight::{
     ENTITY_WEIGHT, id_fits, members_weight, stored_members_weight, tags_weight, within_weight_limit,
 };
@@ -35,8 +35,8 @@ impl Relation {
         RelationRef {
             id: self.id,
             meta: self.meta.view(),
-            tags: Tags::Owned(OwnedTags::new(&self.tags)),
-            members: Members::Owned(OwnedMembers::new(&self.members)),
+            tags: Tags::Owned(&self.tags),
+            members: Members::Owned(&self.members),
             scale: self.scale,
         }
     }

@@ -17,40 +17,6 @@ pub(crate) fn named<'a>(table: &'a Table<'a>, number: u64) -> &'a [u8]
     table.text(low_u32(number) as usize)
 }
 
-/// The tags of an owned entity that are still to come.
-#[derive(Clone, Copy)]
-pub struct OwnedTags<'a> {
-    rest: &'a [Tag],
-}
-
-impl<'a> OwnedTags<'a> {
-    ghost use Rattle.osm_entity.specs.Sources.{owned_tags_left};
-
-    /// All these tags.
-    pub fn new(tags: &'a [Tag]) -> OwnedTags<'a>
-        ensures { owned_tags_left result ≡ map owned_tag tags.now }
-    {
-        OwnedTags { rest: tags }
-    }
-}
-
-impl<'a> Iterator for OwnedTags<'a> {
-    ghost use Rattle.std.specs.Iterator.{YieldsFirstBy, item_count};
-    ghost use Rattle.osm_entity.specs.Sources.{owned_tags_left, lent_tag};
-
-    type Item = (&'a [u8], &'a [u8]);
-
-    ghost next_gives = { YieldsFirstBy lent_tag owned_tags_left };
-
-    ghost remaining = { item_count owned_tags_left };
-
-    fn next(&mut self) -> Option<(&'a [u8], &'a [u8])> {
-        let ((key, value), rest) = self.rest.split_first()?;
-        self.rest = rest;
-        Some((key.as_slice(), value.as_slice()))
-    }
-}
-
 /// The tags of a dense node that are still to come: numbers of texts in turn, key and value, up to a 0 in key place.
 #[derive(Clone, Copy)]
 pub struct RunTags<'a> {
@@ -138,7 +104,7 @@ impl<'a> Iterator for PairedTags<'a> {
 /// The tags of an entity that are still to come, each a key and its value.
 #[derive(Clone, Copy)]
 pub enum Tags<'a> {
-    Owned(OwnedTags<'a>),
+    Owned(&'a [Tag]),
     Run(RunTags<'a>),
     Paired(PairedTags<'a>),
 }
@@ -149,7 +115,7 @@ impl Tags<'_> {
         ensures { IsTrue result → tags_left self.now ≡ [] }
     {
         match self {
-            Tags::Owned(tags) => tags.rest.is_empty(),
+            Tags::Owned(tags) => tags.is_empty(),
             _ => false,
         }
     }
@@ -167,7 +133,11 @@ impl<'a> Iterator for Tags<'a> {
 
     fn next(&mut self) -> Option<(&'a [u8], &'a [u8])> {
         match self {
-            Tags::Owned(tags) => tags.next(),
+            Tags::Owned(tags) => {
+                let ((key, value), rest) = tags.split_first()?;
+                *tags = rest;
+                Some((key.as_slice(), value.as_slice()))
+            }
             Tags::Run(tags) => tags.next(),
             Tags::Paired(tags) => tags.next(),
         }

@@ -11,11 +11,11 @@ ghost use Rattle.osm_entity.specs.Weight.{way_weight};
 ghost use Rattle.osm_entity.specs.declared.weight.TheConstants.{PART_WEIGHT};
 ghost use Rattle.osm_entity.specs.Ranges.{AreLocated, LocationFits, WayFits};
 
-use crate::locations::{Locations, NanoLocations, OwnedLocations, owned_locations};
+use crate::locations::{Locations, NanoLocations, owned_locations};
 use crate::meta::{Meta, MetaRef};
-use crate::refs::{OwnedRefs, Refs, owned_refs};
+use crate::refs::{Refs, owned_refs};
 use crate::scale::Scale;
-use crate::tags::{OwnedTags, Tag, Tags, owned_tags};
+use crate::tags::{Tag, Tags, owned_tags};
 use crate::weight::{
     ENTITY_WEIGHT, id_fits, locations_fit, locations_weight, refs_weight, stored_refs_weight,
     tags_weight, within_weight_limit,
@@ -43,9 +43,9 @@ impl Way {
         WayRef {
             id: self.id,
             meta: self.meta.view(),
-            tags: Tags::Owned(OwnedTags::new(&self.tags)),
-            refs: Refs::Owned(OwnedRefs::new(&self.refs)),
-            locations: Locations::Owned(OwnedLocations::new(&self.locations)),
+            tags: Tags::Owned(&self.tags),
+            refs: Refs::Owned(&self.refs),
+            locations: Locations::Owned(&self.locations),
             scale: self.scale,
         }
     }

@@ -63,16 +63,6 @@ fn put_visible_part(out: &mut Vec<u8>, visible: Option<bool>) -> Result<(), Allo
     Ok(())
 }
 
-/// A number in 64 bits, if there is one.
-fn widened(number: Option<i32>) -> Option<i64>
-    ensures { result ≡ number }
-{
-    match number {
-        Some(number) => Some(i64::from(number)),
-        None => None,
-    }
-}
-
 /// Appends the metadata.
 #[tactic(auto, unfolding(crate::specs::EntityText::meta_text))]
 fn put_meta(
@@ -84,10 +74,10 @@ fn put_meta(
     ensures { OnOk result (out.new.items
         ≡ out.old.items ++ meta_text dates (meta_in_millis scale (meta_of meta.now))) }
 {
-    put_number_part(out, b'v', widened(meta.version))?;
+    put_number_part(out, b'v', meta.version.map(i64::from))?;
     put_time_part(out, meta.millis(scale), dates)?;
     put_number_part(out, b'c', meta.changeset)?;
-    put_number_part(out, b'u', widened(meta.uid))?;
+    put_number_part(out, b'u', meta.uid.map(i64::from))?;
     put_user_part(out, meta.user)?;
     put_visible_part(out, meta.visible)?;
     Ok(())

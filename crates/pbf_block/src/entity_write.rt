@@ -50,18 +50,8 @@ pub(crate) fn put_refs(column: &mut DeltaOut, refs: Refs<'_>) -> Result<(), Allo
     ensures { OnOk result (column.new ≡ refs_left refs.entry) }
 {
     column.clear();
-    // One loop for each kind of refs, so that the kind is matched once and not at each ref.
-    match refs {
-        Refs::Owned(owned) => {
-            'owned: for reference in owned {
-                column.push(reference)?;
-            }
-        }
-        Refs::Summed(sums) => {
-            'summed: for reference in sums {
-                column.push(reference)?;
-            }
-        }
+    for reference in refs {
+        column.push(reference)?;
     }
     Ok(())
 }

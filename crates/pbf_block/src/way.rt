@@ -19,7 +19,7 @@ use crate::entity::{self, ID, INFO, KEYS, VALS, entity_meta, last_wide, tags_in,
 use crate::info::INFO_KINDS;
 use crate::plain::{self, plain_way};
 use crate::ranges::judge_wide;
-use osm_entity::{Locations, OwnedLocations, Refs, Scale, SummedLocations, WayRef};
+use osm_entity::{Locations, Refs, Scale, SummedLocations, WayRef};
 use pbf_dense::dense_info::judge_stored_sums;
 use pbf_strings::Table;
 use pbf_wire::{
@@ -164,7 +164,7 @@ impl<'a> UnmadeWay<'a> {
             meta,
             way.tags(self.table),
             way.refs(),
-            Locations::Owned(OwnedLocations::new(&[])),
+            Locations::Owned(&[]),
             self.scale,
         ))
     }

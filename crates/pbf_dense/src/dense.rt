@@ -15,7 +15,7 @@ use crate::info::InfoColumns;
 use crate::places::Places;
 use crate::run_out::next_pair;
 use crate::within::IdsWithin;
-use osm_entity::{BoundingBox, MetaRef, NodeRef, OwnedTags, RunTags, STORED_LIMIT, Scale, Tags};
+use osm_entity::{BoundingBox, MetaRef, NodeRef, RunTags, STORED_LIMIT, Scale, Tags};
 use pbf_strings::Table;
 use pbf_wire::{Column, Message, Sums, column_count};
 
@@ -52,7 +52,7 @@ fn skip_runs(numbers: &mut Column<'_>, count: usize)
 fn clear_tags(tags: &mut Tags<'_>)
     ensures { tags_left tags.new ≡ [] }
 {
-    *tags = Tags::Owned(OwnedTags::new(&[]));
+    *tags = Tags::Owned(&[]);
 }
 
 /// Puts the tags of the next node in this place, and skips its run. It is a call for the same reason.
@@ -93,7 +93,7 @@ fn fill(place: &mut Option<NodeRef<'_>>, scale: Scale)
         user: None,
         visible: None,
     };
-    let tags = Tags::Owned(OwnedTags::new(&[]));
+    let tags = Tags::Owned(&[]);
     *place = Some(NodeRef::new(0, 0, 0, meta, tags, scale));
 }
 

@@ -3,7 +3,7 @@
 
 use crate::blobs::{HEADER_ALONE, THREE_DENSE_NODES};
 use crate::check::counts;
-use osm_entity::{EntityRef, MetaRef, NodeRef, OwnedTags, Scale, Tags};
+use osm_entity::{EntityRef, MetaRef, NodeRef, Scale, Tags};
 use pbf_frame::{Pieces, Sink, Stop};
 use pbf_wire::{Fault, Reason};
 use pbfcut::{Counts, show};
@@ -220,7 +220,7 @@ fn counts_that_stay_at_the_greatest_number(rt: HostRuntime) {
         lat_offset: 0,
         lon_offset: 0,
     };
-    let tags = Tags::Owned(OwnedTags::new(&[]));
+    let tags = Tags::Owned(&[]);
     met.take(&EntityRef::Node(NodeRef::new(1, 1, 1, meta, tags, scale)));
     assert_eq!(rt; met, most);
 }
