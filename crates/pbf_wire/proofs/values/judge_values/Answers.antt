@@ -1,18 +1,9 @@
 use Rattle.std.proofs.Common.{refl, ◌∙◌, sym, ap}
 use Rattle.pbf_wire.specs.Least.{least}
-use Rattle.pbf_wire.specs.Columns.{joined}
-use Rattle.pbf_wire.specs.Occurrence.{found}
 use Rattle.pbf_wire.specs.Cursors.{fields_left, column_left, place_of_number}
 use Rattle.pbf_wire.specs.Faults.{is_allowed}
 use Rattle.pbf_wire.proofs.RisingLemmas.{left_rises, not_good, running, running_is}
 use Rattle.pbf_wire.proofs.values.judge_values.Goals as goal
-
-pub loop-entry-init : goal.loop-entry-init
-loop-entry-init c = rw c.new-sum.ensures (rw c.over-column.ensures.left (record {
-  faults = ap least (running_is (is_allowed c.args.signed c.args.limit) c.args.reason c.args.narrow (joined c.args.number (found (fields_left c.args.fields))));
-  rising = left_rises c.args.number c.args.fields;
-  limit = refl;
-}))
 
 pub returns-then-not-add_entry : goal.returns-then-not-add_entry
 returns-then-not-add_entry c =
