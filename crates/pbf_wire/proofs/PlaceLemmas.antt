@@ -6,7 +6,7 @@ use Rattle.std.proofs.lemmas.List.Concat.{flat_map_single}
 use Rattle.pbf_wire.specs.declared.fault.Reason.{Reason}
 use Rattle.pbf_wire.specs.declared.fault.Reason.TheVariants.{LengthPast, NumberZero, TagLarge}
 use Rattle.pbf_wire.specs.Varint.{varint_at}
-use Rattle.pbf_wire.specs.Occurrence.{Content, Number, Eight, Four, Bytes, Occurrence, Item, ◌>>=◌, body_at, occurrence_at, items_from, items_past, items, found, unplaced, without_places}
+use Rattle.pbf_wire.specs.Occurrence.{Content, Number, Bytes, Occurrence, Item, ◌>>=◌, body_at, occurrence_at, items_from, items_past, items, found, unplaced, without_places}
 
 abbrev bare_body : Result (Content × ℕ) Reason → Result (Content × ℕ) Reason
 bare_body (Ok p) = Ok (unplaced p.0, p.1)

@@ -6,7 +6,7 @@ use denote.Enum.Declared.{tag_of}
 use Rattle.pbf_wire.specs.contracts.fault.Reason.{the_type}
 use Rattle.pbf_wire.specs.declared.fault.Fault.{Fault}
 use Rattle.pbf_wire.specs.declared.fault.Reason.{Reason}
-use Rattle.pbf_wire.specs.declared.fault.Reason.TheVariants.{VarintCut, VarintLong, NumberZero, TagLarge, Group, WireType, LengthPast, FixedCut, WrongType, PrefixCut, HeaderLong, HeaderCut, BlobCut, DataSize, NoRaw, RawLong, Zlib, Lzma, Bzip2, Lz4, Zstd, NoHeader, SecondHeader, DataFirst, Missing, FileLong, TooManyStrings, StringIndex, ColumnLengths, KeysVals, OutOfRange, EntityLarge, TwiceMessage, MixedGroup, Changesets, Granularity, DateGranularity, Feature, TagColumns, MemberColumns, MemberKind, LocationColumns}
+use Rattle.pbf_wire.specs.declared.fault.Reason.TheVariants.{VarintCut}
 use Rattle.pbf_wire.specs.Least.{rank, is_less}
 use Rattle.pbf_wire.specs.Reasons.{reason_number, missing_field}
 

@@ -1,6 +1,6 @@
 -- Columns whose numbers take at most five bytes each have no wire fault, and their numbers and sums are small.
-use Rattle.std.proofs.Common.{◌≡◌, ℕ, zero, suc, ◌+◌, ◌-◌, ◌*◌, ◌/◌, ◌%◌, ◌^◌, ◌<◌, ◌≤◌, bit_and, bit_or, leb, eqb, ◌==◌, Bool, true, false, ℤ, pos, negsuc, ◌+ℤ◌, List, [], ◌∷◌, ◌++◌, length, map, get_or, take, drop, refl, sym, ap, subst, ◌∙◌, arith, eq-eqb, inl, inr, ◌⊎◌}
-use Rattle.std.specs.Prelude.{unsigned_abs, Ok, Option, None, Some, MatchOption, ⊤, count_by, nat_lt, IsBitSet, slice_index, ◌≤ℤ◌, neg_ℤ, not, if◌then◌else◌}
+use Rattle.std.proofs.Common.{◌≡◌, ℕ, zero, suc, ◌+◌, ◌-◌, ◌*◌, ◌/◌, ◌%◌, ◌^◌, ◌<◌, ◌≤◌, bit_and, bit_or, leb, eqb, ◌==◌, Bool, true, false, ℤ, pos, negsuc, ◌+ℤ◌, List, [], ◌∷◌, length, map, get_or, take, drop, refl, sym, ap, subst, ◌∙◌, arith, eq-eqb, inl, inr, ◌⊎◌}
+use Rattle.std.specs.Prelude.{unsigned_abs, Ok, Option, None, Some, MatchOption, ⊤, count_by, nat_lt, IsBitSet, slice_index, ◌≤ℤ◌, neg_ℤ, if◌then◌else◌}
 use Rattle.std.specs.List.{prefix_len, AllByRecursion}
 use Rattle.std.specs.Int.{bit_at}
 use Rattle.std.proofs.lemmas.Nat.{bit_set_by_shift, and_mask, shr-shr}
@@ -11,15 +11,14 @@ use Rattle.std.proofs.lemmas.Int.{ints}
 use Rattle.std.proofs.lemmas.List.Sums.{prefix_len_passes, prefix_len_stops}
 use Rattle.std.proofs.lemmas.List.{get_or-take, get_or-drop, length-append, length-map, length-take, length-drop}
 use Rattle.pbf_wire.specs.Varint.{value_of, varint_at}
-use Rattle.pbf_wire.specs.declared.fault.Reason.TheVariants.{OutOfRange}
 use Rattle.pbf_wire.specs.declared.fields.Fields.{Fields}
 use Rattle.pbf_wire.specs.declared.column.Column.{Column}
 use Rattle.pbf_wire.specs.declared.sums.Sums.{Sums}
 use Rattle.pbf_wire.specs.Cursors.{fields_left, column_left, sums_left, found_left}
 use Rattle.pbf_wire.specs.Occurrence.{Occurrence, found}
 use Rattle.pbf_wire.specs.Columns.{Entry, entries, read_entries, entry_fault, placed, numbers_in, column_of, joined}
-use Rattle.pbf_wire.specs.Signed.{delta_in, unzigzag, IsWithin, is_within}
-use Rattle.pbf_wire.specs.Faults.{fault_where, fields_in, sum_faults}
+use Rattle.pbf_wire.specs.Signed.{delta_in, unzigzag, IsWithin}
+use Rattle.pbf_wire.specs.Faults.{fields_in, sum_faults}
 use Rattle.pbf_wire.specs.Short.{EndsWithin, IsShort}
 use Rattle.pbf_wire.proofs.Varints.{pow_128, ended_at}
 use Rattle.pbf_wire.proofs.Spellings.{value_below}

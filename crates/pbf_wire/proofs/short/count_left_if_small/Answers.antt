@@ -1,7 +1,7 @@
-use Rattle.std.proofs.Common.{ℕ, ◌∙◌, List, ap, subst, arith, length}
+use Rattle.std.proofs.Common.{arith}
 use Rattle.pbf_wire.specs.Cursors.{found_left}
 use Rattle.pbf_wire.specs.Fields.{occurrence}
-use Rattle.pbf_wire.proofs.ShortLemmas.{AllSmallPlaced, column_more, count_more, left_short}
+use Rattle.pbf_wire.proofs.ShortLemmas.{column_more, count_more}
 use Rattle.pbf_wire.proofs.short.count_left_if_small.Goals as goal
 
 pub loop-field-preserved-then-field-number : goal.loop-field-preserved-then-field-number

@@ -1,8 +1,8 @@
-use Rattle.std.proofs.Common.{refl, ◌∙◌, sym, ap}
+use Rattle.std.proofs.Common.{◌∙◌, sym, ap}
 use Rattle.pbf_wire.specs.Least.{least}
-use Rattle.pbf_wire.specs.Cursors.{fields_left, column_left, place_of_number}
+use Rattle.pbf_wire.specs.Cursors.{column_left, place_of_number}
 use Rattle.pbf_wire.specs.Faults.{is_allowed}
-use Rattle.pbf_wire.proofs.RisingLemmas.{left_rises, not_good, running, running_is}
+use Rattle.pbf_wire.proofs.RisingLemmas.{not_good, running}
 use Rattle.pbf_wire.proofs.values.judge_values.Goals as goal
 
 pub returns-then-not-add_entry : goal.returns-then-not-add_entry

@@ -1,5 +1,5 @@
-use Rattle.std.proofs.Common.{◌≡◌, ◌+◌, true, false, ltb, length, get_or, refl, sym, ap, arith, below_more, inl, inr}
-use Rattle.std.proofs.lemmas.Bool.{lt-ltb, le-ltb}
+use Rattle.std.proofs.Common.{◌≡◌, ◌+◌, true, ltb, sym, arith, below_more, inl, inr}
+use Rattle.std.proofs.lemmas.Bool.{lt-ltb}
 use Rattle.pbf_wire.proofs.Varints as lemmas
 use Rattle.pbf_wire.proofs.varint.any_varint.Goals as goal
 

@@ -1,4 +1,4 @@
-use Rattle.pbf_wire.proofs.PackedLemmas.{held_last, pushed_deltas, pushed_values, same_value, appended}
+use Rattle.pbf_wire.proofs.PackedLemmas.{held_last, pushed_deltas, same_value, appended}
 use Rattle.pbf_wire.proofs.delta_out.DeltaOut.push.Goals as goal
 
 pub invariant_of-self-2 : goal.invariant_of-self-2
