@@ -34,10 +34,7 @@ pub record Keeps {F : Type 0} (failures : F → ℕ) (lender : F → List GName)
 
 gave_stop : (h : Bool) (p : ℕ) (old left : Option (List ℕ)) (before now : ℕ → List ℕ → Type 0) (new : Option Verdict) (stop : Stop) → RefusedBy (next_of h p) before now old left stop → VerdictGoesOn (judged_known h p old) (Err stop) new
 gave_stop h p old left before now new (Refused e) refused = gave_fault h p old e (λ bytes is. refused_told (λ b. next_of h p b ≡ Err e) before now old left bytes refused is)
-gave_stop h p old left before now new Read refused = tt
-gave_stop h p old left before now new Write refused = tt
-gave_stop h p old left before now new Memory refused = tt
-gave_stop h p old left before now new (Changed pass) refused = tt
+gave_stop h p old left before now new stop refused = tt
 
 module _ {F : Type 0} {remaining : F → Option (List ℕ)} {failures : F → ℕ} {lender : F → List GName} {has_passed : F → ℕ → List ℕ → Type 0} where
   was_reading : (old new : FrameReader F) (answer : Result (Option FrameSpec) Stop) → old.state ≡ Reading → Advances remaining failures lender has_passed old answer new → IsNext remaining failures lender has_passed old answer new

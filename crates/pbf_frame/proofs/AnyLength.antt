@@ -32,9 +32,8 @@ none_at_all a b c d e late is_a is_b is_c is_d is_e none = rw (is_a, is_b, is_c,
 
 blob_none : (k : FrameKind) (at : ℕ) (blob : List ℕ) → IsSoundBlob k at blob → first_fault (phases_of_blob k at blob) ≡ None
 unfolding blob_fault
-blob_none kind.Header at blob sound = sound
-blob_none kind.Data at blob sound = sound
 blob_none kind.Other at blob sound = refl
+blob_none k at blob sound = sound
 
 -- after four bytes and a header, as these bytes begin
 abbrev from_prefix : ℕ → List ℕ → List ℕ → FrameSpec

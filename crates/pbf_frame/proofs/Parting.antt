@@ -163,9 +163,8 @@ known_parts size at bytes blob rest e =
     (split.0 ∙ ap (λ (x : List ℕ × List ℕ). x.0 ++ x.1) same, ap (λ (x : List ℕ × List ℕ). length x.0) (sym same) ∙ split.1, ap (λ (x : List ℕ × List ℕ). blob_fault at x.0) (sym same) ∙ sound)
 
 pub blob_parts : (k : FrameKind) (size at : ℕ) (bytes blob rest : List ℕ) → blob_of k size at bytes ≡ Ok (blob, rest) → BlobParts k size at bytes blob rest
-blob_parts kind.Header size at bytes blob rest e = (let parts = known_parts size at bytes blob rest e in record { split = parts.0; long = parts.1; sound = parts.2 })
-blob_parts kind.Data size at bytes blob rest e = (let parts = known_parts size at bytes blob rest e in record { split = parts.0; long = parts.1; sound = parts.2 })
 blob_parts kind.Other size at bytes blob rest e = (let parts = bytes_split (fault at BlobCut) size bytes blob rest e in record { split = parts.0; long = parts.1; sound = tt })
+blob_parts k size at bytes blob rest e = (let parts = known_parts size at bytes blob rest e in record { split = parts.0; long = parts.1; sound = parts.2 })
 
 -- ---- the frame
 

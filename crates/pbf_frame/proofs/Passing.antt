@@ -15,9 +15,8 @@ use Rattle.pbf_frame.proofs.Parting.{FrameParts}
 use Rattle.pbf_frame.proofs.Longest.{frame_at}
 
 sound_held : (k : FrameKind) (at : ℕ) (blob held : List ℕ) → Holds k at blob held → IsSoundBlob k at blob
-sound_held kind.Header at blob held holds = holds.1
-sound_held kind.Data at blob held holds = holds.1
 sound_held kind.Other at blob held holds = tt
+sound_held k at blob held holds = holds.1
 
 -- what was read part by part is a frame without a fault
 pub frame_read : (h : Bool) (p : ℕ) (prefix header blob held : List ℕ) (head : Head) → length prefix ≡ 4 → big_number 4 prefix < HEADER_LIMIT → length header ≡ big_number 4 prefix → head_of (p + 4) header ≡ Ok head

@@ -89,8 +89,7 @@ header_is k size = refl
 
 name_short : (k : FrameKind) → length (written_name k) ≤ 9
 name_short kind.Header = omega arith
-name_short kind.Data = omega arith
-name_short kind.Other = omega arith
+name_short k = omega arith
 
 header_short : (k : FrameKind) (size : ℕ) → size < 2 ^ 64 → length (written_header k size) ≤ 49
 header_short k size small =
@@ -128,9 +127,8 @@ header_name : (at : ℕ) (k : FrameKind) (size : ℕ) → size < 2 ^ 64 → name
 header_name at k size small = ap (λ os. occurrence_text (last_of TYPE os)) (header_fields at k size small)
 
 name_kind : (k : FrameKind) → (k ≡ kind.Other → ⊥) → kind_named (written_name k) ≡ k
-name_kind kind.Header known = refl
-name_kind kind.Data known = refl
 name_kind kind.Other known = absurd (known refl)
+name_kind k known = refl
 
 header_wired : (at : ℕ) (k : FrameKind) (size : ℕ) → size < 2 ^ 64 → wire HEADER_KINDS (items at (written_header k size)) ≡ None
 header_wired at k size small =
@@ -155,14 +153,12 @@ header_whole at k size small =
 -- ---- the frame
 
 sound_any : (k : FrameKind) (at : ℕ) (blob : List ℕ) → blob_fault at blob ≡ None → IsSoundBlob k at blob
-sound_any kind.Header at blob sound = sound
-sound_any kind.Data at blob sound = sound
 sound_any kind.Other at blob sound = tt
+sound_any k at blob sound = sound
 
 payload_any : (k : FrameKind) (at : ℕ) (blob : List ℕ) → (k ≡ kind.Other → ⊥) → payload_in k at blob ≡ raw_payload_of at blob
-payload_any kind.Header at blob known = refl
-payload_any kind.Data at blob known = refl
 payload_any kind.Other at blob known = absurd (known refl)
+payload_any k at blob known = refl
 
 module _ (place : ℕ) (k : FrameKind) (payload : List ℕ) (known : k ≡ kind.Other → ⊥) (small : length payload < RAW_LIMIT) where
   size_small : length (written_blob payload) ≤ LARGEST_SIZE

@@ -118,18 +118,12 @@ module _ (before now : ℕ → List ℕ → Type 0) (old new : Option (List ℕ)
 pub refused_more : {A B : Type 0} (first : List ℕ → Result A Fault) (then : List ℕ → Result B Fault) (before mid now : ℕ → List ℕ → Type 0) (old between new : Option (List ℕ)) (read : List ℕ) (stop : Stop) → old ≡ prepend read between → Passes before read mid
     → ((bytes : List ℕ) (e : Fault) → then bytes ≡ Err e → first (read ++ bytes) ≡ Err e) → RefusedBy then mid now between new stop → RefusedBy first before now old new stop
 refused_more first then before mid now old between new read (Refused e) told passed step refused = refuses_more (λ b. first b ≡ Err e) (λ b. then b ≡ Err e) before mid now old between new read told passed (λ b is. step b e is) refused
-refused_more first then before mid now old between new read Read told passed step refused = tt
-refused_more first then before mid now old between new read Write told passed step refused = tt
-refused_more first then before mid now old between new read Memory told passed step refused = tt
-refused_more first then before mid now old between new read (Changed pass) told passed step refused = tt
+refused_more first then before mid now old between new read stop told passed step refused = tt
 
 pub refused_as : {A B : Type 0} (first : List ℕ → Result A Fault) (then : List ℕ → Result B Fault) (before now : ℕ → List ℕ → Type 0) (old new : Option (List ℕ)) (stop : Stop)
     → ((bytes : List ℕ) (e : Fault) → then bytes ≡ Err e → first bytes ≡ Err e) → RefusedBy then before now old new stop → RefusedBy first before now old new stop
 refused_as first then before now old new (Refused e) step refused = refuses_as (λ b. first b ≡ Err e) (λ b. then b ≡ Err e) before now old new (λ b is. step b e is) refused
-refused_as first then before now old new Read step refused = tt
-refused_as first then before now old new Write step refused = tt
-refused_as first then before now old new Memory step refused = tt
-refused_as first then before now old new (Changed pass) step refused = tt
+refused_as first then before now old new stop step refused = tt
 
 -- a blob of another type
 pub refused_other : (k : FrameKind) (size at : ℕ) (before now : ℕ → List ℕ → Type 0) (old new : Option (List ℕ)) (stop : Stop) → k ≡ kind.Other → RefusedBy (bytes_at (fault at BlobCut) size) before now old new stop → RefusedBy (blob_of k size at) before now old new stop

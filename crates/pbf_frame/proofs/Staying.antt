@@ -145,9 +145,8 @@ known_stays size at bytes rest e is stays =
     ∙ unless_stays (blob_fault at blob) _ _ e said
 
 blob_stays : (k : FrameKind) (size at : ℕ) (bytes rest : List ℕ) (e : Fault) → blob_of k size at bytes ≡ Err e → comes_of_end e.reason ≡ false → blob_of k size at (bytes ++ rest) ≡ Err e
-blob_stays kind.Header size at bytes rest e is stays = known_stays size at bytes rest e is stays
-blob_stays kind.Data size at bytes rest e is stays = known_stays size at bytes rest e is stays
 blob_stays kind.Other size at bytes rest e is stays = absurd (other_fault (fault at BlobCut) e refl stays (bytes_cut (fault at BlobCut) size bytes e is))
+blob_stays k size at bytes rest e is stays = known_stays size at bytes rest e is stays
 
 -- ---- the next frame
 

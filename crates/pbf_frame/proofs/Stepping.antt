@@ -65,12 +65,11 @@ known_is size at bytes = cases (nat_lt (length (take size bytes)) size) refl whe
 
 blob_is : (k : FrameKind) (size at : ℕ) (bytes : List ℕ) → blob_of k size at bytes ≡ unless (first_fault (late k size at (take size bytes))) (Ok (take size bytes, drop size bytes))
 unfolding blob_fault bytes_at
-blob_is kind.Header size at bytes = known_is size at bytes
-blob_is kind.Data size at bytes = known_is size at bytes
 blob_is kind.Other size at bytes = cases (nat_lt (length (take size bytes)) size) refl where
   cases : (b : Bool) → nat_lt (length (take size bytes)) size ≡ b → blob_of kind.Other size at bytes ≡ unless (first_fault (late kind.Other size at (take size bytes))) (Ok (take size bytes, drop size bytes))
   cases true is = rw is refl
   cases false is = rw is refl
+blob_is k size at bytes = known_is size at bytes
 
 -- ---- the next frame
 

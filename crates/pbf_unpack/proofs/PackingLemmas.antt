@@ -176,9 +176,8 @@ whole_packs place raw frame blob w means ends is rest =
 -- so does one whose data means a payload of the stated length
 pub data_stands : (k : FrameKind) (at : ℕ) (frame blob payload : List ℕ) (stream : Occurrence) → (k ≡ kind.Other → ⊥) → packed_in at blob ≡ Some stream → inflated (RAW_LIMIT - 1) (bytes_held stream.content) ≡ Ok payload
     → fits_size (last_of RAW_SIZE (found (items at blob))) (length payload) ≡ true → unpacked_frame k at frame blob ≡ as_they_stand (written_frame k payload)
-data_stands kind.Header at frame blob payload stream known is means fits = rw (is, means, fits) refl
-data_stands kind.Data at frame blob payload stream known is means fits = rw (is, means, fits) refl
 data_stands kind.Other at frame blob payload stream known is means fits = absurd (known refl)
+data_stands k at frame blob payload stream known is means fits = rw (is, means, fits) refl
 
 -- ---- the raw bytes that were taken
 

@@ -22,8 +22,7 @@ at_end : (s : State) (place : ℕ) → stop_in s ≡ None → CanFollow s [] × 
 at_end Reading place none = (tt, nothing_more place)
 at_end PassingOn place none = (tt, refl)
 at_end Ended place none = (refl, refl)
-at_end Failed place none = (let bad : ⊥ = cc in absurd bad)
-at_end Refused place none = (let bad : ⊥ = cc in absurd bad)
+at_end s place none = (let bad : ⊥ = cc in absurd bad)
 
 -- bytes that mean none are none
 pub means_none : (place : ℕ) (rest : List ℕ) → (unpacked_from place rest).0 ≡ [] → rest ≡ []
@@ -47,11 +46,7 @@ ended_below : (s : State) (place : ℕ) (left : List ℕ) (known : Option (List 
 ended_below Reading place left (Some rest) ended is = ap (λ (l : List ℕ). Some l) (means_none place rest (joined_none left (unpacked_from place rest).0 (same_Some _ _ is)))
 ended_below PassingOn place left (Some rest) ended is = ap (λ (l : List ℕ). Some l) (joined_none left rest (same_Some _ _ is))
 ended_below Ended place left (Some rest) ended is = ap (λ (l : List ℕ). Some l) ended
-ended_below Reading place left None ended is = (let bad : ⊥ = cc in absurd bad)
-ended_below PassingOn place left None ended is = (let bad : ⊥ = cc in absurd bad)
-ended_below Ended place left None ended is = (let bad : ⊥ = cc in absurd bad)
-ended_below Failed place left known ended is = (let bad : ⊥ = cc in absurd bad)
-ended_below Refused place left known ended is = (let bad : ⊥ = cc in absurd bad)
+ended_below s place left known ended is = (let bad : ⊥ = cc in absurd bad)
 
 none_joined : (xs ys : List ℕ) → xs ++ ys ≡ [] → (length xs == 0) ≡ true
 none_joined [] ys is = refl
@@ -61,11 +56,7 @@ all_by : (s : State) (place : ℕ) (left : List ℕ) (known : Option (List ℕ))
 all_by Reading place left (Some rest) is = none_joined left (unpacked_from place rest).0 (same_Some _ _ is)
 all_by PassingOn place left (Some rest) is = none_joined left rest (same_Some _ _ is)
 all_by Ended place left (Some rest) is = none_joined left [] (same_Some _ _ is)
-all_by Reading place left None is = (let bad : ⊥ = cc in absurd bad)
-all_by PassingOn place left None is = (let bad : ⊥ = cc in absurd bad)
-all_by Ended place left None is = (let bad : ⊥ = cc in absurd bad)
-all_by Failed place left known is = (let bad : ⊥ = cc in absurd bad)
-all_by Refused place left known is = (let bad : ⊥ = cc in absurd bad)
+all_by s place left known is = (let bad : ⊥ = cc in absurd bad)
 
 -- if nothing is reported to be left, all was supplied
 pub all_supplied : {F : Type 0} (remaining : F → Option (List ℕ)) (u : UnpackedFeed F) → remaining_in remaining u ≡ Some [] → has_all u ≡ true

@@ -40,14 +40,11 @@ second_test false b c d e = refl
 
 third_test : (a b c d : Bool) → c ≡ false → (a && b && c && d) ≡ false
 third_test true true c d e = rw e refl
-third_test true false c d e = refl
-third_test false b c d e = refl
+third_test a b c d e = refl
 
 fourth_test : (a b c d : Bool) → d ≡ false → (a && b && c && d) ≡ false
 fourth_test true true true d e = rw e refl
-fourth_test true true false d e = refl
-fourth_test true false c d e = refl
-fourth_test false b c d e = refl
+fourth_test a b c d e = refl
 
 all_tests : (a b c d : Bool) → a ≡ true → b ≡ true → c ≡ true → d ≡ true → (a && b && c && d) ≡ true
 all_tests a b c d ea eb ec ed = rw (ea, eb, ec, ed) refl

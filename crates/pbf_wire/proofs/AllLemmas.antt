@@ -24,14 +24,17 @@ pub all_weaker : {X : Type 0} (P Q : X → Type 0) → ((x : X) → P x → Q x)
 all_weaker P Q each [] h = tt
 all_weaker P Q each (x ∷ xs) h = (each x h.0, all_weaker P Q each xs h.1)
 
+pub all_each : {X : Type 0} (P : X → Type 0) → ((x : X) → P x) → (xs : List X) → AllByRecursion P xs
+all_each P each [] = tt
+all_each P each (x ∷ xs) = (each x, all_each P each xs)
+
 pub all_map : {X Y : Type 0} (P : Y → Type 0) (f : X → Y) (xs : List X) → AllByRecursion (λ x. P (f x)) xs → AllByRecursion P (map f xs)
 all_map P f [] h = tt
 all_map P f (x ∷ xs) h = (h.0, all_map P f xs h.1)
 
 pub all_take : {X : Type 0} (P : X → Type 0) (n : ℕ) (xs : List X) → AllByRecursion P xs → AllByRecursion P (take n xs)
-all_take P zero xs h = tt
-all_take P (suc n) [] h = tt
 all_take P (suc n) (x ∷ xs) h = (h.0, all_take P n xs h.1)
+all_take P n xs h = tt
 
 pub all_drop : {X : Type 0} (P : X → Type 0) (n : ℕ) (xs : List X) → AllByRecursion P xs → AllByRecursion P (drop n xs)
 all_drop P zero xs h = h
@@ -40,10 +43,9 @@ all_drop P (suc n) (x ∷ xs) h = all_drop P n xs h.1
 
 -- fewer of them
 pub all_fewer : {X : Type 0} (P : X → Type 0) (k n : ℕ) (xs : List X) → k ≤ n → AllByRecursion P (take n xs) → AllByRecursion P (take k xs)
-all_fewer P zero n xs le h = tt
 all_fewer P (suc k) zero xs le h = absurd (omega (arith, le))
-all_fewer P (suc k) (suc n) [] le h = tt
 all_fewer P (suc k) (suc n) (x ∷ xs) le h = (h.0, all_fewer P k n xs (omega (arith, le)) h.1)
+all_fewer P k n xs le h = tt
 
 kept_or_not : {X : Type 0} (P : X → Type 0) (b : Bool) (x : X) (xs : List X) → P x → AllByRecursion P xs → AllByRecursion P (cond b (x ∷ xs) xs)
 kept_or_not P true x xs p h = (p, h)

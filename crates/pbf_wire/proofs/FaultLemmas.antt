@@ -9,7 +9,7 @@ use Rattle.pbf_wire.specs.declared.fault.Reason.{Reason}
 use Rattle.pbf_wire.specs.declared.fault.Reason.TheVariants.{TwiceMessage}
 use Rattle.pbf_wire.specs.declared.kind.Kind.{Kind}
 use Rattle.pbf_wire.specs.Varint.{IsVarint, varint_at}
-use Rattle.pbf_wire.specs.Occurrence.{Content, Number, Eight, Four, Bytes, Occurrence, Item, IsBody, IsSpelled, Joins}
+use Rattle.pbf_wire.specs.Occurrence.{Content, Number, Bytes, Occurrence, Item, IsBody, IsSpelled, Joins}
 use Rattle.pbf_wire.specs.Columns.{Entry, entries_from, entries_past, read_entries, placed, numbers_in, column_of, joined}
 use Rattle.pbf_wire.specs.Wire.{kind_of, reason_in, or_at, wire}
 use Rattle.pbf_wire.specs.Reading.{bytes_held}
@@ -17,6 +17,7 @@ use Rattle.pbf_wire.specs.Least.{lesser, least, rank}
 use Rattle.pbf_wire.specs.Faults.{fault, or_more, message_faults, ends_in, ends_of, column_count, fields_in}
 use Rattle.pbf_wire.proofs.Cutting.{is_cutting}
 use Rattle.pbf_wire.proofs.LeastLemmas.{lesser_joined}
+use Rattle.pbf_wire.proofs.AllLemmas.{all_weaker}
 
 -- a least so far, and one fault before others
 pub least_next : (f : Option Fault) (x : Fault) (ys : List Fault) → lesser (lesser f (Some x)) (least ys) ≡ lesser f (least (x ∷ ys))
@@ -24,9 +25,8 @@ least_next f x ys = lesser_joined rank f (Some x) (least ys)
 
 -- a message without embedded ones has its first wire fault at most
 pub leaf_is_wire : (kinds : List (ℕ × Kind)) (its : List Item) → least (message_faults kinds (λ o. []) its) ≡ wire kinds its
-leaf_is_wire kinds [] = refl
 leaf_is_wire kinds (Ok o ∷ rest) = elim (reason_in (kind_of kinds o.number) o.content) as (λ r. least (or_more o.place r (message_faults kinds (λ o. []) rest)) ≡ or_at o.place r (wire kinds rest)) [ Some reason ↦ refl | None ↦ leaf_is_wire kinds rest ]
-leaf_is_wire kinds (Err e ∷ rest) = refl
+leaf_is_wire kinds its = refl
 
 -- ---- each occurrence after the first
 
@@ -63,10 +63,9 @@ spelled_long v (b ∷ bs) h = omega arith
 
 ends_short : (c : Content) (kind end : ℕ) (s : List ℕ) → IsBody c kind end s → length (ends_in c) ≤ length s
 ends_short (Number v) kind end s h = spelled_long v s h.1
-ends_short (Eight bytes) kind end s h = omega arith
-ends_short (Four bytes) kind end s h = omega arith
 ends_short (Bytes bytes at) kind end s h =
     omega (arith, ends_counted bytes, count_by-le-length (λ b. nat_lt b 128) bytes, ap length h.1.3, length-append h.1.0 bytes)
+ends_short c kind end s h = omega arith
 
 one_short : (k : ℕ) (o : Occurrence) (s : List ℕ) → IsSpelled o s → length (ends_of k o) ≤ length s
 one_short k o s h =
@@ -87,9 +86,8 @@ numbers_within zero (b ∷ bs) = front_within (varint_at (b ∷ bs)) (λ skip. e
 
 numbers_short : (c : Content) (kind end : ℕ) (s : List ℕ) → IsBody c kind end s → length (numbers_in c) ≤ length s
 numbers_short (Number v) kind end s h = spelled_long v s h.1
-numbers_short (Eight bytes) kind end s h = omega arith
-numbers_short (Four bytes) kind end s h = omega arith
 numbers_short (Bytes bytes at) kind end s h = omega (arith, numbers_within 0 bytes, ap length h.1.3, length-append h.1.0 bytes)
+numbers_short c kind end s h = omega arith
 
 one_column_short : (k : ℕ) (o : Occurrence) (s : List ℕ) → IsSpelled o s → length (column_of k o) ≤ length s
 one_column_short k o s h =
@@ -120,27 +118,22 @@ column_short k at m = all_within (column_of k) (one_column_short k) at m
 -- ---- how long the bytes in a message are
 
 body_short : (c : Content) (kind end : ℕ) (s : List ℕ) → IsBody c kind end s → length (bytes_held c) ≤ length s
-body_short (Number v) kind end s h = omega arith
-body_short (Eight bytes) kind end s h = omega arith
-body_short (Four bytes) kind end s h = omega arith
 body_short (Bytes bytes at) kind end s h = omega (arith, ap length h.1.3, length-append h.1.0 bytes)
+body_short c kind end s h = omega arith
 
 abbrev ShorterThan : ℕ → Occurrence → Type 0
 ShorterThan n o = length (bytes_held o.content) ≤ n
-
-all_shorter : (n k : ℕ) (os : List Occurrence) → n ≤ k → AllByRecursion (ShorterThan n) os → AllByRecursion (ShorterThan k) os
-all_shorter n k [] le h = tt
-all_shorter n k (o ∷ os) le h = (omega (arith, h.0), all_shorter n k os le h.1)
 
 held_joined : (at : ℕ) (m : List ℕ) (os : List Occurrence) → Joins at m os → AllByRecursion (ShorterThan (length m)) os
 held_joined at m [] h = tt
 held_joined at m (o ∷ os) h =
     let whole : length m ≡ length h.0 + length h.1 = ap length h.2 ∙ length-append h.0 h.1 in
     let front : length h.0 ≡ length h.4.tag + length h.4.body = ap length h.4.whole ∙ length-append h.4.tag h.4.body in
-    (omega (arith, body_short o.content h.4.kind (o.place + length h.4.tag) h.4.body h.4.holds, whole, front), all_shorter (length h.1) (length m) os (omega (arith, whole)) (held_joined (at + length h.0) h.1 os h.5))
+    (omega (arith, body_short o.content h.4.kind (o.place + length h.4.tag) h.4.body h.4.holds, whole, front), all_weaker (ShorterThan (length h.1)) (ShorterThan (length m)) (λ o le. omega (arith, whole, le)) os (held_joined (at + length h.0) h.1 os h.5))
 
 -- no longer than the message
 pub held_short : (at : ℕ) (m : List ℕ) → AllByRecursion (λ o. length (bytes_held o.content) ≤ length m) (fields_in at m)
 held_short at m =
     let c = is_cutting at m in
-    all_shorter (length c.front) (length m) (fields_in at m) (omega (arith, ap length c.parts, length-append c.front c.left)) (held_joined at c.front (fields_in at m) c.joins)
+    let less : length c.front ≤ length m = omega (arith, ap length c.parts, length-append c.front c.left) in
+    all_weaker (ShorterThan (length c.front)) (ShorterThan (length m)) (λ o le. omega (arith, less, le)) (fields_in at m) (held_joined at c.front (fields_in at m) c.joins)

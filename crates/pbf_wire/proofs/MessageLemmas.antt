@@ -1,5 +1,5 @@
 -- What a written message reads as, field by field.
-use Rattle.std.proofs.Common.{◌≡◌, ℕ, ◌+◌, ◌*◌, ◌^◌, ◌<◌, Bool, true, false, cond, eqb, List, [], ◌∷◌, ◌++◌, length, map, Option, Some, None, refl, ap, ◌∙◌, arith, length-append}
+use Rattle.std.proofs.Common.{◌≡◌, ℕ, ◌+◌, ◌*◌, ◌^◌, ◌<◌, Bool, true, false, cond, eqb, List, [], ◌∷◌, ◌++◌, length, map, Option, Some, None, refl, sym, ap, ◌∙◌, arith, length-append}
 use Rattle.std.specs.Prelude.{Ok}
 use Rattle.std.specs.List.{flat_map, last_or, AllByRecursion}
 use Rattle.std.specs.Option.{option_map}
@@ -7,7 +7,6 @@ use Rattle.std.proofs.lemmas.List.{append-nil, map-append}
 use Rattle.std.proofs.lemmas.Grind.{flat_map-append}
 use Rattle.pbf_wire.specs.declared.fault.Reason.{Reason}
 use Rattle.pbf_wire.specs.declared.kind.Kind.{Kind}
-use Rattle.pbf_wire.specs.declared.kind.Kind.TheVariants as kind
 use Rattle.pbf_wire.specs.Varint.{shortest}
 use Rattle.pbf_wire.specs.Occurrence.{Number, Bytes, Occurrence, Item, items, found}
 use Rattle.pbf_wire.specs.Columns.{Entry, entries, read_entries, entry_fault, packed, placed, column_of, joined, column}
@@ -16,8 +15,9 @@ use Rattle.pbf_wire.specs.Wire.{reason_in, kind_of, or_at, wire}
 use Rattle.pbf_wire.specs.Writing.{Part, Single, Whole, spelling, written, IsWritablePart, occurrence_of, occurrences_of}
 use Rattle.pbf_wire.specs.Message.{Slot, Scalar, Column, Each, parts_of, message, SlotFits, SlotIs, SlotBelow, numbers_at, scalars_at, messages_at}
 use Rattle.pbf_wire.proofs.Written.{reads_back, column_reads_back}
+use Rattle.pbf_wire.proofs.Columns.{placed_numbers}
 use Rattle.pbf_wire.proofs.PackedLemmas.{column_read}
-use Rattle.pbf_wire.proofs.AllLemmas.{all_append, all_left, all_right}
+use Rattle.pbf_wire.proofs.AllLemmas.{all_append, all_each, all_left, all_map, all_right}
 
 -- ---- all fields can be written
 
@@ -25,16 +25,11 @@ abbrev PartFits : Part → Type 0
 PartFits (Single number value) = (0 < number) × (number < 2 ^ 29) × (value < 2 ^ 64)
 PartFits (Whole number bytes) = (0 < number) × (number < 2 ^ 29)
 
-wholes_fit : (number : ℕ) (messages : List (List ℕ)) → 0 < number → number < 2 ^ 29 → AllByRecursion PartFits (map (Whole number) messages)
-wholes_fit number [] p q = tt
-wholes_fit number (m ∷ ms) p q = ((p, q), wholes_fit number ms p q)
-
 slot_parts_fit : (s : Slot) → SlotFits s → AllByRecursion PartFits (parts_of s)
-slot_parts_fit (Scalar number None) h = tt
 slot_parts_fit (Scalar number (Some value)) h = (h, tt)
-slot_parts_fit (Column number []) h = tt
 slot_parts_fit (Column number (v ∷ vs)) h = ((h.0, h.1), tt)
-slot_parts_fit (Each number messages) h = wholes_fit number messages h.0 h.1
+slot_parts_fit (Each number messages) h = all_map PartFits (Whole number) messages (all_each (λ m. PartFits (Whole number m)) (λ m. (h.0, h.1)) messages)
+slot_parts_fit s h = tt
 
 parts_fit : (slots : List Slot) → AllByRecursion SlotFits slots → AllByRecursion PartFits (flat_map parts_of slots)
 parts_fit [] h = tt
@@ -69,15 +64,11 @@ abbrev part_numbers : ℕ → Part → List ℕ
 part_numbers k (Single number value) = cond (eqb number k) (value ∷ []) []
 part_numbers k (Whole number bytes) = cond (eqb number k) (read_entries (entries bytes)) []
 
-unplaced : (place : ℕ) (ns : List ℕ) → map (λ (p : ℕ × ℕ). p.0) (placed place ns) ≡ ns
-unplaced place [] = refl
-unplaced place (n ∷ ns) = ap (λ (xs : List ℕ). n ∷ xs) (unplaced place ns)
-
 one_part : (k at : ℕ) (p : Part) → map (λ (p : ℕ × ℕ). p.0) (column_of k (occurrence_of at p)) ≡ part_numbers k p
 one_part k at (Single number value) = elim (eqb number k) as (λ b. map (λ (p : ℕ × ℕ). p.0) (cond b (placed at (value ∷ [])) []) ≡ cond b (value ∷ []) []) [ true ↦ refl | false ↦ refl ]
 one_part k at (Whole number bytes) =
     elim (eqb number k) as (λ b. map (λ (p : ℕ × ℕ). p.0) (cond b (placed at (read_entries (entries bytes))) []) ≡ cond b (read_entries (entries bytes)) [])
-    [ true ↦ unplaced at (read_entries (entries bytes)) | false ↦ refl ]
+    [ true ↦ ap (map (λ (p : ℕ × ℕ). p.0)) (sym (append-nil (placed at (read_entries (entries bytes))))) ∙ placed_numbers at (read_entries (entries bytes)) | false ↦ refl ]
 
 joined_parts : (k at : ℕ) (ps : List Part) → column k (occurrences_of at ps) ≡ flat_map (part_numbers k) ps
 joined_parts k at [] = refl
@@ -136,11 +127,10 @@ no_scalars k number [] = refl
 no_scalars k number (m ∷ ms) = no_scalars k number ms
 
 slot_scalars : (k : ℕ) (s : Slot) → flat_map (part_scalars k) (parts_of s) ≡ scalars_at k s
-slot_scalars k (Scalar number None) = refl
 slot_scalars k (Scalar number (Some value)) = append-nil _
-slot_scalars k (Column number []) = refl
 slot_scalars k (Column number (v ∷ vs)) = refl
 slot_scalars k (Each number messages) = no_scalars k number messages
+slot_scalars k s = refl
 
 pub slots_scalars : (k : ℕ) (slots : List Slot) → flat_map (part_scalars k) (flat_map parts_of slots) ≡ flat_map (scalars_at k) slots
 slots_scalars k [] = refl
@@ -179,11 +169,10 @@ whole_messages k number (m ∷ ms) true e = rw e (ap (λ (xs : List (List ℕ)).
 whole_messages k number (m ∷ ms) false e = rw e (whole_messages k number ms false e)
 
 slot_messages : (k : ℕ) (s : Slot) → flat_map (part_messages k) (parts_of s) ≡ messages_at k s
-slot_messages k (Scalar number None) = refl
 slot_messages k (Scalar number (Some value)) = refl
-slot_messages k (Column number []) = refl
 slot_messages k (Column number (v ∷ vs)) = append-nil _
 slot_messages k (Each number messages) = whole_messages k number messages (eqb number k) refl
+slot_messages k s = refl
 
 pub slots_messages : (k : ℕ) (slots : List Slot) → flat_map (part_messages k) (flat_map parts_of slots) ≡ flat_map (messages_at k) slots
 slots_messages k [] = refl
@@ -221,17 +210,12 @@ no_entry_fault : (ns : List ℕ) → entry_fault (all_entries ns) ≡ None
 no_entry_fault [] = refl
 no_entry_fault (n ∷ ns) = no_entry_fault ns
 
-wholes_are : (kinds : List (ℕ × Kind)) (number : ℕ) (ms : List (List ℕ)) → kind_of kinds number ≡ Some kind.Bytes → AllByRecursion (PartIs kinds) (map (Whole number) ms)
-wholes_are kinds number [] h = tt
-wholes_are kinds number (m ∷ ms) h = (λ a. ap (λ (k : Option Kind). reason_in k (Bytes m a)) h, wholes_are kinds number ms h)
-
 slot_parts_are : (kinds : List (ℕ × Kind)) (s : Slot) → SlotIs kinds s → SlotFits s → AllByRecursion (PartIs kinds) (parts_of s)
-slot_parts_are kinds (Scalar number None) h fits = tt
 slot_parts_are kinds (Scalar number (Some value)) h fits = (ap (λ (k : Option Kind). reason_in k (Number value)) h, tt)
-slot_parts_are kinds (Column number []) h fits = tt
 slot_parts_are kinds (Column number (v ∷ vs)) h fits =
     (λ a. ap (λ (k : Option Kind). reason_in k (Bytes (packed (v ∷ vs)) a)) h ∙ ap entry_fault (column_reads_back (v ∷ vs) fits.2) ∙ no_entry_fault (v ∷ vs), tt)
-slot_parts_are kinds (Each number ms) h fits = wholes_are kinds number ms h
+slot_parts_are kinds (Each number ms) h fits = all_map (PartIs kinds) (Whole number) ms (all_each (λ m. PartIs kinds (Whole number m)) (λ m a. ap (λ (k : Option Kind). reason_in k (Bytes m a)) h) ms)
+slot_parts_are kinds s h fits = tt
 
 parts_are : (kinds : List (ℕ × Kind)) (slots : List Slot) → AllByRecursion (SlotIs kinds) slots → AllByRecursion SlotFits slots → AllByRecursion (PartIs kinds) (flat_map parts_of slots)
 parts_are kinds [] h fits = tt
@@ -263,9 +247,8 @@ each_below n number [] h = tt
 each_below n number (m ∷ ms) h = (h.0, each_below n number ms h.1)
 
 slot_below : (n : ℕ) (s : Slot) → AllByRecursion (PartBelow n) (parts_of s) → SlotBelow n s
-slot_below n (Scalar number value) h = tt
-slot_below n (Column number values) h = tt
 slot_below n (Each number ms) h = each_below n number ms h
+slot_below n s h = tt
 
 slots_below : (n : ℕ) (slots : List Slot) → AllByRecursion (PartBelow n) (flat_map parts_of slots) → AllByRecursion (SlotBelow n) slots
 slots_below n [] h = tt

@@ -24,7 +24,7 @@ use Rattle.pbf_wire.proofs.MessageLemmas.{fields_written, column_written, no_wir
 use Rattle.pbf_wire.proofs.SumLemmas.{running_sums, within_true}
 use Rattle.pbf_wire.proofs.SoundLemmas.{both_nil, whole_count}
 use Rattle.pbf_wire.proofs.RisingLemmas.{running, running_is}
-use Rattle.pbf_wire.proofs.AllLemmas.{all_append}
+use Rattle.pbf_wire.proofs.AllLemmas.{all_append, all_each, all_map, all_weaker}
 
 -- ---- what the fields give
 
@@ -54,8 +54,7 @@ module _ {X : Type 0} (f : Occurrence → List X) where
   column_quiet number (v ∷ vs) h = λ place at. h place at (packed (v ∷ vs))
 
   pub each_quiet : (number : ℕ) (messages : List (List ℕ)) → ((place at : ℕ) (bytes : List ℕ) → f (field_at place number (Bytes bytes at)) ≡ []) → SlotQuiet (Each number messages)
-  each_quiet number [] h = tt
-  each_quiet number (m ∷ ms) h = (λ place at. h place at m, each_quiet number ms h)
+  each_quiet number messages h = all_each (λ m. (place at : ℕ) → f (field_at place number (Bytes m at)) ≡ []) (λ m place at. h place at m) messages
 
   parts_quiet : (at : ℕ) (ps : List Part) → AllByRecursion PartQuiet ps → flat_map f (occurrences_of at ps) ≡ []
   parts_quiet at [] h = refl
@@ -64,16 +63,11 @@ module _ {X : Type 0} (f : Occurrence → List X) where
   parts_quiet at (Whole number bytes ∷ ps) h =
       ap₂ (λ (xs ys : List X). xs ++ ys) (h.0 at (at + length (shortest (number * 8 + 2)) + length (shortest (length bytes)))) (parts_quiet (at + length (spelling (Whole number bytes))) ps h.1)
 
-  wholes_quiet : (number : ℕ) (ms : List (List ℕ)) → AllByRecursion (λ m. (place at : ℕ) → f (field_at place number (Bytes m at)) ≡ []) ms → AllByRecursion PartQuiet (map (Whole number) ms)
-  wholes_quiet number [] h = tt
-  wholes_quiet number (m ∷ ms) h = (h.0, wholes_quiet number ms h.1)
-
   slot_quiet : (s : Slot) → SlotQuiet s → AllByRecursion PartQuiet (parts_of s)
-  slot_quiet (Scalar number None) h = tt
   slot_quiet (Scalar number (Some value)) h = (h, tt)
-  slot_quiet (Column number []) h = tt
   slot_quiet (Column number (v ∷ vs)) h = (h, tt)
-  slot_quiet (Each number ms) h = wholes_quiet number ms h
+  slot_quiet (Each number ms) h = all_map PartQuiet (Whole number) ms h
+  slot_quiet s h = tt
 
   slots_quiet : (slots : List Slot) → AllByRecursion SlotQuiet slots → AllByRecursion PartQuiet (flat_map parts_of slots)
   slots_quiet [] h = tt
@@ -180,12 +174,8 @@ module _ (is_good : ℤ → Bool) (reason : Reason) (narrow : Bool) where
       sym (running_is is_good reason narrow xs)
       ∙ running_good (pos 0) xs (subst (λ (zs : List ℤ). AllByRecursion (λ z. is_good z ≡ true) zs) (sym (running_sums (map (delta_in narrow) (map (λ x. x.0) xs)))) h)
 
-all_within : (limit : ℤ) (zs : List ℤ) → AllByRecursion (IsWithin limit) zs → AllByRecursion (λ z. is_within limit z ≡ true) zs
-all_within limit [] h = tt
-all_within limit (z ∷ zs) h = (within_true limit z h.0, all_within limit zs h.1)
-
 pub sums_good_written : (limit : ℤ) (narrow : Bool) (entries : List (ℕ × ℕ)) → AllByRecursion (IsWithin limit) (sums (map (delta_in narrow) (map (λ p. p.0) entries))) → sum_faults limit narrow entries ≡ []
-sums_good_written limit narrow entries h = good_sums (is_within limit) OutOfRange narrow entries (all_within limit _ h)
+sums_good_written limit narrow entries h = good_sums (is_within limit) OutOfRange narrow entries (all_weaker (IsWithin limit) (λ z. is_within limit z ≡ true) (within_true limit) _ h)
 
 pub index_sums_good : (limit : ℕ) (entries : List (ℕ × ℕ)) → AllByRecursion (λ z. is_index limit z ≡ true) (sums (map (delta_in true) (map (λ p. p.0) entries))) → index_sum_faults limit entries ≡ []
 index_sums_good limit entries h = good_sums (is_index limit) StringIndex true entries h
@@ -224,9 +214,8 @@ present_written k place at slots fits lt some =
     ap (λ b. fault_where (not b) place (Missing k)) (any_kept k (fields_in at (message slots)) (omega (arith, fields_counted k at slots fits lt, some)))
 
 none_behind : (os : List Occurrence) → length os ≤ 1 → drop 1 os ≡ []
-none_behind [] le = refl
-none_behind (o ∷ []) le = refl
 none_behind (o ∷ p ∷ os) le = absurd (omega arith)
+none_behind os le = refl
 
 -- a field that is written once doesn't occur twice
 pub once_written : (k at : ℕ) (slots : List Slot) → AllByRecursion SlotFits slots → length (message slots) < 2 ^ 64 → field_count k slots ≤ 1 → twice k (fields_in at (message slots)) ≡ []

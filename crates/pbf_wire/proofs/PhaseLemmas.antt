@@ -26,9 +26,8 @@ module _ {X : Type 0} (r : X → List ℕ) where
   -- ---- one part
 
   lesser_in_part : (n : ℕ) (f g : Option X) → lesser_by in_part (option_map (λ x. (n, x)) f) (option_map (λ x. (n, x)) g) ≡ option_map (λ x. (n, x)) (lesser_by r f g)
-  lesser_in_part n None g = refl
-  lesser_in_part n (Some f) None = refl
   lesser_in_part n (Some f) (Some g) = grind arith
+  lesser_in_part n f g = refl
 
   least_in_part : (n : ℕ) (xs : List X) → least_by in_part (map (λ x. (n, x)) xs) ≡ option_map (λ x. (n, x)) (least_by r xs)
   least_in_part n [] = refl

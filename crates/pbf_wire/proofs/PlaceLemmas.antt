@@ -2,10 +2,11 @@
 use Rattle.std.proofs.Common.{◌≡◌, ℕ, zero, suc, ◌+◌, ◌-◌, ◌/◌, ◌%◌, ◌^◌, Bool, true, false, cond, eqb, ltb, List, [], ◌∷◌, ◌++◌, length, take, drop, map, refl, sym, ap, ap₂, ◌∙◌}
 use Rattle.std.specs.Prelude.{Result, Ok, Err}
 use Rattle.std.specs.List.{flat_map}
+use Rattle.std.proofs.lemmas.List.Concat.{flat_map_single}
 use Rattle.pbf_wire.specs.declared.fault.Reason.{Reason}
 use Rattle.pbf_wire.specs.declared.fault.Reason.TheVariants.{LengthPast, NumberZero, TagLarge}
 use Rattle.pbf_wire.specs.Varint.{varint_at}
-use Rattle.pbf_wire.specs.Occurrence.{Content, Number, Eight, Four, Bytes, Occurrence, Item, ◌>>=◌, body_at, occurrence_at, items_from, items_past, items, found, unplaced, without_places}
+use Rattle.pbf_wire.specs.Occurrence.{Content, Number, Bytes, Occurrence, Item, ◌>>=◌, body_at, occurrence_at, items_from, items_past, items, found, unplaced, without_places}
 
 abbrev bare_body : Result (Content × ℕ) Reason → Result (Content × ℕ) Reason
 bare_body (Ok p) = Ok (unplaced p.0, p.1)
@@ -23,10 +24,8 @@ sized_same bytes at bt (Err e) = refl
 sized_same bytes at bt (Ok n) = elim (ltb (length (drop n.1 bytes)) n.0) as (λ b. bare_body (cond b (Err LengthPast) (Ok (Bytes (take n.0 (drop n.1 bytes)) (at + n.1), n.1 + n.0))) ≡ bare_body (cond b (Err LengthPast) (Ok (Bytes (take n.0 (drop n.1 bytes)) (bt + n.1), n.1 + n.0)))) [ true ↦ refl | false ↦ refl ]
 
 body_cases : (a b c : Bool) (x y z : Result (Content × ℕ) Reason) (s t : Result (Content × ℕ) Reason) → bare_body s ≡ bare_body t → bare_body (cond a x (cond b y (cond c s z))) ≡ bare_body (cond a x (cond b y (cond c t z)))
-body_cases true b c x y z s t h = refl
-body_cases false true c x y z s t h = refl
 body_cases false false true x y z s t h = h
-body_cases false false false x y z s t h = refl
+body_cases a b c x y z s t h = refl
 
 body_same : (kind at bt : ℕ) (bytes : List ℕ) → bare_body (body_at kind at bytes) ≡ bare_body (body_at kind bt bytes)
 unfolding body_at
@@ -40,14 +39,12 @@ framed_same at bt tag (Ok p) (Ok q) h =
     let one : bare_body (Ok p) ≡ bare_body (Ok q) = h in
     let both : (unplaced p.0, p.1) ≡ (unplaced q.0, q.1) = cc in
     ap (framed 0 tag) both
-framed_same at bt tag (Ok p) (Err e) h = absurd (cc)
-framed_same at bt tag (Err e) (Ok q) h = absurd (cc)
 framed_same at bt tag (Err e) (Err f) h = let same : e ≡ f = cc in ap (λ (r : Reason). bare_front (Err r)) same
+framed_same at bt tag r s h = absurd (cc)
 
 front_cases : (a b : Bool) (x y : Result (Occurrence × ℕ) Reason) (s t : Result (Occurrence × ℕ) Reason) → bare_front s ≡ bare_front t → bare_front (cond a (cond b x s) y) ≡ bare_front (cond a (cond b x t) y)
-front_cases true true x y s t h = refl
 front_cases true false x y s t h = h
-front_cases false b x y s t h = refl
+front_cases a b x y s t h = refl
 
 front_same : (at bt : ℕ) (bytes : List ℕ) → bare_front (occurrence_at at bytes) ≡ bare_front (occurrence_at bt bytes)
 unfolding occurrence_at
@@ -68,9 +65,8 @@ module _ {X : Type 0} (f : Occurrence → List X) (blind : (o : Occurrence) → 
       let here : f p.0 ≡ f q.0 = blind p.0 ∙ ap (λ (w : Occurrence × ℕ). f w.0) both ∙ sym (blind q.0) in
       let len : p.1 ≡ q.1 = ap (λ (w : Occurrence × ℕ). w.1) both in
       ap₂ (λ (xs ys : List X). xs ++ ys) here (same (p.1 - 1) ∙ ap (λ k. got (others (k - 1))) len)
-  fronts at bt (Ok p) (Err e) more others h same = absurd (cc)
-  fronts at bt (Err e) (Ok q) more others h same = absurd (cc)
   fronts at bt (Err e) (Err g) more others h same = refl
+  fronts at bt r s more others h same = absurd (cc)
 
   past_same : (skip at bt : ℕ) (m : List ℕ) → got (items_past skip at m) ≡ got (items_past skip bt m)
   unfolding items_past
@@ -82,18 +78,12 @@ module _ {X : Type 0} (f : Occurrence → List X) (blind : (o : Occurrence) → 
   pub same_at : (at bt : ℕ) (m : List ℕ) → flat_map f (found (items at m)) ≡ flat_map f (found (items bt m))
   same_at at bt m = past_same 0 at bt m
 
-one_by_one : (os : List Occurrence) → flat_map (λ o. without_places o ∷ []) os ≡ map without_places os
-one_by_one [] = refl
-one_by_one (o ∷ os) = ap (λ (w : List Occurrence). without_places o ∷ w) (one_by_one os)
-
 same_unplaced : (c : Content) → unplaced c ≡ unplaced (unplaced c)
 same_unplaced (Number v) = refl
-same_unplaced (Eight bytes) = refl
-same_unplaced (Four bytes) = refl
-same_unplaced (Bytes bytes at) = refl
+same_unplaced c = refl
 
 blind : (o : Occurrence) → (without_places o ∷ []) ≡ (without_places (without_places o) ∷ [])
 blind o = ap (λ (c : Content). record { place = 0; number = o.number; content = c } ∷ []) (same_unplaced o.content)
 
 pub moved : (at bt : ℕ) (m : List ℕ) → map without_places (found (items at m)) ≡ map without_places (found (items bt m))
-moved at bt m = sym (one_by_one (found (items at m))) ∙ same_at (λ o. without_places o ∷ []) blind at bt m ∙ one_by_one (found (items bt m))
+moved at bt m = sym (flat_map_single without_places (found (items at m))) ∙ same_at (λ o. without_places o ∷ []) blind at bt m ∙ flat_map_single without_places (found (items bt m))

@@ -6,7 +6,7 @@ use denote.Enum.Declared.{tag_of}
 use Rattle.pbf_wire.specs.contracts.fault.Reason.{the_type}
 use Rattle.pbf_wire.specs.declared.fault.Fault.{Fault}
 use Rattle.pbf_wire.specs.declared.fault.Reason.{Reason}
-use Rattle.pbf_wire.specs.declared.fault.Reason.TheVariants.{VarintCut, VarintLong, NumberZero, TagLarge, Group, WireType, LengthPast, FixedCut, WrongType, PrefixCut, HeaderLong, HeaderCut, BlobCut, DataSize, NoRaw, RawLong, Zlib, Lzma, Bzip2, Lz4, Zstd, NoHeader, SecondHeader, DataFirst, Missing, FileLong, TooManyStrings, StringIndex, ColumnLengths, KeysVals, OutOfRange, EntityLarge, TwiceMessage, MixedGroup, Changesets, Granularity, DateGranularity, Feature, TagColumns, MemberColumns, MemberKind, LocationColumns}
+use Rattle.pbf_wire.specs.declared.fault.Reason.TheVariants.{VarintCut}
 use Rattle.pbf_wire.specs.Least.{rank, is_less}
 use Rattle.pbf_wire.specs.Reasons.{reason_number, missing_field}
 
@@ -25,47 +25,7 @@ rising p q = grind (arith, nat_tests)
 numbered : (r : Reason) → reason_number r ≡ number_at (tag_of the_type r)
 unfolding number_at
 numbered VarintCut = refl
-numbered VarintLong = refl
-numbered NumberZero = refl
-numbered TagLarge = refl
-numbered Group = refl
-numbered WireType = refl
-numbered LengthPast = refl
-numbered FixedCut = refl
-numbered WrongType = refl
-numbered PrefixCut = refl
-numbered HeaderLong = refl
-numbered HeaderCut = refl
-numbered BlobCut = refl
-numbered DataSize = refl
-numbered NoRaw = refl
-numbered RawLong = refl
-numbered Zlib = refl
-numbered Lzma = refl
-numbered Bzip2 = refl
-numbered Lz4 = refl
-numbered Zstd = refl
-numbered NoHeader = refl
-numbered SecondHeader = refl
-numbered DataFirst = refl
-numbered (Missing field) = refl
-numbered FileLong = refl
-numbered TooManyStrings = refl
-numbered StringIndex = refl
-numbered ColumnLengths = refl
-numbered KeysVals = refl
-numbered OutOfRange = refl
-numbered EntityLarge = refl
-numbered TwiceMessage = refl
-numbered MixedGroup = refl
-numbered Changesets = refl
-numbered Granularity = refl
-numbered DateGranularity = refl
-numbered Feature = refl
-numbered TagColumns = refl
-numbered MemberColumns = refl
-numbered MemberKind = refl
-numbered LocationColumns = refl
+numbered r = refl
 
 numbers_rise : (r s : Reason) → nat_lt (reason_number r) (reason_number s) ≡ nat_lt (tag_of the_type r) (tag_of the_type s)
 numbers_rise r s = ap₂ nat_lt (numbered r) (numbered s) ∙ rising (tag_of the_type r) (tag_of the_type s)

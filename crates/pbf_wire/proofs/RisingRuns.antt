@@ -24,6 +24,7 @@ use Rattle.pbf_wire.proofs.Columns.{entries_ok}
 use Rattle.pbf_wire.proofs.SpanLemmas.{one_past, span_has}
 use Rattle.pbf_wire.proofs.NextLemmas.{value_after}
 use Rattle.pbf_wire.proofs.Varints.{one_byte}
+use Rattle.pbf_wire.proofs.AllLemmas.{all_weaker}
 
 -- ---- lanes
 
@@ -75,8 +76,7 @@ all_read [] rest h = refl
 all_read (b ∷ bs) rest h = first_read b (bs ++ rest) h.0 ∙ ap (λ (ns : List ℕ). b ∷ ns) (all_read bs rest h.1)
 
 pub single : (xs : List ℕ) → AllByRecursion IsHalved xs → AllByRecursion (λ b. b < 128) xs
-single [] h = tt
-single (x ∷ xs) h = (h.0.0, single xs h.1)
+single = all_weaker IsHalved (λ b. b < 128) (λ b h. h.0)
 
 pub zeros_halved : (n : ℕ) → AllByRecursion IsHalved (replicate n 0)
 zeros_halved zero = tt

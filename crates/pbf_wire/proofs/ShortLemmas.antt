@@ -1,6 +1,6 @@
 -- Columns whose numbers take at most five bytes each have no wire fault, and their numbers and sums are small.
-use Rattle.std.proofs.Common.{◌≡◌, ℕ, zero, suc, ◌+◌, ◌-◌, ◌*◌, ◌/◌, ◌%◌, ◌^◌, ◌<◌, ◌≤◌, bit_and, bit_or, leb, eqb, ◌==◌, Bool, true, false, ℤ, pos, negsuc, ◌+ℤ◌, List, [], ◌∷◌, ◌++◌, length, map, get_or, take, drop, refl, sym, ap, subst, ◌∙◌, arith, eq-eqb, inl, inr, ◌⊎◌}
-use Rattle.std.specs.Prelude.{unsigned_abs, Ok, Option, None, Some, MatchOption, ⊤, count_by, nat_lt, IsBitSet, slice_index, ◌≤ℤ◌, neg_ℤ, not, if◌then◌else◌}
+use Rattle.std.proofs.Common.{◌≡◌, ℕ, zero, suc, ◌+◌, ◌-◌, ◌*◌, ◌/◌, ◌%◌, ◌^◌, ◌<◌, ◌≤◌, bit_and, bit_or, leb, eqb, ◌==◌, Bool, true, false, ℤ, pos, negsuc, ◌+ℤ◌, List, [], ◌∷◌, length, map, get_or, take, drop, refl, sym, ap, subst, ◌∙◌, arith, eq-eqb, inl, inr, ◌⊎◌}
+use Rattle.std.specs.Prelude.{unsigned_abs, Ok, Option, None, Some, MatchOption, ⊤, count_by, nat_lt, IsBitSet, slice_index, ◌≤ℤ◌, neg_ℤ, if◌then◌else◌}
 use Rattle.std.specs.List.{prefix_len, AllByRecursion}
 use Rattle.std.specs.Int.{bit_at}
 use Rattle.std.proofs.lemmas.Nat.{bit_set_by_shift, and_mask, shr-shr}
@@ -11,25 +11,24 @@ use Rattle.std.proofs.lemmas.Int.{ints}
 use Rattle.std.proofs.lemmas.List.Sums.{prefix_len_passes, prefix_len_stops}
 use Rattle.std.proofs.lemmas.List.{get_or-take, get_or-drop, length-append, length-map, length-take, length-drop}
 use Rattle.pbf_wire.specs.Varint.{value_of, varint_at}
-use Rattle.pbf_wire.specs.declared.fault.Reason.TheVariants.{OutOfRange}
 use Rattle.pbf_wire.specs.declared.fields.Fields.{Fields}
 use Rattle.pbf_wire.specs.declared.column.Column.{Column}
 use Rattle.pbf_wire.specs.declared.sums.Sums.{Sums}
 use Rattle.pbf_wire.specs.Cursors.{fields_left, column_left, sums_left, found_left}
 use Rattle.pbf_wire.specs.Occurrence.{Occurrence, found}
 use Rattle.pbf_wire.specs.Columns.{Entry, entries, read_entries, entry_fault, placed, numbers_in, column_of, joined}
-use Rattle.pbf_wire.specs.Signed.{delta_in, unzigzag, IsWithin, is_within}
-use Rattle.pbf_wire.specs.Faults.{fault_where, fields_in, sum_faults}
+use Rattle.pbf_wire.specs.Signed.{delta_in, unzigzag, IsWithin}
+use Rattle.pbf_wire.specs.Faults.{fields_in, sum_faults}
 use Rattle.pbf_wire.specs.Short.{EndsWithin, IsShort}
 use Rattle.pbf_wire.proofs.Varints.{pow_128, ended_at}
 use Rattle.pbf_wire.proofs.Spellings.{value_below}
 use Rattle.pbf_wire.proofs.Columns.{entries_none, entries_ok}
-use Rattle.pbf_wire.specs.Sums.{sums_within}
-use Rattle.pbf_wire.proofs.SumLemmas.{within_true, added_within, then_more}
-use Rattle.pbf_wire.proofs.RisingLemmas.{running, running_is}
+use Rattle.pbf_wire.specs.Sums.{sums_from, sums_within}
+use Rattle.pbf_wire.proofs.SumLemmas.{all_within, running_sums}
+use Rattle.pbf_wire.proofs.NoFaultLemmas.{sums_good_written}
 use Rattle.pbf_wire.proofs.FaultLemmas.{column_short, ends_counted, numbers_within}
 use Rattle.pbf_wire.proofs.SoundLemmas.{ends_are_numbers}
-use Rattle.pbf_wire.proofs.AllLemmas.{all_append}
+use Rattle.pbf_wire.proofs.AllLemmas.{all_append, all_map}
 
 -- ---- a mask of ends
 
@@ -243,16 +242,12 @@ short_below (Some count) bytes h = short_numbers bytes h
 abbrev pub AllSmallPlaced : List (ℕ × ℕ) → Type 0
 AllSmallPlaced xs = AllByRecursion (λ x. x.0 < 2 ^ 35) xs
 
-placed_small : (place : ℕ) (ns : List ℕ) → AllByRecursion (λ v. v < 2 ^ 35) ns → AllSmallPlaced (placed place ns)
-placed_small place [] h = tt
-placed_small place (n ∷ ns) h = (h.0, placed_small place ns h.1)
-
 -- one field more, whose numbers are small if they are the column's
 pub column_more : (k : ℕ) (os rest : List Occurrence) (o : Occurrence) → os ≡ o ∷ rest → (o.number ≡ k → AllByRecursion (λ v. v < 2 ^ 35) (numbers_in o.content))
     → AllSmallPlaced (joined k rest) → AllSmallPlaced (joined k os)
 column_more k os rest o is here later = subst (λ (w : List Occurrence). AllSmallPlaced (joined k w)) (sym is) (all_append _ (column_of k o) (joined k rest) (by (o.number == k) refl) later) where
   by : (b : Bool) → (o.number == k) ≡ b → AllSmallPlaced (if b then placed o.place (numbers_in o.content) else [])
-  by true e = placed_small o.place (numbers_in o.content) (here (eqb-true _ _ e))
+  by true e = all_map (λ (x : ℕ × ℕ). x.0 < 2 ^ 35) (λ v. (v, o.place)) (numbers_in o.content) (here (eqb-true _ _ e))
   by false e = tt
 
 -- and as many more as it has
@@ -273,7 +268,7 @@ begun_counted column begun left few short more =
 pub begun_small : (column : Column) → IsShort column.packed.now → AllSmallPlaced (joined column.number (found_left column.fields)) → AllSmallPlaced (column_left column)
 unfolding column_left
 begun_small column short more =
-    all_append _ (placed column.packed_place (read_entries (entries column.packed.now))) (joined column.number (found_left column.fields)) (placed_small column.packed_place _ (short_numbers column.packed.now short)) more
+    all_append _ (placed column.packed_place (read_entries (entries column.packed.now))) (joined column.number (found_left column.fields)) (all_map (λ (x : ℕ × ℕ). x.0 < 2 ^ 35) (λ v. (v, column.packed_place)) _ (short_numbers column.packed.now short)) more
 
 -- they are no more than the bytes that are left
 pub left_short : (k : ℕ) (fields : Fields) → length (joined k (found (fields_left fields))) ≤ length fields.rest.now
@@ -307,66 +302,56 @@ small_delta true v lt = small_number (v % 2 ^ 32) (omega arith)
 abbrev limit : ℤ
 limit = pos (2 ^ 62)
 
-none_out : (start : ℤ) (xs : List (ℕ × ℕ)) (distance : ℕ) → IsNear distance start → distance + 2 ^ 35 * length xs < 2 ^ 62 → AllSmallPlaced xs → running (is_within limit) OutOfRange false start xs ≡ []
-none_out start [] distance near room h = refl
-none_out start (x ∷ xs) distance near room h =
-    let step = small_number x.0 h.0 in
-    let sum = start +ℤ unzigzag x.0 in
-    let next : IsNear (distance + 2 ^ 35) sum = record { above = omega (arith, ints, near.above, step.above); below = omega (arith, ints, near.below, step.below) } in
-    let inside : IsWithin limit sum = record { above = omega (arith, ints, next.above); below = omega (arith, ints, next.below) } in
-    ap (λ b. fault_where (not b) x.1 OutOfRange ++ running (is_within limit) OutOfRange false sum xs) (within_true limit sum inside)
-    ∙ none_out sum xs (distance + 2 ^ 35) next (omega (arith, room)) h.1
-
--- at most 2^26 of them stay in range
-small_sums_in : (k at : ℕ) (m : List ℕ) → length m ≤ 2 ^ 26 → AllSmallPlaced (joined k (fields_in at m)) → sum_faults (pos (2 ^ 62)) false (joined k (fields_in at m)) ≡ []
-small_sums_in k at m few h =
-    let xs = joined k (fields_in at m) in
-    sym (running_is (is_within limit) OutOfRange false xs)
-    ∙ none_out (pos 0) xs 0 (record { above = omega (arith, ints); below = omega (arith, ints) }) (omega (arith, few, column_short k at m)) h
-
-pub small_sums : (k : ℕ) (fields : Fields) → length fields.rest.now ≤ 2 ^ 26 → AllSmallPlaced (joined k (found (fields_left fields))) → sum_faults (pos (2 ^ 62)) false (joined k (found (fields_left fields))) ≡ []
-unfolding fields_left
-small_sums k fields few h = small_sums_in k fields.at fields.rest.now few h
-
--- the values of such a column are as many as its numbers, and each is in range
-pub record HasAll (narrow : Bool) (start : ℤ) (xs : List (ℕ × ℕ)) : Type 0 where
-  pub counted : length (sums_within limit start (map (delta_in narrow) (map (λ x. x.0) xs))) ≡ length xs
-  pub within : AllByRecursion (IsWithin limit) (sums_within limit start (map (delta_in narrow) (map (λ x. x.0) xs)))
-
-all_there : (narrow : Bool) (start : ℤ) (xs : List (ℕ × ℕ)) (distance : ℕ) → IsNear distance start → distance + 2 ^ 35 * length xs < 2 ^ 62 → AllSmallPlaced xs → HasAll narrow start xs
-all_there narrow start [] distance near room h = record { counted = refl; within = tt }
-all_there narrow start (x ∷ xs) distance near room h =
+-- of at most 2^26 of them each is in range
+each_within : (narrow : Bool) (start : ℤ) (xs : List (ℕ × ℕ)) (distance : ℕ) → IsNear distance start → distance + 2 ^ 35 * length xs < 2 ^ 62 → AllSmallPlaced xs
+    → AllByRecursion (IsWithin limit) (sums_from start (map (delta_in narrow) (map (λ x. x.0) xs)))
+each_within narrow start [] distance near room h = tt
+each_within narrow start (x ∷ xs) distance near room h =
     let step = small_delta narrow x.0 h.0 in
     let sum = start +ℤ delta_in narrow x.0 in
     let next : IsNear (distance + 2 ^ 35) sum = record { above = omega (arith, ints, near.above, step.above); below = omega (arith, ints, near.below, step.below) } in
-    let inside : IsWithin limit sum = record { above = omega (arith, ints, next.above); below = omega (arith, ints, next.below) } in
-    let more = all_there narrow sum xs (distance + 2 ^ 35) next (omega (arith, room)) h.1 in
-    let is = ap (then_more limit (map (delta_in narrow) (map (λ x. x.0) xs))) (added_within limit start (delta_in narrow x.0) inside) in
-    record {
-      counted = omega (arith, ap (λ (zs : List ℤ). length zs) is, more.counted);
-      within = subst (λ (zs : List ℤ). AllByRecursion (IsWithin limit) zs) (sym is) (inside, more.within);
-    }
+    (record { above = omega (arith, ints, next.above); below = omega (arith, ints, next.below) }, each_within narrow sum xs (distance + 2 ^ 35) next (omega (arith, room)) h.1)
 
-small_values : (narrow : Bool) (start : ℤ) (xs : List (ℕ × ℕ)) → IsNear (2 ^ 61 - 1) start → length xs ≤ 2 ^ 26 → AllSmallPlaced xs → HasAll narrow start xs
-small_values narrow start xs near few h = all_there narrow start xs (2 ^ 61 - 1) near (omega (arith, few)) h
+pub small_sums : (k : ℕ) (fields : Fields) → length fields.rest.now ≤ 2 ^ 26 → AllSmallPlaced (joined k (found (fields_left fields))) → sum_faults (pos (2 ^ 62)) false (joined k (found (fields_left fields))) ≡ []
+unfolding fields_left
+small_sums k fields few h =
+    let xs = joined k (fields_in fields.at fields.rest.now) in
+    let none : IsNear 0 (pos 0) = record { above = omega (arith, ints); below = omega (arith, ints) } in
+    let each = each_within false (pos 0) xs 0 none (omega (arith, few, column_short k fields.at fields.rest.now)) h in
+    sums_good_written limit false xs (subst (λ (zs : List ℤ). AllByRecursion (IsWithin limit) zs) (running_sums (map (delta_in false) (map (λ x. x.0) xs))) each)
 
 pub start_near : (start : ℤ) → unsigned_abs start < 2 ^ 61 → IsNear (2 ^ 61 - 1) start
 start_near start low = record { above = omega (arith, ints, low); below = omega (arith, ints, low) }
 
--- a cursor over such a column, whose last value isn't far from 0
+sums_counted : (start : ℤ) (ds : List ℤ) → length (sums_from start ds) ≡ length ds
+sums_counted start [] = refl
+sums_counted start (d ∷ ds) = ap suc (sums_counted (start +ℤ d) ds)
+
+-- a cursor over such a column, whose last value isn't far from 0: its values are as many as its numbers, and each is in range
 module _ (values : Sums) (near : IsNear (2 ^ 61 - 1) values.total) (whole : values.limit ≡ pos (2 ^ 62)) where
   abbrev numbers : List (ℕ × ℕ)
   numbers = column_left values.entries
 
-  left_is : sums_left values ≡ sums_within limit values.total (map (delta_in values.narrow) (map (λ x. x.0) numbers))
-  left_is = ap (λ most. sums_within most values.total (map (delta_in values.narrow) (map (λ x. x.0) numbers))) whole
+  abbrev entered : List ℤ
+  entered = map (delta_in values.narrow) (map (λ x. x.0) numbers)
+
+  record HasAll : Type 0 where
+    counted : length (sums_left values) ≡ length numbers
+    within : AllByRecursion (IsWithin limit) (sums_left values)
+
+  all_there : (n : ℕ) → (n ≡ length numbers) × (n ≤ 2 ^ 26) → AllSmallPlaced numbers → HasAll
+  all_there n few h =
+      let each = each_within values.narrow values.total numbers (2 ^ 61 - 1) near (omega (arith, few.0, few.1)) h in
+      let is = ap (λ most. sums_within most values.total entered) whole ∙ all_within limit values.total entered each in
+      record {
+        counted = ap (λ (zs : List ℤ). length zs) is ∙ sums_counted values.total entered ∙ length-map (map (λ (x : ℕ × ℕ). x.0) numbers) (delta_in values.narrow) ∙ length-map {B = ℕ} numbers (λ x. x.0);
+        within = subst (λ (zs : List ℤ). AllByRecursion (IsWithin limit) zs) (sym is) each;
+      }
 
   pub values_counted : (r : Option ℕ) → MatchOption r ⊤ (λ n. (n ≡ length numbers) × (n ≤ 2 ^ 26)) → MatchOption r ⊤ (λ _. AllSmallPlaced numbers) → MatchOption r ⊤ (λ n. n ≡ length (sums_left values))
   values_counted None few h = tt
-  values_counted (Some n) few h =
-      omega (arith, few.0, (small_values values.narrow values.total numbers near (omega (arith, few.0, few.1)) h).counted, ap (λ (zs : List ℤ). length zs) left_is)
+  values_counted (Some n) few h = few.0 ∙ sym (all_there n few h).counted
 
   pub values_within : (r : Option ℕ) → MatchOption r ⊤ (λ n. (n ≡ length numbers) × (n ≤ 2 ^ 26)) → MatchOption r ⊤ (λ _. AllSmallPlaced numbers) → MatchOption r ⊤ (λ _. AllByRecursion (IsWithin (pos (2 ^ 62))) (sums_left values))
   values_within None few h = tt
-  values_within (Some n) few h =
-      subst (λ (zs : List ℤ). AllByRecursion (IsWithin limit) zs) (sym left_is) (small_values values.narrow values.total numbers near (omega (arith, few.0, few.1)) h).within
+  values_within (Some n) few h = (all_there n few h).within

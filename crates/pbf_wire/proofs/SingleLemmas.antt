@@ -12,7 +12,7 @@ use Rattle.pbf_wire.specs.declared.column.Column.{Column}
 use Rattle.pbf_wire.proofs.PackedLemmas.{is_read}
 use Rattle.pbf_wire.proofs.RisingRuns.{all_read, placed_run}
 use Rattle.pbf_wire.proofs.Shortest.{one_byte}
-use Rattle.pbf_wire.proofs.AllLemmas.{all_append}
+use Rattle.pbf_wire.proofs.AllLemmas.{all_append, all_weaker}
 
 abbrev pub AllSingle : List ℕ → Type 0
 AllSingle bytes = AllByRecursion (λ b. b < 128) bytes
@@ -57,14 +57,10 @@ packed_single : (ns : List ℕ) → AllSingle ns → packed ns ≡ ns
 packed_single [] h = refl
 packed_single (n ∷ ns) h = ap (λ (w : List ℕ). w ++ packed ns) (one_byte n h.0) ∙ ap (λ (w : List ℕ). n ∷ w) (packed_single ns h.1)
 
-single_fit : (ns : List ℕ) → AllSingle ns → AllByRecursion (λ n. n < 2 ^ 64) ns
-single_fit [] h = tt
-single_fit (n ∷ ns) h = (omega (arith, h.0), single_fit ns h.1)
-
 is_packed_more : (bytes ns more : List ℕ) → IsPacked bytes ns → AllSingle more → IsPacked (bytes ++ more) (ns ++ more)
 is_packed_more bytes ns more h each = record {
   bytes_are = ap₂ (λ (x y : List ℕ). x ++ y) h.bytes_are (sym (packed_single more each)) ∙ sym (flat_map-append shortest ns more);
-  fit = all_append (λ n. n < 2 ^ 64) ns more h.fit (single_fit more each);
+  fit = all_append (λ n. n < 2 ^ 64) ns more h.fit (all_weaker (λ n. n < 128) (λ n. n < 2 ^ 64) (λ n lt. omega (arith, lt)) more each);
 }
 
 pub taken_numbers : (bytes more : List ℕ) → IsPacked bytes (numbers_of bytes) → AllSingle more → numbers_of (bytes ++ more) ≡ numbers_of bytes ++ more

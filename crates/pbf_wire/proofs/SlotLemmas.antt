@@ -33,10 +33,8 @@ IsOther k (Column number values) = Unit {0}
 IsOther k (Each number messages) = Unit {0}
 
 none_at : (k : ℕ) (s : Slot) (rest : List ℕ) → IsOther k s → scalars_at k s ++ rest ≡ rest
-none_at k (Scalar number None) rest h = refl
 none_at k (Scalar number (Some value)) rest h = rw h refl
-none_at k (Column number values) rest h = refl
-none_at k (Each number messages) rest h = refl
+none_at k s rest h = refl
 
 pub none_of : (k : ℕ) (slots : List Slot) → AllByRecursion (IsOther k) slots → flat_map (scalars_at k) slots ≡ []
 none_of k [] h = refl

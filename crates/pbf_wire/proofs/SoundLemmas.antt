@@ -10,7 +10,7 @@ use Rattle.pbf_wire.specs.declared.fault.Reason.{Reason}
 use Rattle.pbf_wire.specs.declared.kind.Kind.{Kind}
 use Rattle.pbf_wire.specs.declared.kind.Kind.TheVariants as kind
 use Rattle.pbf_wire.specs.Varint.{EndsOnce, varint_at}
-use Rattle.pbf_wire.specs.Occurrence.{Content, Number, Eight, Four, Bytes, Occurrence, Item, items, found}
+use Rattle.pbf_wire.specs.Occurrence.{Content, Number, Bytes, Occurrence, Item, items, found}
 use Rattle.pbf_wire.specs.Columns.{entries, read_entries, entry_fault, placed, numbers_in, column_of, joined}
 use Rattle.pbf_wire.specs.Wire.{kind_of, reason_in, wire}
 use Rattle.pbf_wire.proofs.FaultLemmas.{leaf_is_wire, ends}
@@ -23,6 +23,7 @@ use Rattle.pbf_wire.proofs.Columns.{entries_none, entries_ok, entries_err}
 use Rattle.pbf_wire.proofs.Spellings.{varint_ok}
 use Rattle.pbf_wire.proofs.SumLemmas.{running_sums, within_is}
 use Rattle.pbf_wire.proofs.RisingLemmas.{running, running_is}
+use Rattle.pbf_wire.proofs.AllLemmas.{all_weaker}
 
 -- ---- no fault
 
@@ -79,13 +80,9 @@ module _ (is_good : ℤ → Bool) (reason : Reason) (narrow : Bool) where
   sums_good xs e =
       subst (λ (zs : List ℤ). AllByRecursion (λ z. is_good z ≡ true) zs) (running_sums (map (delta_in narrow) (map (λ x. x.0) xs))) (good_from (pos 0) xs (running_is is_good reason narrow xs ∙ e))
 
-all_within : (limit : ℤ) (zs : List ℤ) → AllByRecursion (λ z. is_within limit z ≡ true) zs → AllByRecursion (IsWithin limit) zs
-all_within limit [] h = tt
-all_within limit (z ∷ zs) h = (within_is limit z h.0, all_within limit zs h.1)
-
 -- each of them is in range
 pub sums_within_limit : (limit : ℤ) (reason : Reason) (narrow : Bool) (xs : List (ℕ × ℕ)) → faults_of_sums (is_within limit) reason narrow xs ≡ [] → AllByRecursion (IsWithin limit) (sums (map (delta_in narrow) (map (λ x. x.0) xs)))
-sums_within_limit limit reason narrow xs e = all_within limit _ (sums_good (is_within limit) reason narrow xs e)
+sums_within_limit limit reason narrow xs e = all_weaker (λ z. is_within limit z ≡ true) (IsWithin limit) (within_is limit) _ (sums_good (is_within limit) reason narrow xs e)
 
 -- ---- how many numbers a column has
 
@@ -130,10 +127,8 @@ entries_ended zero (b ∷ bs) le = absurd (omega arith)
 entries_ended (suc fuel) (b ∷ bs) le = entries_next (b ∷ bs) (varint_at (b ∷ bs)) (omega arith) refl (λ n positive. entries_ended fuel (drop n (b ∷ bs)) (omega (arith, length-drop n (b ∷ bs), positive)))
 
 ended_in : (c : Content) → length (numbers_in c) ≤ length (ends_in c)
-ended_in (Number v) = omega arith
-ended_in (Eight bytes) = omega arith
-ended_in (Four bytes) = omega arith
 ended_in (Bytes bytes at) = entries_ended (length bytes) bytes (omega arith)
+ended_in c = omega arith
 
 one_ended : (k : ℕ) (o : Occurrence) → length (column_of k o) ≤ length (ends_of k o)
 one_ended k o = elim (o.number == k) as (λ b. length (if b then placed o.place (numbers_in o.content) else []) ≤ length (if b then ends_in o.content else [])) [
@@ -148,9 +143,8 @@ length_counted k (o ∷ os) = omega (arith, length-append (column_of k o) (joine
 
 count_in : (c : Content) → reason_in (Some kind.Column) c ≡ None → length (ends_in c) ≡ length (numbers_in c)
 count_in (Number v) e = refl
-count_in (Eight bytes) e = absurd (cc)
-count_in (Four bytes) e = absurd (cc)
 count_in (Bytes bytes at) e = ends_are_numbers bytes e
+count_in c e = absurd (cc)
 
 module _ (kinds : List (ℕ × Kind)) (inner : Occurrence → List Fault) where
   abbrev pub IsSound : Occurrence → Type 0

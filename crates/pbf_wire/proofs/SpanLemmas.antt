@@ -21,10 +21,9 @@ one_past span is_there (v ∷ vs) left value (suc n) past there =
     record { passed = more.passed; alike = (past.alike.0, more.alike); there = omega (arith, more.there); few = past.few }
 
 pub same_test : (a b : Bool) → not (beq a b) ≡ false → a ≡ b
-same_test true true e = refl
-same_test false false e = refl
 same_test true false e = search rules
 same_test false true e = search rules
+same_test a b e = refl
 
 pub in_span : (span : Span) (n : ℤ) → is_in span n ≡ true → (span.above <ℤ n) × (n <ℤ span.below)
 in_span span n h = (search rules, search rules)

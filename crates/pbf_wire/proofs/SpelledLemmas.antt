@@ -31,10 +31,9 @@ from_pairs zero b (c ∷ cs) le h = absurd (omega (arith, le))
 from_pairs (suc n) b (c ∷ cs) le h = (h.0, from_pairs n c cs (omega (arith, le)) h.1)
 
 shifted : (xs : List ℕ) (n : ℕ) → length xs ≡ n → zip2 (λ a k. a / 2 ^ k) xs (replicate n 7) ≡ map (λ a. a / 128) xs
-shifted [] zero long = refl
-shifted [] (suc n) long = refl
 shifted (x ∷ xs) zero long = absurd (omega (arith, long))
 shifted (x ∷ xs) (suc n) long = ap (λ (w : List ℕ). (x / 128) ∷ w) (shifted xs n (omega (arith, long)))
+shifted xs n long = refl
 
 mask_is : (bs ls : List ℕ) → length bs ≡ 32 → length bs ≡ length ls → mask_l (map (top (hbits w8)) (zip2 (λ a b. cond (ltb a b) (2 ^ bits w8 - 1) 0) bs ls)) % 2 ^ 64 ≡ mask_l (zip2 ltb bs ls)
 mask_is bs ls long same = ap (λ ms. mask_l ms % 2 ^ 64) (tops_compared w8 ltb bs ls) ∙ mask_l-mod (zip2 ltb bs ls) 64 (omega (arith, long, length-zip2 ltb bs ls same))

@@ -167,7 +167,7 @@ added_out limit total number h = by (is_within limit (total +ℤ number)) refl
 abbrev pub then_more : ℤ → List ℤ → Option ℤ → List ℤ
 then_more limit ds sum = elim sum [ None ↦ [] | Some sum ↦ sum ∷ sums_within limit sum ds ]
 
-all_within : (limit start : ℤ) (ds : List ℤ) → AllByRecursion (IsWithin limit) (sums_from start ds) → sums_within limit start ds ≡ sums_from start ds
+pub all_within : (limit start : ℤ) (ds : List ℤ) → AllByRecursion (IsWithin limit) (sums_from start ds) → sums_within limit start ds ≡ sums_from start ds
 all_within limit start [] h = refl
 all_within limit start (d ∷ ds) h =
     ap (then_more limit ds) (added_within limit start d h.0) ∙ ap (λ (zs : List ℤ). (start +ℤ d) ∷ zs) (all_within limit (start +ℤ d) ds h.1)

@@ -15,6 +15,7 @@ use crate::short::{MOST_BYTES, count_left_if_small, count_short};
 use crate::varint::{first_varint, near_varint};
 
 /// The first number of a packed column, and the bytes after it; `None` if the bytes don't begin with a varint.
+#[tactic(auto, using(std::proofs::lemmas::List::take_rest, crate::proofs::Columns::entries_ok, crate::proofs::Columns::none_read))]
 pub fn first_number(packed: &[u8]) -> Option<(u64, &[u8])>
     ensures { MatchOption result (read_entries (entries packed.now) ≡ [])
         (λ found. read_entries (entries packed.now)
@@ -27,6 +28,7 @@ pub fn first_number(packed: &[u8]) -> Option<(u64, &[u8])>
 }
 
 /// Like [`first_number`], if it takes at most five bytes, or three if it is narrow.
+#[tactic(auto, using(std::proofs::lemmas::List::take_rest, crate::proofs::Columns::entries_ok, crate::proofs::ShortestRead::read_spells))]
 fn first_near(packed: &[u8], narrow: bool) -> Option<(u64, &[u8])>
     ensures number { MatchOption result ⊤ (λ found. (read_entries (entries packed.now)
         ≡ found.0 ∷ read_entries (entries found.1.now)) × IsNear narrow found.0) }
@@ -74,7 +76,7 @@ impl<'a> Column<'a> {
 
     /// The column that the field of this number is, in the fields that are still to come. A pass over a message that finds the
     /// first field of a column can so have the column begin there.
-    #[tactic(auto, unfolding(crate::specs::Cursors::column_left))]
+    #[tactic(auto, using(crate::proofs::Columns::entries_none), unfolding(crate::specs::Cursors::column_left, crate::specs::Columns::entries_past))]
     pub fn over(fields: Fields<'a>, number: u64) -> Self
         ensures left { column_left result ≡ joined number (found (fields_left fields.entry)) }
         ensures place { place_of_number result ≡ 0 }
@@ -90,7 +92,7 @@ impl<'a> Column<'a> {
     }
 
     /// The column whose only occurrence is packed and has these bytes.
-    #[tactic(auto, unfolding(crate::specs::Cursors::column_left))]
+    #[tactic(auto, using(crate::proofs::Columns::placed_numbers), unfolding(crate::specs::Cursors::column_left, crate::specs::Occurrence::items_past))]
     pub fn packed(bytes: &'a [u8]) -> Self
         ensures { numbers_left result ≡ read_entries (entries bytes.now) }
     {
@@ -147,7 +149,7 @@ impl<'a> Column<'a> {
     }
 
     /// Whether no byte is left: then no number is.
-    #[tactic(auto, unfolding(crate::specs::Cursors::column_left))]
+    #[tactic(auto, using(crate::proofs::Columns::entries_none), unfolding(crate::specs::Cursors::column_left))]
     pub(crate) fn is_done(&self) -> bool
         ensures { IsTrue result → column_left self.now ≡ [] }
     {
@@ -243,7 +245,7 @@ impl<'a> Column<'a> {
 
     /// Skips the next numbers, at most so many, as long as each is a 0 of one byte of the packed occurrence that was begun, and returns how
     /// many. It reads sixteen bytes; if there are fewer, it skips none. The place is left as it is.
-    #[tactic(auto, unfolding(crate::specs::Cursors::column_left))]
+    #[tactic(auto, using(std::proofs::lemmas::List::take_rest, crate::proofs::RisingRuns::zeros_front), unfolding(crate::specs::Cursors::column_left))]
     pub fn pass_zeros(&mut self, most: usize) -> usize
         ensures passed { numbers_left self.old ≡ replicate result 0 ++ numbers_left self.new }
         ensures spelled { self.old.packed.now ≡ replicate result 0 ++ self.new.packed.now }

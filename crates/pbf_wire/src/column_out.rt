@@ -47,6 +47,7 @@ impl ColumnOut {
     }
 
     /// Adds a number at the end. An `Err` leaves the column as it was.
+    #[tactic(auto, using(crate::proofs::PackedLemmas::pushed_packed, crate::proofs::PackedLemmas::pushed_numbers))]
     pub fn push(&mut self, number: u64) -> Result<(), AllocError>
         ensures ok { OnOk result (self.new ≡ self.old ++ number ∷ []) }
         ensures err { OnErr result (self.new ≡ self.old) }
@@ -57,6 +58,7 @@ impl ColumnOut {
 
     /// Adds the next numbers of another column, at most so many, as long as each takes one byte of the packed occurrence that was begun. They
     /// are taken from it, and it is said how many they are. After an `Err` both are unspecified.
+    #[tactic(auto, using(crate::proofs::SingleLemmas::taken_packed, std::proofs::lemmas::List::take_at, crate::proofs::SingleLemmas::taken_numbers))]
     pub fn take_short(&mut self, numbers: &mut Column<'_>, most: usize) -> Result<usize, AllocError>
         ensures few { IfOk result (λ count. count ≤ most) }
         ensures taken { IfOk result

@@ -63,6 +63,7 @@ impl DeltaOut {
     }
 
     /// Adds a value at the end: its difference to the value before, of the first to 0. An `Err` leaves the column as it was.
+    #[tactic(auto, using(crate::proofs::PackedLemmas::held_last, crate::proofs::PackedLemmas::appended, crate::proofs::PackedLemmas::same_value, crate::proofs::PackedLemmas::pushed_deltas, crate::proofs::PackedLemmas::pushed_values))]
     pub fn push(&mut self, value: i64) -> Result<(), AllocError>
         requires { IsWithin (pos SUM_LIMIT) value }
         ensures ok { OnOk result (self.new ≡ self.old ++ value ∷ []) }

@@ -147,6 +147,7 @@ impl<'a> Iterator for Fields<'a> {
 
     /// Inlined, so that the cursor of a loop stays in registers.
     #[inline(always)]
+    #[tactic(auto, using(crate::proofs::Items::items_none, crate::proofs::Items::items_ok, std::proofs::lemmas::List::take_rest, crate::proofs::Items::items_err, crate::proofs::Items::fewer), unfolding(crate::specs::Cursors::fields_left))]
     fn next(&mut self) -> Option<Result<Field<'a>, Fault>> {
         if self.rest.is_empty() {
             return None;

@@ -122,6 +122,7 @@ pub fn judge_leaf(message: Message<'_>, kinds: &[(u64, Kind)]) -> Option<Fault>
 /// The first wire fault of a message whose first byte is at `at` in the file. `kinds` lists the known fields by their
 /// numbers; others may have any wire type. Embedded messages are not entered. Reads all bytes once and does not allocate.
 #[inline(always)]
+#[tactic(auto, using(crate::proofs::FaultLemmas::leaf_is_wire))]
 pub fn judge_wire(message: &[u8], at: u64, kinds: &[(u64, Kind)]) -> Result<(), Fault>
     requires { at + length message.now ≤ OFFSET_LIMIT }
     ensures { result ≡ ok_unless (wire kinds.now (items at message.now)) }

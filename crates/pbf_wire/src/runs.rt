@@ -35,6 +35,7 @@ pub(crate) fn rise_of(block: &[u8; 16]) -> Option<u16>
 
 /// How many of some bytes are 0 before the first that isn't.
 #[inline(always)]
+#[tactic(auto, using(crate::proofs::RisingRuns::zeros_are, crate::proofs::RisingRuns::zeros_few))]
 pub(crate) fn zeros_of(block: &[u8; 16]) -> usize
     ensures zeros { take result block.now ≡ replicate result 0 }
     ensures few { result ≤ 16 }

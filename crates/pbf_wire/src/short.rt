@@ -45,6 +45,7 @@ fn end_soon(window: &[u8; WINDOW]) -> bool
 }
 
 /// A window that begins with these bytes, and is filled up with bytes that end.
+#[tactic(auto, using(crate::proofs::CountLemmas::filled_up))]
 fn window_of(bytes: &[u8]) -> [u8; WINDOW]
     requires { length bytes.now < 64 }
     ensures front { take (length bytes.now) result ≡ bytes.now }
@@ -126,6 +127,7 @@ fn count_if_small(payload: Payload<'_>) -> Option<usize>
 
 /// How many numbers a column has in the fields that are still to come, if a quick test shows that they are below 2^35. No number of a
 /// packed occurrence is decoded.
+#[tactic(auto, using(crate::proofs::ShortLemmas::left_short))]
 pub(crate) fn count_left_if_small(fields: Fields<'_>, number: u64) -> Option<usize>
     ensures counted { MatchOption result ⊤
         (λ count. count ≡ length (joined number (found (fields_left fields.entry)))) }

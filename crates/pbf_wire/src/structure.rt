@@ -43,6 +43,7 @@ pub fn judge_twice(message: Message<'_>, number: u64) -> Option<Fault>
 
 /// How many numbers a column has, in all of its occurrences. No packed payload is decoded: the bytes that end a varint are
 /// counted, many at once.
+#[tactic(auto, using(crate::proofs::FaultLemmas::count_short))]
 pub fn column_count(message: Message<'_>, number: u64) -> usize
     ensures { result ≡ column_count number (found_in message.entry) }
 {

@@ -132,6 +132,7 @@ impl<'a> Sums<'a> {
 
     /// Skips the next value, if its entry takes at most five bytes of the packed occurrence that was begun, or three if it is narrow, and
     /// the sum is near.
+    #[tactic(auto, using(crate::proofs::TakingLemmas::entry_taken))]
     fn pass_one(&mut self) -> bool
         ensures passed { IsTrue result → PassesSpelled (left_of self.old) (left_of self.new) 1 }
         ensures kept { result ≡ false → left_of self.new ≡ left_of self.old }
@@ -156,6 +157,7 @@ impl<'a> Sums<'a> {
 
     /// Skips the next values, at most so many, as long as each is the last one again by a 0 of one byte, and returns how many. It reads
     /// sixteen bytes of the packed occurrence that was begun; if there are fewer, it skips none.
+    #[tactic(auto, using(crate::proofs::NextLemmas::values, crate::proofs::NextLemmas::repeated, crate::proofs::TakingLemmas::zeros_taken))]
     pub fn pass_same(&mut self, most: usize) -> usize
         ensures same { sums_left self.old
             ≡ replicate result (last_given self.old) ++ sums_left self.new }
@@ -168,6 +170,7 @@ impl<'a> Sums<'a> {
 
     /// Skips the next sixteen values, if they rise by entries of one byte and a span has them all. Of these only the sum is needed: all
     /// values are between the one before them and their last.
+    #[tactic(auto, using(crate::proofs::TakingLemmas::rising_taken))]
     fn pass_rising(&mut self, span: Span) -> bool
         ensures passed { IsTrue result → (values : List ℤ) (n : ℕ)
             → ArePassed span true values (sums_left self.old) n
@@ -192,6 +195,7 @@ impl<'a> Sums<'a> {
 
     /// Skips values that a span has, sixteen at a time, as long as they rise by entries of one byte, and returns how many of `most` are
     /// left. If the values to be skipped are those that it lacks, none is.
+    #[tactic(auto, using(crate::proofs::SpanLemmas::values_fit, crate::proofs::TakingLemmas::start_taken, crate::proofs::TakingLemmas::more_taken))]
     fn pass_runs(&mut self, span: Span, is_there: bool, most: usize) -> usize
         ensures past { ArePassed span is_there (sums_left self.old) (sums_left self.new)
             (most - result) }
@@ -300,6 +304,7 @@ impl<'a> Sums<'a> {
 
     /// The next value, as [`Sums::next`] gives it: quicker in a column of which many values are the same as the one before.
     #[inline(always)]
+    #[tactic(auto, using(crate::proofs::NextLemmas::values, crate::proofs::NextLemmas::once_more))]
     pub fn next_steady(&mut self) -> Option<i64>
         ensures { YieldsFirst sums_left self.old result self.new }
     {
@@ -320,6 +325,7 @@ impl<'a> Sums<'a> {
     /// How many values are still to come, if a quick test shows that each is strictly between -2^62 and 2^62; `None` says nothing. The
     /// test is for columns of that limit, and passes if the entries are few and small and the last value isn't far from 0. No entry is
     /// decoded.
+    #[tactic(auto, using(crate::proofs::ShortLemmas::start_near, crate::proofs::ShortLemmas::values_counted, crate::proofs::ShortLemmas::values_within))]
     pub fn count_if_small(&self) -> Option<usize>
         ensures counted { MatchOption result ⊤ (λ count. count ≡ length (sums_left self.now)) }
         ensures within { MatchOption result ⊤

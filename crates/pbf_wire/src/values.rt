@@ -91,6 +91,7 @@ fn add_entry(sum: &mut Sum, narrow: bool, number: u64, limit: u64, signed: bool)
 /// The least fault of the values of a column of differences in the fields that are still to come: the reason, if one is not
 /// strictly between `-limit` and `limit` or, if they are not `signed`, below 0. Of `narrow` columns the low 32 bits of each entry
 /// count. Reads up to the first such value.
+#[tactic(auto, using(crate::proofs::RisingLemmas::running_is, crate::proofs::RisingLemmas::left_rises))]
 fn judge_values(
     fields: Fields<'_>,
     number: u64,

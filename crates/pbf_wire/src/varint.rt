@@ -11,6 +11,7 @@ use std::alloc::AllocError;
 
 /// The number that the bytes begin with, and how many bytes it takes, byte by byte. A length of 0 says that there is none: so two plain
 /// numbers are returned, for which no room in memory is cleared if it is called.
+#[tactic(auto, using(crate::proofs::Varints::long_at, crate::proofs::Varints::cut_at), unfolding(crate::specs::Varint::value_of))]
 fn any_varint(bytes: &[u8]) -> (u64, usize)
     ensures exact { number_or_reason bytes.now result ≡ varint_at bytes.now }
     ensures taken { result.1 ≤ length bytes.now }
@@ -30,6 +31,7 @@ fn any_varint(bytes: &[u8]) -> (u64, usize)
 
 /// The number that the bytes begin with, and how many bytes it takes, if they are four or five: most numbers that take more than three
 /// take so many.
+#[tactic(auto, using(crate::proofs::Varints::four_bytes, crate::proofs::Varints::five_bytes))]
 fn far_varint(bytes: &[u8]) -> Option<(u64, usize)>
     ensures { MatchOption result ⊤ (λ found. (varint_at bytes.now ≡ Ok found) × (0 < found.1)
         × (found.1 ≤ length bytes.now) × (found.0 < 2 ^ 35)) }
@@ -72,6 +74,7 @@ fn longer_varint(bytes: &[u8]) -> (u64, usize)
 /// The number that the bytes begin with, and how many bytes it takes, if they are at most three: nearly all numbers of a file
 /// are so short. It is inlined.
 #[inline(always)]
+#[tactic(auto, using(crate::proofs::Varints::one_byte, crate::proofs::Varints::two_bytes, crate::proofs::Varints::three_bytes))]
 fn short_varint(bytes: &[u8]) -> Option<(u64, usize)>
     ensures { MatchOption result ⊤ (λ found. (varint_at bytes.now ≡ Ok found) × (0 < found.1)
         × (found.1 ≤ length bytes.now) × (found.0 < 2 ^ 21)) }
@@ -116,6 +119,7 @@ pub(crate) fn near_varint(bytes: &[u8], narrow: bool) -> Option<(u64, usize)>
 
 /// The number that the bytes begin with, and how many bytes it takes.
 #[inline(always)]
+#[tactic(auto, using(crate::proofs::Varints::cut_at))]
 pub(crate) fn first_varint(bytes: &[u8]) -> Result<(u64, usize), Reason>
     ensures exact { result ≡ varint_at bytes.now }
     ensures taken { IfOk result (λ found. (0 < found.1) × (found.1 ≤ length bytes.now)) }
@@ -145,6 +149,7 @@ pub(crate) fn first_varint(bytes: &[u8]) -> Result<(u64, usize), Reason>
 ///
 /// It is inlined, so that a number of one to three bytes takes no call.
 #[inline(always)]
+#[tactic(auto, using(std::proofs::lemmas::List::take_rest, crate::proofs::Spellings::only_is, crate::proofs::Spellings::cut_iff, crate::proofs::Spellings::long_iff, crate::proofs::Spellings::found_is))]
 pub fn get_varint(bytes: &[u8], at: usize) -> Result<(u64, usize), Reason>
     requires { at ≤ length bytes.now }
 
@@ -166,6 +171,7 @@ pub fn get_varint(bytes: &[u8], at: usize) -> Result<(u64, usize), Reason>
 }
 
 /// The shortest spelling, at the start of the array, and its length. It does not allocate.
+#[tactic(auto, using(crate::proofs::Shortest::starts, crate::proofs::Shortest::ends_with))]
 pub fn shortest_spelling(value: u64) -> ([u8; 10], usize)
     ensures within { result.1 ≤ 10 }
     ensures spelling { take result.1 result.0 ≡ shortest value }
@@ -187,6 +193,7 @@ pub fn shortest_spelling(value: u64) -> ([u8; 10], usize)
 
 /// Like [`put_longer`], of a number that takes four bytes or more: most of them take four or five.
 #[inline(never)]
+#[tactic(auto, using(crate::proofs::Shortest::four_bytes, crate::proofs::Shortest::five_bytes))]
 fn put_longest(out: &mut Vec<u8>, value: u64) -> Result<(), AllocError>
     requires { 2 ^ 21 ≤ value }
     ensures { AppendsVarint value out.old.items out.new.items result }
@@ -215,6 +222,7 @@ fn put_longest(out: &mut Vec<u8>, value: u64) -> Result<(), AllocError>
 
 /// Like [`put_varint`], of a number that takes two bytes or more: most of them take two or three, which are spelled at once.
 #[inline(never)]
+#[tactic(auto, using(crate::proofs::Shortest::two_bytes, crate::proofs::Shortest::three_bytes))]
 fn put_longer(out: &mut Vec<u8>, value: u64) -> Result<(), AllocError>
     requires { 128 ≤ value }
     ensures { AppendsVarint value out.old.items out.new.items result }
@@ -237,6 +245,7 @@ fn put_longer(out: &mut Vec<u8>, value: u64) -> Result<(), AllocError>
 ///
 /// Most numbers of a file take one byte, which is written inline, without a call.
 #[inline(always)]
+#[tactic(auto, using(crate::proofs::Shortest::one_byte))]
 pub fn put_varint(out: &mut Vec<u8>, value: u64) -> Result<(), AllocError>
     ensures { AppendsVarint value out.old.items out.new.items result }
 {

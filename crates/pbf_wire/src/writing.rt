@@ -14,6 +14,7 @@ use crate::varint::put_varint;
 use std::alloc::AllocError;
 
 /// Appends a field that holds a number (wire type 0).
+#[tactic(auto, using(crate::proofs::WritingLemmas::number_put))]
 pub fn put_number(out: &mut Vec<u8>, number: u64, value: u64) -> Result<(), AllocError>
     requires { number < 2 ^ 29 }
     ensures { OnOk result (out.new.items
@@ -46,6 +47,7 @@ pub fn put_int64(out: &mut Vec<u8>, number: u64, value: Option<i64>) -> Result<(
 }
 
 /// Appends a field that holds a text or an embedded message (wire type 2).
+#[tactic(auto, using(crate::proofs::WritingLemmas::bytes_put))]
 pub fn put_bytes(out: &mut Vec<u8>, number: u64, bytes: &[u8]) -> Result<(), AllocError>
     requires { number < 2 ^ 29 }
     ensures { OnOk result (out.new.items
@@ -58,6 +60,7 @@ pub fn put_bytes(out: &mut Vec<u8>, number: u64, bytes: &[u8]) -> Result<(), All
 }
 
 /// Appends a field that holds an embedded message, unless that has no field.
+#[tactic(auto, using(crate::proofs::WritingLemmas::empty_left))]
 pub fn put_unless_empty(out: &mut Vec<u8>, number: u64, message: &[u8]) -> Result<(), AllocError>
     requires { number < 2 ^ 29 }
     ensures { OnOk result (out.new.items

@@ -4,9 +4,6 @@ use Rattle.std.proofs.lemmas.Simd.{ones-mask_l}
 use Rattle.pbf_wire.proofs.CountLemmas.{is_end, bit_of_ends}
 use Rattle.pbf_wire.proofs.count.end_mask.Goals as goal
 
-pub overflow_cast-result : goal.overflow_cast-result
-overflow_cast-result c = record { fits = omega (arith, c.ends.ensures.small) }
-
 pub returns-clause-bits : goal.returns-clause-bits
 returns-clause-bits c = λ i lt. subst (λ (m : ℕ). IsBitSet m i ↔ (slice_index c.args.block.now i < 128)) (sym c.ends.ensures.mask) (bit_of_ends c.args.block.now i (omega (arith, c.told-block)))
 

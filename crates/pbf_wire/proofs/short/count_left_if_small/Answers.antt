@@ -1,21 +1,8 @@
-use Rattle.std.proofs.Common.{ℕ, ◌∙◌, List, ap, subst, arith, length}
-use Rattle.pbf_wire.specs.Columns.{joined}
+use Rattle.std.proofs.Common.{arith}
 use Rattle.pbf_wire.specs.Cursors.{found_left}
 use Rattle.pbf_wire.specs.Fields.{occurrence}
-use Rattle.pbf_wire.proofs.ShortLemmas.{AllSmallPlaced, column_more, count_more, left_short}
+use Rattle.pbf_wire.proofs.ShortLemmas.{column_more, count_more}
 use Rattle.pbf_wire.proofs.short.count_left_if_small.Goals as goal
-
-pub loop-field-init : goal.loop-field-init
-loop-field-init c =
-    let k = c.args.number in
-    let same = ap (λ f. joined k (found_left f)) c.into_iter-field-iterator.ensures.into_iter_gives ∙ ap (joined k) c.found-field-items.ensures in
-    record {
-      can = tt;
-      ends = tt;
-      counted = omega (arith, ap (λ (xs : List (ℕ × ℕ)). length xs) same);
-      room = omega (arith, left_short k c.args.fields, c.ranges.fields);
-      small = λ later. subst AllSmallPlaced same later;
-    }
 
 pub loop-field-preserved-then-field-number : goal.loop-field-preserved-then-field-number
 loop-field-preserved-then-field-number c =

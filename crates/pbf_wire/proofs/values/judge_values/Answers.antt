@@ -1,18 +1,9 @@
-use Rattle.std.proofs.Common.{refl, ◌∙◌, sym, ap, arith, length}
+use Rattle.std.proofs.Common.{◌∙◌, sym, ap}
 use Rattle.pbf_wire.specs.Least.{least}
-use Rattle.pbf_wire.specs.Columns.{joined}
-use Rattle.pbf_wire.specs.Occurrence.{found}
-use Rattle.pbf_wire.specs.Cursors.{fields_left, column_left, place_of_number}
+use Rattle.pbf_wire.specs.Cursors.{column_left, place_of_number}
 use Rattle.pbf_wire.specs.Faults.{is_allowed}
-use Rattle.pbf_wire.proofs.RisingLemmas.{left_rises, not_good, running, running_is, rises, zero_keeps}
+use Rattle.pbf_wire.proofs.RisingLemmas.{not_good, running}
 use Rattle.pbf_wire.proofs.values.judge_values.Goals as goal
-
-pub loop-entry-init : goal.loop-entry-init
-loop-entry-init c = rw c.new-sum.ensures (rw c.over-column.ensures.left (record {
-  faults = ap least (running_is (is_allowed c.args.signed c.args.limit) c.args.reason c.args.narrow (joined c.args.number (found (fields_left c.args.fields))));
-  rising = left_rises c.args.number c.args.fields;
-  limit = refl;
-}))
 
 pub returns-then-not-add_entry : goal.returns-then-not-add_entry
 returns-then-not-add_entry c =
@@ -24,19 +15,3 @@ returns-then-not-add_entry c =
     (rw left at so_far.invariant.rising)
     (sym c.add_entry.ensures.good ∙ c.if-not-add_entry.true))
     ∙ ap (λ w. least (running good c.args.reason c.args.narrow so_far.sum.total w)) (sym left) ∙ so_far.invariant.faults)
-
-pub zeros-preserved : goal.zeros-preserved
-zeros-preserved c =
-    let good = is_allowed c.args.signed c.args.limit in
-    let so_far = c.zeros.invariant in
-    let total = c.add_entry.new.sum.total in
-    let place = place_of_number c.pass_zero.new.self in
-    let rest = column_left c.pass_zero.new.self in
-    let left = c.zeros-test.ensures.passed refl in
-    record {
-      faults = ap least (sym (zero_keeps good c.args.reason c.args.narrow total place rest so_far.good)) ∙ ap (λ w. least (running good c.args.reason c.args.narrow total w)) (sym left) ∙ so_far.faults;
-      rising = rises place rest (rw left at so_far.rising);
-      limit = so_far.limit;
-      shorter = omega (arith, ap length left, so_far.shorter);
-      good = so_far.good;
-    }

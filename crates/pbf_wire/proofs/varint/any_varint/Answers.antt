@@ -1,18 +1,7 @@
-use Rattle.std.proofs.Common.{◌≡◌, ◌+◌, true, false, ltb, length, get_or, refl, sym, ap, arith, below_more, inl, inr}
-use Rattle.std.proofs.lemmas.Bool.{lt-ltb, le-ltb}
-use Rattle.pbf_wire.specs.Varint.{value_of}
+use Rattle.std.proofs.Common.{◌≡◌, ◌+◌, true, ltb, sym, arith, below_more, inl, inr}
+use Rattle.std.proofs.lemmas.Bool.{lt-ltb}
 use Rattle.pbf_wire.proofs.Varints as lemmas
 use Rattle.pbf_wire.proofs.varint.any_varint.Goals as goal
-use Rattle.pbf_wire.proofs.varint.any_varint.Goals.{else-i-eq9-via-then-i-eq9+else-byte-gt1, else-i-eq9-via-else-i-eq9}
-
-pub loop-i-init : goal.loop-i-init
-unfolding value_of
-loop-i-init c = record { short = omega arith; below = omega arith; value = refl; goes_on = λ k h. absurd (omega arith) }
-
-pub returns-then-byte-gt1-clause-exact : goal.returns-then-byte-gt1-clause-exact
-returns-then-byte-gt1-clause-exact c =
-    let long : ltb (length c.args.bytes.now) 10 ≡ false = le-ltb _ _ (omega arith) in
-    rw long (sym (lemmas.long_at c.args.bytes.now (omega arith) (λ k h. c.loop-i.invariant.goes_on k (omega arith)) (let e = c.if-i-eq9.true in omega (arith, ap (λ k. get_or c.args.bytes.now k 0) e))))
 
 pub returns-then-byte-lt128-clause-exact : goal.returns-then-byte-lt128-clause-exact
 returns-then-byte-lt128-clause-exact c =
@@ -33,8 +22,3 @@ loop-i-preserved c =
       value = t.0;
       goes_on = below_more _ _ inv.goes_on c.if-byte-lt128.false;
     }
-
-pub returns-clause-exact : goal.returns-clause-exact
-returns-clause-exact c =
-    let short : ltb (length c.args.bytes.now) 10 ≡ true = lt-ltb _ _ (omega arith) in
-    rw short (sym (lemmas.cut_at c.args.bytes.now c.loop-i.i (omega arith) (omega arith) c.loop-i.invariant.goes_on))

@@ -5,12 +5,6 @@ use Rattle.pbf_wire.specs.Cursors.{column_left, found_left}
 use Rattle.pbf_wire.proofs.RisingRuns.{all_read, placed_run, single, zeros_front, zeros_halved}
 use Rattle.pbf_wire.proofs.column.Column.pass_zeros.Goals as goal
 
-pub returns-clause-spelled : goal.returns-clause-spelled
-returns-clause-spelled c =
-    let bytes = c.args.self.now.packed.now in
-    let are = subst (λ xs. take c.zeros_of.result xs ≡ replicate c.zeros_of.result 0) c.in-Some.ensures.cases.same c.zeros_of.ensures.zeros in
-    rw take_rest (zeros_front bytes c.zeros_of.result c.min-zeros.result are c.zeros_of.ensures.few (omega (arith, c.min-zeros.ensures)))
-
 pub returns-clause-passed : goal.returns-clause-passed
 unfolding column_left
 returns-clause-passed c =

@@ -6,9 +6,6 @@ use Rattle.pbf_wire.specs.Spans.{is_in, ArePassed}
 use Rattle.pbf_wire.proofs.SpanLemmas.{one_past, same_test}
 use Rattle.pbf_wire.proofs.sums.Sums.pass_alike.Goals as goal
 
-pub alike-init : goal.alike-init
-alike-init c = record { past = c.pass_runs-left.ensures.past; fewer = c.pass_runs-left.ensures.fewer }
-
 pub alike-preserved : goal.alike-preserved
 alike-preserved c =
     let values = sums_left c.args.self.now in

@@ -3,7 +3,6 @@ use Rattle.std.proofs.lemmas.Int.{ints, to_z-of_z}
 use mir.Val.{SFits}
 use Rattle.pbf_wire.specs.Signed.{unzigzag}
 use Rattle.pbf_wire.proofs.RisingRuns.{run_is}
-use Rattle.pbf_wire.proofs.TakingLemmas.{rising_taken}
 use Rattle.pbf_wire.proofs.sums.Sums.pass_rising.Goals as goal
 
 pub returns-clause-passed : goal.returns-clause-passed
@@ -20,9 +19,3 @@ returns-clause-passed c = λ t values n past.
     let high : new.total <ℤ span.below = omega (arith, ints, c.if-span-next.false, to_z-of_z w64 _ new_fits, to_z-of_z w64 _ below_fits) in
     let is = c.add_near.ensures.total ∙ ap (λ (n : ℕ). old.total +ℤ unzigzag (2 * n)) c.from.ensures in
     run_is old new _ c.in-Some.rise span values n e.rising e.passed low high is c.add_near.ensures.entries c.add_near.ensures.same.0 c.add_near.ensures.same.1 past
-
-pub returns-clause-spelled : goal.returns-clause-spelled
-returns-clause-spelled c = λ _.
-    let e = c.in-Some.ensures in
-    let added = c.add_near.ensures in
-    rising_taken c.args.self.now c.add_near.new.self _ c.in-Some.rise e.rising e.passed e.spelled (added.total ∙ ap (λ (n : ℕ). c.args.self.now.total +ℤ unzigzag (2 * n)) c.from.ensures) added.entries added.same.0 added.same.1
