@@ -1,4 +1,3 @@
 pub mod ScaleLemmas
 pub mod TagLemmas
-pub mod TextCounts
 pub mod RangeLemmas

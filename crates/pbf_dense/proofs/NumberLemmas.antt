@@ -10,7 +10,7 @@ use Rattle.pbf_dense.specs.Runs.{after_run}
 use Rattle.pbf_dense.specs.Nodes.{nodes_of_columns}
 use Rattle.pbf_dense.specs.Steady.{NumbersFit}
 use Rattle.pbf_dense.specs.declared.dense.Dense.{Dense}
-use Rattle.pbf_dense.proofs.InfoTakenLemmas.{stored_all}
+use Rattle.pbf_dense.proofs.InfoLemmas.{stored_all}
 
 -- the columns of metadata
 record InfoFits (info : InfoSpec) : Type 0 where
@@ -28,9 +28,6 @@ later P (z ∷ zs) h = h.1
 
 columns_fit : (table : List (List ℕ)) (scale : Scale) (ids lats lons : List ℤ) (info : InfoSpec) (keys_vals : List ℕ)
     → AllByRecursion IsStored ids → AllByRecursion IsStored lats → AllByRecursion IsStored lons → InfoFits info → AllByRecursion NumbersFit (nodes_of_columns table scale ids lats lons info keys_vals)
-columns_fit table scale [] lats lons info keys_vals a b c h = tt
-columns_fit table scale (id ∷ ids) [] lons info keys_vals a b c h = tt
-columns_fit table scale (id ∷ ids) (lat ∷ lats) [] info keys_vals a b c h = tt
 columns_fit table scale (id ∷ ids) (lat ∷ lats) (lon ∷ lons) info keys_vals a b c h = (
   record {
     id = a.0;
@@ -44,6 +41,7 @@ columns_fit table scale (id ∷ ids) (lat ∷ lats) (lon ∷ lons) info keys_val
     uids = later IsUid info.uids h.uids;
   }),
 )
+columns_fit table scale ids lats lons info keys_vals a b c h = tt
 
 -- those of the nodes that are still to come
 pub dense_fits : (dense : Dense) → AllByRecursion NumbersFit (dense_left dense)

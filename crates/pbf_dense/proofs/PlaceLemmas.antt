@@ -14,17 +14,13 @@ use Rattle.pbf_dense.specs.declared.places.Place.{Place}
 use Rattle.pbf_dense.specs.Places.{node_place, BeginWithIds, places_along}
 
 pub places_are : (table : List (List ℕ)) (scale : Scale) (ids lats lons : List ℤ) (info : InfoSpec) (keys_vals : List ℕ) → places_along scale ids lats lons ≡ map node_place (nodes_of_columns table scale ids lats lons info keys_vals)
-places_are table scale [] lats lons info keys_vals = refl
-places_are table scale (id ∷ ids) [] lons info keys_vals = refl
-places_are table scale (id ∷ ids) (lat ∷ lats) [] info keys_vals = refl
 places_are table scale (id ∷ ids) (lat ∷ lats) (lon ∷ lons) info keys_vals = ap (λ (l : List Place). record { id = id; lat = nano_lat scale lat; lon = nano_lon scale lon } ∷ l) (places_are table scale ids lats lons (info_rest info) (after_run keys_vals))
+places_are table scale ids lats lons info keys_vals = refl
 
 pub ids_begin : (table : List (List ℕ)) (scale : Scale) (ids lats lons : List ℤ) (info : InfoSpec) (keys_vals : List ℕ) → BeginWithIds ids (nodes_of_columns table scale ids lats lons info keys_vals)
-ids_begin table scale [] lats lons info keys_vals = ([], refl)
-ids_begin table scale (id ∷ ids) [] lons info keys_vals = (id ∷ ids, refl)
-ids_begin table scale (id ∷ ids) (lat ∷ lats) [] info keys_vals = (id ∷ ids, refl)
 ids_begin table scale (id ∷ ids) (lat ∷ lats) (lon ∷ lons) info keys_vals =
     let (more, e) = ids_begin table scale ids lats lons (info_rest info) (after_run keys_vals) in (more, ap (λ (l : List ℤ). id ∷ l) e)
+ids_begin table scale ids lats lons info keys_vals = (ids, refl)
 
 -- ---- a column that has ended
 
@@ -33,9 +29,8 @@ no_lats scale [] lons = refl
 no_lats scale (id ∷ ids) lons = refl
 
 pub no_lons : (scale : Scale) (ids lats : List ℤ) → places_along scale ids lats [] ≡ []
-no_lons scale [] lats = refl
-no_lons scale (id ∷ ids) [] = refl
 no_lons scale (id ∷ ids) (lat ∷ lats) = refl
+no_lons scale ids lats = refl
 
 -- ---- a cursor over the ids that goes ahead of the nodes
 

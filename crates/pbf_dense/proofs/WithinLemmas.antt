@@ -1,5 +1,5 @@
 -- Ids by spans of stored places are those of the nodes in the box.
-use Rattle.std.proofs.Common.{◌≡◌, ◌+◌, ◌<◌, ◌≤◌, length, ℕ, zero, suc, ℤ, Bool, true, false, ◌&&◌, cond, List, [], ◌∷◌, map, drop, take, refl, sym, ap, ap₂, ◌∙◌, arith, subst}
+use Rattle.std.proofs.Common.{◌≡◌, ◌+◌, ◌<◌, ◌≤◌, length, ℕ, zero, suc, ℤ, Bool, true, false, ◌&&◌, cond, List, [], ◌∷◌, map, drop, take, refl, sym, ap, ap₂, ◌∙◌, arith, add-one, subst}
 use Rattle.std.proofs.Math.Seq.{take-add}
 use Rattle.std.proofs.lemmas.List.{drop-drop, length-drop, take_all}
 use Rattle.pbf_wire.specs.Spans.{is_in, AreAlike, ArePassed}
@@ -25,9 +25,8 @@ no_lats lat_span lon_span [] lons = refl
 no_lats lat_span lon_span (id ∷ ids) lons = refl
 
 pub no_lons : (lat_span lon_span : Span) (ids lats : List ℤ) → ids_along lat_span lon_span ids lats [] ≡ []
-no_lons lat_span lon_span [] lats = refl
-no_lons lat_span lon_span (id ∷ ids) [] = refl
 no_lons lat_span lon_span (id ∷ ids) (lat ∷ lats) = refl
+no_lons lat_span lon_span ids lats = refl
 
 -- ---- the nodes of the message
 
@@ -40,13 +39,11 @@ pub within_are : (table : List (List ℕ)) (scale : Scale) (ids lats lons : List
     → ((lat : ℤ) → is_in lat_span lat ≡ is_between area.bottom area.top (nano_lat scale lat))
     → ((lon : ℤ) → is_in lon_span lon ≡ is_between area.left area.right (nano_lon scale lon))
     → ids_along lat_span lon_span ids lats lons ≡ ids_within area (nodes_of_columns table scale ids lats lons info keys_vals)
-within_are table scale [] lats lons info keys_vals area lat_span lon_span by_lat by_lon = refl
-within_are table scale (id ∷ ids) [] lons info keys_vals area lat_span lon_span by_lat by_lon = refl
-within_are table scale (id ∷ ids) (lat ∷ lats) [] info keys_vals area lat_span lon_span by_lat by_lon = refl
 within_are table scale (id ∷ ids) (lat ∷ lats) (lon ∷ lons) info keys_vals area lat_span lon_span by_lat by_lon =
     let n : NodeSpec = record { id = id; lat = lat; lon = lon; meta = meta_at table info 0; tags = map (tag_of table) (run keys_vals); scale = scale } in
     one_more area (is_in lat_span lat && is_in lon_span lon) n (ids_along lat_span lon_span ids lats lons) (nodes_of_columns table scale ids lats lons (info_rest info) (after_run keys_vals)) (ap₂ (λ (a b : Bool). a && b) (by_lat lat) (by_lon lon))
     (within_are table scale ids lats lons (info_rest info) (after_run keys_vals) area lat_span lon_span by_lat by_lon)
+within_are table scale ids lats lons info keys_vals area lat_span lon_span by_lat by_lon = refl
 
 -- ---- nodes that are skipped
 
@@ -71,17 +68,12 @@ some_outside lat_span lon_span (suc n) ids lats (lon ∷ lons) outside =
     ∙ some_outside lat_span lon_span n (drop 1 ids) (drop 1 lats) lons outside.1
     ∙ ap₂ (λ (a b : List ℤ). ids_along lat_span lon_span a b (drop n lons)) (sym (drop_one n ids)) (sym (drop_one n lats))
 
-drop_after : {A : Type 0} (n : ℕ) (xs : List A) → drop n (drop 1 xs) ≡ drop (n + 1) xs
-drop_after n xs =
-    let more : n + 1 ≡ suc n = omega arith in
-    sym (drop_one n xs) ∙ ap (λ m. drop m xs) (sym more)
-
 -- a node, and so many after it
 pub skipped : (lat_span lon_span : Span) (n : ℕ) (ids lats lons more_ids more_lats more_lons : List ℤ) → AreAlike lon_span false (take n lons)
     → more_ids ≡ drop (n + 1) ids → more_lats ≡ drop (n + 1) lats → more_lons ≡ drop n lons
     → ids_along lat_span lon_span (drop 1 ids) (drop 1 lats) lons ≡ ids_along lat_span lon_span more_ids more_lats more_lons
 skipped lat_span lon_span n ids lats lons more_ids more_lats more_lons outside e f g =
-    rw (e, f, g, sym (drop_after n ids), sym (drop_after n lats)) (some_outside lat_span lon_span n (drop 1 ids) (drop 1 lats) lons outside)
+    rw (e, f, g, add-one n, drop_one n ids, drop_one n lats) (some_outside lat_span lon_span n (drop 1 ids) (drop 1 lats) lons outside)
 
 pub none_inside : (lat_span lon_span : Span) (ids lats lons : List ℤ) → AreAlike lon_span false lons → ids_along lat_span lon_span ids lats lons ≡ []
 none_inside lat_span lon_span ids lats [] outside = no_lons lat_span lon_span ids lats
@@ -113,12 +105,6 @@ all_passed values left span n passed none =
 
 pub shorter : (values next : List ℤ) (n : ℕ) (value : ℤ) → drop n values ≡ value ∷ next → length next < length values
 shorter values next n value e = omega (arith, ap length e, length-drop n values)
-
--- ---- a node that is read
-
-pub one_read : (lat_span lon_span : Span) (ids lats lons more_ids more_lats : List ℤ) (id lat lon : ℤ) (there : Bool) → ids ≡ id ∷ more_ids → lats ≡ lat ∷ more_lats → there ≡ (is_in lat_span lat && is_in lon_span lon)
-    → ids_along lat_span lon_span ids lats (lon ∷ lons) ≡ cond there (id ∷ ids_along lat_span lon_span more_ids more_lats lons) (ids_along lat_span lon_span more_ids more_lats lons)
-one_read lat_span lon_span ids lats lons more_ids more_lats id lat lon there e f h = rw (e, f, h) refl
 
 pub fewer : (s t : List ℤ) (x : ℤ) → s ≡ x ∷ t → length t < length s
 fewer s t x e = omega (arith, ap length e)

@@ -68,7 +68,7 @@ fn judge_coordinates(message: Message<'_>, place: u64) -> Option<Fault>
 }
 
 /// Whether the numbers are so many runs, each with a 0 in key place after it, and nothing more.
-#[tactic(auto, using(crate::proofs::RunLemmas::runs_steps))]
+#[tactic(auto, using(crate::proofs::MovingLemmas::runs_steps))]
 fn are_runs(keys_vals: Column<'_>, nodes: usize) -> bool
     ensures { result ≡ are_runs nodes (map low_32 (numbers_left keys_vals.entry)) }
 {

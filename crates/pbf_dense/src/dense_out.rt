@@ -160,7 +160,7 @@ impl DenseOut {
     }
 
     /// Takes the numbers of as many nodes over: of each its id, its place, and its metadata but for its user.
-    #[tactic(auto, using(crate::proofs::InfoLemmas::still_within, crate::proofs::InfoTakenLemmas::stored_all))]
+    #[tactic(auto, using(crate::proofs::InfoLemmas::still_within, crate::proofs::InfoLemmas::stored_all))]
     fn take_numbers(&mut self, nodes: &mut Dense<'_>, count: usize) -> Result<(), AllocError>
         ensures { OnOk result (TakesColumns count nodes.old nodes.new self.old self.new) }
     {

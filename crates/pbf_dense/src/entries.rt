@@ -26,7 +26,7 @@ pub(crate) fn next_sum(sums: &mut Sums<'_>) -> Option<i64>
 }
 
 /// Skips as many numbers of a column. They are read from a copy, which stays in registers.
-#[tactic(auto, using(crate::proofs::EntryLemmas::passed_one, crate::proofs::EntryLemmas::all_passed))]
+#[tactic(auto, using(crate::proofs::MovingLemmas::passed_one, crate::proofs::MovingLemmas::all_passed))]
 pub(crate) fn pass_numbers(numbers: &mut Column<'_>, count: usize)
     ensures { numbers_left numbers.new ≡ drop count (numbers_left numbers.old) }
 {

@@ -89,7 +89,7 @@ impl InfoOut {
     }
 
     /// Takes the metadata of as many nodes over, but for their users.
-    #[tactic(auto, using(crate::proofs::InfoLemmas::still_within, crate::proofs::InfoTakenLemmas::stored_all, crate::proofs::InfoTakenLemmas::uids_stored))]
+    #[tactic(auto, using(crate::proofs::InfoLemmas::still_within, crate::proofs::InfoLemmas::stored_all, crate::proofs::InfoLemmas::uids_stored))]
     pub(crate) fn take(
         &mut self,
         info: &mut InfoColumns<'_>,

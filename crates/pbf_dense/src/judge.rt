@@ -33,7 +33,7 @@ fn early_fault(message: Message<'_>, place: u64, table: &Table<'_>) -> Option<Fa
 }
 
 /// The least fault of the weights, if there is none before them.
-#[tactic(auto, using(crate::proofs::Phases::weights_last))]
+#[tactic(auto, using(crate::proofs::SoundDense::weights_last))]
 fn late_fault(
     early: Option<Fault>,
     message: Message<'_>,
@@ -97,7 +97,7 @@ impl<'a> Dense<'a> {
     }
 
     /// Judges a dense message by all phases, and returns its nodes. The error is the first fault by phase, and in it the least.
-    #[tactic(auto, using(crate::proofs::Phases::sound_at), unfolding(crate::specs::Judged::dense_fault))]
+    #[tactic(auto, using(crate::proofs::SoundDense::sound_at), unfolding(crate::specs::Judged::dense_fault))]
     pub fn read(
         message: &'a [u8],
         at: u64,

@@ -11,7 +11,7 @@ ghost use Rattle.pbf_dense.specs.WrittenDense.{dense_message, NodesHeld};
 
 /// Nodes that are written as one dense message are read back, wherever in the file it is, and it has no fault: none of
 /// wire form, of structure, of values, and no node is too heavy.
-#[tactic(auto, using(crate::proofs::NodesLaw::clauses))]
+#[tactic(auto, using(crate::proofs::DenseLaw::clauses))]
 pub fn written_nodes_are_read()
     ensures wire { (place at : ℕ) (texts : List (List ℕ)) (scale : Scale) (ns : List NodeSpec)
         → NodesHeld texts scale ns → dense_wire place at (dense_message texts ns) ≡ [] }

@@ -207,13 +207,10 @@ box_room (Some b) = omega (arith, message_short (box_slots b))
 -- by which of the three features there are
 features_room : (a b c : Bool) → each_room (cond a (codes "Has_Metadata" ∷ cond b (codes "Sort.Type_then_ID" ∷ cond c (codes "LocationsOnWays" ∷ []) []) (cond c (codes "LocationsOnWays" ∷ []) [])) (cond b (codes "Sort.Type_then_ID" ∷ cond c (codes "LocationsOnWays" ∷ []) []) (cond c (codes "LocationsOnWays" ∷ []) []))) ≤ 104
 features_room false false false = omega arith
-features_room false false true = omega arith
 features_room false true false = omega arith
-features_room false true true = omega arith
 features_room true false false = omega arith
-features_room true false true = omega arith
 features_room true true false = omega arith
-features_room true true true = omega arith
+features_room a b c = omega arith
 
 kept_room : (optional : List (List ℕ)) → each_room (kept_features optional) ≤ 104
 kept_room optional = features_room (has_text optional (codes "Has_Metadata")) (has_text optional (codes "Sort.Type_then_ID")) (has_text optional (codes "LocationsOnWays"))

@@ -27,13 +27,10 @@ three a b c = keep a (codes "Has_Metadata") (keep b (codes "Sort.Type_then_ID") 
 
 three_kept : (a b c : Bool) → kept_features (three a b c) ≡ three a b c
 three_kept false false false = refl
-three_kept false false true = refl
 three_kept false true false = refl
-three_kept false true true = refl
 three_kept true false false = refl
-three_kept true false true = refl
 three_kept true true false = refl
-three_kept true true true = refl
+three_kept a b c = refl
 
 -- features that are kept are kept again
 pub features_kept_twice : (optional : List (List ℕ)) → kept_features (kept_features optional) ≡ kept_features optional

@@ -1,23 +1,16 @@
-use Rattle.std.proofs.Common.{ℤ, List, map, refl, ap, ◌∙◌, rules, w64}
+use Rattle.std.proofs.Common.{map, refl, rules, w64}
 use mir.Val.{SFits}
 use Rattle.std.proofs.lemmas.Int.{to_z-of_z}
-use Rattle.pbf_wire.specs.Cursors.{numbers_left, sums_left}
+use Rattle.pbf_wire.specs.Cursors.{numbers_left}
 use Rattle.osm_entity.specs.Sources.{low_32}
 use Rattle.pbf_dense.specs.Cursors.{dense_left, info_left}
-use Rattle.pbf_dense.specs.Nodes.{nodes_of_columns}
 use Rattle.pbf_dense.proofs.MovingLemmas.{no_lats, one_node}
 use Rattle.pbf_dense.proofs.dense.Dense.next_in.Goals as goal
 
 pub returns-in_default-next : goal.returns-in_default-next
 unfolding dense_left
 returns-in_default-next c =
-    let dense = c.args.self.now in
-    let none = c.in_default-next.ensures.steps in
-    let along = λ (ids lats : List ℤ). nodes_of_columns dense.table.now dense.scale ids lats (sums_left dense.lons) (info_left dense.info) (map low_32 (numbers_left dense.keys_vals)) in
-    let gone = λ (ids : List ℤ). no_lats dense.table.now dense.scale ids (sums_left dense.lons) (info_left dense.info) (map low_32 (numbers_left dense.keys_vals)) in (
-      ap (along (sums_left dense.ids)) none.0 ∙ gone (sums_left dense.ids),
-      ap (along (sums_left c.next.new.self)) none.1 ∙ gone (sums_left c.next.new.self),
-    )
+    let none = c.in_default-next.ensures.steps in (rw none.0 (no_lats _ _ _ _ _ _), rw none.1 (no_lats _ _ _ _ _ _))
 
 pub returns : goal.returns
 unfolding dense_left

@@ -1,7 +1,7 @@
 use Rattle.std.proofs.Common.{◌≡◌, ◌-◌, ◌≤◌, map}
 use Rattle.pbf_wire.specs.Cursors.{numbers_left, sums_left}
 use Rattle.osm_entity.specs.Sources.{low_32}
-use Rattle.pbf_dense.proofs.SteadyWeights.{AreWeighed}
+use Rattle.pbf_dense.proofs.SteadyLemmas.{AreWeighed}
 use Rattle.pbf_dense.proofs.dense.Dense.weigh.Given as goal
 
 abbrev pub invariant-nodes : goal.invariant-nodes

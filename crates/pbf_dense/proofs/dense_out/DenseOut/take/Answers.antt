@@ -7,7 +7,7 @@ use Rattle.pbf_dense.specs.NodeTexts.{texts_used, columns_with}
 use Rattle.pbf_dense.specs.Info.{InfoSpec}
 use Rattle.pbf_dense.specs.WrittenDense.{columns_held, info_held}
 use Rattle.pbf_dense.proofs.MovingLemmas.{moving_on}
-use Rattle.pbf_dense.proofs.NodesTakenLemmas.{first_nodes, used_by, nodes_taken, written_after, rest_is}
+use Rattle.pbf_dense.proofs.DenseOutLemmas.{first_nodes, used_by, nodes_taken, written_after, rest_is}
 use Rattle.pbf_dense.proofs.dense_out.DenseOut.take.Goals.{then-self, else-self}
 use Rattle.pbf_dense.proofs.dense_out.DenseOut.take.Goals as goal
 

@@ -5,7 +5,7 @@ use Rattle.pbf_wire.specs.Cursors.{numbers_left, sums_left}
 use Rattle.osm_entity.specs.Sources.{low_32}
 use Rattle.pbf_dense.specs.Info.{user_text}
 use Rattle.pbf_dense.proofs.MovingLemmas.{low_zeros}
-use Rattle.pbf_dense.proofs.SteadyWeights.{bare_weight}
+use Rattle.pbf_dense.proofs.SteadyLemmas.{bare_weight}
 use Rattle.pbf_dense.proofs.steady.Weights.next_same.Goals as goal
 
 pub returns-clause-same : goal.returns-clause-same

@@ -9,15 +9,11 @@ use Rattle.pbf_dense.proofs.within.IdsWithin.next_lon.Goals as goal
 
 pub returns-in_err-lon-clause-left : goal.returns-in_err-lon-clause-left
 unfolding ids_within_left
-returns-in_err-lon-clause-left c =
-    let it = c.args.self.now in
-    rw c.from_residual.ensures (ap (λ (l : List ℤ). ids_along it.lat_span it.lon_span (sums_left it.ids) (sums_left it.lats) l) c.in_err-lon.ensures.steps.0 ∙ no_lons it.lat_span it.lon_span (sums_left it.ids) (sums_left it.lats))
+returns-in_err-lon-clause-left c = rw (c.from_residual.ensures, c.in_err-lon.ensures.steps.0) (no_lons _ _ _ _)
 
 pub returns-in_err-lon-clause-ended : goal.returns-in_err-lon-clause-ended
 unfolding ids_within_left
-returns-in_err-lon-clause-ended c =
-    let it = c.args.self.now in
-    rw c.from_residual.ensures (ap (λ (l : List ℤ). ids_along it.lat_span it.lon_span (sums_left it.ids) (sums_left it.lats) l) c.in_err-lon.ensures.steps.1 ∙ no_lons it.lat_span it.lon_span (sums_left it.ids) (sums_left it.lats))
+returns-in_err-lon-clause-ended c = rw (c.from_residual.ensures, c.in_err-lon.ensures.steps.1) (no_lons _ _ _ _)
 
 pub returns-clause-left : goal.returns-clause-left
 unfolding ids_within_left

@@ -1,21 +1,17 @@
-use Rattle.std.proofs.Common.{rules, ◌∷◌, drop, ap, sym, ◌∙◌, List, ℤ, w64}
+use Rattle.std.proofs.Common.{rules, ◌∷◌, sym, w64}
 use mir.Val.{SFits}
 use Rattle.std.proofs.lemmas.Int.{to_z-of_z}
 use Rattle.pbf_wire.specs.Cursors.{sums_left}
-use Rattle.pbf_dense.specs.Within.{ids_within_left, ids_along}
+use Rattle.pbf_dense.specs.Within.{ids_within_left}
 use Rattle.pbf_dense.proofs.WithinLemmas.{skipped, none_inside, no_lons, shorter}
 use Rattle.pbf_dense.proofs.within.IdsWithin.skip_outside.Goals as goal
 
 pub returns-in_err-reached-clause-left : goal.returns-in_err-reached-clause-left
-returns-in_err-reached-clause-left c =
-    let it = c.args.self.now in
-    rw c.from_residual.ensures (none_inside it.lat_span it.lon_span (drop 1 (sums_left it.ids)) (drop 1 (sums_left it.lats)) (sums_left it.lons) c.in_err-reached.ensures.outside)
+returns-in_err-reached-clause-left c = rw c.from_residual.ensures (none_inside _ _ _ _ _ c.in_err-reached.ensures.outside)
 
 pub returns-in_err-reached-clause-ended : goal.returns-in_err-reached-clause-ended
 unfolding ids_within_left
-returns-in_err-reached-clause-ended c =
-    let it = c.args.self.now in
-    rw c.from_residual.ensures (ap (λ (l : List ℤ). ids_along it.lat_span it.lon_span (sums_left it.ids) (sums_left it.lats) l) c.in_err-reached.ensures.left ∙ no_lons it.lat_span it.lon_span (sums_left it.ids) (sums_left it.lats))
+returns-in_err-reached-clause-ended c = rw (c.from_residual.ensures, c.in_err-reached.ensures.left) (no_lons _ _ _ _)
 
 pub returns-clause-left : goal.returns-clause-left
 returns-clause-left c =
