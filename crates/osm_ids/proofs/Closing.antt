@@ -1,5 +1,6 @@
 -- A work list that closes a set under links.
-use Rattle.std.proofs.Common.{◌≡◌, ◌+◌, ◌≤◌, ◌⊎◌, ℤ, Bool, true, false, not, cond, List, [], ◌∷◌, ◌++◌, inl, inr, refl, sym, ap, subst, ◌∙◌, arith, length-append}
+use Rattle.std.proofs.lemmas.Int.{ints}
+use Rattle.std.proofs.Common.{◌≡◌, ◌+◌, ◌≤◌, ◌⊎◌, ℤ, Bool, true, false, not, cond, List, [], ◌∷◌, ◌++◌, inl, inr, refl, sym, subst, ◌∙◌, arith, length-append}
 use Rattle.std.specs.List.{filter}
 use Rattle.std.specs.Ordering.{int_eq, eq_by_cmp}
 use Rattle.std.specs.Cmp.{int_cmp_total, both_ways as same_answers}
@@ -27,8 +28,7 @@ push_new : (work : List ℤ) (p : ℤ) → is_in (work ++ p ∷ []) p ≡ true
 push_new work p = grind (arith, list_any-append (int_eq p) work (p ∷ []), Decides-int_eq p p)
 
 pub push_cases : (work : List ℤ) (p x : ℤ) → is_in (work ++ p ∷ []) x ≡ true → (is_in work x ≡ true) ⊎ (x ≡ p)
-push_cases work p x h =
-    elim (or_cases (is_in work x) (int_eq x p) (grind (arith, list_any-append (int_eq x) work (p ∷ []), h))) [ inl e ↦ inl e | inr e ↦ inr ((Decides-int_eq x p).0 e) ]
+push_cases work p x h = grind (arith, or_cases (is_in work x) (int_eq x p) (grind (arith, list_any-append (int_eq x) work (p ∷ []), h)), list_any-append (int_eq x) work (p ∷ []))
 
 abbrev lacks : Ids → Link → Bool
 lacks s l = not (set.contains s l.parent)
@@ -42,33 +42,13 @@ missing_le (l ∷ links) s p = grind (arith, set.members, missing_cons s l links
 
 missing_less : (links : List Link) (x : Link) (s : Ids) → is_link_among links x ≡ true → set.contains s x.parent ≡ false → missing_parents links (set.insert s x.parent) + 1 ≤ missing_parents links s
 missing_less [] x s here e = absurd (both_ways false refl here)
-missing_less (l ∷ links) x s here e =
-    elim (or_cases (eq_by_cmp link_cmp x l) (is_link_among links x) here) [
-      | inl at ↦ let same = found_is x l at in grind (arith, missing_cons s l links, missing_cons (set.insert s x.parent) l links, missing_le links s x.parent, same, e, insert_new s x.parent)
-      | inr later ↦ grind (arith, set.members, missing_cons s l links, missing_cons (set.insert s x.parent) l links, missing_less links x s later e)
-    ]
+missing_less (l ∷ links) x s here e = grind (arith, ints, set.members, or_cases (eq_by_cmp link_cmp x l) (is_link_among links x) here, found_is x l, missing_cons s l links, missing_cons (set.insert s x.parent) l links, missing_le links s x.parent, insert_new s x.parent, missing_less links x s)
 
 -- ---- following links
 
 -- a link whose parent is there is done
 pub follow_same : (links rest : List Link) (x : Link) (start ids : Ids) (work : List ℤ) → IsClosing links (x ∷ rest) start ids work → set.contains ids x.parent ≡ true → IsClosing links rest start ids work
-follow_same links rest x start ids work c here =
-    record {
-      holds = c.holds;
-      known = c.known;
-      left = λ l e. c.left l (or_right (eq_by_cmp link_cmp l x) (is_link_among rest l) e);
-      done = λ l among has. elim (c.done l among has) [
-        | inl e ↦ inl e
-        | inr e ↦ elim e [
-          | inl f ↦ inr (inl f)
-          | inr f ↦ elim (or_cases (eq_by_cmp link_cmp l x) (is_link_among rest l) f) [
-            | inl at ↦ inr (inl (subst (λ (y : Link). set.contains ids y.parent ≡ true) (sym (found_is l x at)) here))
-            | inr g ↦ inr (inr g)
-          ]
-        ]
-      ];
-      least = c.least;
-    }
+follow_same links rest x start ids work c here = grind (arith, or_right, or_cases, found_is)
 
 -- an id that is due is added, and its links are to be followed
 add_due : (links rest : List Link) (start ids : Ids) (work : List ℤ) (p : ℤ) → IsClosing links rest start ids work → ((test : ℤ → Bool) → Has start test → IsClosed (is_link_among links) test → test p ≡ true) → IsClosing links rest start (set.insert ids p) (work ++ p ∷ [])
@@ -80,13 +60,7 @@ add_due links rest start ids work p c due =
         | inr e ↦ subst (λ z. set.contains (set.insert ids p) z ≡ true) (sym e) (insert_new ids p)
       ];
       left = λ l e. let h = c.left l e in (h.0, insert_has ids p l.member h.1);
-      done = λ l among has. elim (insert_cases ids p l.member has) [
-        | inl e ↦ inl (subst (λ z. is_in (work ++ p ∷ []) z ≡ true) (sym e) (push_new work p))
-        | inr e ↦ elim (c.done l among e) [
-          | inl f ↦ inl (push_has work p l.member f)
-          | inr f ↦ inr (elim f [ inl g ↦ inl (insert_has ids p l.parent g) | inr g ↦ inr g ])
-        ]
-      ];
+      done = λ l among has. grind (arith, insert_cases ids p l.member has, push_new work p, c.done l among, push_has work p l.member, insert_has ids p l.parent);
       least = λ test has closed y h. elim (insert_cases ids p y h) [
         | inl e ↦ subst (λ z. test z ≡ true) (sym e) (due test has closed)
         | inr e ↦ c.least test has closed y e
@@ -104,45 +78,14 @@ follow_new links rest x start ids work c none =
 -- ---- the work list
 
 pub closing_start : (links : List Link) (start : Ids) (work : List ℤ) → ids_of work ≡ start → IsClosing links [] start start work
-closing_start links start work e =
-    let same : (x : ℤ) → set.contains start x ≡ is_in work x = λ x. ap (λ s. set.contains s x) (sym e) ∙ contains-ids_of work x in
-    record {
-      holds = λ x h. h;
-      known = λ x h. same x ∙ h;
-      left = λ l h. absurd (both_ways false refl h);
-      done = λ l among h. inl (sym (same l.member) ∙ h);
-      least = λ test has closed. has;
-    }
+closing_start links start work e = grind (arith, contains-ids_of work, both_ways false refl)
 
 -- the links of the last id of the work are to be followed
 pub closing_pop : (links : List Link) (start ids : Ids) (work : List ℤ) (id : ℤ) → IsClosing links [] start ids (work ++ id ∷ []) → IsClosing links (filter (is_of id) links) start ids work
-closing_pop links start ids work id c =
-    record {
-      holds = c.holds;
-      known = λ x h. c.known x (push_has work id x h);
-      left = λ l e.
-          let both = and_parts (is_of id l) (is_link_among links l) (sym (kept_among id links l) ∙ e) in
-          (both.1, subst (λ z. set.contains ids z ≡ true) (sym ((Decides-int_eq l.member id).0 both.0)) (c.known id (push_new work id)));
-      done = λ l among h. elim (c.done l among h) [
-        | inl e ↦ elim (push_cases work id l.member e) [
-          | inl f ↦ inl f
-          | inr f ↦ inr (inr (kept_among id links l ∙ rw ((Decides-int_eq l.member id).1 f, among) refl))
-        ]
-        | inr e ↦ inr (elim e [ inl f ↦ inl f | inr f ↦ absurd (both_ways false refl f) ])
-      ];
-      least = c.least;
-    }
+closing_pop links start ids work id c = grind (arith, push_has work id, and_parts, kept_among id links, c.known id (push_new work id), push_new work id, push_cases work id, both_ways false refl)
 
 pub closing_end : (links : List Link) (start ids : Ids) (work : List ℤ) → IsClosing links [] start ids work → work ≡ [] → IsLeast (is_link_among links) start ids
-closing_end links start ids work c none =
-    record {
-      holds = c.holds;
-      closed = λ l among h. elim (c.done l among h) [
-        | inl e ↦ absurd (both_ways false refl (sym (ap (λ w. is_in w l.member) none) ∙ e))
-        | inr e ↦ elim e [ inl f ↦ f | inr f ↦ absurd (both_ways false refl f) ]
-      ];
-      least = c.least;
-    }
+closing_end links start ids work c none = grind (arith, both_ways false refl)
 
 -- ---- the least set
 

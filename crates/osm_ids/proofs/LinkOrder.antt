@@ -1,5 +1,5 @@
 -- The order of links, and sets of them.
-use Rattle.std.proofs.Common.{◌≡◌, Bool, true, false, not, cond, ◌&&◌, inl, inr, List, [], ◌∷◌, ℤ, ◌≤ℤ◌, refl, sym, ap, subst, ◌∙◌, arith, FitsSigned, w64, Less, Equal, Greater, Ordering}
+use Rattle.std.proofs.Common.{◌≡◌, Bool, true, false, ◌&&◌, List, [], ◌∷◌, ℤ, ◌≤ℤ◌, refl, sym, ap, ◌∙◌, arith, FitsSigned, w64, Less, Equal, Greater, Ordering}
 use Rattle.std.specs.List.{filter}
 use Rattle.std.specs.Ordering.{int_cmp, ordering_then, eq_by_cmp, is_eq, is_le, is_lt}
 use Rattle.std.specs.Cmp.{IsTotalOrder, int_cmp_total, then_total, on_total, tied_itself, int_ranked}
@@ -7,9 +7,7 @@ use Rattle.std.specs.BTreeSet.{insert_key}
 use Rattle.std.specs.FinSet as set
 use Rattle.std.specs.declared.ops.Bound.TheVariants.{Included}
 use Rattle.std.specs.BTreeMap.Range.{range_contains}
-use Rattle.std.proofs.lemmas.Int.{ints}
 use Rattle.std.proofs.lemmas.Bool.{or_cases, or_left, or_right}
-use Rattle.std.proofs.lemmas.Bool.Decides.{Decides-int_eq}
 use Rattle.std.proofs.lemmas.Map.Views.{any-filter_same}
 use Rattle.osm_ids.specs.declared.links.Link.{Link}
 use Rattle.osm_ids.specs.Links.{link_cmp, is_link_among, is_of, ParentsFit}
@@ -55,46 +53,24 @@ pub found_itself : (l : Link) → eq_by_cmp link_cmp l l ≡ true
 found_itself l = ap is_eq (tied_itself link_cmp_total l)
 
 pub fit_more : (links : List Link) (new : Link) → ParentsFit links → FitsSigned w64 new.parent → ParentsFit (insert_key link_cmp links new)
-fit_more links new fit f l h =
-    elim (or_cases (eq_by_cmp link_cmp l new) (is_link_among links l) (sym (any-insert_key link_cmp_total link_cmp-IsAntisymmetric links new l) ∙ h)) [
-      | inl e ↦ subst (λ (x : Link). FitsSigned w64 x.parent) (sym (found_is l new e)) f
-      | inr e ↦ fit l e
-    ]
+fit_more links new fit f l h = grind (arith, or_cases (eq_by_cmp link_cmp l new) (is_link_among links l) (sym (any-insert_key link_cmp_total link_cmp-IsAntisymmetric links new l) ∙ h), any-insert_key link_cmp_total link_cmp-IsAntisymmetric links new l, found_is l new, fit l)
 
 -- ---- the links of one id lie side by side
 
 le_least : (lo p : ℤ) → lo ≤ℤ p → is_le (int_cmp lo p) ≡ true
-le_least lo p h =
-    elim (int_cmp lo p) as (λ r. int_cmp lo p ≡ r → is_le r ≡ true) [
-      | Less ↦ λ _. refl
-      | Equal ↦ λ _. refl
-      | Greater ↦ λ e. let above = int_ranked lo p Greater (sym e) in absurd (omega (arith, ints))
-    ] refl
+le_least lo p h = grind (arith, int_ranked lo p Greater)
 
 lt_greatest : (hi p : ℤ) → p ≤ℤ hi → is_lt (int_cmp hi p) ≡ false
-lt_greatest hi p h =
-    elim (int_cmp hi p) as (λ r. int_cmp hi p ≡ r → is_lt r ≡ false) [
-      | Less ↦ λ e. let below = int_ranked hi p Less (sym e) in absurd (omega (arith, ints))
-      | Equal ↦ λ _. refl
-      | Greater ↦ λ _. refl
-    ] refl
+lt_greatest hi p h = grind (arith, int_ranked hi p Less)
 
 -- a link between the least and the greatest link of an id is one of its links
 between_is : (id lo hi : ℤ) (l : Link) → lo ≤ℤ l.parent → l.parent ≤ℤ hi → range_contains link_cmp (Included (link_of id lo)) (Included (link_of id hi)) l ≡ is_of id l
-between_is id lo hi l low high =
-    elim (int_cmp id l.member) as (λ r. int_cmp id l.member ≡ r → (is_le (ordering_then r (int_cmp lo l.parent)) && not (is_lt (ordering_then r (int_cmp hi l.parent)))) ≡ is_of id l) [
-      | Less ↦ λ e. sym (other_below l.member id (int_ranked id l.member Less (sym e)))
-      | Equal ↦ λ e. rw (le_least lo l.parent low, lt_greatest hi l.parent high) (sym ((Decides-int_eq l.member id).1 (sym (int_ranked id l.member Equal (sym e)))))
-      | Greater ↦ λ e. sym (other_above l.member id (int_ranked id l.member Greater (sym e)))
-    ] refl
+between_is id lo hi l low high = grind (arith, other_below l.member id, int_ranked id l.member Less, le_least lo l.parent low, lt_greatest hi l.parent high, int_ranked id l.member Equal, other_above l.member id, int_ranked id l.member Greater)
 
 module _ (p q : Link → Bool) where
   alike_kept : (links : List Link) → ((l : Link) → is_link_among links l ≡ true → p l ≡ q l) → filter p links ≡ filter q links
   alike_kept [] h = refl
-  alike_kept (x ∷ links) h =
-      let here = h x (or_left (eq_by_cmp link_cmp x x) (is_link_among links x) (found_itself x)) in
-      let rest = alike_kept links (λ l e. h l (or_right (eq_by_cmp link_cmp l x) (is_link_among links l) e)) in
-      ap (λ b. cond b (x ∷ filter p links) (filter p links)) here ∙ ap (λ ls. cond (q x) (x ∷ ls) ls) rest
+  alike_kept (x ∷ links) h = grind (arith, h x (or_left (eq_by_cmp link_cmp x x) (is_link_among links x) (found_itself x)), or_left (eq_by_cmp link_cmp x x) (is_link_among links x) (found_itself x), found_itself x, alike_kept links (λ l e. h l (or_right (eq_by_cmp link_cmp l x) (is_link_among links l) e)), or_right, q x)
 
 pub links_between : (links : List Link) (id lo hi : ℤ) → ((l : Link) → is_link_among links l ≡ true → (lo ≤ℤ l.parent) × (l.parent ≤ℤ hi)) → filter (range_contains link_cmp (Included (link_of id lo)) (Included (link_of id hi))) links ≡ filter (is_of id) links
 links_between links id lo hi fit = alike_kept _ _ links (λ l e. between_is id lo hi l (fit l e).0 (fit l e).1)

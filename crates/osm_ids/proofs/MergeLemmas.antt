@@ -23,12 +23,7 @@ pub record Merging (all done : Ids) (late ids : List ℤ) : Type 0 where
   pub reached : AreLate (ids_of ids) late
 
 pub merging_start : (ids : Ids) (late : List ℤ) → AreLate ids late → IsRising late → Merging (with_late ids late) set.empty late (rising ids)
-merging_start ids late l h = record {
-  same = λ x. grind (arith, set.members, has_rising ids x);
-  below = λ x e. absurd (true≢false (sym e ∙ set.contains-empty int_cmp x));
-  rises = (h, rising_rises ids);
-  reached = subst (λ (s : Ids). AreLate s late) (sym (ids_of-rising ids)) l;
-}
+merging_start ids late l h = grind (arith, ints, set.members, has_rising ids, set.contains-empty int_cmp, rising_rises ids, ids_of-rising ids)
 
 or_later : (a b : Bool) → (a || b) ≡ false → b ≡ false
 or_later true b e = absurd (true≢false e)
@@ -78,13 +73,8 @@ merging_late all done late ids other id m le =
 
 -- nothing is left
 pub merging_end : (all done : Ids) (late ids : List ℤ) → Merging all done late ids → ids ≡ [] → done ≡ all
-merging_end all done [] ids m e =
-    same_ids done all (λ x.
-    let none = ap (list_any (int_eq x)) e in
-    grind (arith, m.same x, none))
-merging_end all done (other ∷ late) ids m e =
-    let reached = (m.reached other (first_among other late)).1 in
-    absurd (true≢false (sym reached.1 ∙ ap (λ (l : List ℤ). set.contains (ids_of l) reached.0) e ∙ set.contains-empty int_cmp reached.0))
+merging_end all done [] ids m e = grind (arith, same_ids done all (λ x. let none = ap (list_any (int_eq x)) e in grind (arith, m.same x, none)))
+merging_end all done (other ∷ late) ids m e = grind (arith, m.reached other (first_among other late), first_among other late, set.contains-empty int_cmp (((m.reached other (first_among other late)).1).0))
 
 -- the next of an ordered set
 pub taken : (s t : List ℤ) (r : Option (Bor ℤ)) (next : Option ℤ) → TakesFirst (deref {X = ℤ}) s r t → next ≡ option_copied r → s ≡ cons_option next t

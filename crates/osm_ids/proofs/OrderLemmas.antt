@@ -1,12 +1,11 @@
 -- The ids that came out of order.
-use Rattle.std.proofs.Common.{◌≡◌, true, false, ◌||◌, inl, inr, List, [], ◌∷◌, ◌++◌, length, ℤ, ◌<ℤ◌, sym, ap, subst, ◌∙◌, arith}
+use Rattle.std.proofs.Common.{◌≡◌, true, false, ◌||◌, List, [], ◌∷◌, ◌++◌, length, ℤ, ◌<ℤ◌, sym, ap, ◌∙◌, arith}
 use Rattle.std.specs.List.{list_any}
 use Rattle.std.specs.Ordering.{int_eq, int_cmp}
 use Rattle.std.specs.Cmp.{int_cmp_total}
 use Rattle.std.specs.BTreeSet.{insert_key}
 use Rattle.std.specs.FinSet as set
 use Rattle.std.proofs.lemmas.Bool.{false_from_ne_true, or_cases}
-use Rattle.std.proofs.lemmas.Bool.Decides.{Decides-int_eq}
 use Rattle.std.proofs.lemmas.Int.{ints}
 use Rattle.std.proofs.lemmas.List.Folds.{list_any-append}
 use Rattle.osm_ids.specs.Order.{IsAbove, IsReached, AreLate}
@@ -23,17 +22,10 @@ late_below : (ids : Ids) (late : List ℤ) (id x : ℤ) → AreLate ids late →
 late_below ids late id x l up e = let reached = (l x e).1 in let below = up reached.0 reached.1 in let low = reached.2 in omega (arith, ints)
 
 pub late_lay : (ids : Ids) (late : List ℤ) (id : ℤ) → AreLate ids late → IsAbove ids id → AreLate (set.insert ids id) late
-late_lay ids late id l up x e =
-    let below = other_above x id (late_below ids late id x l up e) in
-    let reached = (l x e).1 in
-    (grind (arith, set.members, below, (l x e).0), (reached.0, insert_has ids id reached.0 reached.1, reached.2))
+late_lay ids late id l up x e = grind (arith, ints, set.members, other_above x id (late_below ids late id x l up e), late_below ids late id x l up e, l x e, insert_has ids id (((l x e).1).0) (((l x e).1).1))
 
 pub late_insert : (ids : Ids) (late : List ℤ) (id : ℤ) → AreLate ids late → set.contains ids id ≡ false → IsReached ids id → AreLate ids (insert_key int_cmp late id)
-late_insert ids late id l none reached x e =
-    elim (or_cases (int_eq x id) (list_any (int_eq x) late) (sym (any-insert_key int_cmp_total set.int_cmp-IsAntisymmetric late id x) ∙ e)) [
-      | inl is ↦ subst (λ z. (set.contains ids z ≡ false) × IsReached ids z) (sym ((Decides-int_eq x id).0 is)) (none, reached)
-      | inr old ↦ l x old
-    ]
+late_insert ids late id l none reached x e = grind (arith, or_cases (int_eq x id) (list_any (int_eq x) late) (sym (any-insert_key int_cmp_total set.int_cmp-IsAntisymmetric late id x) ∙ e), any-insert_key int_cmp_total set.int_cmp-IsAntisymmetric late id x, l x)
 
 -- ---- both together
 
@@ -44,10 +36,7 @@ pub contains-with_late : (ids : Ids) (late : List ℤ) (x : ℤ) → set.contain
 contains-with_late ids late x = set.contains-union int_cmp_total ids (ids_of late) x ∙ ap (λ b. set.contains ids x || b) (contains-ids_of late x)
 
 pub new_above : (ids : Ids) (late : List ℤ) (id : ℤ) → AreLate ids late → IsAbove ids id → set.contains (with_late ids late) id ≡ false
-new_above ids late id l up =
-    let apart = above_apart ids id up in
-    let none = false_from_ne_true (list_any (int_eq id) late) (λ e. let below = late_below ids late id id l up e in omega (arith, ints)) in
-    grind (arith, set.members, apart, none)
+new_above ids late id l up = grind (arith, ints, set.members, above_apart ids id up, false_from_ne_true (list_any (int_eq id) late) (λ e. let below = late_below ids late id id l up e in omega (arith, ints)), late_below ids late id id l up)
 
 pub same_ids : (s t : Ids) → ((x : ℤ) → set.contains s x ≡ set.contains t x) → s ≡ t
 same_ids s t = set.same_set int_cmp_total set.int_cmp-IsAntisymmetric s t

@@ -1,10 +1,9 @@
 -- Rising ids by their places, and the ids between them.
-use Rattle.std.proofs.Common.{◌≡◌, ℕ, zero, suc, ◌+◌, ◌-◌, ◌<◌, ◌≤◌, true, false, ◌||◌, List, [], ◌∷◌, ◌++◌, length, take, drop, get_or, ℤ, pos, ◌+ℤ◌, ◌<ℤ◌, ◌≤ℤ◌, int_le, int_lt, inl, inr, refl, sym, ap, subst, ◌∙◌, arith, take-append-drop, true≢false}
+use Rattle.std.proofs.Common.{◌≡◌, ℕ, zero, suc, ◌+◌, ◌-◌, ◌<◌, ◌≤◌, true, false, List, [], ◌∷◌, ◌++◌, length, take, drop, get_or, ℤ, pos, ◌+ℤ◌, ◌<ℤ◌, ◌≤ℤ◌, int_le, int_lt, inl, inr, refl, sym, ap, subst, ◌∙◌, arith, take-append-drop, true≢false}
 use Rattle.std.specs.List.{list_any}
 use Rattle.std.specs.List.Sorted.{IsPartitionedBy}
 use Rattle.std.specs.Ordering.{int_eq}
 use Rattle.std.proofs.lemmas.Bool.{or_right, or_cases}
-use Rattle.std.proofs.lemmas.Bool.Decides.{Decides-int_eq}
 use Rattle.std.proofs.lemmas.List.{take_all}
 use Rattle.std.proofs.lemmas.List.Folds.{list_any-append}
 use Rattle.std.proofs.lemmas.Int.{ints}
@@ -35,39 +34,29 @@ not_lt a b e = grind (arith, ints)
 far_after : (low : ℤ) (ids : List ℤ) (j : ℕ) (d : ℤ) → Rises low ids → j < length ids → (low +ℤ pos (suc j)) ≤ℤ get_or ids j d
 far_after low [] j d h lt = absurd (omega arith)
 far_after low (x ∷ ids) zero d h lt = let up = h.0 in omega (arith, ints)
-far_after low (x ∷ ids) (suc j) d h lt =
-    let up = h.0 in
-    let far = far_after x ids j d h.1 (omega arith) in
-    omega (arith, ints, up, far)
+far_after low (x ∷ ids) (suc j) d h lt = grind (arith, far_after x ids j d h.1 (omega arith))
 
 pub far : (ids : List ℤ) (i j : ℕ) (d : ℤ) → IsRising ids → i ≤ j → j < length ids → (get_or ids i d +ℤ pos (j - i)) ≤ℤ get_or ids j d
 far [] i j d h le lt = absurd (omega arith)
 far (x ∷ ids) zero zero d h le lt = omega (arith, ints)
 far (x ∷ ids) zero (suc j) d h le lt = let up = far_after x ids j d h (omega arith) in omega (arith, ints, up)
 far (x ∷ ids) (suc i) zero d h le lt = absurd (omega arith)
-far (x ∷ ids) (suc i) (suc j) d h le lt =
-    let same : suc j - suc i ≡ j - i = omega arith in
-    rw same (far ids i j d (rising_tail x ids h) (omega arith) (omega arith))
+far (x ∷ ids) (suc i) (suc j) d h le lt = grind (arith, far ids i j d (rising_tail x ids h) (omega arith) (omega arith), rising_tail x ids h)
 
 pub at_most : (ids : List ℤ) (i j : ℕ) (d : ℤ) → IsRising ids → i ≤ j → j < length ids → get_or ids i d ≤ℤ get_or ids j d
 at_most ids i j d h le lt = let up = far ids i j d h le lt in omega (arith, ints, up)
 
 -- so they can be searched by halves
 pub parted : (ids : List ℤ) (id : ℤ) → IsRising ids → IsPartitionedBy (λ (z : ℤ). int_lt z id) ids
-parted ids id h = λ i j d le lt yes.
-    let up = at_most ids i j d h le lt in
-    let low = lt_true (get_or ids j d) id yes in
-    true_lt (get_or ids i d) id (omega (arith, ints, up, low))
+parted ids id h = λ i j d le lt yes. grind (arith, at_most ids i j d h le lt, lt_true (get_or ids j d) id yes, true_lt (get_or ids i d) id (omega (arith, ints, (at_most ids i j d h le lt), (lt_true (get_or ids j d) id yes))))
 
 -- an id that lies between places can only be an id between them
 pub any_between : (ids : List ℤ) (at n : ℕ) (x : ℤ) → ((i : ℕ) → i < at → i < length ids → get_or ids i (pos 0) <ℤ x) → ((i : ℕ) → at + n ≤ i → i < length ids → x <ℤ get_or ids i (pos 0)) → list_any (int_eq x) ids ≡ list_any (int_eq x) (take n (drop at ids))
 any_between [] at n x low high = ap (list_any (int_eq x)) (sym (ap (take n) (drop-nil at) ∙ take-nil n))
 any_between (y ∷ ids) (suc at) n x low high =
     rw (other_below x y (low 0 (omega arith) (omega arith))) (any_between ids at n x (λ i lt le. low (suc i) (omega arith) (omega arith)) (λ i ge lt. high (suc i) (omega arith) (omega arith)))
-any_between (y ∷ ids) zero zero x low high =
-    rw (other_above x y (high 0 (omega arith) (omega arith))) (any_between ids 0 0 x (λ i lt le. absurd (omega (arith, lt))) (λ i ge lt. high (suc i) (omega arith) (omega arith)))
-any_between (y ∷ ids) zero (suc n) x low high =
-    ap (λ b. int_eq x y || b) (any_between ids 0 n x (λ i lt le. absurd (omega (arith, lt))) (λ i ge lt. high (suc i) (omega arith) (omega arith)))
+any_between (y ∷ ids) zero zero x low high = grind (arith, other_above x y (high 0 (omega arith) (omega arith)), high 0 (omega arith) (omega arith), any_between ids 0 0 x (λ i lt le. absurd (omega (arith, lt))) (λ i ge lt. high (suc i) (omega arith) (omega arith)))
+any_between (y ∷ ids) zero (suc n) x low high = grind (arith, any_between ids 0 n x (λ i lt le. absurd (omega (arith, lt))) (λ i ge lt. high (suc i) (omega arith) (omega arith)))
 
 -- and if there are as many places as numbers, each is
 pub all_between : (ids : List ℤ) (i j : ℕ) (x d : ℤ) → IsRising ids → i ≤ j → j < length ids → get_or ids j d ≤ℤ (get_or ids i d +ℤ pos (j - i)) → get_or ids i d ≤ℤ x → x ≤ℤ get_or ids j d → list_any (int_eq x) ids ≡ true
@@ -76,9 +65,7 @@ all_between (y ∷ ids) (suc i) zero x d h le lt near low high = absurd (omega a
 all_between (y ∷ ids) (suc i) (suc j) x d h le lt near low high =
     let same : suc j - suc i ≡ j - i = omega arith in
     or_right (int_eq x y) (list_any (int_eq x) ids) (all_between ids i j x d (rising_tail y ids h) (omega arith) (omega arith) (rw same at near) low high)
-all_between (y ∷ ids) zero zero x d h le lt near low high =
-    let same : x ≡ y = omega (arith, ints, low, high) in
-    subst (λ z. list_any (int_eq x) (z ∷ ids) ≡ true) same (first_among x ids)
+all_between (y ∷ ids) zero zero x d h le lt near low high = grind (arith, first_among x ids)
 all_between (y ∷ ids) zero (suc j) x d h le lt near low high =
     elim (cases_order x y) [
       | inl below ↦ absurd (omega (arith, ints, below, low))
@@ -107,19 +94,11 @@ any_at (x ∷ ids) (suc i) lt = or_right (int_eq (get_or ids i (pos 0)) x) (list
 -- each id is no greater than what the ids at all places are no greater than
 pub any_up : (ids : List ℤ) (x top : ℤ) → ((i : ℕ) → i < length ids → get_or ids i (pos 0) ≤ℤ top) → list_any (int_eq x) ids ≡ true → x ≤ℤ top
 any_up [] x top up there = absurd (true≢false (sym there))
-any_up (y ∷ ids) x top up there =
-    elim (or_cases (int_eq x y) (list_any (int_eq x) ids) there) [
-      | inl e ↦ let same : x ≡ y = (Decides-int_eq x y).0 e in let first = up 0 (omega arith) in omega (arith, ints, same, first)
-      | inr later ↦ any_up ids x top (λ i lt. up (suc i) (omega arith)) later
-    ]
+any_up (y ∷ ids) x top up there = grind (arith, or_cases (int_eq x y) (list_any (int_eq x) ids) there, up 0 (omega arith), any_up ids x top (λ i lt. up (suc i) (omega arith)))
 
 -- a part has no other ids
 pub any_part : (ids : List ℤ) (at n : ℕ) (x : ℤ) → list_any (int_eq x) (take n (drop at ids)) ≡ true → list_any (int_eq x) ids ≡ true
-any_part ids at n x there =
-    let back = drop at ids in
-    let in_back = ap (list_any (int_eq x)) (sym (take-append-drop n back)) ∙ list_any-append (int_eq x) (take n back) (drop n back) in
-    let in_all = ap (list_any (int_eq x)) (sym (take-append-drop at ids)) ∙ list_any-append (int_eq x) (take at ids) back in
-    grind (arith, in_back, in_all, there)
+any_part ids at n x there = grind (arith, take-append-drop n (drop at ids), list_any-append (int_eq x) (take n (drop at ids)) (drop n (drop at ids)), take-append-drop, list_any-append (int_eq x) (take at ids) (drop at ids))
 
 pub rises_take : (low : ℤ) (n : ℕ) (ids : List ℤ) → Rises low ids → Rises low (take n ids)
 rises_take low zero ids h = tt

@@ -24,9 +24,7 @@ wrapped (negsuc n) d f g =
     ]
 
 pub wrapped_sum : (last low : ℤ) (d : ℕ) (r : ℤ) → last ≡ low → FitsSigned w64 last → r ≡ to_z w64 ((of_z w64 last + d) % 2 ^ 64) → FitsSigned w64 (low +ℤ pos d) → to_z w64 (of_z w64 r) ≡ low +ℤ pos d
-wrapped_sum last low d r e f is g =
-    let fits = subst (λ z. FitsSigned w64 (z +ℤ pos d)) (sym e) g in
-    ap (λ z. to_z w64 (of_z w64 z)) (is ∙ wrapped last d f fits) ∙ to_z-of_z w64 (last +ℤ pos d) fits ∙ ap (λ z. z +ℤ pos d) e
+wrapped_sum last low d r e f is g = grind (arith, wrapped last d f (subst (λ z. FitsSigned w64 (z +ℤ pos d)) (sym e) g), to_z-of_z w64 (last +ℤ pos d) (subst (λ z. FitsSigned w64 (z +ℤ pos d)) (sym e) g))
 
 -- ---- ids that are read one by one
 
@@ -35,16 +33,7 @@ reads_start first numbers held fits e = subst (λ (l : List ℤ). Reads (first �
 
 -- one more is in place
 pub reads_next : (all held next : List ℤ) (n : ℕ) (more : List ℕ) (sum : ℤ) → Reads all held (n ∷ more) → next ≡ held ++ sum ∷ [] → (FitsSigned w64 (last_from (pos 0) held +ℤ pos n) → sum ≡ last_from (pos 0) held +ℤ pos n) → Reads all next more
-reads_next all held next n more sum r e is =
-    let same = is r.fits.0 in
-    let last : last_from (pos 0) (held ++ sum ∷ []) ≡ sum = last_push (pos 0) held sum in
-    subst (λ (l : List ℤ). Reads all l more) (sym e) (record {
-      fits = subst (λ z. AllFit (raised z more)) (sym same ∙ sym last) r.fits.1;
-      whole = r.whole
-          ∙ ap (λ z. held ++ z ∷ raised z more) (sym same)
-          ∙ sym (append_assoc held (sum ∷ []) (raised sum more))
-          ∙ ap (λ z. (held ++ sum ∷ []) ++ raised z more) (sym last);
-    })
+reads_next all held next n more sum r e is = grind (arith, is r.fits.0, last_push (pos 0) held sum, append_assoc held (sum ∷ []) (raised sum more))
 
 -- a run of them
 pub front_left : (n k : ℕ) (run left : List ℕ) → n ≡ length run + k → take n (run ++ left) ≡ run ++ take k left

@@ -3,7 +3,7 @@ use Rattle.std.proofs.Common.{◌≡◌, true, false, ◌⊎◌, inl, inr, List,
 use Rattle.std.specs.List.{list_any}
 use Rattle.std.specs.List.Sorted.{IsStrictlySortedBy}
 use Rattle.std.specs.BTreeSet.{insert_key}
-use Rattle.std.specs.Ordering.{int_eq, int_cmp, match_ordering}
+use Rattle.std.specs.Ordering.{int_eq, int_cmp}
 use Rattle.std.specs.Cmp.{int_cmp_total, int_ranked}
 use Rattle.std.specs.FinSet as set
 use Rattle.std.proofs.lemmas.Bool.{false_from_ne_true}
@@ -29,16 +29,11 @@ rising_tail low (id ∷ ids) h = h.1
 -- no id at or below low comes after low
 pub none_above : (low : ℤ) (ids : List ℤ) (id : ℤ) → Rises low ids → id ≤ℤ low → list_any (int_eq id) ids ≡ false
 none_above low [] id h le = refl
-none_above low (x ∷ ids) id h le =
-    let up = h.0 in
-    let apart : id <ℤ x = omega (arith, ints) in
-    rw (other_above id x apart) (none_above x ids id h.1 (omega (arith, ints)))
+none_above low (x ∷ ids) id h le = grind (arith, other_above id x (omega (arith, ints)), none_above x ids id h.1 (omega (arith, ints)))
 
 rises_from_sorted : (low : ℤ) (ids : List ℤ) → IsStrictlySortedBy int_cmp (low ∷ ids) → Rises low ids
 rises_from_sorted low [] h = tt
-rises_from_sorted low (id ∷ ids) h =
-    let all = sorted_head int_cmp low (id ∷ ids) h in
-    (int_ranked low id Less (sym all.0), rises_from_sorted id ids (sorted_tail int_cmp low (id ∷ ids) h))
+rises_from_sorted low (id ∷ ids) h = grind (arith, sorted_head int_cmp low (id ∷ ids) h, int_ranked low id Less (sym (sorted_head int_cmp low (id ∷ ids) h).0), rises_from_sorted id ids (sorted_tail int_cmp low (id ∷ ids) h), sorted_tail int_cmp low (id ∷ ids) h)
 
 -- a tree's keys rise
 pub rising_from_sorted : (ids : List ℤ) → IsStrictlySortedBy int_cmp ids → IsRising ids
@@ -47,9 +42,7 @@ rising_from_sorted (id ∷ ids) h = rises_from_sorted id ids h
 
 pub len-rising : (ids : List ℤ) → IsRising ids → set.len (ids_of ids) ≡ length ids
 len-rising [] h = set.len-empty int_cmp
-len-rising (x ∷ ids) h =
-    let absent = contains-ids_of ids x ∙ none_above x ids x h (omega (arith, ints)) in
-    set.len-insert int_cmp_total (ids_of ids) x ∙ rw absent (omega (arith, len-rising ids (rising_tail x ids h)))
+len-rising (x ∷ ids) h = grind (arith, ints, set.members, contains-ids_of ids x, none_above x ids x h (omega (arith, ints)), len-rising ids (rising_tail x ids h), rising_tail x ids h)
 
 pub rises_from : (low x : ℤ) (ids : List ℤ) → low <ℤ x → Rises x ids → Rises low ids
 rises_from low x [] h r = tt
@@ -58,12 +51,7 @@ rises_from low x (id ∷ ids) h r = let up = r.0 in (omega (arith, ints), r.1)
 -- ---- a set has one rising list
 
 pub cases_order : (x y : ℤ) → (x <ℤ y) ⊎ ((y <ℤ x) ⊎ (x ≡ y))
-cases_order x y =
-    elim (int_cmp x y) as (λ r. int_cmp x y ≡ r → (x <ℤ y) ⊎ ((y <ℤ x) ⊎ (x ≡ y))) [
-      | Less ↦ λ e. inl (int_ranked x y Less (sym e))
-      | Equal ↦ λ e. inr (inr (int_ranked x y Equal (sym e)))
-      | Greater ↦ λ e. inr (inl (int_ranked x y Greater (sym e)))
-    ] refl
+cases_order x y = grind (arith, int_ranked x y Less, int_ranked x y Equal, int_ranked x y Greater)
 
 pub below_other : (x y : ℤ) → x ≤ℤ y → (x ≡ y → ⊥) → x <ℤ y
 below_other x y le other = elim (cases_order x y) [ inl below ↦ below | inr more ↦ elim more [ inl above ↦ absurd (omega (arith, ints)) | inr same ↦ absurd (other same) ] ]
@@ -74,9 +62,7 @@ first_among x xs = rw (Decides-int_eq x x).1 refl
 module _ (x : ℤ) (xs : List ℤ) (y : ℤ) (ys : List ℤ) (alike : (id : ℤ) → list_any (int_eq id) (x ∷ xs) ≡ list_any (int_eq id) (y ∷ ys)) where
   -- the least of one is no less than the least of the other
   not_below : Rises y ys → x <ℤ y → ⊥
-  not_below rises below =
-      let none : list_any (int_eq x) (y ∷ ys) ≡ false = rw (other_above x y below) (none_above y ys x rises (omega (arith, ints))) in
-      true≢false (sym (first_among x xs) ∙ alike x ∙ none)
+  not_below rises below = grind (arith, other_above x y below, none_above y ys x rises (omega (arith, ints)), first_among x xs, alike x)
 
   tails_alike : x ≡ y → Rises x xs → Rises y ys → (id : ℤ) → list_any (int_eq id) xs ≡ list_any (int_eq id) ys
   tails_alike e rises others id = grind (arith, alike id, Decides-int_eq id x, e, none_above x xs x rises (omega (arith, ints)), none_above y ys y others (omega (arith, ints)))
@@ -85,14 +71,7 @@ pub same_rising : (xs ys : List ℤ) → IsRising xs → IsRising ys → ((id : 
 same_rising [] [] h k alike = refl
 same_rising [] (y ∷ ys) h k alike = absurd (true≢false (sym (first_among y ys) ∙ sym (alike y)))
 same_rising (x ∷ xs) [] h k alike = absurd (true≢false (sym (first_among x xs) ∙ alike x))
-same_rising (x ∷ xs) (y ∷ ys) h k alike =
-    elim (cases_order x y) [
-      | inl below ↦ absurd (not_below x xs y ys alike k below)
-      | inr more ↦ elim more [
-        | inl above ↦ absurd (not_below y ys x xs (λ id. sym (alike id)) h above)
-        | inr e ↦ (λ i. e i ∷ same_rising xs ys (rising_tail x xs h) (rising_tail y ys k) (tails_alike x xs y ys alike e h k) i)
-      ]
-    ]
+same_rising (x ∷ xs) (y ∷ ys) h k alike = grind (arith, cases_order x y, not_below x xs y ys alike k, not_below y ys x xs (λ id. sym (alike id)) h, same_rising xs ys (rising_tail x xs h) (rising_tail y ys k), rising_tail x xs h, rising_tail y ys k, tails_alike x xs y ys alike)
 
 -- the rising list of a set is the only one
 pub rising_of_set : (xs ys : List ℤ) → IsRising xs → IsRising ys → ids_of xs ≡ ids_of ys → xs ≡ ys
@@ -102,21 +81,11 @@ rising_of_set xs ys h k e = same_rising xs ys h k (λ id. sym (contains-ids_of x
 
 pub insert_rises : (low : ℤ) (ids : List ℤ) (new : ℤ) → low <ℤ new → Rises low ids → Rises low (insert_key int_cmp ids new)
 insert_rises low [] new above h = (above, tt)
-insert_rises low (x ∷ ids) new above h =
-    elim (int_cmp new x) as (λ r. int_cmp new x ≡ r → Rises low (match_ordering r (new ∷ x ∷ ids) (x ∷ ids) (x ∷ insert_key int_cmp ids new))) [
-      | Less ↦ λ e. (above, (int_ranked new x Less (sym e), h.1))
-      | Equal ↦ λ _. h
-      | Greater ↦ λ e. (h.0, insert_rises x ids new (int_ranked new x Greater (sym e)) h.1)
-    ] refl
+insert_rises low (x ∷ ids) new above h = grind (arith, int_ranked new x Less, insert_rises x ids new, int_ranked new x Greater)
 
 pub insert_rising : (ids : List ℤ) (new : ℤ) → IsRising ids → IsRising (insert_key int_cmp ids new)
 insert_rising [] new h = tt
-insert_rising (x ∷ ids) new h =
-    elim (int_cmp new x) as (λ r. int_cmp new x ≡ r → IsRising (match_ordering r (new ∷ x ∷ ids) (x ∷ ids) (x ∷ insert_key int_cmp ids new))) [
-      | Less ↦ λ e. (int_ranked new x Less (sym e), h)
-      | Equal ↦ λ _. h
-      | Greater ↦ λ e. insert_rises x ids new (int_ranked new x Greater (sym e)) h
-    ] refl
+insert_rising (x ∷ ids) new h = grind (arith, int_ranked new x Less, insert_rises x ids new, int_ranked new x Greater)
 
 in_order_rises : (ids : List ℤ) → IsRising (in_order ids)
 unfolding in_order

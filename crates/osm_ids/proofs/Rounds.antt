@@ -73,5 +73,4 @@ module _ (page : PageIds) (id seen : ℤ) (at : ℕ) (e : seen ≡ id) (b : IsBe
 -- ---- the ids between two numbers
 
 pub told_known : (ids : Ids) (known : Known) (there : Bool) (above below above' below' : ℤ) → known ≡ record { span = record { above = above'; below = below' }; there = there } → above' ≡ above → below' ≡ below → ((x : ℤ) → above <ℤ x → x <ℤ below → set.contains ids x ≡ there) → IsKnown ids known
-told_known ids known there above below above' below' e low high known_is =
-    subst (IsKnown ids) (sym e) (λ x up down. known_is x (subst (λ z. z <ℤ x) low up) (subst (λ z. x <ℤ z) high down))
+told_known ids known there above below above' below' e low high known_is = grind arith

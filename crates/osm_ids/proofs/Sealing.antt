@@ -1,5 +1,5 @@
 -- Rising ids in pages: how they grow, and that they are read again.
-use Rattle.std.proofs.Common.{◌≡◌, true, false, int_le, ℕ, zero, suc, ◌+◌, ◌-◌, ◌*◌, ◌%◌, ◌^◌, ◌<◌, ◌≤◌, List, [], ◌∷◌, ◌++◌, length, take, drop, get_or, ℤ, pos, ◌+ℤ◌, ◌<ℤ◌, ◌≤ℤ◌, FitsSigned, w64, inl, inr, refl, sym, ap, subst, ◌∙◌, arith, length-append, append_assoc, take-append-drop}
+use Rattle.std.proofs.Common.{◌≡◌, true, false, int_le, ℕ, zero, suc, ◌+◌, ◌-◌, ◌*◌, ◌%◌, ◌^◌, ◌<◌, ◌≤◌, List, [], ◌∷◌, ◌++◌, length, take, drop, get_or, ℤ, pos, ◌<ℤ◌, ◌≤ℤ◌, FitsSigned, w64, inl, inr, refl, sym, ap, subst, ◌∙◌, arith, length-append, append_assoc, take-append-drop}
 use Rattle.std.specs.Int.{div_ceil}
 use Rattle.std.specs.List.{AllByRecursion, list_any}
 use Rattle.std.specs.List.Sorted.{IsPartitionedBy, IsPartitionPoint}
@@ -48,8 +48,7 @@ full_page id ids rest full = first_page id (ids ++ rest) ∙ ap (λ (front : Lis
 
 -- and if it is the last
 last_page : (id : ℤ) (ids : List ℤ) → length ids ≤ 127 → pages_of (id ∷ ids) ≡ record { first = id; others = ids } ∷ []
-last_page id ids few =
-    grind (arith, first_page id ids, take_all 127 ids few, past_all ids 127 few)
+last_page id ids few = grind (arith, first_page id ids, take_all 127 ids few, past_all ids 127 few)
 
 -- joined, they are the list
 ids-past : (skip : ℕ) (ids : List ℤ) → ids_of_pages (pages_past skip ids) ≡ drop skip ids
@@ -89,10 +88,7 @@ pub pages_of-ids : (pages : List Page) → HasFullPages pages → pages_of (ids_
 unfolding pages_past
 pages_of-ids [] h = refl
 pages_of-ids (page ∷ []) h = ap pages_of (append-nil (page_ids page)) ∙ last_page page.first page.others h
-pages_of-ids (page ∷ next ∷ pages) h =
-    let rest = ids_of_pages (next ∷ pages) in
-    let all = take_all 127 page.others (omega (arith, h.0)) in
-    grind (arith, full_page page.first page.others rest (omega (arith, h.0)), all, h.0, past_front page.others rest, pages_of-ids (next ∷ pages) h.1)
+pages_of-ids (page ∷ next ∷ pages) h = grind (arith, take_all 127 page.others (omega (arith, h.0)), full_page page.first page.others (ids_of_pages (next ∷ pages)) (omega (arith, h.0)), past_front page.others (ids_of_pages (next ∷ pages)), pages_of-ids (next ∷ pages) h.1)
 
 -- ---- by their places
 
@@ -116,9 +112,7 @@ past_count zero (id ∷ ids) = omega (arith, past_count 127 ids)
 start_at : (at : ℕ) (pages : List Page) (k : ℕ) (d : PageStart) (e : Page) → k < length pages → get_or (starts_from at pages) k d ≡ record { first = (get_or pages k e).first; place = at + length (bytes_of_pages (take k pages)) }
 start_at at [] k d e lt = absurd (omega arith)
 start_at at (page ∷ pages) zero d e lt = ap (λ n. record { first = page.first; place = n }) (omega arith)
-start_at at (page ∷ pages) (suc k) d e lt =
-    start_at (at + length (page_bytes page)) pages k d e (omega arith)
-    ∙ ap (λ n. record { first = (get_or pages k e).first; place = n }) (omega (arith, length-append (page_bytes page) (bytes_of_pages (take k pages))))
+start_at at (page ∷ pages) (suc k) d e lt = grind (arith, start_at (at + length (page_bytes page)) pages k d e (omega arith), length-append (page_bytes page) (bytes_of_pages (take k pages)))
 
 starts_count : (at : ℕ) (pages : List Page) → length (starts_from at pages) ≡ length pages
 starts_count at [] = refl
@@ -138,15 +132,11 @@ good_past : (skip : ℕ) (ids : List ℤ) → IsRising ids → AllFit ids → Al
 unfolding pages_past
 good_past skip [] h fits = tt
 good_past (suc skip) (id ∷ ids) h fits = good_past skip ids (rising_tail id ids h) fits.1
-good_past zero (id ∷ ids) h fits =
-    let rises = rises_take id 127 ids h in
-    ((rises, gaps_fit id (take 127 ids) fits.0 (all_take (FitsSigned w64) 127 ids fits.1) rises), good_past 127 ids (rising_tail id ids h) fits.1)
+good_past zero (id ∷ ids) h fits = grind (arith, rises_take id 127 ids h, gaps_fit id (take 127 ids) fits.0 (all_take (FitsSigned w64) 127 ids fits.1) (rises_take id 127 ids h), all_take (FitsSigned w64) 127 ids fits.1, FitsSigned w64, good_past 127 ids (rising_tail id ids h) fits.1, rising_tail id ids h)
 
 raised-gaps : (low : ℤ) (ids : List ℤ) → Rises low ids → raised low (gaps low ids) ≡ ids
 raised-gaps low [] rises = refl
-raised-gaps low (id ∷ ids) rises =
-    let up : low +ℤ pos (gap low id) ≡ id = omega (arith, ints, rises.0) in
-    rw up (ap (λ (rest : List ℤ). id ∷ rest) (raised-gaps id ids rises.1))
+raised-gaps low (id ∷ ids) rises = grind (arith, raised-gaps id ids rises.1)
 
 none_left : numbers_of [] ≡ []
 none_left = ap read_entries (entries_none [] refl)
@@ -167,8 +157,7 @@ page_ids_read page good = ap (raised page.first) (column_read (gaps page.first p
 
 ids_in-starts : (at : ℕ) (pages : List Page) (bytes : List ℕ) → drop at bytes ≡ bytes_of_pages pages → AllByRecursion IsGood pages → ids_in (starts_from at pages) bytes ≡ ids_of_pages pages
 ids_in-starts at [] bytes e good = refl
-ids_in-starts at (page ∷ []) bytes e good =
-    grind (arith, e, append-nil (page_bytes page), page_ids_read page good.0, append-nil page.others)
+ids_in-starts at (page ∷ []) bytes e good = grind (arith, append-nil (page_bytes page), page_ids_read page good.0, append-nil page.others)
 ids_in-starts at (page ∷ next ∷ pages) bytes e good =
     let rest = bytes_of_pages (next ∷ pages) in
     let size = length (page_bytes page) in
@@ -192,8 +181,7 @@ sized_gaps (n ∷ ns) = omega (arith, shortest_positive n, sized_gaps ns, length
 
 sized : (pages : List Page) → length (ids_of_pages pages) ≤ length pages + length (bytes_of_pages pages)
 sized [] = omega arith
-sized (page ∷ pages) =
-    omega (arith, sized_gaps (gaps page.first page.others), length-gaps page.first page.others, sized pages, length-append page.others (ids_of_pages pages), length-append (page_bytes page) (bytes_of_pages pages))
+sized (page ∷ pages) = grind (arith, sized_gaps (gaps page.first page.others), length-gaps page.first page.others, sized pages, length-append page.others (ids_of_pages pages), length-append (page_bytes page) (bytes_of_pages pages))
 
 -- ---- one more id
 
@@ -206,15 +194,11 @@ unfolding pages_past
 past_new [] zero id le full = refl
 past_new [] (suc skip) id le full = absurd (omega (arith, le))
 past_new (x ∷ ids) (suc skip) id le full = past_new ids skip id (omega (arith, le)) (omega (arith, full))
-past_new (x ∷ ids) zero id le full =
-    let page : Page = record { first = x; others = take 127 ids } in
-    grind (arith, full_page x ids (id ∷ []) (omega (arith, full)), past_new ids 127 id (omega (arith, full)) (omega (arith, full)))
+past_new (x ∷ ids) zero id le full = grind (arith, full_page x ids (id ∷ []) (omega (arith, full)), past_new ids 127 id (omega (arith, full)) (omega (arith, full)))
 
 starts-new : (at : ℕ) (pages : List Page) (id : ℤ) → starts_from at (pages ++ lone id) ≡ starts_from at pages ++ record { first = id; place = at + length (bytes_of_pages pages) } ∷ []
 starts-new at [] id = ap (λ k. record { first = id; place = k } ∷ []) (omega arith)
-starts-new at (page ∷ pages) id =
-    let size : (at + length (page_bytes page)) + length (bytes_of_pages pages) ≡ at + length (bytes_of_pages (page ∷ pages)) = omega (arith, length-append (page_bytes page) (bytes_of_pages pages)) in
-    grind (arith, size, starts-new (at + length (page_bytes page)) pages id)
+starts-new at (page ∷ pages) id = grind (arith, length-append (page_bytes page) (bytes_of_pages pages), starts-new (at + length (page_bytes page)) pages id)
 
 -- and otherwise the last page has one more
 gaps-push : (low : ℤ) (ids : List ℤ) (id : ℤ) → gaps low (ids ++ id ∷ []) ≡ gaps low ids ++ gap (last_from low ids) id ∷ []
@@ -226,16 +210,10 @@ record IsLonger (pages more : List Page) (last id : ℤ) : Type 0 where
   spelled : bytes_of_pages more ≡ bytes_of_pages pages ++ shortest (gap last id)
 
 longer_last : (x : ℤ) (ids : List ℤ) (id : ℤ) → IsLonger (record { first = x; others = ids } ∷ []) (record { first = x; others = ids ++ id ∷ [] } ∷ []) (last_from x ids) id
-longer_last x ids id = record {
-  starts = λ at. refl;
-  spelled = grind (arith, append-nil (packed (gaps x (ids ++ id ∷ []))), gaps-push x ids id, packed_push (gaps x ids) (gap (last_from x ids) id), append-nil (packed (gaps x ids)));
-}
+longer_last x ids id = grind (arith, append-nil (packed (gaps x (ids ++ id ∷ []))), gaps-push x ids id, packed_push (gaps x ids) (gap (last_from x ids) id), append-nil (packed (gaps x ids)))
 
 longer_cons : (page : Page) (pages more : List Page) (last id : ℤ) → IsLonger pages more last id → IsLonger (page ∷ pages) (page ∷ more) last id
-longer_cons page pages more last id h = record {
-  starts = λ at. ap (λ s. record { first = page.first; place = at } ∷ s) (h.starts (at + length (page_bytes page)));
-  spelled = ap (λ s. page_bytes page ++ s) h.spelled ∙ sym (append_assoc (page_bytes page) (bytes_of_pages pages) _);
-}
+longer_cons page pages more last id h = grind (arith, append_assoc (page_bytes page) (bytes_of_pages pages))
 
 past_more : (ids : List ℤ) (skip : ℕ) (low id : ℤ) → 0 < (length ids - skip) % 128 → IsLonger (pages_past skip ids) (pages_past skip (ids ++ id ∷ [])) (last_from low ids) id
 unfolding pages_past
@@ -334,9 +312,7 @@ module _ (index : List PageStart) (bytes : List ℕ) (ids : List ℤ) (s : IsSea
     start_is d = grind (arith, s.starts, start_at 0 pages n d (page_at ids 0) within, page_is)
 
     cut : bytes ≡ bytes_of_pages (take n pages) ++ (page_bytes (page_at ids (128 * n)) ++ bytes_of_pages (drop (n + 1) pages))
-    cut =
-        let this = page_at ids (128 * n) in
-        grind (arith, s.spelled, take-append-drop n pages, drop_more pages n (page_at ids 0) within, page_is, flat_map-append page_bytes (take n pages) (this ∷ drop (n + 1) pages))
+    cut = grind (arith, take-append-drop n pages, drop_more pages n (page_at ids 0) within, page_is, flat_map-append page_bytes (take n pages) ((page_at ids (128 * n)) ∷ drop (n + 1) pages))
 
     pub place_within : (place : ℕ) → place ≡ length (bytes_of_pages (take n pages)) → place ≤ length bytes
     place_within place at = omega (arith, at, ap length cut, length-append (bytes_of_pages (take n pages)) (page_bytes (page_at ids (128 * n)) ++ bytes_of_pages (drop (n + 1) pages)))
@@ -362,47 +338,21 @@ module _ (index : List PageStart) (bytes : List ℕ) (ids : List ℤ) (s : IsSea
   first_is i d lt = ap (λ (a : PageStart). a.first) (start_is i (omega (arith, page_count, lt)) d)
 
   pub parted_index : (id : ℤ) → IsPartitionedBy (λ (a : PageStart). int_le a.first id) index
-  parted_index id i j d le lt there =
-      let up = at_most ids (128 * i) (128 * j) (pos 0) s.rising (omega (arith, le)) (omega (arith, page_count, lt)) in
-      let low = le_true _ id there in
-      let here = first_is i d (omega (arith, le, lt)) in
-      let last = first_is j d lt in
-      true_le _ id (omega (arith, ints, up, low, here, last))
+  parted_index id i j d le lt there = grind (arith, at_most ids (128 * i) (128 * j) (pos 0) s.rising (omega (arith, le)) (omega (arith, page_count, lt)), page_count, le_true, first_is i d (omega (arith, le, lt)), first_is j d lt, true_le)
 
   pub passed_at : (id : ℤ) (n : ℕ) → n ≤ length index → IsPartitionPoint (λ (a : PageStart). int_le a.first id ≡ true) (λ (a : PageStart). int_le a.first id ≡ false) index n → ArePassed ids id n
-  passed_at id n le point =
-      let d : PageStart = record { first = pos 0; place = 0 } in
-      record {
-        there = λ some. omega (arith, page_count, le, some);
-        low = λ some.
-            let here = first_is (n - 1) d (omega (arith, le, some)) in
-            let low = le_true _ id (point.0 (n - 1) d (omega arith) (omega (arith, some))) in
-            omega (arith, ints, here, low);
-        high = λ lt.
-            let here = first_is n d (begun n lt) in
-            let high = le_false _ id (point.1 n d (omega arith) (begun n lt)) in
-            omega (arith, ints, here, high);
-      }
+  passed_at id n le point = grind (arith, page_count, first_is (n - 1) (record { first = pos 0; place = 0 }), le_true, point.0 (n - 1) (record { first = pos 0; place = 0 }) (omega arith), first_is n (record { first = pos 0; place = 0 }), le_false, point.1 n (record { first = pos 0; place = 0 }) (omega arith))
 
   -- one more id, above all others
   module _ (id : ℤ) (up : IsAbove (set_in index bytes) id) (f : FitsSigned w64 id) where
     grown : (index' : List PageStart) (bytes' : List ℕ) → index' ≡ starts_from 0 (pages_of (ids ++ id ∷ [])) → bytes' ≡ bytes_of_pages (pages_of (ids ++ id ∷ [])) → IsSealed index' bytes' (ids ++ id ∷ [])
-    grown index' bytes' starts spelled = record {
-      starts = starts;
-      spelled = spelled;
-      rising = rising_push ids id s.rising (subst (λ (l : List ℤ). IsAbove (ids_of l) id) sealed_ids up);
-      fits = all_push (FitsSigned w64) ids id s.fits f;
-    }
+    grown index' bytes' starts spelled = grind (arith, rising_push ids id s.rising (subst (λ (l : List ℤ). IsAbove (ids_of l) id) sealed_ids up), all_push (FitsSigned w64) ids id s.fits f, FitsSigned w64)
 
     pub new_page : length ids % 128 ≡ 0 → IsSealed (index ++ record { first = id; place = length bytes } ∷ []) bytes (ids ++ id ∷ [])
-    new_page full =
-        let e = past_new ids 0 id (omega arith) (omega (arith, full)) in
-        grown _ _ (grind (arith, s.starts, s.spelled, e, starts-new 0 pages id)) (grind (arith, s.spelled, e, flat_map-append page_bytes pages (lone id), append-nil (bytes_of_pages pages)))
+    new_page full = grind (arith, past_new ids 0 id (omega arith) (omega (arith, full)), grown, starts-new 0 pages id, flat_map-append page_bytes pages (lone id), append-nil (bytes_of_pages pages))
 
     pub longer_page : (last : ℤ) → (0 < length ids → last ≡ last_from (pos 0) ids) → 0 < length ids % 128 → IsSealed index (bytes ++ shortest (gap last id)) (ids ++ id ∷ [])
-    longer_page last ends part =
-        let e = past_more ids 0 (pos 0) id (omega (arith, part)) in
-        grown _ _ (s.starts ∙ sym (e.starts 0)) (ap (λ b. b ++ shortest (gap last id)) s.spelled ∙ ap (λ z. bytes_of_pages pages ++ shortest (gap z id)) (ends (omega (arith, part))) ∙ sym e.spelled)
+    longer_page last ends part = grind (arith, past_more ids 0 (pos 0) id (omega (arith, part)), grown, ends (omega (arith, part)))
 
     pub inserted : (index' : List PageStart) (bytes' : List ℕ) → ids_in index' bytes' ≡ ids ++ id ∷ [] → set_in index' bytes' ≡ set.insert (set_in index bytes) id
     inserted index' bytes' e =

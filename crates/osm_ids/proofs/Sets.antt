@@ -1,13 +1,12 @@
 -- The keys of an ordered set as a finite set.
-use Rattle.std.proofs.Common.{◌≡◌, Bool, true, false, ◌||◌, ◌⊎◌, inl, inr, ℕ, zero, suc, List, [], ◌∷◌, ℤ, ◌≤ℤ◌, refl, sym, ap, ◌∙◌, arith, Less, Equal, Greater, Ordering}
+use Rattle.std.proofs.Common.{◌≡◌, Bool, true, false, ◌||◌, ◌⊎◌, ℕ, zero, suc, List, [], ◌∷◌, ℤ, ◌≤ℤ◌, refl, sym, ◌∙◌, arith, Ordering}
 use Rattle.std.specs.List.{list_any, AllByRecursion}
 use Rattle.std.proofs.Math.ListN.{set as set_at}
-use Rattle.std.specs.Ordering.{int_eq, int_cmp, eq_by_cmp, match_ordering}
+use Rattle.std.specs.Ordering.{int_eq, int_cmp, eq_by_cmp}
 use Rattle.std.specs.Cmp.{IsTotalOrder, int_cmp_total}
 use Rattle.std.specs.BTreeSet.{insert_key}
 use Rattle.std.specs.FinSet as set
 use Rattle.std.proofs.lemmas.Bool.{or_cases, or_right}
-use Rattle.std.proofs.lemmas.Bool.Decides.{Decides-int_eq}
 use Rattle.std.proofs.lemmas.Int.{ints}
 
 or_same : (a b : Bool) → (a || b) ≡ (a || (a || b))
@@ -22,18 +21,11 @@ or_swap false b c = refl
 module _ {K : Type 0} {R : K → K → Ordering} (o : IsTotalOrder R) (same : set.IsAntisymmetric R) where
   pub any-insert_key : (keys : List K) (new k : K) → list_any (eq_by_cmp R k) (insert_key R keys new) ≡ (eq_by_cmp R k new || list_any (eq_by_cmp R k) keys)
   any-insert_key [] new k = refl
-  any-insert_key (x ∷ keys) new k =
-      elim (R new x) as (λ r. R new x ≡ r → list_any (eq_by_cmp R k) (match_ordering r (new ∷ x ∷ keys) (x ∷ keys) (x ∷ insert_key R keys new)) ≡ (eq_by_cmp R k new || (eq_by_cmp R k x || list_any (eq_by_cmp R k) keys))) [
-        | Less ↦ λ _. refl
-        | Equal ↦ λ e. rw (same new x e) (or_same (eq_by_cmp R k x) (list_any (eq_by_cmp R k) keys))
-        | Greater ↦ λ _. ap (λ b. eq_by_cmp R k x || b) (any-insert_key keys new k) ∙ or_swap (eq_by_cmp R k x) (eq_by_cmp R k new) _
-      ] refl
+  any-insert_key (x ∷ keys) new k = grind (arith, R new x, same new x, or_same (eq_by_cmp R k x) (list_any (eq_by_cmp R k) keys), any-insert_key keys new k, or_swap (eq_by_cmp R k x) (eq_by_cmp R k new))
 
   -- to insert a key is to insert it into the set
   pub from_list-insert_key : (keys : List K) (new : K) → set.from_list {R = R} (insert_key R keys new) ≡ set.insert (set.from_list keys) new
-  from_list-insert_key keys new =
-      set.same_set o same _ _
-      (λ k. grind (arith, set.members, o, any-insert_key keys new k))
+  from_list-insert_key keys new = grind (arith, ints, set.members, set.same_set o same, any-insert_key keys new)
 
 -- ---- ids
 
@@ -57,8 +49,7 @@ all_set P (x ∷ xs) zero y h p = (p, h.1)
 all_set P (x ∷ xs) (suc i) y h p = (h.0, all_set P xs i y h.1 p)
 
 pub insert_cases : (s : Ids) (p x : ℤ) → set.contains (set.insert s p) x ≡ true → (x ≡ p) ⊎ (set.contains s x ≡ true)
-insert_cases s p x h =
-    elim (or_cases (int_eq x p) (set.contains s x) (sym (set.contains-insert int_cmp_total s p x) ∙ h)) [ inl e ↦ inl ((Decides-int_eq x p).0 e) | inr e ↦ inr e ]
+insert_cases s p x h = grind (arith, or_cases (int_eq x p) (set.contains s x) (sym (set.contains-insert int_cmp_total s p x) ∙ h), set.contains-insert int_cmp_total s p x)
 
 pub insert_has : (s : Ids) (p x : ℤ) → set.contains s x ≡ true → set.contains (set.insert s p) x ≡ true
 insert_has s p x h = set.contains-insert int_cmp_total s p x ∙ or_right (int_eq x p) (set.contains s x) h

@@ -1,20 +1,18 @@
 -- What the selection sees by an area is within what it sees by a larger one, as of boxes.
-use Rattle.std.proofs.Common.{◌≡◌, ℤ, true, refl, arith}
+use Rattle.std.proofs.Common.{◌≡◌, ℤ, true, arith}
 use Rattle.std.proofs.lemmas.Int.{ints}
 use Rattle.std.proofs.lemmas.Bool.{and_from, and_parts}
 use Rattle.osm_area.specs.Area.{AreaSpec, IsAreaWithin, box_area}
 use Rattle.osm_box.specs.declared.bounding_box.BoundingBox.{BoundingBox}
 use Rattle.osm_box.specs.BoundingBox.{is_between, is_inside, is_box_within}
-use Rattle.osm_entity.specs.Entity.{node_at, way_through, relation_among, decoded}
+use Rattle.osm_entity.specs.Entity.{decoded}
 use Rattle.osm_ways.specs.Selection.{IsWithin}
 use Rattle.osm_ways.specs.Seen.{seen_decoded, seen_entity}
 use Rattle.osm_entity.proofs.ScaleLemmas.{between, ends}
 
 -- if both ends of a span lie in a wider one, so does what is between them
 between_wider : (low high least most n : ℤ) → is_between least most low ≡ true → is_between least most high ≡ true → is_between low high n ≡ true → is_between least most n ≡ true
-between_wider low high least most n first last e =
-    let own = ends low high n e in
-    between least most n (omega (arith, ints, (ends least most low first).0, own.0)) (omega (arith, ints, (ends least most high last).1, own.1))
+between_wider low high least most n first last e = grind (arith, between least most n (omega (arith, ints, (ends least most low first).0, (ends low high n e).0)) (omega (arith, ints, (ends least most high last).1, (ends low high n e).1)))
 
 pub inside_wider : (small large : BoundingBox) → is_box_within small large ≡ true → IsAreaWithin (box_area small) (box_area large)
 inside_wider small large h lat lon e =
@@ -25,9 +23,7 @@ inside_wider small large h lat lon e =
     and_from _ _ (between_wider small.bottom small.top large.bottom large.top lat low.0 high.0 place.0) (between_wider small.left small.right large.left large.right lon low.1 high.1 place.1)
 
 pub seen_decoded-within : (small large : AreaSpec) → IsAreaWithin small large → IsWithin (seen_decoded small) (seen_decoded large)
-seen_decoded-within small large h (node_at id lat lon meta tags) = (refl, h lat lon)
-seen_decoded-within small large h (way_through id meta tags refs locations) = refl
-seen_decoded-within small large h (relation_among id meta tags members) = refl
+seen_decoded-within small large h2 z0 = grind arith
 
 pub seen_entity-within : (small large : AreaSpec) → IsAreaWithin small large → IsWithin (seen_entity small) (seen_entity large)
 seen_entity-within small large h e = seen_decoded-within small large h (decoded e)

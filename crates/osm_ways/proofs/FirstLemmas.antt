@@ -1,18 +1,13 @@
 -- Nodes and ways in one pass: the sets are those of the two passes, if no node comes after a way.
-use Rattle.std.proofs.Common.{◌≡◌, Bool, true, false, ◌&&◌, not, cond, List, [], ◌∷◌, refl, sym, ap, ◌∙◌, true≢false}
+use Rattle.std.proofs.Common.{arith, ◌≡◌, Bool, true, false, ◌&&◌, not, List, [], ◌∷◌, refl, ap}
 use Rattle.std.specs.List.{fold}
 use Rattle.std.specs.FinSet as set
-use Rattle.osm_ways.specs.Selection.{Seen, a_node, a_way, a_relation, is_kept_way}
+use Rattle.osm_ways.specs.Selection.{Seen, a_node, a_way, a_relation}
 use Rattle.osm_ways.specs.Phases.{Ids, WaySets, PassesOver, sets_of, start_ways, node_step, way_step, node_pass, way_pass}
 use Rattle.osm_ways.specs.First.{FirstSets, IsWayless, start_first, before_node, first_step, first_pass}
 use Rattle.osm_ways.proofs.Shown.{shown_start}
 
 -- ---- the nodes
-
-box_ids-way : (sets : WaySets) (s : Seen) → (way_step sets s).box_ids ≡ sets.box_ids
-box_ids-way sets (a_node id inside) = refl
-box_ids-way sets (a_way id refs) = elim (is_kept_way (set.contains sets.box_ids) refs) as (λ b. (cond b (record sets { node_ids = fold set.insert sets.node_ids refs; way_ids = set.insert sets.way_ids id }) sets).box_ids ≡ sets.box_ids) [ true ↦ refl | false ↦ refl ]
-box_ids-way sets (a_relation id members) = refl
 
 -- ---- the ways
 
@@ -32,7 +27,7 @@ going ways = record { has_ways = true; in_order = true; ways = ways }
 
 pub going_on : (ways : WaySets) (ids : Ids) (seen : List Seen) → (fold first_step (going ways) seen).in_order ≡ true → ((fold first_step (going ways) seen).ways ≡ fold way_step ways seen) × (fold node_step ids seen ≡ ids)
 going_on ways ids [] e = (refl, refl)
-going_on ways ids (a_node id inside ∷ seen) e = absurd (true≢false (sym e ∙ (broken_stays true (node_step ways.box_ids (a_node id inside)) seen).0))
+going_on ways ids (a_node id inside ∷ seen) e = grind (arith, e, broken_stays true (node_step ways.box_ids (a_node id inside)) seen)
 going_on ways ids (a_way id refs ∷ seen) e = going_on (way_step ways (a_way id refs)) ids seen e
 going_on ways ids (a_relation id members ∷ seen) e = going_on ways ids seen e
 
@@ -43,9 +38,7 @@ fresh ids = record { has_ways = false; in_order = true; ways = start_ways ids }
 fresh_on : (ids : Ids) (seen : List Seen) → (fold first_step (fresh ids) seen).in_order ≡ true → (fold first_step (fresh ids) seen).ways ≡ fold way_step (start_ways (fold node_step ids seen)) seen
 fresh_on ids [] e = refl
 fresh_on ids (a_node id inside ∷ seen) e = fresh_on (node_step ids (a_node id inside)) seen e
-fresh_on ids (a_way id refs ∷ seen) e =
-    let on = going_on (way_step (start_ways ids) (a_way id refs)) ids seen e in
-    on.0 ∙ ap (λ (ids : Ids). fold way_step (way_step (start_ways ids) (a_way id refs)) seen) (sym on.1)
+fresh_on ids (a_way id refs ∷ seen) e = grind (arith, going_on (way_step (start_ways ids) (a_way id refs)) ids seen e)
 fresh_on ids (a_relation id members ∷ seen) e = fresh_on ids seen e
 
 -- ---- the whole list
@@ -54,15 +47,15 @@ pub first_in_order : (seen : List Seen) → (first_pass seen).in_order ≡ true 
 first_in_order seen e = fresh_on set.empty seen e
 
 going_broken : (ways : WaySets) (seen : List Seen) → (fold first_step (going ways) seen).in_order ≡ false → (fold first_step (going ways) seen).ways ≡ start_ways (fold node_step ways.box_ids seen)
-going_broken ways [] e = absurd (true≢false e)
+going_broken ways [] e = absurd (cc)
 going_broken ways (a_node id inside ∷ seen) e = (broken_stays true (node_step ways.box_ids (a_node id inside)) seen).1
-going_broken ways (a_way id refs ∷ seen) e = going_broken (way_step ways (a_way id refs)) seen e ∙ ap (λ (ids : Ids). start_ways (fold node_step ids seen)) (box_ids-way ways (a_way id refs))
+going_broken ways (a_way id refs ∷ seen) e = grind (arith, going_broken (way_step ways (a_way id refs)) seen e)
 going_broken ways (a_relation id members ∷ seen) e = going_broken ways seen e
 
 fresh_broken : (ids : Ids) (seen : List Seen) → (fold first_step (fresh ids) seen).in_order ≡ false → (fold first_step (fresh ids) seen).ways ≡ start_ways (fold node_step ids seen)
-fresh_broken ids [] e = absurd (true≢false e)
+fresh_broken ids [] e = absurd (cc)
 fresh_broken ids (a_node id inside ∷ seen) e = fresh_broken (node_step ids (a_node id inside)) seen e
-fresh_broken ids (a_way id refs ∷ seen) e = going_broken (way_step (start_ways ids) (a_way id refs)) seen e ∙ ap (λ (ids : Ids). start_ways (fold node_step ids seen)) (box_ids-way (start_ways ids) (a_way id refs))
+fresh_broken ids (a_way id refs ∷ seen) e = grind (arith, going_broken (way_step (start_ways ids) (a_way id refs)) seen e)
 fresh_broken ids (a_relation id members ∷ seen) e = fresh_broken ids seen e
 
 pub first_broken : (seen : List Seen) → (first_pass seen).in_order ≡ false → (first_pass seen).ways ≡ start_ways (node_pass seen)
@@ -76,29 +69,16 @@ first_of h o ways = record { has_ways = h; in_order = o; ways = ways }
 pub fresh_first : (box refs ways : Ids) → box ≡ set.empty → refs ≡ set.empty → ways ≡ set.empty → first_of false true (sets_of box refs ways) ≡ start_first
 fresh_first box refs ways e f g = ap (λ (w : WaySets). first_of false true w) (shown_start set.empty box refs ways e f g)
 
-and_true : (b : Bool) → b ≡ (b && true)
-and_true true = refl
-and_true false = refl
-
 -- there is nothing to forget
 pub before_same : (h o : Bool) (box refs ways : Ids) → IsWayless h o refs ways → (h && o) ≡ false → first_of h o (sets_of box refs ways) ≡ before_node (first_of h o (sets_of box refs ways))
-before_same true true box refs ways none e = absurd (true≢false e)
-before_same true false box refs ways none e = ap (λ (w : WaySets). first_of true false w) (shown_start box box refs ways refl (none e).0 (none e).1)
-before_same false o box refs ways none e = ap (λ (w : WaySets). first_of false o w) (shown_start box box refs ways refl (none e).0 (none e).1) ∙ ap (λ b. first_of false b (start_ways box)) (and_true o)
+before_same h o box refs ways none e = grind (arith, none, e, shown_start box box refs ways refl)
 
 pub before_new : (h o : Bool) (box refs ways new newer : Ids) → h ≡ true → new ≡ set.empty → newer ≡ set.empty → first_of h false (sets_of box new newer) ≡ before_node (first_of h o (sets_of box refs ways))
-before_new h o box refs ways new newer e f g =
-    ap (λ (w : WaySets). first_of h false w) (shown_start box box new newer refl f g) ∙ ap (λ b. first_of h b (start_ways box)) (sym (and_false o) ∙ ap (λ b. o && not b) (sym e)) where
-      and_false : (b : Bool) → (b && false) ≡ false
-      and_false true = refl
-      and_false false = refl
+before_new h o box refs ways new newer e f g = grind (arith, e, f, g, shown_start box box new newer refl)
 
 -- a node comes, and then another: that is as one
 once : (h o : Bool) → ((o && not h) && not h) ≡ (o && not h)
-once true true = refl
-once true false = refl
-once false true = refl
-once false false = refl
+once h o = grind arith
 
 pub first_step-passes_over : PassesOver first_step
 first_step-passes_over = record {

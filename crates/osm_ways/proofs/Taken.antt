@@ -1,11 +1,8 @@
 -- Of the list that the sets were gathered from they take what they choose: a way that they choose has its id in them.
-use Rattle.std.proofs.Common.{◌≡◌, Bool, true, false, cond, ◌&&◌, List, [], ◌∷◌, map, refl, sym, ap, ◌∙◌}
+use Rattle.std.proofs.Common.{arith, ◌≡◌, Bool, true, List, [], ◌∷◌, map, refl, sym, ◌∙◌}
 use Rattle.std.specs.List.{list_any, filter}
-use Rattle.std.specs.Ordering.{int_eq}
-use Rattle.std.specs.FinSet as set
 use Rattle.std.proofs.lemmas.Bool.{or_left, or_right}
-use Rattle.std.proofs.lemmas.Bool.Decides.{Decides-int_eq}
-use Rattle.osm_ways.specs.Selection.{Seen, a_node, a_way, a_relation, IdTest, is_kept_way, is_kept_id, box_ids}
+use Rattle.osm_ways.specs.Selection.{Seen}
 use Rattle.osm_ways.specs.Phases.{Ids, way_pass, is_chosen, is_taken}
 use Rattle.osm_ways.proofs.Passes.{box_ids-after, way_ids-after}
 use Rattle.osm_ways.proofs.Shown.{list_any-map}
@@ -17,26 +14,10 @@ IsAmong {X} xs x = (test : X → Bool) → test x ≡ true → list_any test xs 
 -- two tests that agree on the elements of a list
 filter_among : {X : Type 0} (p q : X → Bool) (xs : List X) → ((x : X) → IsAmong xs x → p x ≡ q x) → filter p xs ≡ filter q xs
 filter_among p q [] h = refl
-filter_among p q (x ∷ xs) h =
-    let here = h x (λ test is. or_left (test x) (list_any test xs) is) in
-    let there = filter_among p q xs (λ y among. h y (λ test is. or_right (test x) (list_any test xs) (among test is))) in
-    λ i. cond (here i) (x ∷ there i) (there i)
-
--- what says that a kept way's id is there says nothing new
-both_true : (a b : Bool) → (b ≡ true → a ≡ true) → (a && b) ≡ b
-both_true true b h = refl
-both_true false true h = h refl
-both_true false false h = refl
+filter_among p q (x ∷ xs) h = grind (arith, h x (λ test is. or_left (test x) (list_any test xs) is), or_left, filter_among p q xs (λ y among. h y (λ test is. or_right (test x) (list_any test xs) (among test is))), or_right)
 
 taken_among : (seen : List Seen) (relations : Ids) (e : Seen) → IsAmong seen e → is_taken (record { ways = way_pass seen; relation_ids = relations }) e ≡ is_chosen (record { ways = way_pass seen; relation_ids = relations }) e
-taken_among seen relations (a_node own inside) among = refl
-taken_among seen relations (a_relation own members) among = refl
-taken_among seen relations (a_way own refs) among =
-    both_true (set.contains (way_pass seen).way_ids own) (is_kept_way (set.contains (way_pass seen).box_ids) refs)
-    (λ kept.
-    ap (λ (test : IdTest). test own) (way_ids-after seen)
-    ∙ among (is_kept_id (box_ids seen) own)
-    (ap (λ b. b && int_eq own own) (ap (λ (test : IdTest). is_kept_way test refs) (sym (box_ids-after seen)) ∙ kept) ∙ (Decides-int_eq own own).1 refl))
+taken_among seen relations e h3 = grind (arith, box_ids-after, way_ids-after)
 
 pub taken_are_chosen : {X : Type 0} (look : X → Seen) (relations : Ids) (xs : List X)
     → filter (λ x. is_taken (record { ways = way_pass (map look xs); relation_ids = relations }) (look x)) xs ≡ filter (λ x. is_chosen (record { ways = way_pass (map look xs); relation_ids = relations }) (look x)) xs

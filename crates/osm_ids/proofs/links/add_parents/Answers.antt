@@ -12,10 +12,6 @@ use Rattle.osm_ids.proofs.Sets.{Ids}
 use Rattle.osm_ids.proofs.Closing.{follow_same, follow_new, insert_same}
 use Rattle.osm_ids.proofs.links.add_parents.Goals as goal
 
-pub loop-link-init : goal.loop-link-init
-loop-link-init c = λ start closing.
-    (subst (λ (rest : List Link). IsClosing c.args.links.now.keys rest start c.args.ids.now c.args.work.now.items) (sym (c.into_iter-link-iterator.ensures.into_iter_gives ∙ c.links_of-link-items.ensures)) closing, omega arith)
-
 pub loop-link-preserved : goal.loop-link-preserved
 loop-link-preserved c = λ start closing.
     let l = c.loop-link in

@@ -1,3 +1,4 @@
+use Rattle.std.proofs.Common.{arith}
 use Rattle.std.proofs.Common.{◌≡◌, ◌∷◌, true, ap, sym, ◌∙◌, rules, w64}
 use mir.Val.{SFits}
 use Rattle.std.specs.List.{fold}
@@ -25,17 +26,4 @@ loop-id-preserved-then-has_near g c =
     }
 
 pub loop-id-preserved : goal.loop-id-preserved
-loop-id-preserved g c =
-    let l = c.loop-id in
-    let known = g.I.IdLookup.ids c.args.known.now in
-    let id = c.in-Some.id in
-    let rest = refs_left c.next.new.self in
-    let fits : SFits w64 id = search rules in
-    let turn : refs_left l.id-iterator ≡ id ∷ rest = c.in-Some.ensures.steps in
-    let ids : c.add.new.self ≡ set.insert l.ids id = c.in_ok-add.ensures.ok ∙ ap (set.insert l.ids) (to_z-of_z w64 id fits) in
-    record {
-      can = tt;
-      ends = tt;
-      of = c.has_near.ensures.of;
-      so_far = ap (λ (s : Ids). fold set.insert s rest) (ap (set.union known) ids ∙ union-insert known l.ids id) ∙ ap (fold set.insert (set.union known l.ids)) (sym turn) ∙ l.invariant.so_far;
-    }
+loop-id-preserved g c = grind (arith, c.in-Some.ensures.steps, c.in_ok-add.ensures.ok, to_z-of_z w64 c.in-Some.id (search rules), c.has_near.ensures.of, union-insert (g.I.IdLookup.ids c.args.known.now) c.loop-id.ids c.in-Some.id, c.loop-id.invariant.so_far)

@@ -1,6 +1,6 @@
-use Rattle.std.proofs.Common.{◌≡◌, ◌∷◌, false, ◌||◌, ap, sym, ◌∙◌, rules, w64}
+use Rattle.std.proofs.Common.{arith}
+use Rattle.std.proofs.Common.{◌≡◌, ◌∷◌, false, ap, sym, ◌∙◌, rules, w64}
 use mir.Val.{SFits}
-use Rattle.std.specs.List.{list_any}
 use Rattle.std.specs.FinSet as set
 use Rattle.std.proofs.lemmas.Int.{to_z-of_z}
 use Rattle.osm_entity.specs.Sources.{refs_left}
@@ -18,9 +18,5 @@ refs-preserved g c =
     let absent : set.contains known id ≡ false = ap (set.contains known) (sym (to_z-of_z w64 id fits)) ∙ sym c.has_near.ensures.has ∙ c.if-has_near.false in
     record {
       of = c.has_near.ensures.of;
-      left = ap (list_any (set.contains known)) c.pass_inside.ensures.passed
-          ∙ passed_absent rest known c.absent.result c.pass_inside.result (c.absent.ensures known c.has_near.ensures.of) c.pass_inside.ensures.inside
-          ∙ ap (λ b. b || list_any (set.contains known) rest) (sym absent)
-          ∙ ap (list_any (set.contains known)) (sym turn)
-          ∙ l.invariant.left;
+      left = grind (arith, passed_absent rest known c.absent.result c.pass_inside.result (c.absent.ensures known c.has_near.ensures.of) c.pass_inside.ensures.inside, c.absent.ensures known c.has_near.ensures.of);
     }

@@ -46,9 +46,6 @@ returns-then-begun-eq0-clause-some c =
       refl,
     )
 
-pub returns-in-Some-clause-some : goal.returns-in-Some-clause-some
-returns-in-Some-clause-some c = (c.in-Some.ensures c.args.id (subst (λ z. ArePassed (rising c.args.self.now) z c.begun-begun.result) (to_z-of_z w64 c.args.id c.ranges.id) c.begun-begun.ensures), refl)
-
 pub returns-clause-none : goal.returns-clause-none
 returns-clause-none c =
     let ids = c.args.self.now in

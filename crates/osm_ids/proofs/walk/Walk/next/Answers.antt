@@ -31,12 +31,6 @@ ready c =
       | else-self-eq0 w ↦ subst (IsReady c.args.self.now) (sym w.self-inside-is) (record { same = sym c.self.view_is; more = more; here = c.self.invariant (omega (arith, w.if-self-eq0.false)) })
     ]
 
-pub invariant_of-self : goal.invariant_of-self
-invariant_of-self c = λ some.
-    let v = c.if-self-eq0.self-inside in
-    let same : v.came / 128 ≡ (v.came + 1) / 128 = omega (arith, some) in
-    subst (λ n. held v.here ≡ take 128 (drop (128 * n) (rising v.ids.now))) same (ready c.before.before.before).here
-
 pub returns : goal.returns
 returns c =
     let v = c.if-self-eq0.self-inside in

@@ -1,3 +1,4 @@
+use Rattle.std.proofs.Common.{arith}
 use Rattle.std.proofs.Common.{◌≡◌, Bool, true, false, ◌&&◌, refl, subst, ap, ◌∙◌, rules}
 use Rattle.osm_ways.specs.First.{FirstSets, before_node}
 use Rattle.osm_ways.proofs.FirstLemmas.{before_same, before_new}
@@ -19,7 +20,4 @@ returns-then-not-self-2 c =
       and_false false = refl
 
 pub returns : goal.returns
-returns c =
-    let s = c.self.inside in
-    let some : s.has_ways ≡ true = search rules in
-    before_new s.has_ways s.in_order s.box_ids s.refs s.way_ids _ _ some c.new.ensures c.new-2.ensures ∙ ap before_node c.self.view_is
+returns c = grind (arith, before_new c.self.inside.has_ways c.self.inside.in_order c.self.inside.box_ids c.self.inside.refs c.self.inside.way_ids)
