@@ -1,6 +1,6 @@
 -- What is put into the room is the frame in written form.
 use Rattle.std.proofs.Common.{◌≡◌, ℕ, ◌+◌, ◌*◌, List, [], ◌∷◌, ◌++◌, length, Some, refl, sym, ap, ◌∙◌, append_assoc, length-append}
-use Rattle.std.proofs.lemmas.List.{append-nil}
+use Rattle.std.proofs.lemmas.List.{append-nil, length-take-le}
 use Rattle.byteorder.specs.Endian.{big_bytes}
 use Rattle.pbf_wire.specs.Message.{Scalar, Each, message, slot_bytes}
 use Rattle.pbf_wire.specs.Varint.{shortest}
@@ -41,3 +41,5 @@ unfolding written_frame
 frame_put k payload blob e2 e3 is_blob p2 p3 =
     let size : length blob + length payload ≡ length (written_blob payload) = sym (length-append blob payload) ∙ ap length is_blob in
     ap (λ l. l ++ payload) p3 ∙ append_assoc e2 blob payload ∙ ap (λ l. e2 ++ l) is_blob ∙ ap (λ l. l ++ written_blob payload) (p2 ∙ ap (front_of k) size)
+
+pub ruleset cuts = (length-take-le)

@@ -81,10 +81,6 @@ prefix_large h p prefix rest long large =
 -- ---- of a header
 
 module _ (h : Bool) (p : ℕ) (prefix : List ℕ) where
-  pub header_cut : (bytes : List ℕ) (e : Fault) → bytes_at (fault p HeaderCut) (big_number 4 prefix) bytes ≡ Err e → header_after h p prefix bytes ≡ Err e
-  unfolding header_after
-  header_cut bytes e is = rw (is) refl
-
   pub header_unfit : (header rest : List ℕ) (e : Fault) → length header ≡ big_number 4 prefix → head_of (p + 4) header ≡ Err e → header_after h p prefix (header ++ rest) ≡ Err e
   unfolding header_after
   header_unfit header rest e long is = rw (bytes_at_front (fault p HeaderCut) (big_number 4 prefix) header rest long, is) refl
@@ -94,10 +90,6 @@ module _ (h : Bool) (p : ℕ) (prefix : List ℕ) where
   header_misplaced header rest head e long says is = rw (bytes_at_front (fault p HeaderCut) (big_number 4 prefix) header rest long, says, is) refl
 
 -- ---- of a blob
-
-pub blob_cut : (size at : ℕ) (bytes : List ℕ) (e : Fault) → bytes_at (fault at BlobCut) size bytes ≡ Err e → known_blob_of size at bytes ≡ Err e
-unfolding known_blob_of
-blob_cut size at bytes e is = rw (is) refl
 
 pub blob_unfit : (size at : ℕ) (blob rest : List ℕ) (e : Fault) → length blob ≡ size → blob_fault at blob ≡ Some e → known_blob_of size at (blob ++ rest) ≡ Err e
 unfolding known_blob_of

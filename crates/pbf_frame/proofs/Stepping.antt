@@ -78,9 +78,6 @@ unfolding next_within steps_of prefix_at after_prefix
 ended true p bytes is = rw is refl
 ended false p bytes is = rw is refl
 
-abbrev Found : Type 0
-Found = Result (Option FrameSpec × List ℕ) Fault
-
 -- the last step, and what it gives
 last_step : {A B C : Type 0} (l : Option Fault) (x : A) (g : A → B) (s : B → C) → unless l (Ok (s (g x))) ≡ ((unless l (Ok x) >>= λ v. Ok (g v)) >>= λ w. Ok (s w))
 last_step None x g s = refl

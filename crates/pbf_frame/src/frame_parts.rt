@@ -89,7 +89,7 @@ fn read_prefix<F: Feed>(feed: &mut F, start: FrameStart) -> Result<Option<[u8; 4
 }
 
 // This many bytes.
-#[tactic(auto, unfolding(crate::specs::Steps::bytes_at))]
+#[tactic(auto, using(crate::proofs::FrontLemmas::bytes_at_ok), unfolding(crate::specs::Steps::bytes_at))]
 fn read_bytes<F: Feed>(feed: &mut F, buf: &mut Vec<u8>, count: u32, cut: Fault) -> Result<(), Stop>
     ensures reads { ReadsPart F.Feed (bytes_at cut count) (λ _. buf.new.items)
         feed.old feed.new result }
@@ -208,6 +208,7 @@ fn read_known_blob<F: Feed>(
 }
 
 // The blob after a header; one of another type is skipped.
+#[tactic(auto, using(crate::proofs::FrontLemmas::gave_skipped, crate::proofs::Refusing::refused_other))]
 fn read_blob<F: Feed>(feed: &mut F, blob: &mut Vec<u8>, head: Head, at: u64) -> Result<(), Stop>
     requires in_range { at + head.size ≤ OFFSET_LIMIT }
     ensures gave { OnOk result

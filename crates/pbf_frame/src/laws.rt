@@ -15,22 +15,26 @@ ghost use Rattle.pbf_frame.specs.Writing.{written_at, written_frame};
 ghost use Rattle.pbf_frame.specs.Verdict.{joined_frames, judged, with_all};
 
 /// Nothing after the known bytes changes them.
+#[tactic(auto, using(crate::proofs::KnownBytes::append_none))]
 pub fn append_none()
     ensures { (known : Option (List ℕ)) → append known [] ≡ known }
 {}
 
 /// What is added in two parts is added at once.
+#[tactic(auto, using(crate::proofs::KnownBytes::append_append))]
 pub fn append_append()
     ensures { (known : Option (List ℕ)) (xs ys : List ℕ)
         → append (append known xs) ys ≡ append known (xs ++ ys) }
 {}
 
 /// Nothing before the known bytes changes them.
+#[tactic(auto, using(crate::proofs::KnownBytes::prepend_none))]
 pub fn prepend_none()
     ensures { (known : Option (List ℕ)) → prepend [] known ≡ known }
 {}
 
 /// Bytes prepended in two parts are prepended at once.
+#[tactic(auto, using(crate::proofs::KnownBytes::prepend_prepend))]
 pub fn prepend_prepend()
     ensures { (known : Option (List ℕ)) (xs ys : List ℕ)
         → prepend xs (prepend ys known) ≡ prepend (xs ++ ys) known }
@@ -38,6 +42,7 @@ pub fn prepend_prepend()
 
 /// A frame without a fault is read whatever follows it; and what is read as the next frame is one, and spells the bytes that
 /// are gone.
+#[tactic(auto, using(crate::proofs::Longest::frame_is_next, crate::proofs::Longest::next_is_frame, crate::proofs::Parting::next_split))]
 pub fn one_frame()
     ensures reads { (had_header : Bool) (place : ℕ) (f : FrameSpec) (rest : List ℕ)
         → IsFrame had_header place f
@@ -51,6 +56,7 @@ pub fn one_frame()
 
 /// The fault of the next frame stays, whatever follows the bytes, unless it comes of their end: the file is cut there, or it has no
 /// header.
+#[tactic(auto, using(crate::proofs::Staying::next_stays))]
 pub fn fault_stays()
     ensures { (had_header : Bool) (place : ℕ) (bytes rest : List ℕ) (fault : Fault)
         → next_of had_header place bytes ≡ Err fault → comes_of_end fault.reason ≡ false
@@ -58,6 +64,7 @@ pub fn fault_stays()
 {}
 
 /// The verdict on bytes that begin with frames is these frames, and then those of the verdict on what follows.
+#[tactic(auto, using(crate::proofs::Longest::frames_then_rest))]
 pub fn frames_then_rest()
     ensures { (had_header : Bool) (place : ℕ) (frames : List FrameSpec) (rest : List ℕ)
         → AreFrames had_header place frames
@@ -67,6 +74,7 @@ pub fn frames_then_rest()
 
 /// The frames of the verdict are the longest list of frames without faults whose spellings, joined, begin the bytes; and its
 /// fault is that of what follows them.
+#[tactic(auto, using(crate::proofs::Longest::longest_front))]
 pub fn longest_front()
     ensures { (had_header : Bool) (place : ℕ) (bytes : List ℕ)
         → IsLongestFront had_header place bytes (judged had_header place bytes) }
@@ -74,6 +82,7 @@ pub fn longest_front()
 
 /// A frame in written form has no fault if its order and its end have none; its kind and its payload are those that were
 /// written, and its bytes are the same wherever it is.
+#[tactic(auto, using(crate::proofs::ReadBack::written_kind, crate::proofs::ReadBack::written_payload))]
 pub fn written_frame_is_read()
     ensures sound { (limit : Option ℕ) (had_header : Bool) (place : ℕ) (kind : FrameKind)
         (payload : List ℕ) → (kind ≡ kinds.Other → ⊥) → length payload < RAW_LIMIT

@@ -56,6 +56,7 @@ fn name_of(kind: FrameKind) -> &'static [u8]
 }
 
 // Puts a BlobHeader at the start of the room, and returns its length.
+#[tactic(auto, using(crate::proofs::Putting::header_put))]
 fn put_header(room: &mut [u8], kind: FrameKind, size: u64) -> usize
     requires { length room.old ≡ 64 }
     ensures header { take result room.new ≡ written_header kind size }
@@ -70,6 +71,7 @@ fn put_header(room: &mut [u8], kind: FrameKind, size: u64) -> usize
 }
 
 // Puts what a Blob has before its raw data of this length at the start of the room, and returns its length.
+#[tactic(auto, using(crate::proofs::Putting::blob_put))]
 fn put_blob_head(room: &mut [u8], payload: usize) -> usize
     requires { length room.old ≡ 32 }
     ensures blob { (p : List ℕ) → length p ≡ payload → take result room.new ++ p ≡ written_blob p }
@@ -80,6 +82,7 @@ fn put_blob_head(room: &mut [u8], payload: usize) -> usize
 }
 
 /// Puts what a frame has before its blob, which has this length, at the start of the room, and returns how many bytes that is.
+#[tactic(auto, using(crate::proofs::Putting::front_put, crate::proofs::Putting::cuts))]
 pub fn put_front(room: &mut [u8], kind: FrameKind, blob: u64) -> usize
     requires { length room.old ≡ HEAD_ROOM }
     ensures front { take result room.new
@@ -93,6 +96,7 @@ pub fn put_front(room: &mut [u8], kind: FrameKind, blob: u64) -> usize
 }
 
 /// Puts all of a frame but its payload, which has this length, at the start of the room, and returns how many bytes that is.
+#[tactic(auto, using(crate::proofs::Putting::frame_put, crate::proofs::Putting::cuts))]
 pub fn put_head(room: &mut [u8], kind: FrameKind, payload: usize) -> usize
     requires room { length room.old ≡ HEAD_ROOM }
     requires short { payload < RAW_LIMIT }

@@ -106,6 +106,7 @@ impl<F: Feed> FrameReader<F> {
     ///
     /// `Refused` names the least fault of the frame. After a stop the reader is spent: it returns the same stop again and
     /// touches no device. `None` stays `None`.
+    #[tactic(auto, using(crate::proofs::Advancing::lends_err, crate::proofs::Advancing::lends_some))]
     pub fn next(&mut self) -> Result<Option<Frame<'_>>, Stop>
         // The next frame of what the feed still supplies, which has no fault, and exactly its bytes are gone, however the feed cuts them; or
         // the least fault of its first faulty phase. `None` comes only at the end of an input that had its header, otherwise `NoHeader`. A

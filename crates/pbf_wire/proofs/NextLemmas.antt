@@ -28,15 +28,6 @@ delta_near true false number only small = absurd (true≢false (sym (only refl))
 
 -- ---- as they are stored
 
-pub sum_fits : (limit total entry d : ℤ) → SFits w64 limit → SFits w64 total → SFits w64 entry → entry ≡ d → IsWithin limit (total +ℤ d) → FitsSigned w64 (to_z w64 (of_z w64 total) +ℤ to_z w64 (of_z w64 entry))
-sum_fits limit total entry d limit_fits total_fits entry_fits is within =
-    rw (to_z-of_z w64 total total_fits, to_z-of_z w64 entry entry_fits) (omega (arith, ints, within.above, within.below, limit_fits, is))
-
-pub sum_is : (limit total entry d : ℤ) → SFits w64 limit → SFits w64 total → SFits w64 entry → entry ≡ d → IsWithin limit (total +ℤ d) → to_z w64 (of_z w64 (to_z w64 (of_z w64 total) +ℤ to_z w64 (of_z w64 entry))) ≡ total +ℤ d
-sum_is limit total entry d limit_fits total_fits entry_fits is within =
-    let fits : SFits w64 (total +ℤ d) = omega (arith, ints, within.above, within.below, limit_fits) in
-    rw (to_z-of_z w64 total total_fits, to_z-of_z w64 entry entry_fits, is) (to_z-of_z w64 (total +ℤ d) fits)
-
 -- ---- values
 
 pub value_after : (limit total : ℤ) (narrow : Bool) (number : ℕ) (more : List ℕ) → IsNear true number → IsWithin limit (total +ℤ unzigzag number)

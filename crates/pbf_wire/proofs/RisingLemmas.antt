@@ -110,13 +110,3 @@ module _ (is_good : ℤ → Bool) (reason : Reason) (narrow : Bool) where
   pub not_good : (start : ℤ) (v p : ℕ) (xs : List (ℕ × ℕ)) → RisingFrom p xs → is_good (start +ℤ delta_in narrow v) ≡ false → least (running start ((v, p) ∷ xs)) ≡ Some (fault p reason)
   not_good start v p xs h e =
       ap (λ b. least (fault_where (not b) p reason ++ running (start +ℤ delta_in narrow v) xs)) e ∙ first_is_least p (start +ℤ delta_in narrow v) xs h
-
-  -- a 0 after a value that is good
-  pub zero_keeps : (start : ℤ) (p : ℕ) (xs : List (ℕ × ℕ)) → is_good start ≡ true → running start ((0, p) ∷ xs) ≡ running start xs
-  zero_keeps start p xs e =
-      ap (λ sum. fault_where (not (is_good sum)) p reason ++ running sum xs) (nothing_added narrow)
-      ∙ ap (λ b. fault_where (not b) p reason ++ running start xs) e
-    where
-      nothing_added : (b : Bool) → start +ℤ delta_in b 0 ≡ start
-      nothing_added true = omega (arith, ints)
-      nothing_added false = omega (arith, ints)

@@ -38,9 +38,6 @@ sum_is xs = omega (arith, fold_is 0 xs)
 pub sum_cons : (x : ℕ) (xs : List ℕ) → sum (x ∷ xs) ≡ x + sum xs
 sum_cons x xs = sym (sum_is (x ∷ xs)) ∙ ap (λ n. x + n) (sum_is xs)
 
-pub wide_sum : (xs : List ℕ) → fold_l (λ s x. s + x) 0 (map (λ x. x) xs) ≡ sum xs
-wide_sum xs = omega (arith, fold-sum 0 (map (λ x. x) xs), ap sum_l (map-id xs), sum_is xs)
-
 -- the tests of sixteen lanes, as a mask
 pub mask_is : (bound : ℕ) (xs : List ℕ) → length xs ≡ 16 → mask_l (map (top (hbits w8)) (zip2 (λ a b. cond (leb a b) (2 ^ bits w8 - 1) 0) (replicate 16 bound) xs)) % 2 ^ 64 ≡ mask_l (map (λ b. leb bound b) xs)
 mask_is bound xs long = ap (λ ms. mask_l ms % 2 ^ 64) (tops_compared w8 leb (replicate 16 bound) xs ∙ zip2_splat_left leb bound 16 xs long) ∙ mask_l-mod (map (λ b. leb bound b) xs) 64 (omega (arith, long, length-map xs (λ b. leb bound b)))

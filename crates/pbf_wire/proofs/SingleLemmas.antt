@@ -30,9 +30,6 @@ first_single bytes (b ∷ bs) h some small = more_single bytes (b ∷ bs) bs (b 
 
 -- the bytes that passed the test, of those that were tested: the first ones of the column
 module _ (within rest : List ℕ) (h : AreSingle within rest) where
-  pub shorter : length rest ≤ length within
-  shorter = omega (arith, ap length h.parts, length-append h.front rest)
-
   pub front_is : (bytes : List ℕ) (n : ℕ) → within ≡ take n bytes → take (length within - length rest) bytes ≡ h.front
   front_is bytes n is =
       let long : length h.front ≡ length within - length rest = omega (arith, ap length h.parts, length-append h.front rest) in
