@@ -7,6 +7,7 @@ use Rattle.std.proofs.lemmas.Bool.{cases_eq}
 use Rattle.osm_entity.specs.Entity.{EntitySpec}
 use Rattle.osm_entity.specs.Weight.{entity_weight}
 use Rattle.pbf_block.specs.WrittenBlock.{is_block}
+use Rattle.pbf_wire.proofs.AllLemmas.{all_drop}
 use Rattle.osm_pack.specs.Cuts.{extra, cuts_at_most, cuts, AreLongest, MayStand}
 use Rattle.osm_pack.proofs.CutLemmas.{kept_none, kept_one, kept_left, cuts_closed, cuts_last}
 use Rattle.osm_entity.specs.declared.weight.TheConstants.{HIGHEST_WEIGHT}
@@ -44,12 +45,7 @@ extra_longest (suc most) e es n h k =
 each_kept : (most : ℕ) (es : List EntitySpec) → AllByRecursion (λ e. entity_weight e ≤ HIGHEST_WEIGHT) es → AllByRecursion (λ block. is_block block ≡ true) (cuts_at_most most es)
 each_kept zero es h = tt
 each_kept (suc most) [] h = tt
-each_kept (suc most) (e ∷ es) h = (extra_kept (length es) e es (kept_one e h.0), each_kept most (drop (extra (length es) e es) es) (dropped (extra (length es) e es) es h.1))
-  where
-    dropped : (k : ℕ) (es : List EntitySpec) → AllByRecursion (λ e. entity_weight e ≤ HIGHEST_WEIGHT) es → AllByRecursion (λ e. entity_weight e ≤ HIGHEST_WEIGHT) (drop k es)
-    dropped zero es h = h
-    dropped (suc k) [] h = tt
-    dropped (suc k) (e ∷ es) h = dropped k es h.1
+each_kept (suc most) (e ∷ es) h = (extra_kept (length es) e es (kept_one e h.0), each_kept most (drop (extra (length es) e es) es) (all_drop _ (extra (length es) e es) es h.1))
 
 pub cuts_kept : (es : List EntitySpec) → AllByRecursion (λ e. entity_weight e ≤ HIGHEST_WEIGHT) es → AllByRecursion (λ block. is_block block ≡ true) (cuts es)
 unfolding cuts

@@ -39,21 +39,17 @@ extra_is (suc most) k e es h keep ends =
       | inr other ↦ rw (ends (suc most) (omega arith) (omega arith)) (extra_is most k e es (omega arith) keep (λ n l m. ends n l (omega arith)))
     ]
 
+cuts_none : (n : ℕ) → cuts_at_most n [] ≡ []
+cuts_none zero = refl
+cuts_none (suc n) = refl
+
 fuel : (n m : ℕ) (es : List EntitySpec) → length es ≤ n → length es ≤ m → cuts_at_most n es ≡ cuts_at_most m es
-fuel zero zero [] p q = refl
-fuel zero (suc m) [] p q = refl
-fuel (suc n) zero [] p q = refl
-fuel (suc n) (suc m) [] p q = refl
-fuel zero m (e ∷ es) p q = absurd (omega arith)
-fuel (suc n) zero (e ∷ es) p q = absurd (omega arith)
 fuel (suc n) (suc m) (e ∷ es) p q =
     let k = extra (length es) e es in
     let short : length (drop k es) ≤ length es = omega (arith, length-drop k es) in
     ap (λ bs. (e ∷ take k es) ∷ bs) (fuel n m (drop k es) (omega arith) (omega arith))
-
-cuts_none : (n : ℕ) → cuts_at_most n [] ≡ []
-cuts_none zero = refl
-cuts_none (suc n) = refl
+fuel n m (e ∷ es) p q = absurd (omega arith)
+fuel n m [] p q = cuts_none n ∙ sym (cuts_none m)
 
 -- a block is closed where the next entity may not join it
 pub cuts_closed : (x : EntitySpec) (xs : List EntitySpec) (e : EntitySpec) (rest : List EntitySpec) → is_block (x ∷ xs) ≡ true → is_block (x ∷ (xs ++ e ∷ [])) ≡ false
@@ -132,11 +128,9 @@ closed (x ∷ xs) e rest h k stops = bytes_closed x xs e rest h stops
 -- what is written in the end stays the same by an entity more
 pub push_keeps : (es : List EntitySpec) (e : EntitySpec) (rest : List EntitySpec) → is_block es ≡ true → is_block (e ∷ []) ≡ true
     → then_written es e ++ written_entities (then_pending es e ++ rest) ≡ written_entities (es ++ e ∷ rest)
-push_keeps es e rest h k = by (is_block (es ++ e ∷ [])) refl
-  where
-    by : (b : Bool) → is_block (es ++ e ∷ []) ≡ b → (if b then [] else block_frame es) ++ written_entities ((if b then es ++ e ∷ [] else e ∷ []) ++ rest) ≡ written_entities (es ++ e ∷ rest)
-    by true joins = ap written_entities (append_assoc es (e ∷ []) rest)
-    by false stops = sym (closed es e rest h k stops)
+push_keeps es e rest h k =
+    elim (is_block (es ++ e ∷ [])) as (λ b. is_block (es ++ e ∷ []) ≡ b → (if b then [] else block_frame es) ++ written_entities ((if b then es ++ e ∷ [] else e ∷ []) ++ rest) ≡ written_entities (es ++ e ∷ rest))
+    [ true ↦ λ _. ap written_entities (append_assoc es (e ∷ []) rest) | false ↦ λ stops. sym (closed es e rest h k stops) ] refl
 
 -- the last block
 pub end_keeps : (es : List EntitySpec) → is_block es ≡ true → at_end es ≡ written_entities es
@@ -145,8 +139,5 @@ end_keeps (e ∷ es) h = sym (bytes_last e es h)
 
 -- what is pending may share one block
 pub pending_kept : (es : List EntitySpec) (e : EntitySpec) → is_block (e ∷ []) ≡ true → is_block (then_pending es e) ≡ true
-pending_kept es e k = by (is_block (es ++ e ∷ [])) refl
-  where
-    by : (b : Bool) → is_block (es ++ e ∷ []) ≡ b → is_block (if b then es ++ e ∷ [] else e ∷ []) ≡ true
-    by true joins = joins
-    by false stops = k
+pending_kept es e k =
+    elim (is_block (es ++ e ∷ [])) as (λ b. is_block (es ++ e ∷ []) ≡ b → is_block (if b then es ++ e ∷ [] else e ∷ []) ≡ true) [ true ↦ λ joins. joins | false ↦ λ _. k ] refl

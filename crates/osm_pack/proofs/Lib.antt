@@ -1,5 +1,4 @@
 pub mod CutLemmas
 pub mod CutLaws
 pub mod OpenLemmas
-pub mod ManyLemmas
 pub mod RunLemmas

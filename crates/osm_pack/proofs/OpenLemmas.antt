@@ -1,10 +1,10 @@
--- An open block, entity by entity.
-use Rattle.std.proofs.Common.{◌≡◌, ◌⊎◌, inl, inr, ℕ, ◌+◌, ◌^◌, ◌*◌, ◌≤◌, List, [], ◌∷◌, ◌++◌, Bool, true, false, ◌&&◌, length, map, Some, None, refl, sym, ap, ◌∙◌, subst, arith, append_assoc, append-nil, length-append}
+-- An open block, entity by entity, and nodes that are added many at a time.
+use Rattle.std.proofs.Common.{◌≡◌, ◌⊎◌, inl, inr, ℕ, ◌+◌, ◌^◌, ◌*◌, ◌≤◌, List, [], ◌∷◌, ◌++◌, Bool, true, false, ◌&&◌, length, map, Some, None, refl, sym, ap, ◌∙◌, subst, arith, append_assoc, append-nil, length-append, ap₂, true≢false}
 use Rattle.std.specs.Prelude.{unwrap_or, nat_le, min, ◌-◌, if◌then◌else◌}
 use Rattle.osm_entity.specs.declared.scale.Scale.{Scale}
-use Rattle.std.specs.List.{sum_by, flat_map}
-use Rattle.std.proofs.lemmas.List.{length_push, map_push}
-use Rattle.std.proofs.lemmas.List.Sums.{sum_by_push}
+use Rattle.std.specs.List.{sum_by, flat_map, list_all, AllByRecursion}
+use Rattle.std.proofs.lemmas.List.{length_push, map_push, length-map}
+use Rattle.std.proofs.lemmas.List.Sums.{sum_by_push, sum_by-cons, sum_by-append, list_all-from_AllPass}
 use Rattle.std.proofs.Math.Bool.{and-true}
 use Rattle.pbf_wire.specs.Message.{Each, slot_bytes, message, unless_empty}
 use Rattle.pbf_wire.proofs.LengthLemmas.{each_short}
@@ -14,41 +14,35 @@ use Rattle.pbf_strings.proofs.UsedTexts.{after_both, used_later}
 use Rattle.osm_entity.specs.Entity.{NodeSpec, WaySpec, RelationSpec, EntitySpec, node, way, relation}
 use Rattle.osm_entity.specs.EntityTexts.{node_texts, way_texts, relation_texts, entity_texts}
 use Rattle.osm_entity.specs.Ranges.{EntityFits}
-use Rattle.osm_entity.specs.Weight.{entity_weight}
+use Rattle.osm_entity.specs.Weight.{entity_weight, node_weight}
 use Rattle.pbf_dense.specs.declared.dense_out.DenseOut.{DenseOut}
 use Rattle.pbf_dense.specs.WrittenDense.{HoldsNodes, columns_of, columns_held, dense_message, dense_length}
 use Rattle.pbf_block.specs.WrittenBlock.{are_alike, is_block, nodes_among, ways_among, relations_among, texts_of_all, messages_among, group_message, scale_among, block_slots, block_message}
 use Rattle.pbf_block.specs.declared.entity_out.EntityOut.{EntityOut}
 use Rattle.pbf_block.specs.WrittenEntity.{way_message, relation_message, writer_length}
-use Rattle.pbf_block.proofs.LengthLaw.{open_short, once_few, parts_are, block_parts}
-use Rattle.pbf_block.proofs.HeldLaw.{after_held}
-use Rattle.pbf_block.proofs.ClosingLaw.{table_fits, nodes_fit, group_fits, closing_fits}
+use Rattle.pbf_block.proofs.LengthLaw.{open_short, once_few, parts_are, block_parts, after_held, table_fits, nodes_fit, group_fits, closing_fits, block_from}
 use Rattle.osm_pack.specs.declared.open_block.OpenBlock.{OpenBlock}
 use Rattle.osm_pack.specs.declared.open_block.Joining.{Joining}
 use Rattle.osm_pack.specs.declared.open_block.TheConstants.{MOST_HELD}
-use Rattle.osm_pack.specs.Likenesses.{likeness_of, same_likeness, is_like}
+use Rattle.osm_pack.specs.Likenesses.{likeness_of, same_likeness, is_like, has_like}
 use Rattle.osm_pack.specs.Open.{likeness_among, Holds, IsOpen, IsJoining, Encodes, Counts, IsClosing, block_held}
 use Rattle.osm_pack.proofs.CutLemmas.{like_first, joins, kept_bounds, kept_none, kept_one}
 use Rattle.osm_entity.specs.declared.weight.TheConstants.{HIGHEST_WEIGHT}
-use Rattle.pbf_block.proofs.EachLaw.{number_of, no_dense, only_ways, only_relations}
-use Rattle.pbf_block.proofs.NodesLaw.{only_nodes}
+use Rattle.pbf_block.proofs.GroupLaw.{number_of, no_dense, only_ways, only_relations, only_nodes}
 use Rattle.pbf_block.proofs.WrittenLaw.{block_number}
 use Rattle.pbf_wire.proofs.AllLemmas.{all_left, all_middle, all_weaker}
 use Rattle.std.proofs.lemmas.Grind.{flat_map-append}
 use Rattle.pbf_block.specs.declared.block_write.TheConstants.{MOST_ENTITIES}
+use Rattle.std.proofs.lemmas.List.Elements.{All-from_recursion}
+use Rattle.std.proofs.lemmas.List.Folds.{list_all-append, list_all-map, flat_map-map}
 
 -- ---- what entities have in common
 
 pub alike_likeness : (e f : EntitySpec) → same_likeness (likeness_of e) (likeness_of f) ≡ are_alike e f
 alike_likeness (node m) (node n) = refl
-alike_likeness (node m) (way w) = refl
-alike_likeness (node m) (relation r) = refl
-alike_likeness (way v) (node n) = refl
 alike_likeness (way v) (way w) = and-true _
-alike_likeness (way v) (relation r) = refl
-alike_likeness (relation q) (node n) = refl
-alike_likeness (relation q) (way w) = refl
 alike_likeness (relation q) (relation r) = and-true _
+alike_likeness e f = refl
 
 pub likeness_push : (es : List EntitySpec) (e : EntitySpec) → likeness_among (es ++ e ∷ []) ≡ Some (unwrap_or (likeness_among es) (likeness_of e))
 likeness_push [] e = refl
@@ -77,20 +71,17 @@ room es fs h =
 pub nodes_append : (es fs : List EntitySpec) → nodes_among (es ++ fs) ≡ nodes_among es ++ nodes_among fs
 nodes_append [] fs = refl
 nodes_append (node n ∷ es) fs = ap (λ ns. n ∷ ns) (nodes_append es fs)
-nodes_append (way w ∷ es) fs = nodes_append es fs
-nodes_append (relation r ∷ es) fs = nodes_append es fs
+nodes_append (e ∷ es) fs = nodes_append es fs
 
 ways_append : (es fs : List EntitySpec) → ways_among (es ++ fs) ≡ ways_among es ++ ways_among fs
 ways_append [] fs = refl
-ways_append (node n ∷ es) fs = ways_append es fs
 ways_append (way w ∷ es) fs = ap (λ ws. w ∷ ws) (ways_append es fs)
-ways_append (relation r ∷ es) fs = ways_append es fs
+ways_append (e ∷ es) fs = ways_append es fs
 
 relations_append : (es fs : List EntitySpec) → relations_among (es ++ fs) ≡ relations_among es ++ relations_among fs
 relations_append [] fs = refl
-relations_append (node n ∷ es) fs = relations_append es fs
-relations_append (way w ∷ es) fs = relations_append es fs
 relations_append (relation r ∷ es) fs = ap (λ rs. r ∷ rs) (relations_append es fs)
+relations_append (e ∷ es) fs = relations_append es fs
 
 pub of_nodes : (ns : List NodeSpec) → (nodes_among (map node ns) ≡ ns) × (ways_among (map node ns) ≡ []) × (relations_among (map node ns) ≡ [])
 of_nodes [] = (refl, refl, refl)
@@ -142,12 +133,11 @@ group_parts texts es =
 
 -- the message of the nodes comes last in the code and first in the group: one of the two is empty
 pub group_closed : (texts : List (List ℕ)) (es : List EntitySpec) → is_block es ≡ true → messages_among texts es ++ slot_bytes (Each 2 (unless_empty (dense_message texts (nodes_among es)))) ≡ group_message texts es
-group_closed texts es h = by (nodes_or_others es h) ∙ sym (group_parts texts es)
-  where
-    by : (nodes_among es ≡ []) ⊎ ((ways_among es ≡ []) × (relations_among es ≡ []))
-        → messages_among texts es ++ slot_bytes (Each 2 (unless_empty (dense_message texts (nodes_among es)))) ≡ slot_bytes (Each 2 (unless_empty (dense_message texts (nodes_among es)))) ++ messages_among texts es
-    by (inl none) = rw (none, no_dense texts, each_none 2) (append-nil _)
-    by (inr none) = rw (none.0, none.1, each_none 3, each_none 4) (sym (append-nil _))
+group_closed texts es h =
+    rw (group_parts texts es) (elim (nodes_or_others es h) [
+      | inl none ↦ rw (none, no_dense texts, each_none 2) (append-nil _)
+      | inr none ↦ rw (none.0, none.1, each_none 3, each_none 4) (sym (append-nil _))
+    ])
 
 -- ---- nodes
 
@@ -162,8 +152,7 @@ like (e ∷ es) f = alike_likeness e f
 
 light : (e : EntitySpec) → EntityFits e → entity_weight e ≤ HIGHEST_WEIGHT
 light (node n) h = h.light
-light (way w) h = h.light
-light (relation r) h = h.light
+light e h = h.light
 
 -- what waits once there is room for an entity and it is added
 pub after_room : (joins : Bool) (es : List EntitySpec) (e : EntitySpec) → (if joins then es else []) ++ e ∷ [] ≡ (if joins then es ++ e ∷ [] else e ∷ [])
@@ -371,3 +360,88 @@ module _ {S H : Type 0} where
       let columns = ap dense_length (h.nodes.columns []) in
       let messages = ap (λ (bs : List ℕ). length bs) (h.messages []) in
       omega (arith, texts, columns, messages, h.writer, open_short (texts_of_all es) es, (kept_bounds es h.block).1)
+
+-- ---- nodes that are added to an open block many at a time
+
+nodes_many : (es : List EntitySpec) (ns : List NodeSpec) → nodes_among (es ++ map node ns) ≡ nodes_among es ++ ns
+nodes_many es ns = nodes_append es (map node ns) ∙ ap (λ (l : List NodeSpec). nodes_among es ++ l) (of_nodes ns).0
+
+texts_many : (es : List EntitySpec) (ns : List NodeSpec) → texts_after (texts_of_all es) (flat_map node_texts ns) ≡ texts_of_all (es ++ map node ns)
+texts_many es ns = ap (texts_after (texts_of_all es)) (sym (flat_map-map entity_texts node ns)) ∙ sym (texts_append es (map node ns))
+
+-- texts that are used after these nodes are used after those of the nodes
+used_many : (es : List EntitySpec) (ns : List NodeSpec) (used : List (List ℕ)) → texts_after (texts_of_all es) (flat_map node_texts ns ++ used) ≡ texts_after (texts_of_all (es ++ map node ns)) used
+used_many es ns used = used_later (texts_of_all es) (texts_of_all (es ++ map node ns)) (flat_map node_texts ns) used (sym (texts_many es ns))
+
+weights_of : (ns : List NodeSpec) → sum_by entity_weight (map node ns) ≡ sum_by node_weight ns
+weights_of [] = refl
+weights_of (n ∷ ns) = omega (arith, weights_of ns, sum_by-cons node_weight n ns, sum_by-cons entity_weight (node n) (map node ns))
+
+weight_many : (es : List EntitySpec) (ns : List NodeSpec) → sum_by entity_weight (es ++ map node ns) ≡ sum_by entity_weight es + sum_by node_weight ns
+weight_many es ns = omega (arith, sum_by-append entity_weight es (map node ns), weights_of ns)
+
+length_many : (es : List EntitySpec) (ns : List NodeSpec) → length (es ++ map node ns) ≡ length es + length ns
+length_many es ns = omega (arith, length-append es (map node ns), length-map ns node)
+
+-- nodes that are like the first entity of a block may join it, if they aren't too many or too heavy
+block_many : (x : EntitySpec) (xs : List EntitySpec) (ns : List NodeSpec) → is_block (x ∷ xs) ≡ true → AllByRecursion (λ n. are_alike x (node n) ≡ true) ns → length (x ∷ xs) + length ns ≤ MOST_ENTITIES
+    → sum_by entity_weight (x ∷ xs) + sum_by node_weight ns ≤ HIGHEST_WEIGHT → is_block (x ∷ (xs ++ map node ns)) ≡ true
+block_many x xs ns h like few light =
+    let all : list_all (λ n. are_alike x (node n)) ns ≡ true = list_all-from_AllPass _ ns (All-from_recursion _ ns like) in
+    block_from (x ∷ (xs ++ map node ns)) (record {
+      alike = list_all-append (are_alike x) xs (map node ns) ∙ ap₂ (λ a b. a && b) (block_parts (x ∷ xs) h).alike (list_all-map (are_alike x) node ns ∙ all);
+      few = omega (arith, few, length_many xs ns);
+      light = omega (arith, light, weight_many (x ∷ xs) ns);
+    })
+
+-- there is room for the texts of nodes that may join
+room_many : (es : List EntitySpec) (ns : List NodeSpec) → is_block (es ++ map node ns) ≡ true → length (texts_of_all es) + length (flat_map node_texts ns) ≤ 1048575
+room_many es ns h = omega (arith, room es (map node ns) h, ap (λ (ts : List (List ℕ)). length ts) (flat_map-map entity_texts node ns))
+
+-- ---- in the block that is open
+
+-- what the block has, and nodes that are to join it: all are like its entities, and they are neither too many nor too heavy
+pub record MayJoin (count weight : ℕ) (ns : List NodeSpec) : Type 0 where
+  pub few : count + length ns ≤ MOST_ENTITIES
+  pub light : weight + sum_by node_weight ns ≤ HIGHEST_WEIGHT
+
+module _ {S H : Type 0} where
+  abbrev pub AreLike : OpenBlock S H → List NodeSpec → Type 0
+  AreLike b ns = AllByRecursion (λ (n : NodeSpec). has_like b.likeness (likeness_of (node n)) ≡ true) ns
+
+  alike_to : (x : EntitySpec) (xs : List EntitySpec) (b : OpenBlock S H) (ns : List NodeSpec) → b.likeness ≡ likeness_among (x ∷ xs) → AreLike b ns → AllByRecursion (λ n. are_alike x (node n) ≡ true) ns
+  alike_to x xs b [] is like = tt
+  alike_to x xs b (n ∷ ns) is like = (sym (alike_likeness x (node n)) ∙ (ap (λ l. has_like l (likeness_of (node n))) (sym is) ∙ like.0), alike_to x xs b ns is like.1)
+
+  pub many_join : (b : OpenBlock S H) (es : List EntitySpec) (ns : List NodeSpec) → Holds b es → AreLike b ns → MayJoin b.count b.weight ns → is_block (es ++ map node ns) ≡ true
+  many_join b es [] h like may = ap is_block (append-nil es) ∙ h.block
+  many_join b [] (n ∷ ns) h like may = absurd (true≢false (sym like.0 ∙ ap (λ l. has_like l (likeness_of (node n))) h.likeness))
+  many_join b (x ∷ xs) (n ∷ ns) h like may =
+      block_many x xs (n ∷ ns) h.block (alike_to x xs b (n ∷ ns) h.likeness like) (omega (arith, may.few, h.count)) (omega (arith, may.light, h.weight))
+
+  pub many_room : (b : OpenBlock S H) (es : List EntitySpec) (ns : List NodeSpec) → Holds b es → AreLike b ns → MayJoin b.count b.weight ns → length b.texts + length (flat_map node_texts ns) ≤ 1048575
+  many_room b es ns h like may = rw h.texts (room_many es ns (many_join b es ns h like may))
+
+  likeness_many : (b : OpenBlock S H) (es : List EntitySpec) (ns : List NodeSpec) → Holds b es → AreLike b ns → likeness_among es ≡ likeness_among (es ++ map node ns)
+  likeness_many b es [] h like = ap likeness_among (sym (append-nil es))
+  likeness_many b [] (n ∷ ns) h like = absurd (true≢false (sym like.0 ∙ ap (λ l. has_like l (likeness_of (node n))) h.likeness))
+  likeness_many b (x ∷ xs) (n ∷ ns) h like = refl
+
+  -- nodes that are encoded and counted
+  pub many_added : (old new : OpenBlock S H) (es : List EntitySpec) (ns : List NodeSpec) → Holds old es → AreLike old ns → MayJoin old.count old.weight ns
+      → new.likeness ≡ old.likeness → new.count ≡ old.count + length ns → new.weight ≡ old.weight + sum_by node_weight ns → new.texts ≡ texts_after old.texts (flat_map node_texts ns)
+      → ((ms : List NodeSpec) → HoldsNodes old.nodes old.texts ms → HoldsNodes new.nodes new.texts (ms ++ ns)) → new.group ≡ old.group → new.writer ≡ old.writer → Holds new (es ++ map node ns)
+  many_added old new es ns h like may s c w t d g e =
+      let now : new.texts ≡ texts_of_all (es ++ map node ns) = t ∙ (ap (λ (ts : List (List ℕ)). texts_after ts (flat_map node_texts ns)) h.texts ∙ texts_many es ns) in
+      record {
+        block = many_join old es ns h like may;
+        likeness = s ∙ (h.likeness ∙ likeness_many old es ns h like);
+        count = omega (arith, c, h.count, length_many es ns);
+        weight = omega (arith, w, h.weight, weight_many es ns);
+        texts = now;
+        nodes = subst (λ ts. HoldsNodes new.nodes ts (nodes_among (es ++ map node ns))) now
+            (subst (λ (l : List NodeSpec). HoldsNodes new.nodes new.texts l) (sym (nodes_many es ns)) (d (nodes_among es) (subst (λ ts. HoldsNodes old.nodes ts (nodes_among es)) (sym h.texts) h.nodes)));
+        messages = λ used.
+            ap (λ g. g.items) g ∙ (h.messages (flat_map node_texts ns ++ used) ∙ (ap (λ ts. messages_among ts es) (used_many es ns used) ∙ messages_nodes _ es ns));
+        writer = ap writer_length e ∙ h.writer;
+      }

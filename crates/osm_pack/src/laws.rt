@@ -11,6 +11,7 @@ ghost use Rattle.osm_pack.specs.Cuts.{cuts, AreLongest, MayStand, written_entiti
 ghost use Rattle.osm_entity.specs.declared.weight.TheConstants.{HIGHEST_WEIGHT};
 
 /// The blocks of a list, joined, are the list; and if no entity is too heavy by itself, each may be a block.
+#[tactic(auto, using(crate::proofs::CutLaws::cuts_joined, crate::proofs::CutLaws::cuts_kept))]
 pub fn cuts_are_blocks()
     ensures joined { (es : List EntitySpec) → flat_map (λ block. block) (cuts es) ≡ es }
     ensures blocks { (es : List EntitySpec)
@@ -20,6 +21,7 @@ pub fn cuts_are_blocks()
 
 /// Each block is as long as may be: it ends only where the next entity may not join it. A prefix of what may be a block may be one
 /// too, so no two neighbours could have been one block. And no other list of blocks is so.
+#[tactic(auto, using(crate::proofs::CutLaws::cuts_longest, crate::proofs::CutLaws::front_kept, crate::proofs::CutLaws::cuts_only))]
 pub fn cuts_are_longest()
     ensures longest { (es : List EntitySpec) → AreLongest (cuts es) }
     ensures fronts { (xs ys : List EntitySpec) → is_block (xs ++ ys) ≡ true → is_block xs ≡ true }

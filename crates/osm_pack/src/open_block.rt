@@ -282,6 +282,7 @@ impl<S: BuildHasher> OpenBlock<S> {
     /// Removes the texts, and then adds the message of the nodes to the group. The texts go first, so that no more than two
     /// copies of them are held at a time. The table, the columns and the message are held beside each other (`made`), and then
     /// the table, the message and the group (`room`). After an `Err` the block is unspecified.
+    #[tactic(auto, using(crate::proofs::OpenLemmas::nodes_held))]
     fn end_group(&mut self, alloc: Global) -> Result<(), AllocError>
         ensures closing { (es : List EntitySpec) → Holds self.old es
             → OnOk result (IsClosing self.new (table_message self.old.texts) es) }

@@ -32,9 +32,7 @@ use Rattle.pbf_block.specs.PrimitiveBlock.{block_fault, indexed, streaming, enti
 use Rattle.pbf_block.specs.Scale.{scale_of, stored_texts}
 use Rattle.pbf_block.proofs.FitsLaw.{entities_fit}
 use Rattle.pbf_block.proofs.KindLemmas.{all_kept}
-use Rattle.pbf_block.proofs.MemberLemmas.{inside_same, cond_same, InGroup, groups_same, IsClean, HoldsClean, payload_clean}
-use Rattle.pbf_block.proofs.PhaseLemmas.{no_fault}
-use Rattle.pbf_block.proofs.TableLemmas.{table_few}
+use Rattle.pbf_block.proofs.PayloadLemmas.{inside_same, cond_same, InGroup, groups_same, IsClean, HoldsClean, payload_clean, no_fault, table_few}
 use Rattle.pbf_wire.proofs.AllLemmas.{all_filter}
 
 -- the sums of the column k are in range

@@ -14,12 +14,12 @@ use Rattle.pbf_wire.specs.declared.kind.Kind.TheVariants as kind
 use Rattle.pbf_wire.specs.Occurrence.{Content, Bytes, Occurrence, items}
 use Rattle.pbf_wire.specs.Columns.{joined, column}
 use Rattle.pbf_wire.specs.Wire.{kind_of}
-use Rattle.pbf_wire.specs.Reading.{last_of, last_value, last_number}
+use Rattle.pbf_wire.specs.Reading.{last_value, last_number}
 use Rattle.pbf_wire.specs.Signed.{IsWithin, is_within, unzigzag, low_i32, low_i64}
 use Rattle.pbf_wire.specs.Sums.{sum_at}
-use Rattle.pbf_wire.specs.Faults.{inside, entered, fields_in, fields_of, embedded, leaf_faults, column_count, below_fault, of_value, in_last, nested_faults}
+use Rattle.pbf_wire.specs.Faults.{inside, entered, fields_in, embedded, leaf_faults, column_count, below_fault, of_value, in_last, nested_faults}
 use Rattle.pbf_wire.proofs.SumLemmas.{small_zero, within_is}
-use Rattle.pbf_wire.proofs.SoundLemmas.{both_nil, all_nil, is_right, sums_within_limit, count_is_length, fields_sound, IsSound, last_holds, not_wrong}
+use Rattle.pbf_wire.proofs.SoundLemmas.{both_nil, all_nil, is_right, sums_within_limit, count_is_length, fields_sound, IsSound, not_wrong}
 use Rattle.osm_entity.specs.declared.scale.Scale.{Scale}
 use Rattle.osm_entity.specs.Scale.{ScaleFits}
 use Rattle.osm_entity.specs.Entity.{EntitySpec, node, way, relation}
@@ -40,20 +40,18 @@ use Rattle.pbf_block.specs.Way.{way_in, are_located, way_structure, way_values}
 use Rattle.pbf_block.specs.Relation.{relation_in, relation_values}
 use Rattle.pbf_block.specs.PrimitiveBlock.{indexed, entities, payload_weights, block_fault, value_faults, positive}
 use Rattle.pbf_block.specs.Scale.{number_or, scale_of, stored_texts}
-use Rattle.pbf_block.proofs.MemberLemmas.{entered_nil, cond_all, inside_all, InGroup, groups_all, groups_nil, IsClean, HoldsClean, payload_clean}
+use Rattle.pbf_block.proofs.PayloadLemmas.{cond_all, inside_all, InGroup, groups_all, groups_nil, IsClean, HoldsClean, payload_clean, table_few, no_fault}
 use Rattle.osm_entity.specs.declared.weight.TheConstants.{HIGHEST_WEIGHT}
 use Rattle.std.proofs.lemmas.Int.{ints}
 use Rattle.std.proofs.lemmas.Bool.{eqb-true, ltb-false}
 use Rattle.pbf_wire.specs.declared.fault.Reason.{Reason}
 use Rattle.osm_entity.proofs.RangeLemmas.{int32_typed, int64_typed}
 use Rattle.pbf_wire.proofs.AllLemmas.{all_append, all_weaker, all_map}
-use Rattle.pbf_dense.proofs.FitsLemmas.{nodes_fit, nodes_typed, version_typed}
+use Rattle.pbf_dense.proofs.SoundDense.{embedded_has, nodes_fit, nodes_typed, version_typed}
 use Rattle.pbf_block.specs.Group.{in_group, message_entities, member_entities, member_values, weight_fault, member_weights}
 use Rattle.pbf_block.specs.declared.primitive_block.TheConstants.{PRIMITIVEGROUP, GRANULARITY, DATE_GRANULARITY, LAT_OFFSET, LON_OFFSET}
 use Rattle.pbf_block.specs.declared.group.TheConstants.{NODES, DENSE, WAYS, RELATIONS}
 use Rattle.pbf_block.specs.declared.scale.TheConstants.{DEFAULT_SCALE}
-use Rattle.pbf_block.proofs.TableLemmas.{table_few}
-use Rattle.pbf_block.proofs.PhaseLemmas.{no_fault}
 
 -- ---- the last number of a field
 
@@ -87,26 +85,15 @@ module _ (limit : ℕ) (table : List (List ℕ)) where
         uid = if_present (out_of_range 30 low_i32) IsUid low_i32 (in_range 30 low_i32) (last_value UID os) uids.1;
       }
 
-  inside_fits : (place : ℕ) (c : Content) → inside (info_values limit place) c ≡ [] → MetaFits (info_in table (inside fields_in c))
-  inside_fits place (Bytes bytes at) e = info_fits place at bytes e
-  inside_fits place c e = record { timestamp = tt; changeset = tt; uid = tt }
-
-  last_fits : (os : List Occurrence) (last : Option Occurrence) → AllByRecursion (λ o. entered INFO (info_values limit) o ≡ []) os → last_of INFO os ≡ last → MetaFits (info_in table (fields_of last))
-  last_fits os None all e = record { timestamp = tt; changeset = tt; uid = tt }
-  last_fits os (Some o) all e =
-      let h = last_holds (λ o. entered INFO (info_values limit) o ≡ []) INFO os o all e in
-      inside_fits o.place o.content (entered_nil INFO (info_values limit) o h.0 h.1)
-
   meta_fits : (os : List Occurrence) → entity_values limit os ≡ [] → MetaFits (info_in table (embedded INFO os))
   meta_fits os v =
-      last_fits os (last_of INFO os) (all_nil (entered INFO (info_values limit)) os (both_nil _ (flat_map (entered INFO (info_values limit)) os) v).1) refl
+      embedded_has INFO (info_values limit) (λ os. MetaFits (info_in table os)) info_fits (record { timestamp = tt; changeset = tt; uid = tt }) os (both_nil _ (flat_map (entered INFO (info_values limit)) os) v).1
 
 -- ---- the columns of ways and relations
 
 locations_fit : (lats lons : List ℤ) → AllByRecursion IsStored lats → AllByRecursion IsStored lons → AllByRecursion LocationFits (zip lats lons)
-locations_fit [] lons p q = tt
-locations_fit (lat ∷ lats) [] p q = tt
 locations_fit (lat ∷ lats) (lon ∷ lons) p q = ((p.0, q.0), locations_fit lats lons p.1 q.1)
+locations_fit lats lons p q = tt
 
 located : (lats lons refs : List ℤ) → (length lats == length lons && (length lats == 0 || length lats == length refs)) ≡ true → AreLocated refs (zip lats lons)
 located [] lons refs e = inl refl
@@ -116,10 +103,8 @@ located (lat ∷ lats) lons refs e =
     inr (omega (arith, length-zip (lat ∷ lats) lons, same, all))
 
 members_fit : (table : List (List ℕ)) (kinds : List ℕ) (ids : List ℤ) (roles : List ℕ) → AllByRecursion IsStored ids → AllByRecursion MemberFits (column_members table kinds ids roles)
-members_fit table [] ids roles h = tt
-members_fit table (k ∷ kinds) [] roles h = tt
-members_fit table (k ∷ kinds) (id ∷ ids) [] h = tt
 members_fit table (k ∷ kinds) (id ∷ ids) (role ∷ roles) h = (h.0, members_fit table kinds ids roles h.1)
+members_fit table kinds ids roles h = tt
 
 values_counted : (kinds : List (ℕ × Kind)) (inner : Occurrence → List Fault) (k : ℕ) (os : List Occurrence) → kind_of kinds k ≡ Some kind.Column → AllByRecursion (IsSound kinds inner) os → length (values_in indexed k os) ≡ column_count k os
 values_counted kinds inner k os known sound =

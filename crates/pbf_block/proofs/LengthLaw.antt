@@ -1,6 +1,6 @@
 -- What entities take as they are written, beside what they weigh: a written block is no longer than twice its weight and a little
 -- more, and what is held of it while it is open no longer than that.
-use Rattle.std.proofs.Common.{◌≡◌, ℕ, zero, suc, ◌+◌, ◌*◌, ◌/◌, ◌%◌, ◌^◌, ◌<◌, ◌≤◌, ◌&&◌, Bool, true, false, cond, ltb, ℤ, pos, List, [], ◌∷◌, ◌++◌, length, map, Option, Some, None, refl, arith, length-append}
+use Rattle.std.proofs.Common.{◌≡◌, ℕ, zero, suc, ◌+◌, ◌*◌, ◌/◌, ◌%◌, ◌^◌, ◌<◌, ◌≤◌, ◌&&◌, Bool, true, false, cond, ltb, ℤ, pos, List, [], ◌∷◌, ◌++◌, length, map, Option, Some, None, refl, arith, length-append, ap}
 use Rattle.std.specs.Prelude.{nat_le}
 use Rattle.std.specs.List.{flat_map, filter_map, cons_option, sum_by}
 use Rattle.std.specs.Option.{option_map, option_to_list}
@@ -12,22 +12,25 @@ use Rattle.pbf_wire.specs.Message.{Slot, Column, Each, slot_bytes, message, unle
 use Rattle.pbf_wire.specs.Signed.{sign_extended}
 use Rattle.pbf_wire.specs.Sums.{deltas}
 use Rattle.pbf_wire.specs.Varint.{shortest, spelled_within}
-use Rattle.pbf_strings.specs.TableOut.{has_text, with_text, texts_after, index_in, table_of, text_held}
+use Rattle.pbf_strings.specs.TableOut.{has_text, with_text, texts_after, index_in, table_of, text_held, table_message}
 use Rattle.pbf_strings.proofs.UsedTexts.{length_after}
 use Rattle.osm_entity.specs.declared.member.MemberKind.{MemberKind}
 use Rattle.osm_entity.specs.declared.member.MemberKind.TheVariants as kind
 use Rattle.osm_entity.specs.Entity.{TagSpec, MetaSpec, MemberSpec, NodeSpec, WaySpec, RelationSpec, EntitySpec, node, way, relation}
-use Rattle.osm_entity.specs.EntityTexts.{tag_texts, entity_texts}
-use Rattle.osm_entity.specs.Weight.{tags_weight, members_weight, text_weight, entity_weight}
+use Rattle.osm_entity.specs.EntityTexts.{tag_texts, entity_texts, way_texts, relation_texts}
+use Rattle.osm_entity.specs.Weight.{tags_weight, members_weight, text_weight, entity_weight, way_weight, relation_weight}
 use Rattle.osm_entity.specs.Ranges.{WayFits, RelationFits}
 use Rattle.pbf_dense.specs.Info.{InfoSpec}
 use Rattle.pbf_dense.specs.WrittenDense.{bit_of, tag_numbers, run_of, info_columns, dense_info_slots, dense_info_message, columns_of, dense_slots, dense_message, info_length, dense_length}
 use Rattle.pbf_dense.proofs.InfoLaw.{deltas_length}
-use Rattle.pbf_block.specs.WrittenEntity.{key_index, value_index, role_index, kind_number, info_slots, info_message, entity_slots, way_message, relation_message}
+use Rattle.pbf_block.specs.WrittenEntity.{key_index, value_index, role_index, kind_number, info_slots, info_message, entity_slots, way_message, relation_message, writer_length, begun_length, KeepsColumns, most_way_held, most_relation_held}
 use Rattle.pbf_block.specs.WrittenBlock.{all_alike, is_block, nodes_among, ways_among, relations_among, group_slots, group_message, block_slots, scale_among, texts_of_all, messages_among, block_message}
 use Rattle.pbf_wire.proofs.LengthLemmas.{packed_short, each_room, each_short, message_short}
 use Rattle.osm_entity.specs.declared.weight.TheConstants.{HIGHEST_WEIGHT}
 use Rattle.pbf_block.specs.declared.block_write.TheConstants.{MOST_ENTITIES}
+use Rattle.pbf_wire.specs.Writing.{Whole, spelling, written}
+use Rattle.pbf_wire.proofs.WritingLemmas.{message_one}
+use Rattle.pbf_block.specs.declared.entity_out.EntityOut.{EntityOut}
 
 -- ---- small numbers have few bytes
 
@@ -259,8 +262,7 @@ beside texts es =
 
 beside_more : (texts : List (List ℕ)) (e : EntitySpec) (es : List EntitySpec) → beside texts (e ∷ es) ≡ part texts e + beside texts es
 beside_more texts (node n) es = omega arith
-beside_more texts (way w) es = omega arith
-beside_more texts (relation r) es = omega arith
+beside_more texts e es = omega arith
 
 -- so many entities take so much beside these texts: with the texts as fields less than twice their weight, and with short fields
 -- hardly more than it
@@ -360,3 +362,99 @@ way_short texts w h = omega (arith, h.light, (entity_is texts (way w)).twice)
 
 pub relation_short : (texts : List (List ℕ)) (r : RelationSpec) → RelationFits r → length (relation_message texts r) < 2 ^ 64
 relation_short texts r h = omega (arith, h.light, (entity_is texts (relation r)).twice)
+
+-- ---- the table
+
+-- an entry takes six bytes beside its text, if that is short
+entries_short : (texts : List (List ℕ)) → text_bytes texts < 34359738368 → length (written (map (Whole 1) texts)) ≤ text_bytes texts + 6 * length texts
+entries_short [] h = omega arith
+entries_short (text ∷ texts) h =
+    omega (
+      arith,
+      length-append (spelling (Whole 1 text)) (written (map (Whole 1) texts)),
+      length-append (shortest (1 * 8 + 2)) (shortest (length text) ++ text),
+      length-append (shortest (length text)) text,
+      one_byte (1 * 8 + 2) (omega arith),
+      five_bytes (length text) (omega (arith, h)),
+      entries_short texts (omega (arith, h)),
+    )
+
+table_short : (texts : List (List ℕ)) → text_bytes texts < 34359738368 → length (table_message texts) ≤ 6 + text_bytes texts + 6 * length texts
+unfolding slot_bytes
+table_short texts h = omega (arith, ap (λ (bs : List ℕ). length bs) (message_one (Each 1 (table_of texts))), entries_short (table_of texts) (omega (arith, h)))
+
+-- ---- a block that is closed
+
+-- the texts, once, and what their entities take beside them
+parts_bound : (texts : List (List ℕ)) (es : List EntitySpec) → is_block es ≡ true → beside texts es + text_bytes (texts_of_all es) + 6 * length (texts_of_all es) ≤ 13008000
+parts_bound texts es h = let small = block_parts es h in omega (arith, small.few, small.light, once_bytes es, once_few es, (parts_are texts es).once)
+
+table_bound : (texts : List (List ℕ)) (es : List EntitySpec) → is_block es ≡ true → length (table_message (texts_of_all es)) + beside texts es ≤ 13008006
+table_bound texts es h = let parts = parts_bound texts es h in omega (arith, parts, table_short (texts_of_all es) (omega (arith, parts)))
+
+-- while the table is written: what the open block holds, and the table
+pub table_fits : (texts : List (List ℕ)) (es : List EntitySpec) → is_block es ≡ true
+    → sum_by text_held (texts_of_all es) + dense_length (columns_of texts (nodes_among es)) + length (messages_among texts es) + length (table_message (texts_of_all es)) ≤ 28000000
+table_fits texts es h =
+    omega (arith, held_bytes (texts_of_all es), parts_bound texts es h, table_bound texts es h, columns_room texts (nodes_among es), messages_room texts es)
+
+-- while the message of its nodes is made: its table, what the open block holds but for its texts, and that message
+pub nodes_fit : (texts : List (List ℕ)) (es : List EntitySpec) → is_block es ≡ true
+    → length (table_message (texts_of_all es)) + (dense_length (columns_of texts (nodes_among es)) + length (messages_among texts es)) + length (dense_message texts (nodes_among es)) ≤ 28000000
+nodes_fit texts es h = omega (arith, table_bound texts es h, columns_room texts (nodes_among es), messages_room texts es, dense_room texts (nodes_among es))
+
+-- when it is in the group: its table, that message and the group
+pub group_fits : (texts : List (List ℕ)) (es : List EntitySpec) → is_block es ≡ true
+    → length (table_message (texts_of_all es)) + length (dense_message texts (nodes_among es)) + length (group_message texts es) ≤ 28000000
+group_fits texts es h = omega (arith, table_bound texts es h, dense_room texts (nodes_among es), group_room texts es)
+
+-- when the block is put together: its table, its group and itself
+pub closing_fits : (es : List EntitySpec) → is_block es ≡ true
+    → length (table_message (texts_of_all es)) + length (group_message (texts_of_all es) es) + length (block_message es) ≤ 28000000
+unfolding block_message
+closing_fits es h =
+    let texts = texts_of_all es in
+    omega (arith, message_short (block_slots (scale_among es) texts (group_message texts es)), group_room texts es, table_bound texts es h)
+
+-- ---- columns
+
+-- the columns that each entity begins with
+pub begun_held : (texts others : List (List ℕ)) (tags : List TagSpec) (meta : MetaSpec) (keys values info : List ℕ) → keys ≡ map (key_index texts) tags → values ≡ map (value_index texts) tags → info ≡ info_message others meta
+    → length (packed keys) + length (packed values) + length info ≤ 120 + 20 * length tags
+begun_held texts others tags meta keys values info k v i = rw (k, v, i) (omega (arith, numbers_short (key_index texts) tags, numbers_short (value_index texts) tags, info_short others meta))
+
+-- if nothing was there before, the columns of a way's and of a relation's own are empty then
+none_own : (old begun : EntityOut) → writer_length old ≡ 0 → KeepsColumns old begun
+    → length (packed (deltas begun.refs)) + length (packed (deltas begun.lats)) + length (packed (deltas begun.lons)) + length (packed begun.roles) + length (packed (deltas begun.members)) + length (packed begun.kinds) ≡ 0
+none_own old begun e k = rw (k.refs, k.lats, k.lons, k.roles, k.members, k.kinds) (omega (arith, e))
+
+-- ---- what a writer holds
+
+pub way_held : (old begun : EntityOut) (refs lats lons : List ℤ) (message : List ℕ) (texts : List (List ℕ)) (w : WaySpec) (tags : ℕ) → writer_length old ≡ 0 → begun_length begun ≤ 120 + 20 * tags → tags ≡ length w.tags → KeepsColumns old begun
+    → refs ≡ w.refs → lats ≡ map (λ l. l.0) w.locations → lons ≡ map (λ l. l.1) w.locations → message ≡ way_message texts w
+    → length (packed begun.keys) + length (packed begun.values) + length begun.info.items + length (packed (deltas refs)) + length (packed (deltas lats)) + length (packed (deltas lons)) + length (packed begun.roles) + length (packed (deltas begun.members)) + length (packed begun.kinds) + length message ≤ most_way_held w
+way_held old begun refs lats lons message texts w tags e b t k fs ls os m =
+    let la = values_short (λ l. l.0) w.locations in
+    let lo = values_short (λ l. l.1) w.locations in
+    rw (fs, ls, os, m) (omega (arith, none_own old begun e k, b, t, deltas_short w.refs, la, lo, way_room texts w))
+
+pub relation_held : (old begun : EntityOut) (roles kinds message : List ℕ) (members : List ℤ) (texts : List (List ℕ)) (r : RelationSpec) (tags : ℕ) → writer_length old ≡ 0 → begun_length begun ≤ 120 + 20 * tags → tags ≡ length r.tags → KeepsColumns old begun
+    → roles ≡ map (role_index texts) r.members → members ≡ map (λ m. m.id) r.members → kinds ≡ map (λ m. kind_number m.kind) r.members → message ≡ relation_message texts r
+    → length (packed begun.keys) + length (packed begun.values) + length begun.info.items + length (packed (deltas begun.refs)) + length (packed (deltas begun.lats)) + length (packed (deltas begun.lons)) + length (packed roles) + length (packed (deltas members)) + length (packed kinds) + length message ≤ most_relation_held r
+relation_held old begun roles kinds message members texts r tags e b t k rs ms ks m =
+    let ids = values_short (λ m. m.id) r.members in
+    rw (rs, ms, ks, m) (omega (arith, none_own old begun e k, b, t, numbers_short (role_index texts) r.members, ids, kinds_short r.members, relation_room texts r))
+
+-- ---- beside its texts
+
+-- texts that are added take no more than they have
+pub after_held : (texts used : List (List ℕ)) → sum_by text_held (texts_after texts used) ≤ sum_by text_held texts + sum_by text_held used
+after_held texts used = omega (arith, after_bytes texts used, length_after used texts, held_bytes (texts_after texts used), held_bytes texts, held_bytes used)
+
+-- texts, columns and message of a way, and the field of the message, which takes 20 bytes more: two and a quarter of its weight
+pub way_beside : (texts : List (List ℕ)) (w : WaySpec) → 4 * (sum_by text_held (way_texts w) + most_way_held w + (20 + length (way_message texts w))) ≤ 9 * way_weight w + 1216
+way_beside texts w = let h = way_weighs w in omega (arith, way_room texts w, held_bytes (way_texts w), h.weight, h.few)
+
+-- of a relation
+pub relation_beside : (texts : List (List ℕ)) (r : RelationSpec) → 4 * (sum_by text_held (relation_texts r) + most_relation_held r + (20 + length (relation_message texts r))) ≤ 9 * relation_weight r + 1216
+relation_beside texts r = let h = relation_weighs r in omega (arith, relation_room texts r, held_bytes (relation_texts r), h.weight, h.few)

@@ -40,10 +40,8 @@ use Rattle.pbf_wire.proofs.SpanLemmas.{sums_fit}
 -- ---- texts
 
 text_short : (table : List (List ℕ)) (i : ℕ) → length (text table i) ≤ longest table
-text_short [] zero = omega arith
-text_short [] (suc i) = omega arith
-text_short (t ∷ ts) zero = omega arith
 text_short (t ∷ ts) (suc i) = omega (arith, text_short ts i)
+text_short table i = omega arith
 
 user_short : (table : List (List ℕ)) (n : Option ℕ) → text_weight (option_map (named table) n) ≤ longest table
 user_short table None = omega arith
@@ -71,9 +69,8 @@ module _ (table : List (List ℕ)) (u : ℕ) (h : 32 + 2 * longest table ≤ u) 
 -- ---- how many there are
 
 zip_short : {X Y : Type 0} (xs : List X) (ys : List Y) → length (zip xs ys) ≤ length xs
-zip_short [] ys = omega arith
-zip_short (x ∷ xs) [] = omega arith
 zip_short (x ∷ xs) (y ∷ ys) = omega (arith, zip_short xs ys)
+zip_short xs ys = omega arith
 
 column_counted : (k : ℕ) (os : List Occurrence) → length (column k os) ≤ column_count k os
 column_counted k os = omega (arith, length-map {B = ℕ} (joined k os) (λ p. p.0), length_counted k os)
@@ -91,16 +88,12 @@ pairs_short at m =
     omega (arith, zip_short (map low_32 (column KEYS os)) (map low_32 (column VALS os)), length-map {B = ℕ} (column KEYS os) low_32, column_short KEYS at m)
 
 run_short : (numbers : List ℕ) → 2 * length (run numbers) ≤ length numbers
-run_short [] = omega arith
-run_short (zero ∷ rest) = omega arith
-run_short (suc key ∷ []) = omega arith
 run_short (suc key ∷ value ∷ rest) = omega (arith, run_short rest)
+run_short numbers = omega arith
 
 after_short : (numbers : List ℕ) → length (after_run numbers) ≤ length numbers
-after_short [] = omega arith
-after_short (zero ∷ rest) = omega arith
-after_short (suc key ∷ []) = omega arith
 after_short (suc key ∷ value ∷ rest) = omega (arith, after_short rest)
+after_short numbers = omega arith
 
 -- ---- entities
 
@@ -164,13 +157,11 @@ module _ (table : List (List ℕ)) (scale : Scale) (u : ℕ) (h : 32 + 2 * longe
 
 module _ (table : List (List ℕ)) (scale : Scale) (u c : ℕ) (h : 32 + 2 * longest table ≤ u) (few : 160 + longest table + c * u ≤ HIGHEST_WEIGHT) (place : ℕ) where
   moving_light : (ids lats lons : List ℤ) (info : InfoSpec) (keys_vals : List ℕ) → length keys_vals ≤ 2 * c + 1 → flat_map (weight_fault place) (map node (nodes_of_columns table scale ids lats lons info keys_vals)) ≡ []
-  moving_light [] lats lons info keys_vals le = refl
-  moving_light (id ∷ ids) [] lons info keys_vals le = refl
-  moving_light (id ∷ ids) (lat ∷ lats) [] info keys_vals le = refl
   moving_light (id ∷ ids) (lat ∷ lats) (lon ∷ lons) info keys_vals le =
       let runs : length (run keys_vals) ≤ c = omega (arith, run_short keys_vals, le) in
       let light : 160 + text_weight (option_map (user_text table) (slice_get info.users 0)) + tags_weight (map (tag_of table) (run keys_vals)) ≤ HIGHEST_WEIGHT = omega (arith, few, user_at_short table (slice_get info.users 0), tags_short table u h (run keys_vals), mul-le-mul_right u runs) in
       ap₂ (λ (a b : List Fault). a ++ b) (light_none place (node (record { id = id; lat = lat; lon = lon; meta = meta_at table info 0; tags = map (tag_of table) (run keys_vals); scale = scale })) light) (moving_light ids lats lons (info_rest info) (after_run keys_vals) (omega (arith, after_short keys_vals, le)))
+  moving_light ids lats lons info keys_vals le = refl
 
 -- a dense message with so many numbers of texts has no heavy node
 pub dense_member : (table : List (List ℕ)) (scale : Scale) (most place k : ℕ) (os : List Occurrence) → longest table ≤ most → k ≡ DENSE

@@ -30,7 +30,7 @@ pub use pbf_header::laws::{
 
 /// The first fault of a payload, phase by phase, is the least of all its faults by phase, then offset, then the reason's
 /// number, then the field that is missing.
-#[tactic(auto, using(crate::proofs::PhaseLemmas::phases_joined))]
+#[tactic(auto, using(crate::proofs::PayloadLemmas::phases_joined))]
 pub fn phases_are_one_order()
     ensures { (at : ℕ) (m : List ℕ)
         → option_map (λ p. p.1) (least_by phase_rank (all_faults at m)) ≡ block_fault at m }

@@ -8,8 +8,8 @@ use Rattle.pbf_block.specs.Group.{in_group, member_weights}
 use Rattle.pbf_block.specs.PrimitiveBlock.{payload_weights, value_faults, indexed}
 use Rattle.osm_entity.specs.declared.scale.Scale.{Scale}
 use Rattle.pbf_block.specs.Scale.{scale_of, stored_texts}
+use Rattle.pbf_block.proofs.PayloadLemmas.{payload_clean}
 use Rattle.pbf_block.proofs.ByIndexLemmas.{weights_same}
-use Rattle.pbf_block.proofs.MemberLemmas.{payload_clean}
 use Rattle.pbf_block.proofs.block.late_fault.Goals as goal
 
 module _ (table : List (List ℕ)) (at : ℕ) (m : List ℕ) (texts : table ≡ stored_texts (fields_in at m)) where

@@ -1,7 +1,7 @@
 use Rattle.std.proofs.Common.{List, length, ap, ◌∙◌, arith, ℕ}
 use Rattle.pbf_strings.specs.Texts.{texts}
 use Rattle.pbf_wire.specs.Reading.{occurrence_text}
-use Rattle.pbf_block.proofs.TableLemmas.{table_short, table_few}
+use Rattle.pbf_block.proofs.PayloadLemmas.{table_short, table_few}
 use Rattle.pbf_block.proofs.block.read_table.Goals as goal
 
 pub open-requires-clause-short : goal.open-requires-clause-short

@@ -1,6 +1,6 @@
 use Rattle.std.proofs.Common.{◌≡◌, refl, sym, ◌∙◌, rules}
 use Rattle.std.specs.Prelude.{None}
-use Rattle.pbf_block.proofs.CleanLemmas.{clean_way}
+use Rattle.pbf_block.proofs.PlainLemmas.{clean_way}
 use Rattle.pbf_block.proofs.plain.is_clean.Goals as goal
 
 pub returns-then-message-le-MOST_BYTES : goal.returns-then-message-le-MOST_BYTES

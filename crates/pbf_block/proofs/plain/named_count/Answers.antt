@@ -3,7 +3,7 @@ use Rattle.std.specs.Prelude.{None, Ok}
 use Rattle.std.proofs.lemmas.List.{take_rest}
 use Rattle.std.proofs.lemmas.Bool.{eqb-true}
 use Rattle.pbf_wire.specs.Varint.{varint_at}
-use Rattle.pbf_block.proofs.CleanLemmas.{named_more, named_all, varint_here}
+use Rattle.pbf_block.proofs.PlainLemmas.{named_more, named_all, varint_here}
 use Rattle.pbf_block.proofs.plain.named_count.Goals as goal
 
 pub numbers-preserved : goal.numbers-preserved

@@ -1,5 +1,5 @@
 use Rattle.std.proofs.Common.{length}
-use Rattle.pbf_block.proofs.CleanLemmas.{NamedSoFar}
+use Rattle.pbf_block.proofs.PlainLemmas.{NamedSoFar}
 use Rattle.pbf_block.proofs.plain.named_count.Given as goal
 
 abbrev pub invariant-numbers : goal.invariant-numbers

@@ -2,7 +2,7 @@ use Rattle.std.proofs.Common.{◌≡◌, ap, ◌∙◌, rules}
 use Rattle.pbf_wire.specs.Occurrence.{Content}
 use Rattle.pbf_block.specs.Clean.{part_faults}
 use Rattle.pbf_block.specs.declared.primitive_block.TheConstants.{PRIMITIVEGROUP}
-use Rattle.pbf_block.proofs.CleanLemmas.{clean_group}
+use Rattle.pbf_block.proofs.PlainLemmas.{clean_group}
 use Rattle.pbf_block.proofs.primitive_block.has_clean_group.Goals as goal
 
 pub returns : goal.returns

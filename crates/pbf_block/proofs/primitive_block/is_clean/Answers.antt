@@ -1,6 +1,6 @@
 use Rattle.std.proofs.Common.{◌≡◌, sym, ◌∙◌, rules}
 use Rattle.std.specs.Prelude.{None}
-use Rattle.pbf_block.proofs.CleanLemmas.{clean_block}
+use Rattle.pbf_block.proofs.PlainLemmas.{clean_block}
 use Rattle.pbf_block.proofs.primitive_block.is_clean.Goals as goal
 
 pub returns : goal.returns

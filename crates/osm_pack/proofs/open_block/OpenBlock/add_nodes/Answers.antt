@@ -2,7 +2,7 @@ use Rattle.std.proofs.Common.{ℕ, ◌+◌, arith, take, refl, sym, ap}
 use Rattle.std.proofs.lemmas.List.{length-take-le}
 use Rattle.pbf_dense.specs.Cursors.{dense_left}
 use Rattle.osm_pack.proofs.CutLemmas.{kept_bounds}
-use Rattle.osm_pack.proofs.ManyLemmas.{MayJoin, many_added, many_room}
+use Rattle.osm_pack.proofs.OpenLemmas.{MayJoin, many_added, many_room}
 use Rattle.osm_pack.proofs.open_block.OpenBlock.add_nodes.Goals as goal
 use Rattle.pbf_wire.proofs.AllLemmas.{all_take}
 

@@ -2,7 +2,7 @@ use Rattle.std.proofs.Common.{◌∙◌, [], ap, subst, sym}
 use Rattle.pbf_strings.specs.TableOut.{table_message}
 use Rattle.pbf_dense.specs.WrittenDense.{HoldsNodes}
 use Rattle.pbf_block.specs.WrittenBlock.{texts_of_all, nodes_among}
-use Rattle.osm_pack.proofs.OpenLemmas.{group_whole, nothing_else, nodes_held, group_held}
+use Rattle.osm_pack.proofs.OpenLemmas.{group_whole, nothing_else, group_held}
 use Rattle.osm_pack.proofs.open_block.OpenBlock.end_group.Goals as goal
 
 pub returns-clause-closing : goal.returns-clause-closing
@@ -18,12 +18,3 @@ returns-clause-closing g c = λ es h.
 
 pub returns-clause-room : goal.returns-clause-room
 returns-clause-room g c = λ es h. group_held c.args.self.now es c.put_dense.new.group.items h (returns-clause-closing g c es h).group
-
-pub returns-clause-made : goal.returns-clause-made
-returns-clause-made g c = λ es h. nodes_held c.args.self.now es h
-
-pub returns-in_err-dense-clause-made : goal.returns-in_err-dense-clause-made
-returns-in_err-dense-clause-made g c = λ es h. nodes_held c.args.self.now es h
-
-pub returns-in_err-put_dense-clause-made : goal.returns-in_err-put_dense-clause-made
-returns-in_err-put_dense-clause-made g c = λ es h. nodes_held c.args.self.now es h

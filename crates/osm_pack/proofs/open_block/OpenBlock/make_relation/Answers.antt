@@ -2,7 +2,7 @@ use Rattle.std.proofs.Common.{refl, []}
 use Rattle.osm_entity.specs.Entity.{relation}
 use Rattle.osm_entity.specs.Views.{relation_of}
 use Rattle.pbf_strings.specs.TableOut.{texts_after}
-use Rattle.pbf_block.proofs.HeldLaw.{relation_beside}
+use Rattle.pbf_block.proofs.LengthLaw.{relation_beside}
 use Rattle.osm_pack.proofs.OpenLemmas.{room_held, entity_held}
 use Rattle.osm_pack.proofs.open_block.OpenBlock.make_relation.Goals as goal
 

@@ -2,7 +2,7 @@ use Rattle.std.proofs.Common.{refl, []}
 use Rattle.osm_entity.specs.Entity.{way}
 use Rattle.osm_entity.specs.Views.{way_of}
 use Rattle.pbf_strings.specs.TableOut.{texts_after}
-use Rattle.pbf_block.proofs.HeldLaw.{way_beside}
+use Rattle.pbf_block.proofs.LengthLaw.{way_beside}
 use Rattle.osm_pack.proofs.OpenLemmas.{room_held, entity_held}
 use Rattle.osm_pack.proofs.open_block.OpenBlock.make_way.Goals as goal
 

@@ -1,7 +1,7 @@
 use Rattle.std.proofs.Common.{◌≡◌, ap, sym, ◌∙◌}
 use Rattle.std.specs.Prelude.{Some, None}
 use Rattle.pbf_block.specs.PrimitiveBlock.{wire_faults, structure_faults}
-use Rattle.pbf_block.proofs.PhaseLemmas.{early_nil, first_early, first_late}
+use Rattle.pbf_block.proofs.PayloadLemmas.{early_nil, first_early, first_late}
 use Rattle.pbf_block.proofs.block.Block.read.Goals as goal
 
 pub returns-in-Some-clause-refused : goal.returns-in-Some-clause-refused

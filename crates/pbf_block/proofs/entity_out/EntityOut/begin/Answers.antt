@@ -7,7 +7,7 @@ use Rattle.pbf_strings.specs.TableOut.{texts_after}
 use Rattle.pbf_wire.proofs.WritingLemmas.{one_more, last_slot}
 use Rattle.std.proofs.lemmas.Int.{to_z-of_z}
 use Rattle.pbf_block.proofs.EntityLemmas.{begun}
-use Rattle.pbf_block.proofs.HeldLaw.{begun_held}
+use Rattle.pbf_block.proofs.LengthLaw.{begun_held}
 use Rattle.pbf_strings.proofs.UsedTexts.{room_left, used_both}
 use Rattle.pbf_block.proofs.entity_out.EntityOut.begin.Goals as goal
 

@@ -6,7 +6,7 @@ use Rattle.pbf_strings.specs.TableOut.{texts_after}
 use Rattle.pbf_block.specs.WrittenEntity.{role_index, kind_number, entity_slots}
 use Rattle.std.proofs.lemmas.Int.{to_z-of_z}
 use Rattle.pbf_block.proofs.EntityLemmas.{relation_made, roles_used, role_room}
-use Rattle.pbf_block.proofs.HeldLaw.{relation_held}
+use Rattle.pbf_block.proofs.LengthLaw.{relation_held}
 use Rattle.osm_entity.specs.Entity.{TagSpec}
 use Rattle.pbf_strings.proofs.UsedTexts.{used_later}
 use Rattle.pbf_block.proofs.entity_out.EntityOut.make_relation.Goals as goal

@@ -3,7 +3,7 @@ use Rattle.osm_entity.specs.Views.{way_of}
 use Rattle.pbf_strings.specs.TableOut.{texts_after}
 use Rattle.std.proofs.lemmas.Int.{to_z-of_z}
 use Rattle.pbf_block.proofs.EntityLemmas.{way_made}
-use Rattle.pbf_block.proofs.HeldLaw.{way_held}
+use Rattle.pbf_block.proofs.LengthLaw.{way_held}
 use Rattle.osm_entity.specs.Entity.{TagSpec}
 use Rattle.pbf_block.proofs.entity_out.EntityOut.make_way.Goals as goal
 

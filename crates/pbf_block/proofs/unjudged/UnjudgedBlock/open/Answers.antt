@@ -3,8 +3,7 @@ use Rattle.std.specs.Result.{is_err}
 use Rattle.pbf_wire.specs.Reading.{occurrence_text}
 use Rattle.pbf_wire.specs.Wire.{ok_unless}
 use Rattle.pbf_strings.specs.Texts.{count_fault}
-use Rattle.pbf_block.proofs.PhaseLemmas.{no_fault}
-use Rattle.pbf_block.proofs.TableLemmas.{table_short, many_texts}
+use Rattle.pbf_block.proofs.PayloadLemmas.{no_fault, table_short, many_texts}
 use Rattle.pbf_block.proofs.unjudged.UnjudgedBlock.open.Goals as goal
 
 pub returns-then-is_err-clause-faulty : goal.returns-then-is_err-clause-faulty

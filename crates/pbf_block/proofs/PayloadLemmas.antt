@@ -1,15 +1,21 @@
--- What is known of the fields of a payload's groups, and of the messages in them: of each by itself, and of all together. If a
--- payload has no fault of the wire form, of structure and of values, none of them has one.
-use Rattle.std.proofs.Common.{◌≡◌, ◌==◌, ℕ, Bool, true, false, cond, eqb, List, [], ◌∷◌, ◌++◌, refl, ap, ap₂, sym, ◌∙◌, arith}
-use Rattle.std.specs.Prelude.{if◌then◌else◌, Option}
+-- What a payload is whose first phases have no fault: its groups, their messages, and its table.
+use Rattle.std.proofs.Common.{◌≡◌, ℕ, List, [], ◌∷◌, ap, ap₂, sym, ◌∙◌, length, ◌==◌, Bool, true, false, cond, eqb, ◌++◌, refl, arith, ◌≤◌}
+use Rattle.std.specs.Prelude.{Option, Some, None, if◌then◌else◌, nat_lt}
+use Rattle.std.specs.Option.{option_map, option_or}
+use Rattle.pbf_wire.specs.declared.fault.Fault.{Fault}
+use Rattle.pbf_wire.specs.Least.{least_by, least}
+use Rattle.pbf_wire.specs.Phases.{first_fault, phase_rank}
+use Rattle.pbf_wire.proofs.PhaseLemmas.{phases_joined as joined}
+use Rattle.pbf_wire.proofs.SoundLemmas.{no_least, both_none, option_last, both_nil, all_nil, fields_sound, IsSound, not_wrong, last_holds}
+use Rattle.pbf_block.specs.PrimitiveBlock.{wire_faults, structure_faults, payload_weights, block_phases, block_fault, all_faults, value_faults, part_wire, part_structure, table_structure}
+use Rattle.pbf_wire.specs.Faults.{fields_in, inside, entered, nested_faults, twice}
+use Rattle.pbf_block.specs.Scale.{stored_texts}
 use Rattle.std.specs.List.{flat_map, AllByRecursion}
-use Rattle.std.proofs.lemmas.Bool.{eqb-true}
-use Rattle.pbf_wire.specs.Occurrence.{Content, Bytes, Occurrence, items}
-use Rattle.pbf_wire.specs.Faults.{inside, entered, fields_in, nested_faults, twice}
-use Rattle.pbf_wire.proofs.SoundLemmas.{both_nil, all_nil, fields_sound, IsSound}
+use Rattle.std.proofs.lemmas.Bool.{eqb-true, ltb-false, le-ltb}
+use Rattle.pbf_wire.specs.Occurrence.{Content, Bytes, Occurrence, items, items_past}
 use Rattle.pbf_wire.proofs.AllLemmas.{all_append}
 use Rattle.pbf_dense.specs.Judged.{dense_wire, dense_structure, dense_values}
-use Rattle.pbf_block.specs.declared.primitive_block.TheConstants.{PRIMITIVEGROUP, BLOCK_KINDS}
+use Rattle.pbf_block.specs.declared.primitive_block.TheConstants.{PRIMITIVEGROUP, BLOCK_KINDS, STRINGTABLE}
 use Rattle.pbf_block.specs.declared.group.TheConstants.{NODES, DENSE, WAYS, RELATIONS, GROUP_KINDS}
 use Rattle.pbf_block.specs.declared.entity.TheConstants.{INFO}
 use Rattle.pbf_block.specs.declared.info.TheConstants.{INFO_KINDS}
@@ -18,9 +24,53 @@ use Rattle.pbf_block.specs.declared.way.TheConstants.{WAY_KINDS}
 use Rattle.pbf_block.specs.declared.relation.TheConstants.{RELATION_KINDS}
 use Rattle.pbf_block.specs.Group.{in_group, member_wire, group_wire, first_member, entities_structure, member_structure, group_structure, member_values}
 use Rattle.pbf_block.specs.Node.{node_structure, node_values}
-use Rattle.pbf_block.specs.PrimitiveBlock.{part_wire, wire_faults, part_structure, structure_faults, value_faults}
 use Rattle.pbf_block.specs.Relation.{relation_structure, relation_values}
 use Rattle.pbf_block.specs.Way.{way_structure, way_values}
+use Rattle.pbf_wire.specs.declared.fault.Reason.TheVariants.{TooManyStrings}
+use Rattle.std.specs.Result.{is_err}
+use Rattle.pbf_wire.specs.Reading.{bytes_held, occurrence_text, last_of}
+use Rattle.pbf_wire.proofs.FaultLemmas.{held_short}
+use Rattle.pbf_wire.specs.Wire.{ok_unless}
+use Rattle.pbf_strings.specs.Texts.{texts, count_fault}
+
+-- ---- if the first two phases have no fault, and if they have one
+
+pub early_nil : (w s : List Fault) → None ≡ option_or (least w) (least s) → (w ≡ []) × (s ≡ [])
+early_nil w s e = let both = both_none (least w) (least s) (sym e) in (no_least w both.0, no_least s both.1)
+
+more_phases : (f : Fault) (w s late : Option Fault) → option_or w s ≡ Some f → option_or w (option_or s late) ≡ Some f
+more_phases f None None late e = absurd (cc)
+more_phases f None (Some s) late e = e
+more_phases f (Some w) s late e = e
+
+pub first_early : (f : Fault) (at : ℕ) (m : List ℕ) → Some f ≡ option_or (least (wire_faults at m)) (least (structure_faults at m)) → block_fault at m ≡ Some f
+unfolding block_fault
+first_early f at m e = more_phases f (least (wire_faults at m)) (least (structure_faults at m)) (first_fault (value_faults (length (stored_texts (fields_in at m))) at m ∷ payload_weights at m ∷ [])) (sym e)
+
+pub first_late : (r : Option Fault) (at : ℕ) (m : List ℕ) → wire_faults at m ≡ [] → structure_faults at m ≡ [] → r ≡ option_or (least (value_faults (length (stored_texts (fields_in at m))) at m)) (least (payload_weights at m)) → block_fault at m ≡ r
+unfolding block_fault
+first_late r at m w s e =
+    ap₂ (λ w s. first_fault (w ∷ s ∷ value_faults (length (stored_texts (fields_in at m))) at m ∷ payload_weights at m ∷ [])) w s
+    ∙ ap (option_or (least (value_faults (length (stored_texts (fields_in at m))) at m))) (option_last (least (payload_weights at m))) ∙ sym e
+
+no_later : (w s v x : List Fault) → first_fault (w ∷ s ∷ v ∷ x ∷ []) ≡ None → (w ≡ []) × (s ≡ []) × (v ≡ []) × (x ≡ [])
+no_later w s v x e =
+    let one = both_none (least w) _ e in
+    let two = both_none (least s) _ one.1 in
+    let three = both_none (least v) _ two.1 in
+    let four = both_none (least x) None three.1 in
+    (no_least w one.0, no_least s two.0, no_least v three.0, no_least x four.0)
+
+-- no fault is no fault of any phase
+pub no_fault : (at : ℕ) (m : List ℕ) → block_fault at m ≡ None → (wire_faults at m ≡ []) × (structure_faults at m ≡ []) × (value_faults (length (stored_texts (fields_in at m))) at m ≡ []) × (payload_weights at m ≡ [])
+unfolding block_fault
+no_fault at m e = no_later (wire_faults at m) (structure_faults at m) (value_faults (length (stored_texts (fields_in at m))) at m) (payload_weights at m) e
+
+-- ---- as one order
+
+pub phases_joined : (at : ℕ) (m : List ℕ) → option_map (λ p. p.1) (least_by phase_rank (all_faults at m)) ≡ block_fault at m
+unfolding block_fault
+phases_joined at m = joined 8 (block_phases at m)
 
 -- ---- the message that a field holds
 
@@ -148,3 +198,45 @@ module _ (limit : ℕ) where
       let os = fields_in at m in
       parts_clean os (fields_sound BLOCK_KINDS part_wire (items at m) w) (all_nil part_structure os (both_nil _ (flat_map part_structure os) s).1)
       (groups_nil (member_values limit) os (both_nil _ (flat_map (in_group (member_values limit)) os) v).1)
+
+-- ---- it is no longer than the payload
+
+short_if : (n k : ℕ) (os : List Occurrence) (last : Option Occurrence) → AllByRecursion (λ o. length (bytes_held o.content) ≤ n) os → last_of k os ≡ last → length (occurrence_text last) ≤ n
+short_if n k os None all e = omega arith
+short_if n k os (Some o) all e = (last_holds (λ o. length (bytes_held o.content) ≤ n) k os o all e).0
+
+pub table_short : (at : ℕ) (m : List ℕ) → length (occurrence_text (last_of STRINGTABLE (fields_in at m))) ≤ length m
+table_short at m = short_if (length m) STRINGTABLE (fields_in at m) (last_of STRINGTABLE (fields_in at m)) (held_short at m) refl
+
+-- ---- it has no more texts than it may have
+
+few_texts : (place : ℕ) (m : List ℕ) → table_structure place 0 m ≡ [] → length (texts m) ≤ 1048576
+few_texts place m e = omega (arith, ltb-false 1048576 (length (texts m)) (not_wrong (nat_lt 1048576 (length (texts m))) place TooManyStrings e))
+
+few_none : length (texts []) ≤ 1048576
+unfolding items_past
+few_none = omega arith
+
+few_inside : (place : ℕ) (c : Content) → inside (table_structure place) c ≡ [] → length (texts (bytes_held c)) ≤ 1048576
+few_inside place (Bytes bytes at) s = few_texts place bytes s
+few_inside place c s = few_none
+
+few_if : (os : List Occurrence) (last : Option Occurrence) → AllByRecursion (λ o. part_structure o ≡ []) os → last_of STRINGTABLE os ≡ last → length (texts (occurrence_text last)) ≤ 1048576
+few_if os None all e = few_none
+few_if os (Some o) all e =
+    let h = last_holds (λ o. part_structure o ≡ []) STRINGTABLE os o all e in
+    few_inside o.place o.content (entered_nil STRINGTABLE table_structure o (both_nil _ (entered PRIMITIVEGROUP group_structure o) h.0).0 h.1)
+
+pub table_few : (at : ℕ) (m : List ℕ) → structure_faults at m ≡ [] → length (stored_texts (fields_in at m)) ≤ 1048576
+unfolding structure_faults
+table_few at m s =
+    let os = fields_in at m in
+    few_if os (last_of STRINGTABLE os) (all_nil part_structure os (both_nil _ (flat_map part_structure os) s).1) refl
+
+-- a payload whose table has more of them has a fault
+counts_few : (b : Bool) (e : Fault) → b ≡ false → is_err (ok_unless (if b then Some e else None)) ≡ true → ⊥
+counts_few true e few is = cc
+counts_few false e few is = cc
+
+pub many_texts : (tag at : ℕ) (m : List ℕ) → is_err (ok_unless (count_fault tag (occurrence_text (last_of STRINGTABLE (fields_in at m))))) ≡ true → structure_faults at m ≡ [] → ⊥
+many_texts tag at m is sound = counts_few (nat_lt 1048576 (length (stored_texts (fields_in at m)))) _ (le-ltb _ _ (omega (arith, table_few at m sound))) is
