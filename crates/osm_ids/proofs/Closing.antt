@@ -15,7 +15,7 @@ use Rattle.osm_ids.proofs.Sets.{Ids, ids_of, contains-ids_of, insert_cases, inse
 use Rattle.osm_ids.proofs.LinkOrder.{found_is, found_itself, kept_among}
 
 insert_new : (s : Ids) (p : ℤ) → set.contains (set.insert s p) p ≡ true
-insert_new s p = set.contains-insert int_cmp_total s p p ∙ or_left (int_eq p p) (set.contains s p) ((Decides-int_eq p p).1 refl)
+insert_new s p = grind (arith, ints, set.members)
 
 -- to add what is there changes nothing
 pub insert_same : (s : Ids) (p : ℤ) → set.contains s p ≡ true → set.insert s p ≡ s
@@ -41,7 +41,7 @@ missing_le [] s p = omega arith
 missing_le (l ∷ links) s p = grind (arith, set.members, missing_cons s l links, missing_cons (set.insert s p) l links, missing_le links s p)
 
 missing_less : (links : List Link) (x : Link) (s : Ids) → is_link_among links x ≡ true → set.contains s x.parent ≡ false → missing_parents links (set.insert s x.parent) + 1 ≤ missing_parents links s
-missing_less [] x s here e = absurd (both_ways false refl here)
+missing_less [] x s here e = absurd (cc)
 missing_less (l ∷ links) x s here e = grind (arith, ints, set.members, or_cases (eq_by_cmp link_cmp x l) (is_link_among links x) here, found_is x l, missing_cons s l links, missing_cons (set.insert s x.parent) l links, missing_le links s x.parent, insert_new s x.parent, missing_less links x s)
 
 -- ---- following links
@@ -55,16 +55,10 @@ add_due : (links rest : List Link) (start ids : Ids) (work : List ℤ) (p : ℤ)
 add_due links rest start ids work p c due =
     record {
       holds = λ y h. insert_has ids p y (c.holds y h);
-      known = λ y h. elim (push_cases work p y h) [
-        | inl e ↦ insert_has ids p y (c.known y e)
-        | inr e ↦ subst (λ z. set.contains (set.insert ids p) z ≡ true) (sym e) (insert_new ids p)
-      ];
+      known = λ y h. grind (arith, push_cases work p y h, c.known y, insert_has ids p y, insert_new ids p);
       left = λ l e. let h = c.left l e in (h.0, insert_has ids p l.member h.1);
       done = λ l among has. grind (arith, insert_cases ids p l.member has, push_new work p, c.done l among, push_has work p l.member, insert_has ids p l.parent);
-      least = λ test has closed y h. elim (insert_cases ids p y h) [
-        | inl e ↦ subst (λ z. test z ≡ true) (sym e) (due test has closed)
-        | inr e ↦ c.least test has closed y e
-      ];
+      least = λ test has closed y h. grind (arith, insert_cases ids p y h, due test has closed, c.least test has closed y);
     }
 
 -- a link whose parent is new
@@ -78,14 +72,14 @@ follow_new links rest x start ids work c none =
 -- ---- the work list
 
 pub closing_start : (links : List Link) (start : Ids) (work : List ℤ) → ids_of work ≡ start → IsClosing links [] start start work
-closing_start links start work e = grind (arith, contains-ids_of work, both_ways false refl)
+closing_start links start work e = grind (arith, contains-ids_of work)
 
 -- the links of the last id of the work are to be followed
 pub closing_pop : (links : List Link) (start ids : Ids) (work : List ℤ) (id : ℤ) → IsClosing links [] start ids (work ++ id ∷ []) → IsClosing links (filter (is_of id) links) start ids work
 closing_pop links start ids work id c = grind (arith, push_has work id, and_parts, kept_among id links, c.known id (push_new work id), push_new work id, push_cases work id, both_ways false refl)
 
 pub closing_end : (links : List Link) (start ids : Ids) (work : List ℤ) → IsClosing links [] start ids work → work ≡ [] → IsLeast (is_link_among links) start ids
-closing_end links start ids work c none = grind (arith, both_ways false refl)
+closing_end links start ids work c none = grind arith
 
 -- ---- the least set
 
@@ -93,9 +87,3 @@ pub least_only : (is_link : Link → Bool) (start ids others : Ids) → IsLeast 
 least_only is_link start ids others h k =
     set.same_set int_cmp_total set.int_cmp-IsAntisymmetric ids others
     (λ id. same_answers (set.contains ids id) (set.contains others id) (h.least (set.contains others) k.holds k.closed id) (k.least (set.contains ids) h.holds h.closed id))
-
-pub least_closed : (is_link : Link → Bool) (start : Ids) → IsClosed is_link (set.contains start) → IsLeast is_link start start
-least_closed is_link start closed = record { holds = λ id h. h; closed = closed; least = λ test has _. has }
-
-pub least_of_itself : (is_link : Link → Bool) (start ids : Ids) → IsLeast is_link start ids → IsLeast is_link ids ids
-least_of_itself is_link start ids h = least_closed is_link ids h.closed

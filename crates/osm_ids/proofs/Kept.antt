@@ -101,14 +101,7 @@ module _ (s : Ids) (n : ℕ) (lt : HasPage (rising s) n) (p : PageIds) (r : IsRe
 
 -- an id below the first page's isn't there
 pub absent_first : (s : Ids) (id : ℤ) → (HasPage (rising s) 0 → id <ℤ first_of (rising s) 0) → set.contains s id ≡ false
-absent_first s id below =
-    has_rising s id
-    ∙ any_between (rising s) 0 0 id
-    (λ i lt _. absurd (omega (arith, lt)))
-    (λ i _ lt.
-    let up = at_most (rising s) 0 i (pos 0) (rising_rises s) (omega arith) lt in
-    let low = below (omega (arith, lt)) in
-    omega (arith, ints, up, low))
+absent_first s id below = grind (arith, has_rising s id, any_between (rising s) 0 0 id (λ i lt _. absurd (omega (arith, lt))) (λ i _ lt. let up = at_most (rising s) 0 i (pos 0) (rising_rises s) (omega arith) lt in let low = below (omega (arith, lt)) in omega (arith, ints, up, low)), at_most (rising s) 0, rising_rises s)
 
 -- and those up to the next page's are, if it begins 128 above, as the code takes the difference
 pub whole_page : (s : Ids) (n : ℕ) (first next : ℤ) (room : ℕ) (id : ℤ) → HasPage (rising s) (n + 1) → first ≡ first_of (rising s) n → next ≡ first_of (rising s) (n + 1) → room ≡ nat_abs (next -ℤ first) → room ≡ 128 → first_of (rising s) n ≤ℤ id → id ≤ℤ first_of (rising s) (n + 1) → set.contains s id ≡ true

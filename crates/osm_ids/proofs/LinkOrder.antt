@@ -2,6 +2,7 @@
 use Rattle.std.proofs.Common.{◌≡◌, Bool, true, false, ◌&&◌, List, [], ◌∷◌, ℤ, ◌≤ℤ◌, refl, sym, ap, ◌∙◌, arith, FitsSigned, w64, Less, Equal, Greater, Ordering}
 use Rattle.std.specs.List.{filter}
 use Rattle.std.specs.Ordering.{int_cmp, ordering_then, eq_by_cmp, is_eq, is_le, is_lt}
+use Rattle.std.proofs.lemmas.Int.{ints}
 use Rattle.std.specs.Cmp.{IsTotalOrder, int_cmp_total, then_total, on_total, tied_itself, int_ranked}
 use Rattle.std.specs.BTreeSet.{insert_key}
 use Rattle.std.specs.FinSet as set
@@ -20,18 +21,8 @@ link_cmp_total = then_total (on_total (λ (l : Link). l.member) int_cmp_total) (
 abbrev pub link_of : ℤ → ℤ → Link
 link_of member parent = record { member = member; parent = parent }
 
-same_link : (a b : Link) → a.member ≡ b.member → a.parent ≡ b.parent → a ≡ b
-same_link a b e f = λ i. record { member = e i; parent = f i }
-
-both_equal : (r s : Ordering) → ordering_then r s ≡ Equal → (r ≡ Equal) × (s ≡ Equal)
-both_equal Less s e = cc
-both_equal Equal s e = (refl, e)
-both_equal Greater s e = cc
-
 pub link_cmp-IsAntisymmetric : set.IsAntisymmetric link_cmp
-link_cmp-IsAntisymmetric a b e =
-    let parts = both_equal (int_cmp a.member b.member) (int_cmp a.parent b.parent) e in
-    same_link a b (set.int_cmp-IsAntisymmetric a.member b.member parts.0) (set.int_cmp-IsAntisymmetric a.parent b.parent parts.1)
+link_cmp-IsAntisymmetric a b e = grind (arith, ints)
 
 -- the test of a set of links is the test of its keys
 pub contains-links : (links : List Link) → set.contains (set.from_list {R = link_cmp} links) ≡ is_link_among links
@@ -40,14 +31,9 @@ contains-links links = λ i l. set.contains-from_list link_cmp_total links l i
 pub links-insert_key : (links : List Link) (new : Link) → set.from_list {R = link_cmp} (insert_key link_cmp links new) ≡ set.insert (set.from_list links) new
 links-insert_key = from_list-insert_key link_cmp_total link_cmp-IsAntisymmetric
 
-alike : (o : Ordering) → is_eq o ≡ true → o ≡ Equal
-alike Less e = cc
-alike Equal e = refl
-alike Greater e = cc
-
 -- a link that is found is the one that was looked for
 pub found_is : (l x : Link) → eq_by_cmp link_cmp l x ≡ true → l ≡ x
-found_is l x e = link_cmp-IsAntisymmetric l x (alike (link_cmp l x) e)
+found_is l x e = grind (arith, ints)
 
 pub found_itself : (l : Link) → eq_by_cmp link_cmp l l ≡ true
 found_itself l = ap is_eq (tied_itself link_cmp_total l)
@@ -57,15 +43,9 @@ fit_more links new fit f l h = grind (arith, or_cases (eq_by_cmp link_cmp l new)
 
 -- ---- the links of one id lie side by side
 
-le_least : (lo p : ℤ) → lo ≤ℤ p → is_le (int_cmp lo p) ≡ true
-le_least lo p h = grind (arith, int_ranked lo p Greater)
-
-lt_greatest : (hi p : ℤ) → p ≤ℤ hi → is_lt (int_cmp hi p) ≡ false
-lt_greatest hi p h = grind (arith, int_ranked hi p Less)
-
 -- a link between the least and the greatest link of an id is one of its links
 between_is : (id lo hi : ℤ) (l : Link) → lo ≤ℤ l.parent → l.parent ≤ℤ hi → range_contains link_cmp (Included (link_of id lo)) (Included (link_of id hi)) l ≡ is_of id l
-between_is id lo hi l low high = grind (arith, other_below l.member id, int_ranked id l.member Less, le_least lo l.parent low, lt_greatest hi l.parent high, int_ranked id l.member Equal, other_above l.member id, int_ranked id l.member Greater)
+between_is id lo hi l low high = grind (arith, ints)
 
 module _ (p q : Link → Bool) where
   alike_kept : (links : List Link) → ((l : Link) → is_link_among links l ≡ true → p l ≡ q l) → filter p links ≡ filter q links

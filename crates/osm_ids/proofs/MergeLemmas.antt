@@ -11,7 +11,7 @@ use Rattle.std.proofs.lemmas.Int.{ints}
 use Rattle.osm_ids.specs.Pages.{Rises, IsRising, rising}
 use Rattle.osm_ids.specs.Order.{AreLate}
 use Rattle.osm_ids.proofs.Sets.{Ids, ids_of, contains-ids_of, insert_cases}
-use Rattle.osm_ids.proofs.Rising.{below_other, first_among, none_above, rising_tail, rises_from, rising_rises, ids_of-rising}
+use Rattle.osm_ids.proofs.Rising.{first_among, none_above, rising_tail, rises_from, rising_rises, ids_of-rising}
 use Rattle.osm_ids.proofs.OrderLemmas.{with_late, same_ids}
 use Rattle.osm_ids.proofs.Kept.{has_rising}
 
@@ -26,8 +26,7 @@ pub merging_start : (ids : Ids) (late : List ℤ) → AreLate ids late → IsRis
 merging_start ids late l h = grind (arith, ints, set.members, has_rising ids, set.contains-empty int_cmp, rising_rises ids, ids_of-rising ids)
 
 or_later : (a b : Bool) → (a || b) ≡ false → b ≡ false
-or_later true b e = absurd (true≢false e)
-or_later false b e = e
+or_later a b h2 = grind arith
 
 -- the first of the others is below the late ones
 pub merging_id : (all done : Ids) (late ids : List ℤ) (id : ℤ) → Merging all done late (id ∷ ids) → Rises id late → Merging all (set.insert done id) late ids
@@ -58,37 +57,22 @@ merging_id all done late ids id m up = record {
 
 -- or it isn't
 pub merging_late : (all done : Ids) (late ids : List ℤ) (other id : ℤ) → Merging all done (other ∷ late) (id ∷ ids) → other ≤ℤ id → Merging all (set.insert done other) late (id ∷ ids)
-merging_late all done late ids other id m le =
-    let there = (m.reached other (first_among other late)).0 in
-    let lower = below_other other id le (λ e. true≢false (sym (ap (λ z. list_any (int_eq other) (z ∷ ids)) (sym e) ∙ first_among other ids) ∙ sym (contains-ids_of (id ∷ ids) other) ∙ there)) in
-    record {
-      same = λ x. grind (arith, set.members, m.same x);
-      below = λ x e. elim (insert_cases done other x e) [
-        | inl is ↦ subst (λ z. Rises z late × Rises z (id ∷ ids)) (sym is) (m.rises.0, (lower, m.rises.1))
-        | inr old ↦ let b = m.below x old in (rises_from x other late b.0.0 b.0.1, b.1)
-      ];
-      rises = (rising_tail other late m.rises.0, m.rises.1);
-      reached = λ x e. m.reached x (or_right (int_eq x other) (list_any (int_eq x) late) e);
-    }
+merging_late all done late ids other id m le = grind (arith, ints, set.members, m.reached other (first_among other late), first_among other late, first_among other ids, contains-ids_of (id ∷ ids) other, insert_cases done other, rises_from, rising_tail other late m.rises.0, or_right)
 
 -- nothing is left
 pub merging_end : (all done : Ids) (late ids : List ℤ) → Merging all done late ids → ids ≡ [] → done ≡ all
-merging_end all done [] ids m e = grind (arith, same_ids done all (λ x. let none = ap (list_any (int_eq x)) e in grind (arith, m.same x, none)))
-merging_end all done (other ∷ late) ids m e = grind (arith, m.reached other (first_among other late), first_among other late, set.contains-empty int_cmp (((m.reached other (first_among other late)).1).0))
+merging_end all done late ids h4 h5 = grind (arith, same_ids, first_among, set.contains-empty)
 
 -- the next of an ordered set
 pub taken : (s t : List ℤ) (r : Option (Bor ℤ)) (next : Option ℤ) → TakesFirst (deref {X = ℤ}) s r t → next ≡ option_copied r → s ≡ cons_option next t
-taken s t None next steps e = steps.0 ∙ sym (ap (λ (o : Option ℤ). cons_option o t) e ∙ steps.1)
-taken s t (Some x) next steps e = steps ∙ sym (ap (λ (o : Option ℤ). cons_option o t) e)
+taken s t r next h4 h5 = grind arith
 
 pub taken_none : (s t : List ℤ) (r : Option (Bor ℤ)) (next : Option ℤ) → TakesFirst (deref {X = ℤ}) s r t → next ≡ option_copied r → IfNone next (t ≡ [])
-taken_none s t None next steps e = subst (λ (o : Option ℤ). IfNone o (t ≡ [])) (sym e) steps.1
-taken_none s t (Some x) next steps e = subst (λ (o : Option ℤ). IfNone o (t ≡ [])) (sym e) tt
+taken_none s t r next h4 h5 = grind arith
 
 -- an id is below the late ones, if it is below the next or there is none
 pub up_some : (next : Option ℤ) (late : List ℤ) (other id : ℤ) → next ≡ Some other → id <ℤ other → IsRising (cons_option next late) → Rises id (cons_option next late)
 up_some next late other id e lower h = subst (λ (o : Option ℤ). Rises id (cons_option o late)) (sym e) (lower, subst (λ (o : Option ℤ). IsRising (cons_option o late)) e h)
 
 pub up_none : (next : Option ℤ) (late : List ℤ) (id : ℤ) → next ≡ None → IfNone next (late ≡ []) → Rises id (cons_option next late)
-up_none None late id e none = subst (Rises id) (sym none) tt
-up_none (Some x) late id e none = cc
+up_none next late id h3 h4 = grind arith

@@ -10,25 +10,7 @@ use Rattle.std.proofs.lemmas.Int.{ints}
 use Rattle.std.proofs.Math.Seq.{drop-nil, take-nil}
 use Rattle.pbf_wire.specs.Packed.{last_from}
 use Rattle.osm_ids.specs.Pages.{Rises, IsRising}
-use Rattle.osm_ids.proofs.Rising.{other_above, other_below, rising_tail, cases_order, first_among}
-
-pub le_true : (a b : ℤ) → int_le a b ≡ true → a ≤ℤ b
-le_true a b e = grind (arith, ints)
-
-pub le_false : (a b : ℤ) → int_le a b ≡ false → b <ℤ a
-le_false a b e = grind (arith, ints)
-
-pub true_le : (a b : ℤ) → a ≤ℤ b → int_le a b ≡ true
-true_le a b h = grind (arith, ints)
-
-pub lt_true : (a b : ℤ) → int_lt a b ≡ true → a <ℤ b
-lt_true a b e = grind (arith, ints)
-
-pub true_lt : (a b : ℤ) → a <ℤ b → int_lt a b ≡ true
-true_lt a b h = grind (arith, ints)
-
-pub not_lt : (a b : ℤ) → int_lt a b ≡ false → b ≤ℤ a
-not_lt a b e = grind (arith, ints)
+use Rattle.osm_ids.proofs.Rising.{other_above, other_below, rising_tail, first_among}
 
 -- ids that rise are each one or more above the one before
 far_after : (low : ℤ) (ids : List ℤ) (j : ℕ) (d : ℤ) → Rises low ids → j < length ids → (low +ℤ pos (suc j)) ≤ℤ get_or ids j d
@@ -48,7 +30,7 @@ at_most ids i j d h le lt = let up = far ids i j d h le lt in omega (arith, ints
 
 -- so they can be searched by halves
 pub parted : (ids : List ℤ) (id : ℤ) → IsRising ids → IsPartitionedBy (λ (z : ℤ). int_lt z id) ids
-parted ids id h = λ i j d le lt yes. grind (arith, at_most ids i j d h le lt, lt_true (get_or ids j d) id yes, true_lt (get_or ids i d) id (omega (arith, ints, (at_most ids i j d h le lt), (lt_true (get_or ids j d) id yes))))
+parted ids id h = λ i j d le lt yes. grind (arith, ints, at_most ids i j d h le lt, yes)
 
 -- an id that lies between places can only be an id between them
 pub any_between : (ids : List ℤ) (at n : ℕ) (x : ℤ) → ((i : ℕ) → i < at → i < length ids → get_or ids i (pos 0) <ℤ x) → ((i : ℕ) → at + n ≤ i → i < length ids → x <ℤ get_or ids i (pos 0)) → list_any (int_eq x) ids ≡ list_any (int_eq x) (take n (drop at ids))
@@ -67,18 +49,9 @@ all_between (y ∷ ids) (suc i) (suc j) x d h le lt near low high =
     or_right (int_eq x y) (list_any (int_eq x) ids) (all_between ids i j x d (rising_tail y ids h) (omega arith) (omega arith) (rw same at near) low high)
 all_between (y ∷ ids) zero zero x d h le lt near low high = grind (arith, first_among x ids)
 all_between (y ∷ ids) zero (suc j) x d h le lt near low high =
-    elim (cases_order x y) [
-      | inl below ↦ absurd (omega (arith, ints, below, low))
-      | inr more ↦ elim more [
-        | inl above ↦
-            let first = far_after y ids 0 d h (omega arith) in
-            let last = far ids 0 j d (rising_tail y ids h) (omega arith) (omega arith) in
-            let near' : get_or ids j d ≤ℤ (get_or ids 0 d +ℤ pos (j - 0)) = omega (arith, ints, near, first) in
-            let low' : get_or ids 0 d ≤ℤ x = omega (arith, ints, near, last, above) in
-            or_right (int_eq x y) (list_any (int_eq x) ids) (all_between ids 0 j x d (rising_tail y ids h) (omega arith) (omega arith) near' low' high)
-        | inr same ↦ subst (λ z. list_any (int_eq x) (z ∷ ids) ≡ true) same (first_among x ids)
-      ]
-    ]
+    let first = far_after y ids 0 d h (omega arith) in
+    let last = far ids 0 j d (rising_tail y ids h) (omega arith) (omega arith) in
+    grind (arith, ints, first, last, all_between ids 0 j x d (rising_tail y ids h) (omega arith) (omega arith))
 
 -- a list with an id isn't empty
 pub some_of : (ids : List ℤ) (x : ℤ) → list_any (int_eq x) ids ≡ true → 0 < length ids

@@ -11,17 +11,7 @@ use Rattle.osm_ids.proofs.Places.{last_push}
 -- ---- a sum that fits isn't wrapped
 
 wrapped : (last : ℤ) (d : ℕ) → FitsSigned w64 last → FitsSigned w64 (last +ℤ pos d) → to_z w64 ((of_z w64 last + d) % 2 ^ 64) ≡ last +ℤ pos d
-wrapped (pos n) d f g = to_z_pos w64 _ (omega (arith, g.sfits)) ∙ ap pos (omega (arith, g.sfits))
-wrapped (negsuc n) d f g =
-    elim (cases_lt n d) [
-      | inl past ↦
-          let is : negsuc n +ℤ pos d ≡ pos (d - (n + 1)) = omega (arith, ints, past) in
-          let small = (subst (FitsSigned w64) is g).sfits in
-          to_z_pos w64 _ (omega (arith, f.sfits, past, small)) ∙ ap pos (omega (arith, f.sfits, past, small)) ∙ sym is
-      | inr short ↦
-          let is : negsuc n +ℤ pos d ≡ negsuc (n - d) = omega (arith, ints, short) in
-          ap (to_z w64) (omega (arith, f.sfits, short)) ∙ to_z-of_z w64 (negsuc (n - d)) (subst (FitsSigned w64) is g) ∙ sym is
-    ]
+wrapped last d h2 h3 = grind (arith, to_z_pos, cases_lt, to_z-of_z)
 
 pub wrapped_sum : (last low : ℤ) (d : ℕ) (r : ℤ) → last ≡ low → FitsSigned w64 last → r ≡ to_z w64 ((of_z w64 last + d) % 2 ^ 64) → FitsSigned w64 (low +ℤ pos d) → to_z w64 (of_z w64 r) ≡ low +ℤ pos d
 wrapped_sum last low d r e f is g = grind (arith, wrapped last d f (subst (λ z. FitsSigned w64 (z +ℤ pos d)) (sym e) g), to_z-of_z w64 (last +ℤ pos d) (subst (λ z. FitsSigned w64 (z +ℤ pos d)) (sym e) g))

@@ -13,14 +13,11 @@ use Rattle.std.proofs.lemmas.Map.Keys.{sorted_head, sorted_tail}
 use Rattle.osm_ids.proofs.Sets.{Ids, ids_of, contains-ids_of, ids_of-insert_key}
 use Rattle.osm_ids.specs.Pages.{Rises, IsRising, in_order, rising}
 
-pub other : (a b : ℤ) → (a ≡ b → ⊥) → int_eq a b ≡ false
-other a b ne = false_from_ne_true (int_eq a b) (λ e. ne ((Decides-int_eq a b).0 e))
-
 pub other_above : (a b : ℤ) → a <ℤ b → int_eq a b ≡ false
-other_above a b h = other a b (λ e. omega (arith, ints))
+other_above a b h = grind (arith, ints)
 
 pub other_below : (a b : ℤ) → b <ℤ a → int_eq a b ≡ false
-other_below a b h = other a b (λ e. omega (arith, ints))
+other_below a b h = grind (arith, ints)
 
 pub rising_tail : (low : ℤ) (ids : List ℤ) → Rises low ids → IsRising ids
 rising_tail low [] h = tt
@@ -50,14 +47,8 @@ rises_from low x (id ∷ ids) h r = let up = r.0 in (omega (arith, ints), r.1)
 
 -- ---- a set has one rising list
 
-pub cases_order : (x y : ℤ) → (x <ℤ y) ⊎ ((y <ℤ x) ⊎ (x ≡ y))
-cases_order x y = grind (arith, int_ranked x y Less, int_ranked x y Equal, int_ranked x y Greater)
-
-pub below_other : (x y : ℤ) → x ≤ℤ y → (x ≡ y → ⊥) → x <ℤ y
-below_other x y le other = elim (cases_order x y) [ inl below ↦ below | inr more ↦ elim more [ inl above ↦ absurd (omega (arith, ints)) | inr same ↦ absurd (other same) ] ]
-
 pub first_among : (x : ℤ) (xs : List ℤ) → list_any (int_eq x) (x ∷ xs) ≡ true
-first_among x xs = rw (Decides-int_eq x x).1 refl
+first_among x xs = grind (arith, ints)
 
 module _ (x : ℤ) (xs : List ℤ) (y : ℤ) (ys : List ℤ) (alike : (id : ℤ) → list_any (int_eq id) (x ∷ xs) ≡ list_any (int_eq id) (y ∷ ys)) where
   -- the least of one is no less than the least of the other
@@ -71,7 +62,8 @@ pub same_rising : (xs ys : List ℤ) → IsRising xs → IsRising ys → ((id : 
 same_rising [] [] h k alike = refl
 same_rising [] (y ∷ ys) h k alike = absurd (true≢false (sym (first_among y ys) ∙ sym (alike y)))
 same_rising (x ∷ xs) [] h k alike = absurd (true≢false (sym (first_among x xs) ∙ alike x))
-same_rising (x ∷ xs) (y ∷ ys) h k alike = grind (arith, cases_order x y, not_below x xs y ys alike k, not_below y ys x xs (λ id. sym (alike id)) h, same_rising xs ys (rising_tail x xs h) (rising_tail y ys k), rising_tail x xs h, rising_tail y ys k, tails_alike x xs y ys alike)
+same_rising (x ∷ xs) (y ∷ ys) h k alike =
+    grind (arith, ints, not_below x xs y ys alike k, not_below y ys x xs (λ id. sym (alike id)) h, same_rising xs ys (rising_tail x xs h) (rising_tail y ys k), tails_alike x xs y ys alike)
 
 -- the rising list of a set is the only one
 pub rising_of_set : (xs ys : List ℤ) → IsRising xs → IsRising ys → ids_of xs ≡ ids_of ys → xs ≡ ys
@@ -97,14 +89,8 @@ unfolding in_order
 ids_of-in_order [] = refl
 ids_of-in_order (id ∷ ids) = ids_of-insert_key (in_order ids) id ∙ ap (λ s. set.insert s id) (ids_of-in_order ids)
 
-ids_of-items : (s : Ids) → ids_of (set.items s) ≡ s
-ids_of-items s = set.same_set int_cmp_total set.int_cmp-IsAntisymmetric _ _ (λ id. contains-ids_of (set.items s) id ∙ sym (set.contains-items s id))
-
 pub rising_rises : (s : Ids) → IsRising (rising s)
 rising_rises s = in_order_rises (set.items s)
 
 pub ids_of-rising : (s : Ids) → ids_of (rising s) ≡ s
-ids_of-rising s = ids_of-in_order (set.items s) ∙ ids_of-items s
-
-pub rising_list : (s : Ids) → (ids : List ℤ) × IsRising ids × (ids_of ids ≡ s)
-rising_list s = (rising s, rising_rises s, ids_of-rising s)
+ids_of-rising s = ids_of-in_order (set.items s) ∙ set.same_set int_cmp_total set.int_cmp-IsAntisymmetric _ _ (λ id. contains-ids_of (set.items s) id ∙ sym (set.contains-items s id))

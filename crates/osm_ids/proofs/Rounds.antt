@@ -11,7 +11,6 @@ use Rattle.osm_ids.specs.declared.page.PageIds.{PageIds}
 use Rattle.osm_ids.specs.Pages.{IsRising}
 use Rattle.osm_ids.specs.Windows.{IsKept, IsKnown, IsBegun, IsPlaced, IsRun, held, first_held}
 use Rattle.osm_ids.proofs.Sets.{Ids}
-use Rattle.osm_ids.proofs.Rising.{below_other}
 use Rattle.osm_ids.proofs.Places.{at_most, any_between, all_between}
 
 -- an id between two neighbours isn't there
@@ -32,11 +31,7 @@ first_is page some = get_or-take page.count page.ids 0 (pos 0) (omega (arith, so
 
 -- the ids between two of a page, or after its last
 pub gap_known : (ids : Ids) (page : PageIds) (at : ℕ) (top : ℤ) → IsKept ids page → 0 < at → at ≤ length (held page) → top ≤ℤ page.below → (at < length (held page) → top ≤ℤ get_or (held page) at (pos 0)) → (x : ℤ) → get_or (held page) (at - 1) (pos 0) <ℤ x → x <ℤ top → set.contains ids x ≡ false
-gap_known ids page at top k some le below next x low high =
-    let up = at_most (held page) 0 (at - 1) (pos 0) k.rising (omega arith) (omega (arith, some, le)) in
-    let first = first_is page (omega (arith, some, le)) in
-    k.answer x (omega (arith, ints, first, up, low)) (omega (arith, ints, below, high))
-    ∙ none_at (held page) at x k.rising le (λ _. low) (λ lt. let above = next lt in omega (arith, ints, above, high))
+gap_known ids page at top k some le below next x low high = grind (arith, ints, at_most (held page) 0 (at - 1) (pos 0) k.rising (omega arith) (omega (arith, some, le)), first_is page (omega (arith, some, le)), none_at (held page))
 
 -- and those of a run
 pub run_known : (ids : Ids) (page : PageIds) (at to : ℕ) → IsKept ids page → at ≤ to → to < length (held page) → IsRun (held page) at to → (x : ℤ) → get_or (held page) at (pos 0) ≤ℤ x → x ≤ℤ get_or (held page) to (pos 0) → set.contains ids x ≡ true
@@ -51,7 +46,7 @@ module _ (page : PageIds) (id seen : ℤ) (at : ℕ) (e : seen ≡ id) (b : IsBe
   p = subst (λ z. IsPlaced (held page) z at) e q
 
   apart : at < length (held page) → id <ℤ get_or (held page) at (pos 0)
-  apart lt = below_other id (get_or (held page) at (pos 0)) (p.ahead lt) (λ e. other lt (sym e))
+  apart lt = grind (arith, ints, p.ahead lt, other lt)
 
   -- if another is there, one is before it
   pub some_before : 0 < length (held page) → 0 < at

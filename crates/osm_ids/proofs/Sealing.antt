@@ -25,7 +25,7 @@ use Rattle.osm_ids.specs.Index.{ArePassed, HasPage, first_of, page_at, set_in}
 use Rattle.osm_ids.specs.Order.{IsAbove, IsReached}
 use Rattle.osm_ids.specs.Pages.{gap, gaps, Page, page_ids, page_bytes, pages_past, pages_of, ids_of_pages, bytes_of_pages, starts_from, HasFullPages, Rises, IsRising, AllFit, raised, ids_in, IsSealed, rising}
 use Rattle.osm_ids.proofs.Sets.{Ids, ids_of, contains-ids_of}
-use Rattle.osm_ids.proofs.Places.{at_most, rises_take, last_most, last_there, some_of, le_true, le_false, true_le}
+use Rattle.osm_ids.proofs.Places.{at_most, rises_take, last_most, last_there, some_of}
 use Rattle.osm_ids.proofs.Rising.{rising_tail, len-rising, rising_of_set, rising_rises, ids_of-rising}
 
 -- ---- the pages of a list
@@ -338,10 +338,16 @@ module _ (index : List PageStart) (bytes : List ℕ) (ids : List ℤ) (s : IsSea
   first_is i d lt = ap (λ (a : PageStart). a.first) (start_is i (omega (arith, page_count, lt)) d)
 
   pub parted_index : (id : ℤ) → IsPartitionedBy (λ (a : PageStart). int_le a.first id) index
-  parted_index id i j d le lt there = grind (arith, at_most ids (128 * i) (128 * j) (pos 0) s.rising (omega (arith, le)) (omega (arith, page_count, lt)), page_count, le_true, first_is i d (omega (arith, le, lt)), first_is j d lt, true_le)
+  parted_index id i j d le lt there = grind (arith, ints, at_most ids (128 * i) (128 * j) (pos 0) s.rising (omega (arith, le)) (omega (arith, page_count, lt)), first_is i d (omega (arith, le, lt)), first_is j d lt, there)
 
   pub passed_at : (id : ℤ) (n : ℕ) → n ≤ length index → IsPartitionPoint (λ (a : PageStart). int_le a.first id ≡ true) (λ (a : PageStart). int_le a.first id ≡ false) index n → ArePassed ids id n
-  passed_at id n le point = grind (arith, page_count, first_is (n - 1) (record { first = pos 0; place = 0 }), le_true, point.0 (n - 1) (record { first = pos 0; place = 0 }) (omega arith), first_is n (record { first = pos 0; place = 0 }), le_false, point.1 n (record { first = pos 0; place = 0 }) (omega arith))
+  passed_at id n le point =
+      let d : PageStart = record { first = pos 0; place = 0 } in
+      record {
+        there = λ some. omega (arith, page_count, le, some);
+        low = λ some. grind (arith, ints, first_is (n - 1) d (omega (arith, le, some)), point.0 (n - 1) d (omega arith) (omega (arith, some)));
+        high = λ lt. grind (arith, ints, first_is n d (begun n lt), point.1 n d (omega arith) (begun n lt));
+      }
 
   -- one more id, above all others
   module _ (id : ℤ) (up : IsAbove (set_in index bytes) id) (f : FitsSigned w64 id) where

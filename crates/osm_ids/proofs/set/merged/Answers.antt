@@ -12,21 +12,10 @@ use Rattle.osm_ids.proofs.set.merged.Goals as goal
 use Rattle.osm_ids.proofs.set.merged.Goals.{in-Some-next+then-id-other, in_default-next}
 
 pub ids-init : goal.ids-init
-ids-init c =
-    let ids = c.args.ids.now in
-    let keys = c.args.late.now.keys in
-    let all = with_late ids keys in
-    record {
-      merging = subst (λ (s : Ids). Merging all s (cons_option c.copied-next.result c.next.new.self) c.new-walk.result) (sym c.new-all.ensures)
-          (subst (λ (l : List ℤ). Merging all set.empty l c.new-walk.result) (sym c.iter-late.ensures.rest ∙ taken _ _ _ _ c.next.ensures.steps c.copied-next.ensures)
-          (subst (Merging all set.empty keys) (sym c.new-walk.ensures) (merging_start ids keys c.requires (rising_from_sorted keys c.iter-late.ensures.ordered))));
-      rest = taken_none _ _ _ _ c.next.ensures.steps c.copied-next.ensures;
-    }
+ids-init c = grind (arith, taken, merging_start c.args.ids.now c.args.late.now.keys c.requires (rising_from_sorted c.args.late.now.keys c.iter-late.ensures.ordered), rising_from_sorted c.args.late.now.keys c.iter-late.ensures.ordered, taken_none)
 
 pub late-smaller : goal.late-smaller
-late-smaller c =
-    let l = c.late in
-    omega (arith, ap (λ (o : Option ℤ). length (cons_option o l.late)) c.in-Some-next.is, ap length (taken _ _ _ _ c.next-in-Some-next.ensures.steps c.copied-next-in-Some-next.ensures))
+late-smaller c = grind (arith, taken)
 
 pub late-preserved : goal.late-preserved
 late-preserved c =
@@ -40,8 +29,7 @@ late-preserved c =
     let m : Merging all l.all (other ∷ l.late) left = subst (λ (o : Option ℤ). Merging all l.all (cons_option o l.late) left) next l.invariant.merging in
     let rest = taken _ _ _ _ c.next-in-Some-next.ensures.steps c.copied-next-in-Some-next.ensures in
     record {
-      merging = subst (λ (s : Ids). Merging all s (cons_option c.copied-next-in-Some-next.result c.next-in-Some-next.new.self) left) (sym c.in_ok-push.ensures.ok)
-          (subst (λ (late : List ℤ). Merging all (set.insert l.all other) late left) rest (merging_late all l.all l.late c.next-in-ids.new.self other id m (let h = c.if-id-other.false in grind (arith, ints))));
+      merging = grind (arith, merging_late all l.all l.late c.next-in-ids.new.self other id m (let h = c.if-id-other.false in grind (arith, ints)), c.if-id-other.false);
       rest = taken_none _ _ _ _ c.next-in-Some-next.ensures.steps c.copied-next-in-Some-next.ensures;
     }
 
@@ -64,8 +52,7 @@ ids-preserved c =
       | in_default-next w ↦ up_none l.next l.late id w.in_default-next.is l.invariant.rest
     ] in
     record {
-      merging = subst (λ (o : Option ℤ). Merging all c.push-in-Some.new.self (cons_option o l.late) c.next-in-ids.new.self) (sym kept)
-          (subst (λ (s : Ids). Merging all s (cons_option l.next l.late) c.next-in-ids.new.self) (sym c.in_ok-push-2.ensures.ok) (merging_id all l.all (cons_option l.next l.late) c.next-in-ids.new.self id m up));
+      merging = grind (arith, merging_id all l.all (cons_option l.next l.late) c.next-in-ids.new.self id m up);
       rest = subst (λ (o : Option ℤ). IfNone o (l.late ≡ [])) (sym kept) l.invariant.rest;
     }
 

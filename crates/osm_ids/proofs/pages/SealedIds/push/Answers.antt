@@ -1,4 +1,4 @@
-use Rattle.std.proofs.Common.{length, ◌≡◌, ◌∷◌, [], ◌++◌, sym, ap, subst, ◌∙◌, arith, length-append, rules, w64}
+use Rattle.std.proofs.Common.{length, ◌≡◌, ◌∷◌, [], ◌++◌, sym, subst, ◌∙◌, arith, length-append, rules, w64}
 use mir.Val.{SFits}
 use Rattle.std.proofs.lemmas.Int.{to_z-of_z}
 use Rattle.pbf_wire.specs.Varint.{shortest}
@@ -36,17 +36,10 @@ after c =
     ]
 
 count : (c : Joined-self-eq0) → c.if-self-eq0.self-inside.count ≡ c.self.inside.count
-count c = elim c.if-self-eq0.branch [
-  | then-self-eq0+in_ok-push w ↦ ap (λ (v : Inside). v.count) w.self-inside-is
-  | else-self-eq0+in_ok-put_varint w ↦ ap (λ (v : Inside). v.count) w.self-inside-is
-]
+count c = grind arith
 
 pub overflow_add-self : goal.overflow_add-self
-overflow_add-self c =
-    let index = c.if-self-eq0.self-inside.index in
-    let bytes = c.if-self-eq0.self-inside.bytes in
-    let small = few_ids _ _ _ (after c) in
-    omega (arith, small, count c, c.self.invariant.2, length-append c.self.invariant.0 (c.args.id ∷ []), index.ok.0, index.ok.1, index.small, bytes.ok.0, bytes.ok.1, bytes.small)
+overflow_add-self c = grind (arith, few_ids, count c, c.self.invariant.2, length-append c.self.invariant.0 (c.args.id ∷ []))
 
 pub invariant_of-self-2 : goal.invariant_of-self-2
 invariant_of-self-2 c =

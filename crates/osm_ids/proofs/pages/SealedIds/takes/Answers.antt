@@ -1,4 +1,4 @@
-use Rattle.std.proofs.Common.{◌≡◌, ◌<◌, ◌≤ℤ◌, subst, arith, rules, w64}
+use Rattle.std.proofs.Common.{◌<◌, ◌≤ℤ◌, subst, arith, rules, w64}
 use mir.Val.{SFits}
 use Rattle.std.proofs.lemmas.Bool.Decides.{nat_tests}
 use Rattle.std.proofs.lemmas.Int.{to_z-of_z, ints}
@@ -14,10 +14,7 @@ returns-then-self-id-clause-above c = λ _.
     (above_last _ _ _ c.self.invariant.1 c.self.inside.last c.args.id c.self.invariant.3 (λ _. let up = c.if-self-id.true in omega (arith, ints, up, to_z-of_z w64 c.args.id c.ranges.id, to_z-of_z w64 c.self.inside.last fits)))
 
 pub returns-else-self-id-clause-above : goal.returns-else-self-id-clause-above
-returns-else-self-id-clause-above c = λ e.
-    let none : c.self.inside.count ≡ 0 = grind (arith, nat_tests) in
-    subst (λ (s : Ids). IsAbove s c.args.id) c.self.view_is
-    (above_last _ _ _ c.self.invariant.1 c.self.inside.last c.args.id c.self.invariant.3 (λ some. absurd (omega (arith, some, c.self.invariant.2, none))))
+returns-else-self-id-clause-above c = λ e. grind (arith, nat_tests, above_last, c.self.invariant.2)
 
 pub returns-else-self-id-clause-reached : goal.returns-else-self-id-clause-reached
 returns-else-self-id-clause-reached c = λ e.

@@ -14,9 +14,7 @@ pub returns-then-find-clause-new : goal.returns-then-find-clause-new
 returns-then-find-clause-new c = grind (arith, set.members, to_z-of_z w64 c.args.id c.ranges.id, c.find.ensures.told.there, c.if-find.true, c.self.view_is)
 
 pub returns-then-find-clause-ok : goal.returns-then-find-clause-ok
-returns-then-find-clause-ok c =
-    let here : set.contains c.args.self.now c.args.id ≡ true = grind (arith, set.members, to_z-of_z w64 c.args.id c.ranges.id, c.find.ensures.told.there, c.if-find.true, c.self.view_is) in
-    c.self.view_is ∙ sym (insert_same c.args.self.now c.args.id here)
+returns-then-find-clause-ok c = grind (arith, to_z-of_z w64 c.args.id c.ranges.id, c.find.ensures.told.there, c.if-find.true, c.self.view_is, insert_same c.args.self.now c.args.id (grind (arith, set.members, to_z-of_z w64 c.args.id c.ranges.id, c.find.ensures.told.there, c.if-find.true, c.self.view_is)))
 
 pub invariant_of-self-2 : goal.invariant_of-self-2
 invariant_of-self-2 c =
@@ -31,15 +29,10 @@ invariant_of-self-2 c =
     )
 
 pub returns-clause-new : goal.returns-clause-new
-returns-clause-new c =
-    let none : set.contains c.self.inside.pages c.args.id ≡ false = grind (arith, to_z-of_z w64 c.args.id c.ranges.id, c.find.ensures.told.there, c.if-find.false) in
-    grind (arith, to_z-of_z w64 c.args.id c.ranges.id, c.in_ok-insert.ensures.added, new_late c.self.inside.pages c.self.inside.late.keys c.args.id none, c.self.view_is)
+returns-clause-new c = grind (arith, to_z-of_z w64 c.args.id c.ranges.id, c.find.ensures.told.there, c.if-find.false, c.in_ok-insert.ensures.added, new_late c.self.inside.pages c.self.inside.late.keys c.args.id (grind (arith, to_z-of_z w64 c.args.id c.ranges.id, c.find.ensures.told.there, c.if-find.false)), c.self.view_is)
 
 pub returns-clause-ok : goal.returns-clause-ok
 returns-clause-ok c = grind (arith, to_z-of_z w64 c.args.id c.ranges.id, c.in_ok-insert.ensures.keys, insert-with_late c.self.inside.pages c.self.inside.late.keys c.args.id, c.self.view_is)
 
 pub invariant_of-self-in_err-insert : goal.invariant_of-self-in_err-insert
-invariant_of-self-in_err-insert c = (
-  subst (AreLate c.self.inside.pages) (sym c.in_err-insert.ensures.err) c.self.invariant.0,
-  c.find.ensures.kept,
-)
+invariant_of-self-in_err-insert c = grind (arith, c.find.ensures.kept)

@@ -1,8 +1,7 @@
+use Rattle.std.proofs.Common.{arith}
 use Rattle.std.proofs.Common.{◌≡◌, length, sym, ◌∙◌, rules}
 use Rattle.osm_ids.proofs.OrderLemmas.{empty_late}
 use Rattle.osm_ids.proofs.set.IdSet.seal.Goals as goal
 
 pub returns-then-is_empty-clause-ok : goal.returns-then-is_empty-clause-ok
-returns-then-is_empty-clause-ok c =
-    let none : length c.self.inside.late.keys ≡ 0 = search rules in
-    sym (empty_late c.self.inside.pages c.self.inside.late.keys none) ∙ c.self.view_is
+returns-then-is_empty-clause-ok c = grind (arith, empty_late c.self.inside.pages c.self.inside.late.keys (search rules), c.self.view_is)

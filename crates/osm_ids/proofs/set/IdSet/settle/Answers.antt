@@ -8,7 +8,4 @@ pub returns-in_ok-self-inside : goal.returns-in_ok-self-inside
 returns-in_ok-self-inside c = grind (arith, c.new.ensures.empty, none_late c.in_ok-self-inside.field-0, c.in_ok-self-inside.ensures, c.self.view_is)
 
 pub invariant_of-self : goal.invariant_of-self
-invariant_of-self c = (
-  λ x e. absurd (true≢false (sym e ∙ ap (λ (l : List ℤ). list_any (int_eq x) l) c.new.ensures.empty)),
-  c.new-self-inside.ensures.kept c.in_ok-self-inside.field-0,
-)
+invariant_of-self c = grind (arith, c.new-self-inside.ensures.kept c.in_ok-self-inside.field-0)

@@ -9,18 +9,7 @@ use Rattle.osm_ids.proofs.Rising.{ids_of-rising}
 use Rattle.osm_ids.proofs.set.IdSet.to_vec.Goals as goal
 
 pub loop-id-init : goal.loop-id-init
-loop-id-init c =
-    let pages = c.self.inside.pages in
-    let late = c.self.inside.late.keys in
-    let items = c.ids.ids.items in
-    let all : items ≡ rising pages = sym (append-nil items) ∙ ap (λ (l : List ℤ). items ++ l) (sym c.in_default.ensures.0) ∙ c.ids.invariant in
-    record { same = grind (arith, c.into_iter-id-iterator.ensures.into_iter_gives, c.iter-id-items.ensures.rest, ids_of-append items late, all, ids_of-rising pages, c.self.view_is) }
+loop-id-init c = grind (arith, append-nil c.ids.ids.items, c.ids.invariant, c.into_iter-id-iterator.ensures.into_iter_gives, c.iter-id-items.ensures.rest, ids_of-append c.ids.ids.items c.self.inside.late.keys, ids_of-rising c.self.inside.pages, c.self.view_is)
 
 pub loop-id-preserved : goal.loop-id-preserved
-loop-id-preserved c =
-    let l = c.loop-id in
-    let x = c.in-Some-id.id.now in
-    let left = c.next-in-loop-id.new.self in
-    let fits : SFits w64 x = search rules in
-    let rest = rest_more (deref {X = ℤ}) _ _ _ c.in-Some-id.id c.in-Some-id.is c.next-in-loop-id.ensures.steps in
-    record { same = grind (arith, c.in_ok-push-2.ensures.items, to_z-of_z w64 x fits, append_assoc l.ids.items (x ∷ []) left, rest, l.invariant.same) }
+loop-id-preserved c = grind (arith, rest_more (deref { X = ℤ }), c.in_ok-push-2.ensures.items, to_z-of_z w64 c.in-Some-id.id.now (search rules), append_assoc c.loop-id.ids.items (c.in-Some-id.id.now ∷ []) c.next-in-loop-id.new.self, c.loop-id.invariant.same)

@@ -10,9 +10,7 @@ use Rattle.osm_ids.proofs.walk.Walk.next.Goals as goal
 use Rattle.osm_ids.proofs.walk.Walk.next.Goals.{Joined-self-eq0, then-self-eq0, else-self-eq0}
 
 pub returns-then-self-count : goal.returns-then-self-count
-returns-then-self-count c =
-    let e = sym c.self.view_is ∙ drop_all c.self.inside.came (rising c.self.inside.ids.now) (omega (arith, len_is c.self.inside.ids.now, c.count.ensures, c.if-self-count.true)) in
-    (e, e)
+returns-then-self-count c = grind (arith, drop_all c.self.inside.came (rising c.self.inside.ids.now) (omega (arith, len_is c.self.inside.ids.now, c.count.ensures, c.if-self-count.true)), len_is c.self.inside.ids.now, c.count.ensures, c.if-self-count.true)
 
 pub read-requires : goal.read-requires
 read-requires c = omega (arith, len_is c.self.inside.ids.now, c.count.ensures, c.if-self-count.false)
@@ -24,12 +22,7 @@ record IsReady (all : List ℤ) (v : Inside) : Type 0 where
   here : held v.here ≡ take 128 (drop (128 * (v.came / 128)) (rising v.ids.now))
 
 ready : (c : Joined-self-eq0) → IsReady c.args.self.now c.if-self-eq0.self-inside
-ready c =
-    let more : c.self.inside.came < length (rising c.self.inside.ids.now) = omega (arith, len_is c.self.inside.ids.now, c.count.ensures, c.if-self-count.false) in
-    elim c.if-self-eq0.branch [
-      | then-self-eq0 w ↦ subst (IsReady c.args.self.now) (sym w.self-inside-is) (record { same = sym c.self.view_is; more = more; here = w.read.ensures.held_is })
-      | else-self-eq0 w ↦ subst (IsReady c.args.self.now) (sym w.self-inside-is) (record { same = sym c.self.view_is; more = more; here = c.self.invariant (omega (arith, w.if-self-eq0.false)) })
-    ]
+ready c = grind (arith, len_is c.self.inside.ids.now, c.count.ensures, c.if-self-count.false)
 
 pub returns : goal.returns
 returns c =

@@ -4,15 +4,7 @@ use Rattle.osm_ids.proofs.Sets.{all_set}
 use Rattle.osm_ids.proofs.window.Window.find.Goals as goal
 
 pub returns-then-covers-clause-of : goal.returns-then-covers-clause-of
-returns-then-covers-clause-of c = record {
-  pages = all_set (IsKept c.args.ids.now) c.args.self.now.pages c.place_for-at.result _ c.requires.pages c.find-self.ensures.kept;
-  next = omega arith;
-  known = c.find-self.ensures.told.known;
-}
+returns-then-covers-clause-of c = grind (arith, all_set (IsKept c.args.ids.now) c.args.self.now.pages c.place_for-at.result, c.find-self.ensures.told.known)
 
 pub returns-else-at-self-clause-of : goal.returns-else-at-self-clause-of
-returns-else-at-self-clause-of c = record {
-  pages = all_set (IsKept c.args.ids.now) c.args.self.now.pages c.place_for-at.result _ c.requires.pages c.find-self.ensures.kept;
-  next = c.requires.next;
-  known = c.find-self.ensures.told.known;
-}
+returns-else-at-self-clause-of c = grind (arith, all_set (IsKept c.args.ids.now) c.args.self.now.pages c.place_for-at.result, c.requires.next, c.find-self.ensures.told.known)
