@@ -2,8 +2,8 @@
 
 use osm_entity::{
     BoundingBox, BoxFault, ColumnMembers, EntityRef, HIGHEST_WEIGHT, Locations, Member, MemberKind,
-    Members, Meta, MetaRef, NodeRef, PairedTags, Refs, Relation, RelationRef, RunTags,
-    Scale, SummedLocations, Tags, WayRef,
+    Members, Meta, MetaRef, NodeRef, PairedTags, Refs, Relation, RelationRef, RunTags, Scale,
+    SummedLocations, Tags, WayRef,
 };
 use pbf_strings::Table;
 use pbf_wire::{Column, Span, Sums};

@@ -21,7 +21,7 @@ pub use meta::{Meta, MetaRef};
 pub use node::{Node, NodeRef};
 pub use osm_box::{BoundingBox, BoxFault};
 pub use pbf_wire::STORED_LIMIT;
-pub use refs::{Refs};
+pub use refs::Refs;
 pub use relation::{Relation, RelationRef};
 pub use scale::Scale;
 pub use tags::{PairedTags, RunTags, Tag, Tags};

@@ -38,12 +38,3 @@ loop-number-preserved c =
       begun = omega (arith, so_far.begun);
       ends = search (rules, so_far.ends);
     }
-
-pub returns-clause-few : goal.returns-clause-few
-returns-clause-few c =
-    let so_far = c.loop-number.invariant in
-    let axis = c.args.cut.axis in
-    let shift = c.args.cut.shift in
-    let e = c.args.edge in
-    let from : c.max-from.result ≡ max (lowest axis shift e) c.args.cut.first = search rules in
-    omega (arith, so_far.few, so_far.ends, from, c.highest-end.ensures.value)
