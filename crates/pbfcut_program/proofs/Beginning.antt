@@ -4,7 +4,6 @@ use Rattle.osm_area.specs.Area.{AreaSpec}
 use Rattle.pbf_block.specs.declared.counts.Counts.{Counts}
 use Rattle.pbf_pass.specs.HeaderLimit.{judged_writable}
 use Rattle.pbfcut_cli.specs.declared.words.Region.{Region}
-use Rattle.pbfcut_cli.specs.declared.words.Region.TheVariants as region
 use Rattle.pbfcut_program.specs.Tasks.{judge_of}
 use Rattle.pbfcut_program.specs.Events.{Event, advised, opened, seeded}
 use Rattle.pbfcut_program.specs.Fails.{Each, Opens, Quiet}

@@ -225,12 +225,6 @@ work_fails program packs digests f task took failed front l m n olds news halted
 
 -- ---- what it does
 
--- a call ended well, and its feeds were returned
-pub work_read : {F : Type 0} (f : feed.Ghosts F) (by : Manner) (task : Task) (failed : Type 0) (l m : Option (List Event)) (olds news : List F) (report : Report)
-    → AreFresh f olds → CloseAll f news l m → Works by f task olds news (λ took. took ≡ []) failed (Ok report)
-    → (rs : List Reading) × (m ≡ then_all l (reads rs)) × (length rs ≡ length news) × IsWork by task rs [] report.counts report.input report.raw
-work_read f by task failed l m olds news report fresh c works = grind (arith, close_given f (AreDigests by (hashes_in task by.digests) report.input report.raw) (spares task) olds news works.files l m fresh c works.gave)
-
 -- the same, and its drain too
 pub work_done : {F D : Type 0} (f : feed.Ghosts F) (d : drain.Ghosts D) (out : D) (went : Bool) (by : Manner) (task : Task) (took : List ℕ → Type 0) (failed : Type 0) (l m n : Option (List Event)) (olds news : List F) (report : Report)
     → AreFresh f olds → CloseAll f news l m → Finishes d out went m n → ((w : List ℕ) → took w → d.has_taken out 0 w) → Works by f task olds news took failed (Ok report)

@@ -8,7 +8,6 @@ use Rattle.pbf_wire.specs.declared.fault.Fault.{Fault}
 use Rattle.pbfcut_cli.specs.declared.endings.Ending.{Ending}
 use Rattle.pbfcut_cli.specs.declared.endings.Ending.TheVariants as ending
 use Rattle.pbfcut_cli.specs.declared.programs.Program.{Program}
-use Rattle.pbfcut_cli.specs.declared.programs.Program.TheVariants.{Pbfcut, Pbfcutz}
 use Rattle.pbfcut_program.specs.Events.{Event, then_all}
 use Rattle.pbfcut_program.specs.Fails.{CauseOfOpening, Each, EndsAsStop, Fails, FailsFor, FailsOpening, FailsPrinting, FailsToRead, FailsToWrite, Has, IsChangedBy, IsRefusedBy, Judging, Opens, Quiet, Stops, TookNothing, UnlessPacked, judging, listing, printing, readings}
 use Rattle.pbfcut_program.specs.Manner.{Form, Manner, output_form, packed_file, raw_file}

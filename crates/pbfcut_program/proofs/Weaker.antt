@@ -19,7 +19,6 @@ use Rattle.pbfcut_cli.specs.declared.programs.Program.TheVariants.{Pbfcut, Pbfcu
 use Rattle.pbfcut_program.specs.declared.engine.Report.{Report}
 use Rattle.pbfcut_program.specs.declared.engine.Halted.{Halted}
 use Rattle.pbfcut_program.specs.Devices.{ChangesBy, EndsFor, FinishesPacked, MeansBy, Works}
-use Rattle.pbfcut_program.specs.Fails.{UnlessPacked}
 use Rattle.pbfcut_program.specs.Manner.{manner, meant, of_input, output_form, packed_file, raw_file}
 use Rattle.pbfcut_program.specs.Tasks.{Holds, Task, judge_of}
 use Rattle.pbfcut_program.proofs.FailLemmas.{caused_weaker, unless_packed}
