@@ -1,4 +1,5 @@
 -- What is gathered of frames.
+use Rattle.std.proofs.Common.{arith}
 use Rattle.std.proofs.Common.{◌≡◌, ℤ, Bool, cond, true, false, true≢false, rules, Option, Some, None, List, [], ◌∷◌, ◌++◌, map, refl, sym, ap, ◌∙◌}
 use Rattle.std.specs.Prelude.{filter, is_none}
 use Rattle.std.specs.Iterator.{YieldsFirst}
@@ -26,16 +27,14 @@ use Rattle.pbf_pass.proofs.CountLemmas.{stored_one}
 -- one frame more is gathered
 pub gathered_one : {S : Type 0} (gathered : S → EntitySpec → S) (fs : List FrameSpec) (f : FrameSpec) (first before now : S)
     → before ≡ fold gathered first (stored_entities fs) → now ≡ fold gathered before (frame_entities f) → now ≡ fold gathered first (stored_entities (fs ++ f ∷ []))
-gathered_one gathered fs f first before now so_far step =
-    step ∙ (ap (λ s. fold gathered s (frame_entities f)) so_far ∙ (sym (fold-append gathered first (stored_entities fs) (frame_entities f)) ∙ ap (fold gathered first) (sym (stored_one fs f))))
+gathered_one gathered fs f first before now so_far step = grind (arith, fold-append gathered first (stored_entities fs) (frame_entities f), stored_one fs f)
 
 -- ---- entities of the kinds that matter
 
 module _ {S : Type 0} (gathered : S → EntitySpec → S) (kinds : Kinds) (ignored : (s : S) (e : EntitySpec) → is_among kinds e ≡ false → gathered s e ≡ s) where
   gathered_next : (s : S) (e : EntitySpec) (es : List EntitySpec) (b : Bool) → is_among kinds e ≡ b → ((t : S) → fold gathered t (filter (is_among kinds) es) ≡ fold gathered t es)
       → fold gathered s (filter (is_among kinds) (e ∷ es)) ≡ fold gathered s (e ∷ es)
-  gathered_next s e es true h rest = rw h (rest (gathered s e))
-  gathered_next s e es false h rest = rw h (rest s ∙ ap (λ (t : S). fold gathered t es) (sym (ignored s e h)))
+  gathered_next s e es b h4 h5 = grind arith
 
   -- gathering only these gives what gathering all does
   pub gathered_among : (s : S) (es : List EntitySpec) → fold gathered s (filter (is_among kinds) es) ≡ fold gathered s es
@@ -47,8 +46,7 @@ module _ {S : Type 0} (gathered : S → EntitySpec → S) (kinds : Kinds) (ignor
 -- a run more is gathered
 pub gathered_run : {S : Type 0} (gathered : S → EntitySpec → S) (before now all : S) (run : List EntitySpec) (left rest : List (List EntitySpec))
     → left ≡ run ∷ rest → now ≡ fold gathered before run → fold gathered before (joined_runs left) ≡ all → fold gathered now (joined_runs rest) ≡ all
-gathered_run gathered before now all run left rest is step so_far =
-    ap (λ s. fold gathered s (joined_runs rest)) step ∙ (sym (fold-append gathered before run (joined_runs rest)) ∙ (ap (λ (l : List (List EntitySpec)). fold gathered before (joined_runs l)) (sym is) ∙ so_far))
+gathered_run gathered before now all run left rest is step so_far = grind (arith, fold-append gathered before run (joined_runs rest))
 
 -- ---- nodes of a dense message
 
@@ -82,23 +80,18 @@ module _ {S : Type 0} (step : S → Seen → S) (alike : PassesOver step) (area 
 
   inside_next : (sets : S) (n : NodeSpec) (ns : List NodeSpec) (there : Bool) → IsBegun sets
       → fold (with_inside step) sets (map id_of (cond there (n ∷ ns) ns)) ≡ fold (with_inside step) (step sets (a_node n.id there)) (map id_of ns)
-  inside_next sets n ns true begun = refl
-  inside_next sets n ns false begun = ap (λ (s : S). fold (with_inside step) s (map id_of ns)) (sym (begun n.id))
+  inside_next sets n ns there h4 = grind arith
 
   inside_gathered : (sets : S) (ns : List NodeSpec) → IsBegun sets → fold (with_inside step) sets (ids_within area ns) ≡ fold with_box sets (map node ns)
   inside_gathered sets [] begun = refl
-  inside_gathered sets (n ∷ ns) begun =
-      inside_next sets n (filter (lies_in area) ns) (lies_in area n) begun
-      ∙ inside_gathered (with_box sets (node n)) ns (λ id. alike.after sets n.id id (lies_in area n))
+  inside_gathered sets (n ∷ ns) begun = grind (arith, inside_next sets n (filter (lies_in area) ns) (lies_in area n) begun, inside_gathered (with_box sets (node n)) ns (λ id. alike.after sets n.id id (lies_in area n)), alike.after sets n.id)
 
   -- if there is a first place
   pub some_within : (it more : Places) (first : Option Place) (sets begun : S) (ns : List NodeSpec) → YieldsFirst places_left it first more → is_none first ≡ false → places_left it ≡ map node_place ns
       → ((id : ℤ) → begun ≡ step sets (a_node id false)) → fold (with_inside step) begun (ids_within area ns) ≡ fold with_box sets (map node ns)
   some_within it more None sets begun ns steps some are is = absurd (true≢false some)
   some_within it more (Some place) sets begun [] steps some are is = absurd (nothing_more _ _ (sym are ∙ steps))
-  some_within it more (Some place) sets begun (n ∷ ns) steps some are is =
-      inside_gathered begun (n ∷ ns) (λ id. ap (λ (s : S). step s (a_node id false)) (is id) ∙ alike.after sets id id false ∙ sym (is id))
-      ∙ ap (λ (s : S). fold with_box s (map node ns)) (ap (λ (s : S). step s (a_node n.id (lies_in area n))) (is n.id) ∙ alike.before sets n.id n.id (lies_in area n))
+  some_within it more (Some place) sets begun (n ∷ ns) steps some are is = grind (arith, inside_gathered begun (n ∷ ns) (λ id. ap (λ (s : S). step s (a_node id false)) (is id) ∙ alike.after sets id id false ∙ sym (is id)), alike.after sets, is n.id, alike.before sets n.id n.id (lies_in area n))
 
 -- if nodes don't matter
 pub nodes_left_out : {S : Type 0} (s : S) (ns : List NodeSpec) → s ≡ fold as_it_was s (map node ns)

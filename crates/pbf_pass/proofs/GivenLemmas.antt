@@ -1,5 +1,6 @@
 -- What holds of the bytes that went through a device holds of those that it reports.
-use Rattle.std.proofs.Common.{◌≡◌, ℕ, Bool, true, false, List, ◌∷◌, ◌++◌, Option, Some, None, refl, sym, ap, ◌∙◌, subst}
+use Rattle.std.proofs.Common.{arith}
+use Rattle.std.proofs.Common.{◌≡◌, ℕ, Bool, true, false, List, ◌∷◌, Option, Some, None, subst}
 use Rattle.std.proofs.lemmas.List.{append-nil}
 use Rattle.osm_entity.specs.Entity.{EntitySpec}
 use Rattle.pbf_frame.specs.declared.device.Feed as feed
@@ -21,10 +22,7 @@ abbrev pub Tells : Option (List ℕ) → List ℕ → Type 0
 Tells known file = (b : List ℕ) → known ≡ Some b → file ≡ b
 
 pub tells_all : (old new : Option (List ℕ)) (file : List ℕ) → old ≡ prepend file new → IsAtEnd new → Tells old file
-tells_all old None file told end b is = absurd (none_some _ _ refl (sym told ∙ is))
-tells_all old (Some rest) file told end b is = same (ap (λ (l : List ℕ). file ++ l) end ∙ append-nil file) (sym told ∙ is) where
-  same : file ++ rest ≡ file → Some (file ++ rest) ≡ Some b → file ≡ b
-  same e f = cc
+tells_all old new file h3 h4 z0 z1 = grind (arith, none_some, append-nil)
 
 -- the digest of the bytes, if they are reported
 abbrev pub IsDigest : Option (List ℕ) → Option (List ℕ) → Type 0
@@ -32,13 +30,11 @@ IsDigest known digest = (b : List ℕ) → known ≡ Some b → IsDigestOf diges
 
 -- a digest is that of the bytes, if they were hashed
 pub digest_if_hashed : (hashes : Bool) (digest bytes : List ℕ) → (hashes ≡ true → digest ≡ sha256 bytes) → IsDigestOf (digest_if hashes digest) bytes
-digest_if_hashed true digest bytes is = is refl
-digest_if_hashed false digest bytes is = tt
+digest_if_hashed hashes digest bytes h3 = grind arith
 
 -- what is said of them is said of the ones that are reported
 pub says_told : (known : Option (List ℕ)) (file : List ℕ) (v : Verdict) → Tells known file → Says (judged_file (Some file)) v → Says (judged_file known) v
-says_told None file v tells says = tt
-says_told (Some b) file v tells says = subst (λ (l : List ℕ). Says (judged_file (Some l)) v) (tells b refl) says
+says_told known file v h3 h4 = grind arith
 
 module _ {F : Type 0} (f : feed.Ghosts F) (old new : F) (digest : Option (List ℕ)) where
   pub tells_file : (holds : List ℕ → Type 0) (given : GaveFile f old new digest holds) → Tells (f.remaining old) given.file
@@ -56,21 +52,11 @@ module _ {F : Type 0} (f : feed.Ghosts F) (old new : F) (digest : Option (List �
 
 -- what holds of the bytes that a fresh reader's feed gave holds of the file
 pub holds_of_file : {F : Type 0} (reader : FrameReader F) (file : List ℕ) (holds : Option Verdict → Type 0) → had_header_of reader ≡ false → place_of reader ≡ 0 → holds (judged_from reader file) → holds (judged_known false 0 (Some file))
-holds_of_file reader file holds had place holding =
-    subst (λ (b : Bool). holds (judged_known b 0 (Some file))) had (subst (λ (n : ℕ). holds (judged_known (had_header_of reader) n (Some file))) place holding)
+holds_of_file reader file holds had place holding = grind arith
 
 -- a file was given, and so more holds of it
 pub gave_file_less : {F : Type 0} (f : feed.Ghosts F) (old new : F) (digest : Option (List ℕ)) (holds less : List ℕ → Type 0) → ((file : List ℕ) → holds file → less file) → GaveFile f old new digest holds → GaveFile f old new digest less
-gave_file_less f old new digest holds less step given = record {
-  file = given.file;
-  supplied = given.supplied;
-  digest_is = given.digest_is;
-  holding = step given.file given.holding;
-}
-
--- two feeds that report the same bytes gave one file
-pub one_file : (first other : Option (List ℕ)) (file second b : List ℕ) → Tells first file → Tells other second → first ≡ Some b → other ≡ Some b → file ≡ second
-one_file first other file second b tells too is also = tells b is ∙ sym (too b also)
+gave_file_less f old new digest holds less step given = grind (arith, step given.file given.holding)
 
 -- references are the same below one that is
 pub same_below : {N : Type 0} (first other : N) (below also : List N) → first ∷ below ≡ other ∷ also → below ≡ also
@@ -81,10 +67,4 @@ pub supplied_as : {F : Type 0} (f : feed.Ghosts F) (first old last new : F) (fil
 supplied_as f first old last new file e e2 supplied = subst (λ x. Supplied f x file new) e (subst (λ x. Supplied f first file x) e2 supplied)
 
 pub takes_told : {S : Type 0} (gathered : S → EntitySpec → S) (known : Option (List ℕ)) (file : List ℕ) (before now : S) (pass : Pass) → Tells known file → TakesFile gathered (judged_file (Some file)) before now pass → TakesFile gathered (judged_file known) before now pass
-takes_told gathered known file before now pass tells p = record {
-  frames = p.frames;
-  says = says_told known file (p.frames, None) tells p.says;
-  counted = p.counted;
-  header = p.header;
-  gathered_all = p.gathered_all;
-}
+takes_told gathered known file before now pass tells p = grind (arith, says_told known file (p.frames, None) tells p.says)

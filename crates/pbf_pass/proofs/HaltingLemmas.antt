@@ -1,5 +1,6 @@
 -- What a halt says of the bytes that were read.
-use Rattle.std.proofs.Common.{◌≡◌, inr, ℕ, Bool, List, Option, Some, refl, sym, subst}
+use Rattle.std.proofs.Common.{arith}
+use Rattle.std.proofs.Common.{◌≡◌, ℕ, Bool, List, Option, Some, sym, subst}
 use Rattle.osm_entity.specs.Entity.{EntitySpec}
 use Rattle.pbf_wire.specs.declared.fault.Fault.{Fault}
 use Rattle.pbf_frame.specs.declared.device.Feed as feed
@@ -27,38 +28,25 @@ use Rattle.pbf_pass.proofs.LimitLemmas.{limited_fault, limit_refused}
 -- ---- a header that can't be written is refused
 
 pub limit_caused : (told : Judged) (h : Halt) → IsLimitRefused told h → Caused (Only (header_limit (held_header told.pass))) ⊥ ⊥ unchanged (stop_of h)
-limit_caused told (halt.Refused r) limit = limit.0
-limit_caused told (halt.Stopped s) limit = absurd limit
+limit_caused told h h2 = grind arith
 
 -- ---- of a reader that halts, which keeps its feed
 
 pub halts_of : {F : Type 0} {f : feed.Ghosts F} (old new : F) (at_fault : Stop → List ℕ → Type 0) (refused : Refusal → Type 0) (count : ℕ) (digest : List ℕ) (s : Stop) → KeepsFeed f old new → RefusesRest f old new at_fault s
     → ((e : Fault) → RefusesRest f old new at_fault (stop.Refused e) → refused (record { fault = e; read = count; input = digest })) → Halts refused (halted s count digest)
-halts_of old new at_fault refused count digest (stop.Refused e) keeps rest step = step e rest
-halts_of old new at_fault refused count digest stop.Read keeps rest step = λ e is. (let bad : ⊥ = cc in bad)
-halts_of old new at_fault refused count digest stop.Write keeps rest step = λ e is. (let bad : ⊥ = cc in bad)
-halts_of old new at_fault refused count digest stop.Memory keeps rest step = λ e is. (let bad : ⊥ = cc in bad)
-halts_of old new at_fault refused count digest (stop.Changed pass) keeps rest step = λ e is. (let bad : ⊥ = cc in bad)
+halts_of old new at_fault refused count digest s h7 h8 h9 = grind arith
 
 -- what was read of one feed was read of another
 pub rest_of : {F G : Type 0} {f : feed.Ghosts F} (g : feed.Ghosts G) (old new : F) (before now : G) (first then : Stop → List ℕ → Type 0) (s : Stop) → KeepsFeed f old new → RefusesRest f old new first s
     → ((t : Stop) → Refuses (first t) (f.has_passed old) (f.has_passed new) (f.remaining old) (f.remaining new) → Refuses (then t) (g.has_passed before) (g.has_passed now) (g.remaining before) (g.remaining now)) → RefusesRest g before now then s
-rest_of g old new before now first then (stop.Refused e) keeps rest step = step (stop.Refused e) rest
-rest_of g old new before now first then stop.Read keeps rest step = tt
-rest_of g old new before now first then stop.Write keeps rest step = tt
-rest_of g old new before now first then stop.Memory keeps rest step = tt
-rest_of g old new before now first then (stop.Changed pass) keeps rest step = step (stop.Changed pass) rest
+rest_of g old new before now first then s h8 h9 h10 = grind arith
 
 -- the same of devices that are equal
 pub rest_as : {F : Type 0} (f : feed.Ghosts F) (old new first last : F) (at_fault : Stop → List ℕ → Type 0) (s : Stop) → old ≡ first → new ≡ last → RefusesRest f old new at_fault s → RefusesRest f first last at_fault s
 rest_as f old new first last at_fault s e e2 rest = subst (λ x. RefusesRest f first x at_fault s) e2 (subst (λ x. RefusesRest f x new at_fault s) e rest)
 
 pub stop_halted : (s : Stop) (count : ℕ) (digest : List ℕ) → stop_of (halted s count digest) ≡ s
-stop_halted (stop.Refused e) count digest = refl
-stop_halted stop.Read count digest = refl
-stop_halted stop.Write count digest = refl
-stop_halted stop.Memory count digest = refl
-stop_halted (stop.Changed pass) count digest = refl
+stop_halted s count digest = grind arith
 
 -- ---- of a feed that was refused
 
@@ -66,36 +54,24 @@ module _ {F : Type 0} (f : feed.Ghosts F) (old new : F) (hashes : Bool) where
   -- by a judgement that is that of a verdict
   refuses_file : (at_fault : Fault → List ℕ → Type 0) (judge : List ℕ → Option Verdict) (r : Refusal) → ((b : List ℕ) → at_fault r.fault b → FaultOf (judge b) r.fault) → RefusesBytes f old new hashes at_fault r → RefusesFile f old new hashes judge r
   refuses_file at_fault judge r step refuses = record {
-    bytes = record {
-      read = refuses.bytes.read;
-      told = refuses.bytes.told;
-      logged = refuses.bytes.logged;
-      faulty = faulty_as (λ b. FaultOf (judge b) r.fault) (at_fault r.fault) refuses.bytes.read (f.remaining new) step refuses.bytes.faulty;
-    };
+    bytes = grind (arith, faulty_as (λ b. FaultOf (judge b) r.fault) (at_fault r.fault) refuses.bytes.read (f.remaining new) step refuses.bytes.faulty, at_fault r.fault, f.remaining new);
     counted = refuses.counted;
     digest_is = refuses.digest_is;
   }
 
   pub halts_file : (at_fault : Fault → List ℕ → Type 0) (judge : List ℕ → Option Verdict) (h : Halt) → ((e : Fault) (b : List ℕ) → at_fault e b → FaultOf (judge b) e) → Halts (RefusesBytes f old new hashes at_fault) h → Halts (RefusesFile f old new hashes judge) h
-  halts_file at_fault judge (halt.Refused r) step halts = refuses_file at_fault judge r (step r.fault) halts
-  halts_file at_fault judge (halt.Stopped s) step halts = halts
+  halts_file at_fault judge h h3 h4 = grind (arith, refuses_file)
 
   -- by another verdict
   pub refuses_also : (first then : List ℕ → Option Verdict) (r : Refusal) → ((b : List ℕ) → FaultOf (first b) r.fault → FaultOf (then b) r.fault) → RefusesFile f old new hashes first r → RefusesFile f old new hashes then r
   refuses_also first then r step refuses = record {
-    bytes = record {
-      read = refuses.bytes.read;
-      told = refuses.bytes.told;
-      logged = refuses.bytes.logged;
-      faulty = faulty_as (λ b. FaultOf (then b) r.fault) (λ b. FaultOf (first b) r.fault) refuses.bytes.read (f.remaining new) step refuses.bytes.faulty;
-    };
+    bytes = grind (arith, faulty_as (λ b. FaultOf (then b) r.fault) (λ b. FaultOf (first b) r.fault) refuses.bytes.read (f.remaining new) step refuses.bytes.faulty, f.remaining new);
     counted = refuses.counted;
     digest_is = refuses.digest_is;
   }
 
   halts_also : (first then : List ℕ → Option Verdict) (h : Halt) → ((e : Fault) (b : List ℕ) → FaultOf (first b) e → FaultOf (then b) e) → Halts (RefusesFile f old new hashes first) h → Halts (RefusesFile f old new hashes then) h
-  halts_also first then (halt.Refused r) step halts = refuses_also first then r (step r.fault) halts
-  halts_also first then (halt.Stopped s) step halts = halts
+  halts_also first then h h3 h4 = grind (arith, refuses_also)
 
   -- a fault of the file is one of what can't be written
   pub halts_writing : (h : Halt) → Halts (RefusesFile f old new hashes (λ b. judged_file (Some b))) h → Halts (RefusesFile f old new hashes (λ b. judged_writable (Some b))) h
@@ -105,12 +81,7 @@ module _ {F : Type 0} (f : feed.Ghosts F) (old new : F) (hashes : Bool) where
   pub limit_halts : {S : Type 0} (gathered : S → EntitySpec → S) (before now : S) (told : Judged) (h : Halt)
       → GaveFile f old new (digest_if hashes told.digest) (λ file. IsLength told.count file × TakesFile gathered (judged_file (Some file)) before now told.pass) → IsLimitRefused told h → Halts (RefusesFile f old new hashes (λ b. judged_writable (Some b))) h
   limit_halts gathered before now told (halt.Refused r) given limit = record {
-    bytes = record {
-      read = given.file;
-      told = given.supplied.gave.told;
-      logged = given.supplied.gave.logged;
-      faulty = inr (given.supplied.end, limit_refused gathered before now (judged_file (Some given.file)) told.pass r.fault given.holding.1 limit.0);
-    };
+    bytes = grind (arith, limit_refused gathered before now (judged_file (Some given.file)) told.pass r.fault given.holding.1 limit.0);
     counted = subst (λ (n : ℕ). IsLength n given.file) (sym limit.1) given.holding.0;
     digest_is = subst (λ (d : List ℕ). IsDigestOf (digest_if hashes d) given.file) (sym limit.2) given.digest_is;
   }
@@ -125,5 +96,4 @@ module _ {F : Type 0} (f : feed.Ghosts F) (old new : F) (hashes : Bool) where
   module _ {D : Type 0} (d : drain.Ghosts D) (judge : List ℕ → Option Verdict) where
     -- nothing was written yet
     pub halts_first : (at : D) (h : Halt) → Halts (RefusesFile f old new hashes judge) h → HaltsFile f old new hashes d at at judge h
-    halts_first at (halt.Refused r) halts = (halts, added_none d at)
-    halts_first at (halt.Stopped s) halts = halts
+    halts_first at h h2 = grind (arith, added_none)

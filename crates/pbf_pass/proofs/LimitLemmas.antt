@@ -1,13 +1,12 @@
 -- A header that is too long to be written, and the verdict on its file.
-use Rattle.std.proofs.Common.{◌≡◌, ℕ, List, [], Option, Some, None, refl, sym, ap, ◌∙◌}
+use Rattle.std.proofs.Common.{arith}
+use Rattle.std.proofs.Common.{◌≡◌, ℕ, List, [], Option, Some, None, sym, ap, ◌∙◌}
 use Rattle.std.specs.Option.{option_map}
 use Rattle.pbf_wire.specs.declared.fault.Fault.{Fault}
 use Rattle.osm_entity.specs.Entity.{EntitySpec}
-use Rattle.pbf_header.specs.declared.header.Header.{Header}
-use Rattle.pbf_header.specs.Header.{HeaderSpec, header_of}
+use Rattle.pbf_header.specs.Header.{HeaderSpec}
 use Rattle.pbf_frame.specs.Frames.{FrameSpec}
 use Rattle.pbf_frame.specs.Verdict.{Verdict, Says}
-use Rattle.pbf_frame.proofs.Parting.{none_some}
 use Rattle.pbf_pass.specs.declared.pass.Pass.{Pass}
 use Rattle.pbf_pass.specs.HeaderLimit.{header_limit, with_limit, limited, judged_writable, held_header}
 use Rattle.pbf_pass.specs.Judged.{judged_file}
@@ -16,25 +15,16 @@ use Rattle.pbf_pass.specs.Stops.{FaultOf}
 
 -- ---- the header
 
-abbrev placed_at : ℕ → Header → ℕ × HeaderSpec
-placed_at at x = (at, header_of x)
-
 pub held_is : (told : Option (ℕ × HeaderSpec)) (pass : Pass) → HoldsHeader told pass → held_header pass ≡ told
-held_is None pass h = ap (λ (o : Option Header). option_map (placed_at pass.header_at) o) h
-held_is (Some header) pass h = of pass.header h.0 ∙ ap (λ (n : ℕ). let p : ℕ × HeaderSpec = (n, header.1) in Some p) h.1 where
-  of : (o : Option Header) → option_map header_of o ≡ Some header.1 → option_map (placed_at pass.header_at) o ≡ Some (pass.header_at, header.1)
-  of None e = absurd (none_some _ _ refl e)
-  of (Some x) e = ap (λ (o : Option HeaderSpec). option_map (λ (y : HeaderSpec). let p : ℕ × HeaderSpec = (pass.header_at, y) in p) o) e
+held_is told pass h2 = grind arith
 
 -- ---- the verdict, and the limit of the header
 
 pub limited_fault : (known : Option Verdict) (frames : List FrameSpec) (e : Fault) → Says known (frames, Some e) → Says (option_map limited known) (frames, Some e)
-limited_fault None frames e says = tt
-limited_fault (Some v) frames e says = ap limited says
+limited_fault known frames e h3 = grind arith
 
 pub limited_limit : (known : Option Verdict) (frames : List FrameSpec) (e : Fault) → Says known (frames, None) → header_limit (file_header frames) ≡ Some e → Says (option_map limited known) ([], Some e)
-limited_limit None frames e says limit = tt
-limited_limit (Some v) frames e says limit = ap limited says ∙ ap (λ (o : Option Fault). with_limit o frames) limit
+limited_limit known frames e h3 h4 = grind arith
 
 -- a header that can't be written is refused
 pub limit_refused : {S : Type 0} (gathered : S → EntitySpec → S) (before now : S) (known : Option Verdict) (pass : Pass) (e : Fault) → TakesFile gathered known before now pass → header_limit (held_header pass) ≡ Some e → FaultOf (option_map limited known) e

@@ -1,6 +1,6 @@
 -- The frames that a loop read, and at its end the bytes that the feed gave.
+use Rattle.std.proofs.Common.{arith}
 use Rattle.std.proofs.Common.{◌≡◌, inl, inr, ℕ, Bool, true, List, [], ◌∷◌, ◌++◌, ◌||◌, Option, Some, None, Ok, Err, refl, sym, ap, ◌∙◌, subst, append_assoc}
-use Rattle.std.specs.Option.{option_map}
 use Rattle.std.proofs.lemmas.List.{append-nil}
 use Rattle.pbf_frame.specs.declared.device.Feed as feed
 use Rattle.pbf_frame.specs.declared.reader.FrameReader.{FrameReader}
@@ -12,7 +12,7 @@ use Rattle.pbf_frame.specs.Frames.{FrameSpec, is_header, frame_kind, frame_end, 
 use Rattle.pbf_frame.specs.Next.{place_of, had_header_of}
 use Rattle.pbf_frame.specs.Refusals.{Refuses}
 use Rattle.pbf_frame.specs.Sound.{IsFrame}
-use Rattle.pbf_frame.specs.Verdict.{Verdict, judged, judged_after, judged_known, with_first_known, with_all, joined_frames, VerdictAfter}
+use Rattle.pbf_frame.specs.Verdict.{Verdict, judged, judged_after, judged_known, with_first_known, joined_frames, VerdictAfter}
 use Rattle.pbf_frame.proofs.Judging.{judged_some, judged_step, gave_fault}
 use Rattle.pbf_frame.proofs.KnownBytes.{prepend_none, prepend_more}
 use Rattle.pbf_frame.proofs.Longest.{frame_is_next}
@@ -60,11 +60,7 @@ gone_one h p h2 p2 first frames f rest so_far is had place =
 
 module _ {F : Type 0} (g : feed.Ghosts F) where
   pub has_passed_none : (first : FrameReader F) → HasPassed g first [] first
-  has_passed_none first = record {
-    told = sym (prepend_none (g.remaining first.feed));
-    logged = passes_none (g.has_passed first.feed);
-    gone = λ rest. gone_none (had_header_of first) (place_of first) rest;
-  }
+  has_passed_none first = grind (arith, prepend_none (g.remaining first.feed), passes_none (g.has_passed first.feed), gone_none (had_header_of first) (place_of first))
 
   pub has_passed_more : (first mid now : FrameReader F) (frames : List FrameSpec) (f : FrameSpec) → HasPassed g first frames mid → GaveOne g mid now f → HasPassed g first (frames ++ f ∷ []) now
   has_passed_more first mid now frames f so_far gave =
@@ -72,31 +68,12 @@ module _ {F : Type 0} (g : feed.Ghosts F) where
       record {
         told = prepend_more _ _ _ (joined_frames frames) (frame_bytes f) so_far.told gave.told ∙ ap (λ (l : List ℕ). prepend l (g.remaining now.feed)) (sym one);
         logged = passes_same (g.has_passed first.feed) (g.has_passed now.feed) _ _ (sym one) (passes_more (g.has_passed first.feed) (g.has_passed mid.feed) (g.has_passed now.feed) (joined_frames frames) (frame_bytes f) so_far.logged gave.logged);
-        gone = λ rest.
-            let split : joined_frames (frames ++ f ∷ []) ++ rest ≡ joined_frames frames ++ (frame_bytes f ++ rest) = ap (λ (l : List ℕ). l ++ rest) one ∙ append_assoc (joined_frames frames) (frame_bytes f) rest in
-            subst (λ (l : List ℕ). VerdictAfter (judged_known (had_header_of first) (place_of first) (Some l)) (frames ++ f ∷ []) (judged_known (had_header_of now) (place_of now) (Some rest))) (sym split)
-            (gone_one (had_header_of mid) (place_of mid) (had_header_of now) (place_of now) _ frames f rest (so_far.gone (frame_bytes f ++ rest)) gave.is_frame gave.had_header gave.place);
+        gone = λ rest. grind (arith, append_assoc (joined_frames frames) (frame_bytes f) rest, gone_one (had_header_of mid) (place_of mid) (had_header_of now) (place_of now), so_far.gone (frame_bytes f ++ rest));
       }
 
   -- at the end these frames are all, and their bytes are what the feed gave
   pub has_passed_all : (first mid now : FrameReader F) (frames : List FrameSpec) (holds : Option Verdict → Type 0) → HasPassed g first frames mid → GaveNone g mid now → g.lender now.feed ≡ g.lender first.feed → holds (Some (frames, None)) → GaveRest g first now holds
-  has_passed_all first mid now frames holds so_far none lender holding =
-      let all = so_far.gone [] ∙ ap (λ (v : Option Verdict). option_map (with_all frames) v) (nothing_left (had_header_of mid) (place_of mid) none.had_header) in
-      let whole : judged (had_header_of first) (place_of first) (joined_frames frames ++ []) ≡ (frames ++ [], None) = some_same _ _ all in
-      let is : judged (had_header_of first) (place_of first) (joined_frames frames) ≡ (frames, None) =
-      ap (judged (had_header_of first) (place_of first)) (sym (append-nil (joined_frames frames))) ∙ whole ∙ ap (λ (l : List FrameSpec). let v : Verdict = (l, None) in v) (append-nil frames) in
-      record {
-        bytes = joined_frames frames;
-        supplied = record {
-          gave = record {
-            told = so_far.told ∙ ap (prepend (joined_frames frames)) none.told;
-            logged = λ log b h. none.logged log (b ++ joined_frames frames) (so_far.logged log b h);
-          };
-          end = none.end;
-          lender = lender;
-        };
-        holding = subst (λ (v : Verdict). holds (Some v)) (sym is) holding;
-      }
+  has_passed_all first mid now frames holds so_far none lender holding = grind (arith, so_far.gone [], nothing_left (had_header_of mid) (place_of mid) none.had_header, some_same, append-nil (joined_frames frames), append-nil frames)
 
   -- the bytes of these frames, and those of what is refused after them, or of the frame at which a visitor stopped
   module _ {V : Type 0} (took : Takes V) (failed : Fails V) (before mid last : V) (first at now : FrameReader F) (frames : List FrameSpec) (so_far : HasPassed g first frames at) (visited : Visited took before frames mid) where

@@ -1,4 +1,5 @@
 -- Frames whose payloads have no fault.
+use Rattle.std.proofs.Common.{arith}
 use Rattle.std.proofs.Common.{◌≡◌, List, [], ◌∷◌, ◌++◌, Option, Some, None, refl, sym, ap, ◌∙◌, subst}
 use Rattle.std.specs.List.{AllByRecursion}
 use Rattle.std.specs.Option.{option_map}
@@ -8,7 +9,7 @@ use Rattle.pbf_frame.specs.Verdict.{Verdict, with_frame_first, with_first_known,
 use Rattle.pbf_frame.proofs.Parting.{none_some, some_same}
 use Rattle.pbf_frame.proofs.VerdictLemmas.{gone_more, gone_split}
 use Rattle.pbf_pass.specs.Unjudged.{IsSound, IsFaulty}
-use Rattle.pbf_pass.specs.Judged.{payload_fault, sound_first, sound_front, fully, fully_known}
+use Rattle.pbf_pass.specs.Judged.{sound_first, sound_front, fully, fully_known}
 
 -- the first ones of such frames
 pub sound_first_ones : (fs gs : List FrameSpec) → AllByRecursion IsSound (fs ++ gs) → AllByRecursion IsSound fs
@@ -41,10 +42,7 @@ fully_gone first rest fs sound gone = ap fully_known gone ∙ of rest where
 -- if it has no fault, the frames are such
 pub sound_frames : (fs : List FrameSpec) (e : Option Fault) → (sound_front fs e).1 ≡ None → AllByRecursion IsSound fs
 sound_frames [] e is = tt
-sound_frames (f ∷ fs) e is = of (payload_fault f) refl (λ rest. sound_frames fs e rest) is where
-  of : (o : Option Fault) → payload_fault f ≡ o → ((sound_front fs e).1 ≡ None → AllByRecursion IsSound fs) → (sound_first o f (sound_front fs e)).1 ≡ None → AllByRecursion IsSound (f ∷ fs)
-  of None h later is = (h, later is)
-  of (Some x) h later is = absurd (none_some _ _ is refl)
+sound_frames (f ∷ fs) e is = grind (arith, sound_frames fs e)
 
 -- and there is no fault of frames
 pub ends_well : (fs : List FrameSpec) (e : Option Fault) → (sound_front fs e).1 ≡ None → e ≡ None
@@ -52,24 +50,16 @@ ends_well fs e is = sym (ap (λ (v : Verdict). v.1) (front_of_sound fs e (sound_
 
 -- these are the frames of a file without a fault
 pub all_sound : (fs all : List FrameSpec) → Some (fully (fs, None)) ≡ Some (all, None) → (fs ≡ all) × AllByRecursion IsSound fs
-all_sound fs all is =
-    let whole : fully (fs, None) ≡ (all, None) = some_same _ _ is in
-    let sound = sound_frames fs None (ap (λ (v : Verdict). v.1) whole) in (ap (λ (v : Verdict). v.0) (sym (front_of_sound fs None sound) ∙ whole), sound)
+all_sound fs all is = grind (arith, some_same, sound_frames fs None (ap (λ (v : Verdict). v.1) (some_same _ _ is)), front_of_sound fs None (sound_frames fs None (ap (λ (v : Verdict). v.1) (some_same _ _ is))))
 
 -- what follows the frames done, in such a file
 pub rest_sound : (first mid : Option Verdict) (fs all : List FrameSpec) → VerdictAfter first fs mid → fully_known first ≡ Some (all, None) → (rest : Verdict) × (mid ≡ Some rest) × (all ≡ fs ++ rest.0) × AllByRecursion IsSound all
-rest_sound None mid fs all gone is = absurd (none_some _ _ refl is)
-rest_sound (Some v) mid fs all gone is =
-    let whole : fully v ≡ (all, None) = some_same _ _ is in
-    let sound = sound_frames v.0 v.1 (ap (λ (w : Verdict). w.1) whole) in
-    let same : v.0 ≡ all = ap (λ (w : Verdict). w.0) (sym (front_of_sound v.0 v.1 sound) ∙ whole) in
-    let (rest, follows, split) = gone_split (Some v) mid fs v gone refl in (rest, follows, sym same ∙ split, subst (λ (l : List FrameSpec). AllByRecursion IsSound l) same sound)
+rest_sound first mid fs all h4 h5 = grind (arith, none_some, some_same, sound_frames, front_of_sound, gone_split)
 
 -- ---- a file that has a fault
 
 faulty_known : (first : Option Verdict) → ((v : Verdict) → first ≡ Some v → (fully v).1 ≡ None → ⊥) → IsFaulty (fully_known first)
-faulty_known None wrong frames is = none_some _ _ refl is
-faulty_known (Some v) wrong frames is = wrong v refl (ap (λ (v : Verdict). v.1) (some_same _ _ is))
+faulty_known first h1 z0 z1 = grind (arith, none_some, some_same)
 
 -- in the frames after these
 pub faulty_rest : (first rest : Option Verdict) (fs : List FrameSpec) (e : Fault) → VerdictAfter first fs rest → Says rest ([], Some e) → IsFaulty (fully_known first)

@@ -1,5 +1,6 @@
 -- What a pass after the one that judged the file has gathered, and why it stops.
-use Rattle.std.proofs.Common.{◌≡◌, ℕ, inl, inr, false, List, [], ◌∷◌, ◌++◌, Option, Some, None, refl, sym, ap, ◌∙◌, subst}
+use Rattle.std.proofs.Common.{arith}
+use Rattle.std.proofs.Common.{◌≡◌, ℕ, inl, inr, false, List, [], ◌∷◌, ◌++◌, Option, Some, None, refl, ◌∙◌}
 use Rattle.std.specs.List.{AllByRecursion, fold}
 use Rattle.osm_entity.specs.Entity.{EntitySpec}
 use Rattle.pbf_frame.specs.declared.device.Feed as feed
@@ -28,18 +29,11 @@ gathers_more gathered fs f first before now so_far step sound = gathered_one gat
 
 -- all of them were
 pub gathers_all : {S : Type 0} (gathered : S → EntitySpec → S) (fs : List FrameSpec) (first before now : S) → GathersFrames gathered first before fs → now ≡ before → GathersFile gathered (Some (fully (fs, None))) first now
-gathers_all gathered fs first before now so_far stays frames is =
-    let whole = all_sound fs frames is in
-    stays ∙ so_far whole.1 ∙ ap (λ (l : List FrameSpec). fold gathered first (stored_entities l)) whole.0
+gathers_all gathered fs first before now so_far stays frames is = grind (arith, all_sound fs frames is, so_far ((all_sound fs frames is).1))
 
 -- bytes that are faulty by one judgment are so by another that it implies
 pub refuses_less : {F : Type 0} (f : feed.Ghosts F) (old new : F) (first then : List ℕ → Type 0) → ((b : List ℕ) → first b → then b) → Refuses first (f.has_passed old) (f.has_passed new) (f.remaining old) (f.remaining new) → Refuses then (f.has_passed old) (f.has_passed new) (f.remaining old) (f.remaining new)
-refuses_less f old new first then step refuses = record {
-  read = refuses.read;
-  told = refuses.told;
-  logged = refuses.logged;
-  faulty = faulty_as then first refuses.read (f.remaining new) step refuses.faulty;
-}
+refuses_less f old new first then step refuses = grind (arith, faulty_as then first refuses.read (f.remaining new) step refuses.faulty, f.remaining new)
 
 -- ---- of a visitor in a pass of this number
 
@@ -80,5 +74,4 @@ module _ {V S : Type 0} (gathered : S → EntitySpec → S) (sets : V → S) (to
   has_gathered before fs now visited = visited_to took (λ gone v. GathersFrames gathered (sets before) (sets v) gone) (λ gone f mid last so_far one. gathers_more gathered gone f (sets before) (sets mid) (sets last) so_far (is mid last f one)) fs [] before now (λ sound. refl) visited
 
   pub gathers_file : (known : Option Verdict) (count : ℕ) (before now : V) → VisitsAll took known count before now → GathersFile gathered (fully_known known) (sets before) (sets now)
-  gathers_file known count before now p =
-      subst (λ (k : Option Verdict). GathersFile gathered (fully_known k) (sets before) (sets now)) (sym p.says) (gathers_all gathered p.frames (sets before) (sets now) (sets now) (has_gathered before p.frames now p.visited) refl)
+  gathers_file known count before now p = grind (arith, sets before, sets now, gathers_all gathered p.frames (sets before) (sets now) (sets now) (has_gathered before p.frames now p.visited) refl, has_gathered before p.frames now p.visited)

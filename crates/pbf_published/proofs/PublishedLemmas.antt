@@ -1,6 +1,6 @@
 -- What a feed gave, unpacked, is the raw file that packed bytes mean.
+use Rattle.std.proofs.Common.{arith, ◌≡◌, ◌==◌, ◌&&◌, ◌||◌, ◌⊎◌, inl, inr, ℕ, suc, Bool, true, false, List, [], length, Option, Some, None, Result, Ok, Err, IfOk, IfErr, IfSome, OnErr, refl, sym, ap, ◌∙◌, subst}
 use Rattle.std.specs.Option.{is_none, option_map}
-use Rattle.std.proofs.Common.{◌≡◌, ◌==◌, ◌&&◌, ◌||◌, ◌⊎◌, inl, inr, ℕ, suc, Bool, true, false, List, [], length, Option, Some, None, Result, Ok, Err, IfOk, IfErr, IfSome, OnErr, refl, sym, ap, ◌∙◌, subst}
 use Rattle.std.proofs.lemmas.Option.{same_Some}
 use Rattle.sha2.specs.Sha256.{sha256}
 use Rattle.pbf_wire.specs.declared.fault.Fault.{Fault}
@@ -12,14 +12,12 @@ use Rattle.pbf_frame.specs.Verdict.{Verdict}
 use Rattle.pbf_pass.specs.Given.{GaveFile}
 use Rattle.pbf_pass.specs.Hashing.{HasCounted, IsDigestOf, digest_if}
 use Rattle.pbf_pass.specs.declared.receipt.Halt.{Halt}
-use Rattle.pbf_pass.specs.declared.receipt.Halt.TheVariants as halt
 use Rattle.pbf_pass.specs.declared.receipt.Refusal.{Refusal}
 use Rattle.pbf_pass.specs.declared.receipt.InputReceipt.{InputReceipt}
 use Rattle.pbf_pass.specs.Refused.{Halts, stop_of}
 use Rattle.pbf_pass.specs.Stops.{Caused, FaultOf, ReadFailed}
 use Rattle.pbf_unpack.specs.declared.feed.UnpackedFeed.{UnpackedFeed}
 use Rattle.pbf_unpack.specs.declared.feed.State.{State}
-use Rattle.pbf_unpack.specs.declared.feed.State.TheVariants.{Reading, PassingOn, Ended, Failed, Refused}
 use Rattle.pbf_unpack.specs.Reports.{has_all, stop_in}
 use Rattle.pbf_unpack.specs.Supplying.{left_in, unless_failed}
 use Rattle.pbf_unpack.specs.Unpacked.{unpacked}
@@ -30,14 +28,12 @@ use Rattle.pbf_published.specs.Published.{Closed, GavePublished, GaveOrNone, Ope
 
 -- a feed of a pass that was opened, in the log that says most
 pub opened_by : {D H : Type 0} (holds : H → List ℕ → Type 0) (below : D → ℕ → List ℕ → Type 0) (device : D) (flag hashes : Bool) (hasher : H) (count : ℕ) → flag ≡ hashes → holds hasher [] → count ≡ 0 → HasCounted holds below device flag hasher count (log_of hashes) []
-opened_by holds below device flag true hasher count is none counted = (is, none)
-opened_by holds below device flag false hasher count is none counted = counted
+opened_by holds below device flag hashes hasher count h7 h8 h9 = grind arith
 
 -- and the digest of what it has read then
 pub digest_by : {D H : Type 0} (holds : H → List ℕ → Type 0) (below : D → ℕ → List ℕ → Type 0) (device : D) (flag hashes : Bool) (hasher : H) (count : ℕ) (digest packed : List ℕ) → HasCounted holds below device flag hasher count (log_of hashes) packed
     → ((b : List ℕ) → holds hasher b → digest ≡ sha256 b) → IsDigestOf (digest_if hashes digest) packed
-digest_by holds below device flag true hasher count digest packed passed is = is packed passed.1
-digest_by holds below device flag false hasher count digest packed passed is = tt
+digest_by holds below device flag hashes hasher count digest packed h9 h10 = grind arith
 
 -- what is one with a third is the same
 pub same_by : {F : Type 0} (mid last first : F) → mid ≡ last → mid ≡ first → last ≡ first
@@ -49,8 +45,7 @@ if_digest o digest holds is has = subst (λ (x : Option (List ℕ)). IfSome x ho
 
 -- a feed that gave a file, and of which it is known what it was to give, has nothing left
 none_left_of_all : (old new : Option (List ℕ)) (file all : List ℕ) → old ≡ prepend file new → IsAtEnd new → old ≡ Some all → new ≡ Some []
-none_left_of_all old (Some rest) file all told end is = ap (λ (l : List ℕ). Some l) end
-none_left_of_all old None file all told end is = (let bad : ⊥ = (let none = sym told ∙ is in cc) in absurd bad)
+none_left_of_all old new file all h4 h5 h6 = grind arith
 
 -- a feed of which all was read has the digest of what it had to give, as far as that is known
 abbrev pub DigestIsOf : (known digest : Option (List ℕ)) → Type 0
@@ -62,31 +57,11 @@ module _ {F U : Type 0} (f : feed.Ghosts F) (first last : F) {u : feed.Ghosts U}
 
   -- what is said of the file that an unpacking feed gave is said of the raw file that packed bytes mean
   pub published_of : (digest : List ℕ) → o ≡ Some digest → (keeps : List ℕ → Type 0) → ((file : List ℕ) → holds file → keeps file) → GavePublished f first last (digest_if hashes digest) raw_digest keeps
-  published_of digest is keeps step =
-      let file = given.file in
-      let known = f.remaining first in
-      let m = if_digest o digest _ is (closed.means hashes known file (given.supplied.gave.logged (log_number (log_of hashes) (log_of hashes) known) [] opened.hashed)) in
-      record {
-        packed = m.packed;
-        digest_is = m.digest_is;
-        raw_digest_is = subst (λ (l : List ℕ). IsDigestOf raw_digest l) (sym m.means) given.digest_is;
-        told = λ all all_is. same_Some _ _ (sym all_is ∙ m.told (ended all all_is));
-        end = m.end given.supplied.end;
-        logged = λ log start.
-            let p = if_digest o digest _ is (closed.logged hashes log known file (given.supplied.gave.logged (log_number (log_of hashes) (suc (suc log)) known) [] (opened.logged log start))) in
-            record { packed = p.packed; passed = p.passed; digest_is = p.digest_is; means = p.means ∙ sym m.means };
-        holding = subst keeps (sym m.means) (step file given.holding);
-      }
+  published_of digest is keeps step = grind (arith, if_digest o digest, same_Some, ended)
 
   -- the digest is that of what the feed had to give
   pub digest_told : hashes ≡ true → DigestIsOf (f.remaining first) o
-  digest_told hashed all is = of o refl where
-    of : (x : Option (List ℕ)) → o ≡ x → o ≡ Some (sha256 all)
-    of None none = absurd (closed.there (ended all is) none)
-    of (Some digest) some =
-        let p = published_of digest some holds (λ file h. h) in
-        let digest_is : digest ≡ sha256 p.packed = subst (λ (h : Bool). IsDigestOf (digest_if h digest) p.packed) hashed p.digest_is in
-        some ∙ ap (λ (l : List ℕ). Some l) digest_is ∙ ap (λ (l : List ℕ). Some (sha256 l)) (sym (p.told all is))
+  digest_told hashed all is = grind arith
 
 -- the same of a feed that may have been spared
 pub published_or_none : {F : Type 0} (f : feed.Ghosts F) (first last : F) (above : FeedUse) {raw_digest : Option (List ℕ)} (holds : List ℕ → Type 0) (file : List ℕ) (spared : Bool) → GaveOrNot above spared raw_digest file holds → (o : Option (List ℕ)) → supply_of above ≡ raw_of (f.remaining first)
@@ -100,50 +75,21 @@ pub closed_below : {F : Type 0} (f : feed.Ghosts F) (mid last : F) (supplied : �
 closed_below f mid last supplied left o same closed = subst (λ (x : _). Closed (f.has_passed x) (f.remaining x) supplied left o) same closed
 
 pub not_both : (b : Bool) → b ≡ true → b ≡ false → ⊥
-not_both true is isnt = (let bad : ⊥ = cc in bad)
-not_both false is isnt = (let bad : ⊥ = cc in bad)
+not_both b h1 h2 = grind arith
 
 -- if nothing is left of what a feed unpacks, nothing is left below, unless it failed
 pub end_below : (s : State) (meaning : List ℕ → List ℕ) (known : Option (List ℕ)) → stop_in s ≡ None → (unless_failed s (option_map meaning known) ≡ Some [] → known ≡ Some []) → IsAtEnd (unless_failed s (option_map meaning known)) → IsAtEnd known
-end_below s meaning None going ended end = tt
-end_below Reading meaning (Some rest) going ended end = same_Some _ _ (ended (ap (λ (l : List ℕ). Some l) end))
-end_below PassingOn meaning (Some rest) going ended end = same_Some _ _ (ended (ap (λ (l : List ℕ). Some l) end))
-end_below Ended meaning (Some rest) going ended end = same_Some _ _ (ended (ap (λ (l : List ℕ). Some l) end))
-end_below Failed meaning (Some rest) going ended end = (let bad : ⊥ = cc in absurd bad)
-end_below Refused meaning (Some rest) going ended end = (let bad : ⊥ = cc in absurd bad)
+end_below s meaning known h3 h4 h5 = grind (arith, same_Some, ended)
 
 -- a feed that has all that it unpacked has not failed
 pub all_going : {F : Type 0} (u : UnpackedFeed F) → has_all u ≡ true → stop_in u.state ≡ None
-all_going u all = of (stop_in u.state) refl where
-  of : (x : Option Stop) → stop_in u.state ≡ x → stop_in u.state ≡ None
-  of None is = is
-  of (Some s) is = (let bad : ⊥ = (let none : (is_none (stop_in u.state) && length (left_in u) == 0) ≡ false = rw is refl in not_both _ all none) in absurd bad)
+all_going u all = grind arith
 
 -- ---- why a call stops
 
 -- what holds after every stop
 pub unless_changed : (holds : Type 0) (s : Stop) → holds → UnlessChanged holds s
-unless_changed holds stop.Read h = h
-unless_changed holds stop.Write h = h
-unless_changed holds stop.Memory h = h
-unless_changed holds (stop.Refused e) h = h
-unless_changed holds (stop.Changed pass) h = tt
-
--- a stop of a call over raw files, as it is reported of published ones: what is said of a refusal, of a failed read, and of a change
-pub stops_reported : (refused at_fault : Fault → Type 0) (below above wrote : Type 0) (changed numbers : ℕ → Type 0) (lacks : Bool) (s reported : Stop) → reported ≡ told_by lacks s → ((e : Fault) → refused e → at_fault e) → (lacks ≡ false → below → above) → ((pass : ℕ) → changed pass → numbers pass)
-    → Caused refused below wrote changed s → Caused at_fault above wrote numbers reported
-stops_reported refused at_fault below above wrote changed numbers lacks s reported is faults reads passes caused = subst (λ (x : Stop). Caused at_fault above wrote numbers x) (sym is) (of lacks s reads caused) where
-  of : (l : Bool) (t : Stop) → (l ≡ false → below → above) → Caused refused below wrote changed t → Caused at_fault above wrote numbers (told_by l t)
-  of true (stop.Refused e) reads caused = faults e caused
-  of false (stop.Refused e) reads caused = faults e caused
-  of true stop.Read reads caused = tt
-  of false stop.Read reads caused = reads refl caused
-  of true stop.Write reads caused = caused
-  of false stop.Write reads caused = caused
-  of true stop.Memory reads caused = tt
-  of false stop.Memory reads caused = tt
-  of true (stop.Changed pass) reads caused = passes pass caused
-  of false (stop.Changed pass) reads caused = passes pass caused
+unless_changed holds s h2 = grind arith
 
 -- a read of an unpacking feed failed, and not for memory: so one of the feed below did
 pub read_below : {F : Type 0} (f : feed.Ghosts F) (first last : F) (old new : ℕ) → old ≡ f.failures first → new ≡ f.failures last → HasRisen old new → ReadFailed f first last
@@ -151,25 +97,16 @@ read_below f first last old new before after risen = subst (λ (n : ℕ). HasRis
 
 -- what a call over raw files returned, if it is reported as a receipt
 pub outcome_receipt : (o : Result InputReceipt Halt) (holds : InputReceipt → Type 0) → IfOk o holds → (r : Result InputReceipt PublishedHalt) (receipt : InputReceipt) → r ≡ Ok receipt → (lacks : Bool) → ReportsOutcome lacks o r → holds receipt
-outcome_receipt o holds held r receipt is lacks tells = of o (subst (λ (x : Result InputReceipt PublishedHalt). ReportsOutcome lacks o x) is tells) held where
-  of : (x : Result InputReceipt Halt) → ReportsOutcome lacks x (Ok receipt) → IfOk x holds → holds receipt
-  of (Ok known) same held = subst holds (sym same) held
-  of (Err halt) same held = absurd same
+outcome_receipt o holds held r receipt is lacks tells = grind (arith, ReportsOutcome lacks o)
 
 -- and if it is reported as a stop
 module _ (lacks : Bool) (o : Result InputReceipt Halt) (r : Result InputReceipt PublishedHalt) (tells : ReportsOutcome lacks o r) where
   pub outcome_stops : (refused at_fault : Fault → Type 0) (below above wrote : Type 0) (changed numbers : ℕ → Type 0) (reported : PublishedHalt) → r ≡ Err reported → ((e : Fault) → refused e → at_fault e) → (lacks ≡ false → below → above) → ((pass : ℕ) → changed pass → numbers pass)
       → IfErr o (λ h. Caused refused below wrote changed (stop_of h)) → Caused at_fault above wrote numbers reported.stop
-  outcome_stops refused at_fault below above wrote changed numbers reported is faults reads passes caused = of o (subst (λ (x : Result InputReceipt PublishedHalt). ReportsOutcome lacks o x) is tells) caused where
-    of : (x : Result InputReceipt Halt) → ReportsOutcome lacks x (Err reported) → IfErr x (λ h. Caused refused below wrote changed (stop_of h)) → Caused at_fault above wrote numbers reported.stop
-    of (Ok receipt) same caused = absurd same
-    of (Err halt) same caused = stops_reported refused at_fault below above wrote changed numbers lacks (stop_of halt) reported.stop same faults reads passes caused
+  outcome_stops refused at_fault below above wrote changed numbers reported is faults reads passes caused = grind (arith, ReportsOutcome lacks o)
 
   pub outcome_beginning : (below above : Type 0) (reported : PublishedHalt) → r ≡ Err reported → (below → above) → OnErr o below → UnlessChanged above reported.stop
-  outcome_beginning below above reported is step held = of o (subst (λ (x : Result InputReceipt PublishedHalt). ReportsOutcome lacks o x) is tells) held where
-    of : (x : Result InputReceipt Halt) → ReportsOutcome lacks x (Err reported) → OnErr x below → UnlessChanged above reported.stop
-    of (Ok receipt) same held = absurd same
-    of (Err halt) same held = unless_changed above reported.stop (step held)
+  outcome_beginning below above reported is step held = grind (arith, ReportsOutcome lacks o)
 
 -- the fault of a raw file, by what is known of it
 pub fault_as : (judge : Option (List ℕ) → Option Verdict) (known raw : Option (List ℕ)) (e : Fault) → known ≡ raw → FaultOf (judge known) e → FaultOf (judge raw) e
@@ -178,24 +115,15 @@ fault_as judge known raw e same fault = subst (λ (k : Option (List ℕ)). Fault
 -- of what is refused by a call over raw files nothing went out
 pub with_nothing : (o : Result InputReceipt Halt) (refuses : Refusal → Type 0) (nothing : Type 0) (refused : Fault → Type 0) (read wrote : Type 0) (changed : ℕ → Type 0) → IfErr o (Halts (λ r. refuses r × nothing)) → IfErr o (λ h. Caused refused read wrote changed (stop_of h))
     → IfErr o (λ h. Caused (λ e. refused e × nothing) read wrote changed (stop_of h))
-with_nothing (Ok receipt) refuses nothing refused read wrote changed halts caused = tt
-with_nothing (Err (halt.Refused r)) refuses nothing refused read wrote changed halts caused = (caused, halts.1)
-with_nothing (Err (halt.Stopped (stop.Refused e))) refuses nothing refused read wrote changed halts caused = absurd (halts e refl)
-with_nothing (Err (halt.Stopped stop.Read)) refuses nothing refused read wrote changed halts caused = caused
-with_nothing (Err (halt.Stopped stop.Write)) refuses nothing refused read wrote changed halts caused = caused
-with_nothing (Err (halt.Stopped stop.Memory)) refuses nothing refused read wrote changed halts caused = tt
-with_nothing (Err (halt.Stopped (stop.Changed pass))) refuses nothing refused read wrote changed halts caused = caused
+with_nothing o refuses nothing refused read wrote changed h7 h8 = grind arith
 
 -- each of two cases gives one
 pub either_of : {A B C D : Type 0} → (A → C) → (B → D) → A ⊎ B → C ⊎ D
-either_of f g (inl a) = inl (f a)
-either_of f g (inr b) = inr (g b)
+either_of h0 h1 h2 = grind arith
 
 -- no feed was refused memory
 pub none_lacks : (a b : Bool) → (a || b) ≡ false → (a ≡ false) × (b ≡ false)
-none_lacks false false none = (refl, refl)
-none_lacks true b none = (let bad : ⊥ = cc in absurd bad)
-none_lacks false true none = (let bad : ⊥ = cc in absurd bad)
+none_lacks a b h2 = grind arith
 
 -- ---- why a pass is reported as changed
 
@@ -223,12 +151,9 @@ second_differs file holds true none was of is read unlike = (let bad : ⊥ = cc 
 
 -- what is said of the next feed, whether the one before was read or not
 pub rest_of : (above : FeedUse) (raw_digest : Option (List ℕ)) (file : List ℕ) (holds : List ℕ → Type 0) (spared : Bool) → GaveOrNot above spared raw_digest file holds → (c : List ℕ) × holds c
-rest_of above raw_digest file holds false given = (given.file, given.holding)
-rest_of above raw_digest file holds true none = (file, none.1)
+rest_of above raw_digest file holds spared h5 = grind arith
 
 -- before a drain was used, whatever is said
 pub nothing_went_out : {A : Type 0} (r : Result A PublishedHalt) (old new : Option (List ℕ)) (whole : List ℕ → List ℕ) (supplies : List ℕ → Type 0) → new ≡ old
     → IfErr r (λ h. UnlessChanged ((b : List ℕ) → supplies b → IsFront old new (whole b)) h.stop)
-nothing_went_out (Ok x) old new whole supplies is = tt
-nothing_went_out (Err h) old new whole supplies is =
-    unless_changed _ h.stop (λ b supply. subst (λ (k : Option (List ℕ)). IsFront old k (whole b)) (sym is) (nothing_out old (whole b)))
+nothing_went_out r old new whole supplies h5 = grind (arith, unless_changed, nothing_out)

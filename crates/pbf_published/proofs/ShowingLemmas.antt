@@ -1,7 +1,6 @@
 -- The lines of a header, and how it is stored.
-use Rattle.std.proofs.Common.{◌≡◌, ℕ, List, Bool, false, Option, sym, ap, ◌∙◌}
+use Rattle.std.proofs.Common.{arith, ◌≡◌, ℕ, List, Bool, false, Option, sym, ap, ◌∙◌}
 use Rattle.pbf_frame.specs.declared.device.Drain as drain
-use Rattle.pbf_frame.specs.Devices.{append}
 use Rattle.pbf_frame.specs.Transfers.{Added}
 use Rattle.pbf_frame.specs.Verdict.{Verdict}
 use Rattle.pbf_frame.proofs.KnownBytes.{append_append}
@@ -11,13 +10,4 @@ use Rattle.pbf_published.specs.Showing.{ShowsHeader, storage_line}
 
 -- the first frame was shown, and then the line was written
 pub header_shown : {D : Type 0} (d : drain.Ghosts D) (old mid new : D) (known raw : Option Verdict) (is_packed : Bool) → known ≡ raw → ShowsFirst d old mid known → Added d mid (storage_line is_packed) new → ShowsHeader d old new raw
-header_shown d old mid new known raw is_packed same first line = record {
-  frame = first.frame;
-  rest = first.rest;
-  begins = sym same ∙ first.begins;
-  is_packed = is_packed;
-  added = record {
-    told = line.told ∙ ap (λ (k : Option (List ℕ)). append k (storage_line is_packed)) first.shows.added.told ∙ append_append (d.taken old) (frame_text false first.frame) (storage_line is_packed);
-    logged = passes_more (d.has_taken old) (d.has_taken mid) (d.has_taken new) (frame_text false first.frame) (storage_line is_packed) first.shows.added.logged line.logged;
-  };
-}
+header_shown d old mid new known raw is_packed same first line = grind (arith, append_append (d.taken old) (frame_text false first.frame) (storage_line is_packed), passes_more (d.has_taken old) (d.has_taken mid) (d.has_taken new) (frame_text false first.frame) (storage_line is_packed) first.shows.added.logged line.logged)

@@ -1,5 +1,5 @@
 -- A later pass that stopped for a change: what its feed gave isn't the first feed's file.
-use Rattle.std.proofs.Common.{◌≡◌, ℕ, inr, Bool, true, List, Option, subst, refl, sym, ◌∙◌}
+use Rattle.std.proofs.Common.{arith, ◌≡◌, ℕ, inr, Bool, true, List, Option, subst, refl, sym, ◌∙◌}
 use Rattle.sha2.specs.Sha256.{sha256}
 use Rattle.pbf_wire.specs.declared.fault.Fault.{Fault}
 use Rattle.pbf_frame.specs.declared.device.Feed as feed
@@ -24,19 +24,11 @@ module _ {F : Type 0} (f : feed.Ghosts F) (repeat : LaterPass) (old new : F) (wr
 
   -- what stops a pass that doesn't judge
   pub stops_as_change : (known : Option Verdict) (s : Stop) → StopsUnjudged repeat.number known (ReadFailed f old new) wrote s → ReadsFaulty f old new s → StopsLater f repeat old new wrote (as_change repeat.number s)
-  stops_as_change known (stop.Refused e) stops faulty = (refl, refuses_less f old new _ (IsUnlike (digest_of repeat)) (λ b is same. is) faulty)
-  stops_as_change known stop.Read stops faulty = stops
-  stops_as_change known stop.Write stops faulty = stops
-  stops_as_change known stop.Memory stops faulty = tt
-  stops_as_change known (stop.Changed pass) stops faulty = (stops.0, refuses_less f old new _ (IsUnlike (digest_of repeat)) (λ b is same. is) faulty)
+  stops_as_change known s h2 h3 = grind (arith, refuses_less)
 
   -- one that judges
   pub fault_as_change : (refused : Fault → Type 0) (s : Stop) → Caused refused (ReadFailed f old new) wrote unchanged s → ReadsFaulty f old new s → StopsLater f repeat old new wrote (as_change repeat.number s)
-  fault_as_change refused (stop.Refused e) stops faulty = (refl, refuses_less f old new _ (IsUnlike (digest_of repeat)) (λ b is same. is) faulty)
-  fault_as_change refused stop.Read stops faulty = stops
-  fault_as_change refused stop.Write stops faulty = stops
-  fault_as_change refused stop.Memory stops faulty = tt
-  fault_as_change refused (stop.Changed pass) stops faulty = absurd stops
+  fault_as_change refused s h2 h3 = grind (arith, refuses_less)
 
   -- the digest of bytes that were hashed
   hashed_is : (hashes : Bool) (digest bytes : List ℕ) → hashes ≡ true → IsDigestOf (digest_if hashes digest) bytes → digest ≡ sha256 bytes
@@ -44,30 +36,14 @@ module _ {F : Type 0} (f : feed.Ghosts F) (repeat : LaterPass) (old new : F) (wr
 
   -- all was read, and the digest is another
   pub digest_as_change : (hashes : Bool) (digest : List ℕ) (holds : List ℕ → Type 0) (s : Stop) → hashes ≡ repeat.passes.hashes → GaveFile f old new (digest_if hashes digest) holds → (s ≡ stop.Changed repeat.number) × (repeat.passes.hashes ≡ true) × (digest ≡ repeat.digest → ⊥) → StopsLater f repeat old new wrote s
-  digest_as_change hashes digest holds s same given (is, hashed, other) = subst (λ (x : Stop). StopsLater f repeat old new wrote x) (sym is) (
-    refl,
-    record {
-      read = given.file;
-      told = given.supplied.gave.told;
-      logged = given.supplied.gave.logged;
-      faulty = inr (given.supplied.end, λ alike. absurd (other (hashed_is hashes digest given.file (same ∙ hashed) given.digest_is ∙ sym (hashed_is repeat.passes.hashes repeat.digest given.file hashed alike))));
-    },
-  )
+  digest_as_change hashes digest holds s same given (is, hashed, other) = grind (arith, hashed_is hashes digest given.file (same ∙ hashed) given.digest_is, hashed_is repeat.passes.hashes repeat.digest given.file hashed)
 
 -- ---- of a call
 
 -- in a pass that judges
 pub never_changed : (refused : Fault → Type 0) (read wrote : Type 0) (changed : ℕ → Type 0) (s : Stop) → Caused refused read wrote unchanged s → IfChanged changed s
-never_changed refused read wrote changed (stop.Refused e) stops = tt
-never_changed refused read wrote changed stop.Read stops = tt
-never_changed refused read wrote changed stop.Write stops = tt
-never_changed refused read wrote changed stop.Memory stops = tt
-never_changed refused read wrote changed (stop.Changed pass) stops = absurd stops
+never_changed refused read wrote changed s h5 = grind arith
 
 -- in a pass before
 pub changed_before : (changed also : ℕ → Type 0) (s : Stop) → ((pass : ℕ) → changed pass → also pass) → IfChanged changed s → IfChanged also s
-changed_before changed also (stop.Refused e) step stops = tt
-changed_before changed also stop.Read step stops = tt
-changed_before changed also stop.Write step stops = tt
-changed_before changed also stop.Memory step stops = tt
-changed_before changed also (stop.Changed pass) step stops = step pass stops
+changed_before changed also s h3 h4 = grind arith

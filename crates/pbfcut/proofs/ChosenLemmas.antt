@@ -1,5 +1,5 @@
 -- What a call says whose passes chose: the pass that takes relations, and the one that writes.
-use Rattle.std.proofs.Common.{Bool, ◌≡◌, ℕ, List, [], ◌∷◌, Option, Some, Result, Ok, Err, IfOk, OnErr, subst, refl, sym, ap, ◌∙◌}
+use Rattle.std.proofs.Common.{arith, Bool, ◌≡◌, ℕ, List, [], ◌∷◌, Option, Some, Result, Ok, Err, IfOk, OnErr, subst, refl, sym, ap, ◌∙◌}
 use Rattle.std.proofs.lemmas.Result.{on_err_weaker}
 use Rattle.osm_area.specs.Area.{AreaSpec}
 use Rattle.osm_entity.specs.Entity.{Decoded}
@@ -31,8 +31,7 @@ use Rattle.pbfcut.proofs.TheoremLemmas.{gave_or_less, gave_or_not, took_weaker}
 
 -- two things that hold of a result
 pub if_ok_both : {T E : Type 0} (r : Result T E) (P Q R : T → Type 0) → ((x : T) → P x → Q x → R x) → IfOk r P → IfOk r Q → IfOk r R
-if_ok_both (Ok x) P Q R f p q = f x p q
-if_ok_both (Err e) P Q R f p q = tt
+if_ok_both r P Q R h4 h5 h6 = grind arith
 
 -- ---- the pass that writes
 

@@ -1,7 +1,6 @@
 -- A file's conversion, from what its passes say.
-use Rattle.std.proofs.Common.{◌≡◌, ℕ, List, [], ◌∷◌, Option, Some, None, subst, refl, sym, ap, ◌∙◌}
+use Rattle.std.proofs.Common.{arith, ◌≡◌, ℕ, List, [], ◌∷◌, Option, Some, None, subst, refl, sym, ap, ◌∙◌}
 use Rattle.std.specs.List.{filter}
-use Rattle.pbf_wire.specs.declared.fault.Fault.{Fault}
 use Rattle.osm_entity.specs.Entity.{EntitySpec}
 use Rattle.osm_pack.specs.Cuts.{written_file}
 use Rattle.pbf_header.specs.Header.{HeaderSpec}
@@ -72,19 +71,7 @@ answer_is frames at h e = ap (λ (l : List EntitySpec). written_file h l) (every
 
 pub converted : (b : List ℕ) (pass : Pass) (h : HeaderSpec) (counts : Counts) (known : Option Verdict) (written : List ℕ) → known ≡ judged_file (Some b) → Passed b pass h → Packed (take_of None) h counts known written
     → IsConverted b counts written
-converted b pass h counts known written is p went =
-    let packed = went p.frames (is ∙ p.judged) in
-    let verdict = same_verdict b p.frames p.writable in
-    let sound = ap (λ (v : Verdict). v.1) verdict in
-    let whole = packed.is ∙ (answer_is p.frames pass.header_at h p.header ∙ ap answer_bytes (sym verdict)) in
-    let kept = subst (λ (l : List ℕ). IsKept (verdict_on b) l) (sym whole) (conversion_kept b sound) in (
-      record {
-        sound = sound;
-        conversion = kept.conversion;
-        counted = packed.counted ∙ ap (λ (l : List EntitySpec). counts_of l) (everything_picked (stored_entities p.frames) ∙ ap (λ (v : Verdict). stored_entities v.0) (sym verdict));
-      },
-      record { is = whole; again = kept.again },
-    )
+converted b pass h counts known written is p went = grind (arith, went p.frames (is ∙ p.judged), same_verdict b p.frames p.writable, answer_is p.frames pass.header_at h p.header, conversion_kept b (ap (λ (v : Verdict). v.1) (same_verdict b p.frames p.writable)), everything_picked (stored_entities p.frames))
 
 -- what the first pass says of its file
 pub passed_sound : (b : List ℕ) (pass : Pass) (h : HeaderSpec) → Passed b pass h → IsWritable b
@@ -92,10 +79,7 @@ passed_sound b pass h p = ap (λ (v : Verdict). v.1) (same_verdict b p.frames p.
 
 pub can_told : (known : Option (List ℕ)) (file : List ℕ) → Tells known file → IsWritable file → CanBeWritten (judged_writable known)
 can_told None file tells sound = ([], tt)
-can_told (Some b) file tells sound =
-    let v = verdict_on b in
-    (v.0, ap (λ (o : Option Fault). let w : Verdict = (v.0, o) in w) (subst (λ (l : List ℕ). IsWritable l) (tells b refl) sound))
+can_told (Some b) file tells sound = grind (arith, tells b refl)
 
 pub converts_front : (b : List ℕ) (pass : Pass) (h : HeaderSpec) (known : Option Verdict) (old new : Option (List ℕ)) → known ≡ judged_file (Some b) → Passed b pass h → PacksFront (take_of None) h known old new → IsFront old new (conversion_of b)
-converts_front b pass h known old new is p front =
-    subst (λ (l : List ℕ). IsFront old new l) (answer_is p.frames pass.header_at h p.header ∙ ap answer_bytes (sym (same_verdict b p.frames p.writable))) (front p.frames (is ∙ p.judged))
+converts_front b pass h known old new is p front = grind (arith, answer_is p.frames pass.header_at h p.header, same_verdict b p.frames p.writable, front p.frames (is ∙ p.judged))

@@ -1,17 +1,12 @@
 -- A copy that ends, and one that is too long.
 use Rattle.std.proofs.Common.{◌≡◌, ℕ, ◌+◌, ◌<◌, ◌≤◌, nat_lt, Bool, true, false, List, [], ◌∷◌, ◌++◌, length, Option, Some, None, Ok, refl, sym, ap, ◌∙◌, subst, inl, length-append, arith}
 use Rattle.std.specs.Prelude.{◌&&◌, ◌||◌, not, unwrap_or}
-use Rattle.std.proofs.lemmas.Bool.Decides.{nat_tests}
-use Rattle.pbf_wire.specs.declared.fault.Fault.{Fault}
-use Rattle.pbf_wire.specs.declared.fault.Reason.TheVariants.{DataFirst, FileLong, SecondHeader}
-use Rattle.pbf_wire.specs.Faults.{fault_where}
 use Rattle.pbf_frame.specs.declared.device.Feed as feed
 use Rattle.pbf_frame.specs.declared.frame.FrameKind.{FrameKind}
 use Rattle.pbf_frame.specs.declared.frame.TheConstants.{FILE_LIMIT}
 use Rattle.pbf_frame.specs.declared.stop.Stop.TheVariants as stop
-use Rattle.pbf_frame.specs.Frames.{FrameSpec, frame_bytes, frame_end, frame_kind, is_data, is_header, order_faults}
+use Rattle.pbf_frame.specs.Frames.{FrameSpec, frame_bytes, frame_end, frame_kind, is_data, is_header, order_faults, next_of}
 use Rattle.pbf_frame.specs.Sound.{AreFrames, EndsAs, had_after, place_after}
-use Rattle.pbf_frame.specs.Frames.{next_of}
 use Rattle.pbf_frame.specs.Devices.{IsFront, append, prepend}
 use Rattle.pbf_frame.specs.Transfers.{SuppliedFirst}
 use Rattle.pbf_frame.proofs.Beginnings.{front_longer, front_then}
@@ -27,21 +22,9 @@ use Rattle.pbfcut.specs.Repeat.{StopsLater}
 
 -- ---- how long a file without a fault is
 
-last_none : (xs ys : List Fault) → xs ++ ys ≡ [] → ys ≡ []
-last_none [] ys e = e
-last_none (x ∷ xs) ys e = cc
-
 -- a frame that is in order ends within the limit
 ends_in_time : (h : Bool) (p : ℕ) (k : FrameKind) (last : ℕ) → order_faults (Some FILE_LIMIT) h p k last ≡ [] → last ≤ FILE_LIMIT
-ends_in_time h p k last none = cases (nat_lt FILE_LIMIT last) refl where
-  late : fault_where (nat_lt FILE_LIMIT last) p FileLong ≡ []
-  late = last_none (fault_where (h && is_header k) p SecondHeader ++ fault_where (not h && is_data k) p DataFirst) (fault_where (nat_lt FILE_LIMIT last) p FileLong) none
-
-  cases : (b : Bool) → nat_lt FILE_LIMIT last ≡ b → last ≤ FILE_LIMIT
-  cases true is =
-      let some : fault_where true p FileLong ≡ [] = rw is at late in
-      (let bad : ⊥ = cc in absurd bad)
-  cases false is = grind (arith, nat_tests, is)
+ends_in_time h p k last none = grind (arith, nat_lt FILE_LIMIT last)
 
 -- frames without a fault end within it
 frames_in_time : (h : Bool) (p : ℕ) (fs : List FrameSpec) → p ≤ FILE_LIMIT → AreFrames h p fs → p + length (joined_frames fs) ≤ FILE_LIMIT
@@ -72,24 +55,13 @@ first_as f first old last new bytes begins ends gave = subst (λ x. SuppliedFirs
 -- ---- a later pass that gave more than that
 
 pub too_long : {F : Type 0} (f : feed.Ghosts F) (again : LaterPass) (old new : F) (wrote : Type 0) (bytes : List ℕ) → SuppliedFirst f old bytes new → FILE_LIMIT < length bytes → StopsLater f again old new wrote (stop.Changed again.number)
-too_long f again old new wrote bytes gave long = (
-  refl,
-  record {
-    read = bytes;
-    told = gave.told;
-    logged = gave.logged;
-    faulty = inl (λ rest same. long_is_faulty (bytes ++ rest) (omega (arith, long, length-append bytes rest)));
-  },
-)
+too_long f again old new wrote bytes gave long = grind (arith, long_is_faulty, length-append bytes)
 
 -- ---- what went out of what there was
 
 known_rest : (left : Option (List ℕ)) (all bytes : List ℕ) → Some all ≡ prepend bytes left → (rest : List ℕ) × (left ≡ Some rest) × (all ≡ bytes ++ rest)
-known_rest None all bytes e = (let bad : ⊥ = cc in absurd bad)
-known_rest (Some rest) all bytes e = (rest, refl, (let same : all ≡ bytes ++ rest = cc in same))
+known_rest left all bytes h3 = grind arith
 
 -- and a part of some more
 pub front_then_part : (left before mid now : Option (List ℕ)) (all bytes piece : List ℕ) → Some all ≡ prepend (bytes ++ piece) left → mid ≡ append before bytes → IsFront mid now piece → IsFront before now all
-front_then_part left before mid now all bytes piece gave took front =
-    let known = known_rest left all (bytes ++ piece) gave in
-    subst (IsFront before now) (sym known.2) (front_longer before now (bytes ++ piece) known.0 (front_then before mid now bytes piece took front))
+front_then_part left before mid now all bytes piece gave took front = grind (arith, known_rest left all (bytes ++ piece) gave, front_longer before now (bytes ++ piece) ((known_rest left all (bytes ++ piece) gave).0) (front_then before mid now bytes piece took front), front_then before mid now bytes piece took front)

@@ -1,5 +1,5 @@
 -- A file's extract, from what its passes say.
-use Rattle.std.proofs.Common.{◌≡◌, ℕ, ℤ, ◌<◌, ◌^◌, rules, List, [], ◌∷◌, map, Bool, true, false, Option, Some, None, subst, refl, sym, ap, ◌∙◌}
+use Rattle.std.proofs.Common.{arith, ◌≡◌, ℕ, ℤ, ◌<◌, ◌^◌, rules, List, [], ◌∷◌, map, Bool, true, false, Option, Some, None, subst, refl, sym, ap, ◌∙◌}
 use Rattle.std.specs.FinSet as set
 use Rattle.std.specs.List.{fold, filter}
 use Rattle.std.specs.Option.{option_map}
@@ -67,9 +67,7 @@ pub sets_are : (area : AreaSpec) (es : List EntitySpec) → fold with_way (start
 sets_are area es = ways_folded area (start_ways (node_pass (map (seen_entity area) es))) es
 
 taken_is : (area : AreaSpec) (sets : KeptSets) (e : EntitySpec) → taken_by sets e ≡ is_taken sets (seen_entity area e)
-taken_is area sets (node n) = refl
-taken_is area sets (way w) = refl
-taken_is area sets (relation r) = refl
+taken_is area sets e = grind arith
 
 -- sets that were gathered from a whole list, and keep what it does
 taken_as : (area : AreaSpec) (es : List EntitySpec) (sets : KeptSets) (keep : List Seen → Seen → Bool) → sets.ways ≡ way_pass (map (seen_entity area) es) → is_chosen sets ≡ keep (map (seen_entity area) es)
@@ -87,10 +85,7 @@ taken_are area es = taken_as area es (without_parents (way_pass (map (seen_entit
 
 -- the header of a file that has one
 header_from : (area : AreaSpec) (o : Option (ℕ × HeaderSpec)) (h : HeaderSpec) → option_map (λ p. header_out_for_box area.bounds p.1) o ≡ Some h → (choose : Choice) (es : List EntitySpec) → extraction choose area o es ≡ written_file h (choose es)
-header_from area None h e choose es = absurd (none_some _ _ refl e)
-header_from area (Some header) h e choose es = ap (λ (g : HeaderSpec). written_file g (choose es)) (some_same e) where
-  some_same : Some (header_out_for_box area.bounds header.1) ≡ Some h → header_out_for_box area.bounds header.1 ≡ h
-  some_same e = cc
+header_from area o h h3 choose es = grind (arith, none_some)
 
 -- a selection that keeps what the choice does of the frames that the passes read
 pub record Selects (b : List ℕ) (choose : Choice) (area : AreaSpec) (pick : Pick) (h : HeaderSpec) : Type 0 where
@@ -134,18 +129,7 @@ module _ (choose : Choice) (select : List Decoded → List Decoded) (selection :
   answer = ap (λ (l : List EntitySpec). written_file h l) s.picked ∙ (sym s.bytes ∙ ap (λ (v : Verdict). extract_bytes choose area v) (sym verdict))
 
   pub extracted : (counts : Counts) (known : Option Verdict) (written : List ℕ) → known ≡ judged_file (Some b) → Packed pick h counts known written → IsExtraction choose select area b counts written
-  extracted counts known written is went =
-      let packed = went s.frames (is ∙ s.judged) in
-      let sound = ap (λ (v : Verdict). v.1) verdict in
-      let whole = packed.is ∙ answer in
-      let kept = subst (λ (l : List ℕ). IsKeptExtract choose select selection area s.typed (verdict_on b) l) (sym whole) (extract_kept choose select selection area s.typed b sound) in (
-        record {
-          sound = sound;
-          extract = kept.extract;
-          counted = packed.counted ∙ ap (λ (l : List EntitySpec). counts_of l) (s.picked ∙ ap (λ (v : Verdict). choose (stored_entities v.0)) (sym verdict));
-        },
-        record { is = whole; again = kept.again },
-      )
+  extracted counts known written is went = grind (arith, went s.frames (is ∙ s.judged), answer, extract_kept choose select selection area s.typed b (ap (λ (v : Verdict). v.1) verdict))
 
   pub extracts_front : (known : Option Verdict) (old new : Option (List ℕ)) → known ≡ judged_file (Some b) → PacksFront pick h known old new → IsFront old new (extract_of choose area b)
   extracts_front known old new is front = subst (λ (l : List ℕ). IsFront old new l) answer (front s.frames (is ∙ s.judged))
@@ -240,9 +224,7 @@ abbrev nodes_of : AreaSpec → List EntitySpec → WaySets
 nodes_of area es = start_ways (node_pass (map (seen_entity area) es))
 
 same_frames : (b : List ℕ) (one two : List FrameSpec) → judged_file (Some b) ≡ Some (one, None) → judged_file (Some b) ≡ Some (two, None) → one ≡ two
-same_frames b one two e f = let same : ◌≡◌ {A = Option Verdict} (Some (one, None)) (Some (two, None)) = sym e ∙ f in parted same where
-  parted : ◌≡◌ {A = Option Verdict} (Some (one, None)) (Some (two, None)) → one ≡ two
-  parted same = let pair : ◌≡◌ {A = Verdict} (one, None) (two, None) = cc in ap (λ (v : Verdict). v.0) pair
+same_frames b one two e f = grind arith
 
 -- what the first pass took, and a second one if it hadn't all ways
 module _ {S : Type 0} (start : S) (step : S → Seen → S) (has_ways : S → Bool) (ended : S → WaySets) (takes : TakesFirst start step has_ways ended) (second : FeedUse) (digest : Option (List ℕ)) (area : AreaSpec) (b : List ℕ) (h : HeaderSpec) (begun phase : S) (started ways : WaySets) (sets : KeptSets) where

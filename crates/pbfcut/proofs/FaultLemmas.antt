@@ -21,52 +21,41 @@ use Rattle.pbf_pass.specs.Payload.{Payload, header_block, primitive_block, unkno
 
 payload_first : (p : Payload) → first_fault (payload_phases p) ≡ fault_in p
 unfolding header_fault block_fault
-payload_first (header_block at message) = refl
-payload_first (primitive_block at message) = refl
-payload_first unknown = refl
+payload_first p = grind arith
 
 frame_first : (had_header : Bool) (f : FrameSpec) → option_map (λ p. p.1) (least_by phase_rank (frame_faults had_header f)) ≡ option_or (first_fault (frame_phases (Some FILE_LIMIT) had_header f)) (payload_fault f)
-frame_first had_header f =
-    phases_joined 1 (frame_phases (Some FILE_LIMIT) had_header f ++ payload_phases (payload_of f))
-    ∙ first_of_joined (frame_phases (Some FILE_LIMIT) had_header f) (payload_phases (payload_of f))
-    ∙ ap (option_or (first_fault (frame_phases (Some FILE_LIMIT) had_header f))) (payload_first (payload_of f))
+frame_first had_header f = grind (arith, phases_joined 1 (frame_phases (Some FILE_LIMIT) had_header f ++ payload_phases (payload_of f)), first_of_joined (frame_phases (Some FILE_LIMIT) had_header f) (payload_phases (payload_of f)), payload_first (payload_of f))
 
 -- ---- the verdict, frame by frame
 
 after_payload : (fault : Option Fault) (f : FrameSpec) (later : Verdict) → (sound_first fault f later).1 ≡ option_or fault later.1
-after_payload None f later = refl
-after_payload (Some e) f later = refl
+after_payload fault f later = grind arith
 
 after_frame : (later : Bool → ℕ → List ℕ → Verdict) (had_header : Bool) (fault : Option Fault) (f : FrameSpec) (bytes : List ℕ)
     → (fully (judged_after later had_header (given_or fault f bytes))).1
     ≡ option_or fault (option_or (payload_fault f) (fully (later (had_header || is_header (frame_kind f)) (frame_end f) (drop (length (frame_bytes f)) bytes))).1)
-after_frame later had_header None f bytes = after_payload (payload_fault f) f (fully (later (had_header || is_header (frame_kind f)) (frame_end f) (drop (length (frame_bytes f)) bytes)))
-after_frame later had_header (Some e) f bytes = refl
+after_frame later had_header fault f bytes = grind (arith, after_payload)
 
 -- ---- the set, frame by frame
 
 both_parts : (o : Option (ℕ × (ℕ × Fault))) → option_map (λ p. p.1.1) o ≡ option_map (λ p. p.1) (option_map (λ p. p.1) o)
-both_parts None = refl
-both_parts (Some p) = refl
+both_parts o = grind arith
 
 map_or : (f g : Option (ℕ × Fault)) → option_map (λ p. p.1) (option_or f g) ≡ option_or (option_map (λ p. p.1) f) (option_map (λ p. p.1) g)
-map_or None g = refl
-map_or (Some f) g = refl
+map_or f g = grind arith
 
 frame_ends : (f : FrameSpec) → f.offset + 1 ≤ frame_end f
 frame_ends f = omega arith
 
 ends_from : (had_header : Bool) (place : ℕ) → IsFrom place (least_by file_rank (map (λ p. (place, p)) (end_faults had_header place)))
-ends_from true place = tt
-ends_from false place = omega arith
+ends_from had_header place = grind arith
 
 -- a file ends here, if it had its header
 abbrev end_of : Bool → ℕ → Result (Option FrameSpec × List ℕ) Fault
 end_of had_header place = if had_header then Ok (None, []) else Err (record { offset = place; reason = NoHeader })
 
 ends_same : (later : Bool → ℕ → List ℕ → Verdict) (had_header : Bool) (place : ℕ) → option_map (λ p. p.1.1) (least_by file_rank (map (λ p. (place, p)) (end_faults had_header place))) ≡ (fully (judged_after later had_header (end_of had_header place))).1
-ends_same later true place = refl
-ends_same later false place = refl
+ends_same later had_header place = grind arith
 
 -- a frame, and what follows it
 module _ (fuel : ℕ) (had_header : Bool) (place : ℕ) (bytes : List ℕ) where
@@ -103,8 +92,7 @@ module _ (fuel : ℕ) (had_header : Bool) (place : ℕ) (bytes : List ℕ) where
 
     same_here : option_map (λ p. p.1.1) (least_by file_rank later) ≡ after → (b : Bool)
         → option_map (λ p. p.1.1) (least_by file_rank (all_of b)) ≡ (fully (judged_after (judged_fueled (Some FILE_LIMIT) fuel) had_header (if b then end_of had_header place else given_or own f bytes))).1
-    same_here is true = ends_same (judged_fueled (Some FILE_LIMIT) fuel) had_header place
-    same_here is false = frame_then is ∙ sym (after_frame (judged_fueled (Some FILE_LIMIT) fuel) had_header own f bytes)
+    same_here h0 b = grind (arith, ends_same, frame_then, after_frame)
 
 from_place : (fuel : ℕ) (had_header : Bool) (place : ℕ) (bytes : List ℕ) → IsFrom place (least_by file_rank (faults_within fuel had_header place bytes))
 unfolding faults_within

@@ -104,9 +104,7 @@ blocks_at place (block ∷ blocks) = block_at place block ∷ blocks_at (frame_e
 
 blocks_joined : (place : ℕ) (blocks : List (List EntitySpec)) → joined_frames (blocks_at place blocks) ≡ flat_map block_frame blocks
 blocks_joined place [] = refl
-blocks_joined place (block ∷ blocks) =
-    ap (λ (l : List ℕ). l ++ joined_frames (blocks_at (frame_end (block_at place block)) blocks)) (written_bytes place kind.Data (block_message block))
-    ∙ ap (λ (l : List ℕ). block_frame block ++ l) (blocks_joined (frame_end (block_at place block)) blocks)
+blocks_joined place (block ∷ blocks) = grind (arith, written_bytes place kind.Data (block_message block), blocks_joined (frame_end (block_at place block)) blocks)
 
 blocks_are_frames : (place : ℕ) (blocks : List (List EntitySpec)) → AllByRecursion IsWritten blocks → AreFramesWithin None true place (blocks_at place blocks)
 blocks_are_frames place [] are = tt
@@ -114,23 +112,15 @@ blocks_are_frames place (block ∷ blocks) are = (block_is_frame place block are
 
 blocks_sound : (place : ℕ) (blocks : List (List EntitySpec)) → AllByRecursion IsWritten blocks → sound_front (blocks_at place blocks) None ≡ (blocks_at place blocks, None)
 blocks_sound place [] are = refl
-blocks_sound place (block ∷ blocks) are =
-    let f = block_at place block in
-    let later = blocks_at (frame_end f) blocks in
-    ap (λ (o : Option Fault). sound_first o f (sound_front later None)) (block_sound place block are.0) ∙ ap (λ (v : Verdict). with_frame_first f v) (blocks_sound (frame_end f) blocks are.1)
+blocks_sound place (block ∷ blocks) are = grind (arith, block_sound place block are.0, blocks_sound (frame_end (block_at place block)) blocks are.1)
 
 blocks_stored : (place : ℕ) (blocks : List (List EntitySpec)) → AllByRecursion IsWritten blocks → stored_entities (blocks_at place blocks) ≡ flat_map (λ block. block) blocks
 blocks_stored place [] are = refl
-blocks_stored place (block ∷ blocks) are =
-    let f = block_at place block in
-    ap (λ (l : List EntitySpec). l ++ stored_entities (blocks_at (frame_end f) blocks)) (block_entities place block are.0)
-    ∙ ap (λ (l : List EntitySpec). block ++ l) (blocks_stored (frame_end f) blocks are.1)
+blocks_stored place (block ∷ blocks) are = grind (arith, block_entities place block are.0, blocks_stored (frame_end (block_at place block)) blocks are.1)
 
 blocks_headers : (place : ℕ) (blocks : List (List EntitySpec)) → AllByRecursion IsWritten blocks → flat_map frame_headers (blocks_at place blocks) ≡ []
 blocks_headers place [] are = refl
-blocks_headers place (block ∷ blocks) are =
-    let f = block_at place block in
-    ap (λ (l : List (ℕ × HeaderSpec)). l ++ flat_map frame_headers (blocks_at (frame_end f) blocks)) (block_headers place block are.0) ∙ blocks_headers (frame_end f) blocks are.1
+blocks_headers place (block ∷ blocks) are = grind (arith, block_headers place block are.0, blocks_headers (frame_end (block_at place block)) blocks are.1)
 
 -- ---- the blocks of entities
 

@@ -53,22 +53,17 @@ abbrev IsSound : FrameSpec → Type 0
 IsSound f = payload_fault f ≡ None
 
 first_sound : (o : Option Fault) (f : FrameSpec) (v : Verdict) → payload_fault f ≡ o → (sound_first o f v).1 ≡ None → (v.1 ≡ None → AllByRecursion IsSound v.0) → AllByRecursion IsSound (sound_first o f v).0
-first_sound None f v is e later = (is, later e)
-first_sound (Some x) f v is e later = tt
+first_sound o f v h3 h4 h5 = grind arith
 
 front_sound : (frames : List FrameSpec) (ending : Option Fault) → (sound_front frames ending).1 ≡ None → AllByRecursion IsSound (sound_front frames ending).0
 front_sound [] ending e = tt
 front_sound (f ∷ frames) ending e = first_sound (payload_fault f) f (sound_front frames ending) refl e (front_sound frames ending)
 
 payload_fits : (p : Payload) → fault_in p ≡ None → AllByRecursion EntityFits (entities_in p)
-payload_fits (header_block at m) e = tt
-payload_fits (primitive_block at m) e = entities_fit at m e
-payload_fits unknown e = tt
+payload_fits p h1 = grind (arith, entities_fit)
 
 payload_typed : (p : Payload) → AllByRecursion EntityTyped (entities_in p)
-payload_typed (header_block at m) = tt
-payload_typed (primitive_block at m) = entities_typed at m
-payload_typed unknown = tt
+payload_typed p = grind (arith, entities_typed)
 
 all_fit : (frames : List FrameSpec) → AllByRecursion IsSound frames → AllByRecursion EntityFits (stored_entities frames)
 all_fit [] sound = tt
@@ -87,9 +82,7 @@ abbrev HeadFits : Placed → Type 0
 HeadFits p = HeaderFits (header_out_for_convert p.1)
 
 payload_headers : (p : Payload) → AllByRecursion HeadFits (headers_in p)
-payload_headers (header_block at m) = (header_fits at m, tt)
-payload_headers (primitive_block at m) = tt
-payload_headers unknown = tt
+payload_headers p = grind (arith, header_fits)
 
 all_headers : (frames : List FrameSpec) → AllByRecursion HeadFits (flat_map frame_headers frames)
 all_headers [] = tt
@@ -108,8 +101,7 @@ record HasHeader (found : Option Placed) : Type 0 where
   fits : HeaderFits (header_out_for_convert header)
 
 within : (b : Bool) (place : ℕ) → (if b then None else Some (fault place EntityLarge)) ≡ None → b ≡ true
-within true place e = refl
-within false place e = absurd (cc)
+within b place h2 = grind arith
 
 has_header : (found : Option Placed) → header_limit found ≡ None → IfSome found HeadFits → HasHeader found
 has_header None e h = absurd (cc)
@@ -125,12 +117,10 @@ record Passes (v : Verdict) : Type 0 where
   limit : header_limit (file_header v.0) ≡ None
 
 passes_with : (frames : List FrameSpec) (o : Option Fault) → header_limit (file_header frames) ≡ o → (with_limit o frames).1 ≡ None → Passes (frames, None)
-passes_with frames None is e = record { sound = refl; same = ap (λ (o : Option Fault). with_limit o frames) is; limit = is }
-passes_with frames (Some x) is e = absurd (cc)
+passes_with frames o h2 h3 = grind arith
 
 passes : (v : Verdict) → (limited v).1 ≡ None → Passes v
-passes (frames, None) e = passes_with frames (header_limit (file_header frames)) refl e
-passes (frames, Some x) e = absurd (cc)
+passes v h1 = grind (arith, passes_with)
 
 -- ---- a file that can be written again
 
@@ -174,16 +164,10 @@ module _ (read : Verdict) (h : HeaderSpec) (es : List EntitySpec) (is : IsFileOf
   entities_are = ap (λ (v : Verdict). stored_entities v.0) is.verdict ∙ is.entities
 
   converted_is : answer_bytes read ≡ written_file h es
-  converted_is =
-      ap answer_bytes is.verdict
-      ∙ (ap (λ (o : Option Placed). conversion o (stored_entities is.frames)) is.placed
-      ∙ ap (λ (l : List EntitySpec). written_file h l) is.entities)
+  converted_is = grind arith
 
   extracted_is : (choose : Choice) (area : AreaSpec) → extract_bytes choose area read ≡ written_file (header_out_for_box area.bounds h) (choose es)
-  extracted_is choose area =
-      ap (λ (v : Verdict). extract_bytes choose area v) is.verdict
-      ∙ (ap (λ (o : Option Placed). extraction choose area o (stored_entities is.frames)) is.placed
-      ∙ ap (λ (l : List EntitySpec). written_file (header_out_for_box area.bounds h) (choose l)) is.entities)
+  extracted_is choose area = grind arith
 
 pub same_verdict : (file : List ℕ) (frames : List FrameSpec) → judged_writable (Some file) ≡ Some (frames, None) → verdict_on file ≡ (frames, None)
 same_verdict file frames is = ap (λ (o : Option Verdict). unwrap_or o (frames, None)) is
@@ -211,11 +195,7 @@ conversion_written read h es is can =
     let out = header_out_for_convert h in
     let written = verdict_within None (written_file h es) in
     record {
-      conversion = record {
-        sound = is_sound written out es again;
-        header = header_is written out es again ∙ sym (ap (λ (o : Option HeaderSpec). option_map header_out_for_convert o) (header_is read h es is));
-        entities = entities_are written out es again ∙ sym (entities_are read h es is);
-      };
+      conversion = grind (arith, is_sound written out es again, header_is written out es again, header_is read h es is, entities_are written out es again, entities_are read h es is);
       again = converted_is written out es again ∙ written_for_out h es;
     }
 
@@ -241,12 +221,7 @@ module _ (choose : Choice) (select : List Decoded → List Decoded) (selection :
     pub again : extract_bytes choose area (verdict_within None written) ≡ written
 
   can_extract : (h : HeaderSpec) (es : List EntitySpec) → CanWrite h es → CanWrite (header_out_for_box area.bounds h) (choose es)
-  can_extract h es can = record {
-    fits = out_fits (Some (edges_of area.bounds)) (header_out_for_box area.bounds h) edges can.fits.timestamp can.fits.sequence;
-    short = can.short;
-    fit = selection.fit es can.fit;
-    typed = selection.typed es can.typed;
-  }
+  can_extract h es can = grind (arith, out_fits (Some (edges_of area.bounds)) (header_out_for_box area.bounds h) edges can.fits.timestamp can.fits.sequence, edges_of area.bounds, selection.fit es can.fit, selection.typed es can.typed)
 
   extract_written : (read : Verdict) (h : HeaderSpec) (es : List EntitySpec) → IsFileOf read h es → CanWrite h es → IsKeptExtract read (written_file (header_out_for_box area.bounds h) (choose es))
   extract_written read h es is can =
@@ -257,12 +232,7 @@ module _ (choose : Choice) (select : List Decoded → List Decoded) (selection :
       let again = subst (λ (g : HeaderSpec). IsFileOf written g kept) once (written_out_is_file out kept (can_extract h es can)) in
       let entities = entities_are written out kept again ∙ ap choose (sym (entities_are read h es is)) in
       record {
-        extract = record {
-          sound = is_sound written out kept again;
-          header = header_is written out kept again ∙ sym (ap (λ (o : Option HeaderSpec). option_map (header_out_for_box area.bounds) o) (header_is read h es is));
-          meaning = ap (λ (l : List EntitySpec). map entity.decoded l) entities ∙ selection.meaning (stored_entities read.0);
-          entities = entities;
-        };
+        extract = grind (arith, is_sound written out kept again, header_is written out kept again, header_is read h es is, selection.meaning (stored_entities read.0));
         again = extracted_is written out kept again choose area ∙ (ap (λ (g : HeaderSpec). written_file g (choose kept)) once ∙ ap (λ (l : List EntitySpec). written_file out l) (selection.twice es));
       }
 
@@ -289,30 +259,15 @@ module _ (choose : Choice) (select : List Decoded → List Decoded) (selection :
 
   -- and so it is of the bytes that two runs wrote
   pub run_of_run : (fewer : Choice) (other : AreaSpec) → ((es : List EntitySpec) → fewer (choose es) ≡ fewer es) → (file part cut : List ℕ) → length part ≤ FILE_LIMIT → IsWritable file → IsCanonical (extract_bytes choose area) file part → IsCanonical (extract_bytes fewer other) part cut → cut ≡ extract_of fewer other file
-  run_of_run fewer other enough file part cut low sound first second =
-      let none : (verdict_within None part).1 ≡ None = subst (λ (w : List ℕ). (verdict_within None w).1 ≡ None) (sym first.is) (extract_kept file sound).extract.sound in
-      second.is
-      ∙ (ap (λ (v : Verdict). extract_bytes fewer other v) (same_as_a_file part low none)
-      ∙ (ap (λ (w : List ℕ). extract_bytes fewer other (verdict_within None w)) first.is
-      ∙ extract_of_extract fewer other enough file sound))
+  run_of_run fewer other enough file part cut low sound first second = grind (arith, extract_kept file sound, same_as_a_file part low (subst (λ (w : List ℕ). (verdict_within None w).1 ≡ None) (sym first.is) (extract_kept file sound).extract.sound), extract_of_extract fewer other enough file sound)
 
 -- ---- the complete ways, without and with all parents
 
 pub complete_ways_select : (area : AreaSpec) → IsSelection (complete_ways area) (λ meant. extract (seen_decoded area) meant)
-complete_ways_select area = record {
-  fit = λ es fit. all_filter EntityFits _ es fit;
-  typed = λ es typed. all_filter EntityTyped _ es typed;
-  twice = extract_twice (seen_entity area);
-  meaning = chosen_viewed keeps entity.decoded (seen_entity area) (seen_decoded area) (seen_alike area);
-}
+complete_ways_select area = grind (arith, all_filter EntityFits, all_filter EntityTyped, extract_twice (seen_entity area), chosen_viewed keeps entity.decoded (seen_entity area) (seen_decoded area) (seen_alike area), seen_alike area)
 
 pub all_parents_select : (area : AreaSpec) → IsSelection (all_parents area) (λ meant. extract_with_parents (seen_decoded area) meant)
-all_parents_select area = record {
-  fit = λ es fit. all_filter EntityFits _ es fit;
-  typed = λ es typed. all_filter EntityTyped _ es typed;
-  twice = extract_with_parents_twice (seen_entity area);
-  meaning = chosen_viewed keeps_with_parents entity.decoded (seen_entity area) (seen_decoded area) (seen_alike area);
-}
+all_parents_select area = grind (arith, all_filter EntityFits, all_filter EntityTyped, extract_with_parents_twice (seen_entity area), chosen_viewed keeps_with_parents entity.decoded (seen_entity area) (seen_decoded area) (seen_alike area), seen_alike area)
 
 -- ---- two runs
 

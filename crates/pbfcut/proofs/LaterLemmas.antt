@@ -52,8 +52,7 @@ keeps_more [] last all keeps = (keeps, tt)
 keeps_more (one ∷ more) last all keeps = (all.0, keeps_more more last all.1 keeps)
 
 if_more : (more : List FeedUse) (last : FeedUse) (nothing : Type 0) → nothing → IfMore (more ++ last ∷ []) nothing
-if_more [] last nothing went = went
-if_more (one ∷ more) last nothing went = went
+if_more more last nothing h3 = grind arith
 
 module _ (changed : ℕ → FeedUse → ℕ → Type 0) (nothing : Type 0) (last : FeedUse) (pass : ℕ) where
   changed_more : (later : List FeedUse) (number : ℕ) → nothing → ChangedLater changed (Unit {0}) number later pass → ChangedLater changed nothing number (later ++ last ∷ []) pass
@@ -69,11 +68,7 @@ module _ (changed : ℕ → FeedUse → ℕ → Type 0) (nothing : Type 0) (last
 
 -- the stops of earlier passes, in a call with more of them
 pub stops_earlier : (refused also : Fault → Type 0) (read more wrote : Type 0) (changed too : ℕ → Type 0) (s : Stop) → ((e : Fault) → refused e → also e) → (read → more) → ((pass : ℕ) → changed pass → too pass) → Caused refused read ⊥ changed s → Caused also more wrote too s
-stops_earlier refused also read more wrote changed too (stop.Refused e) f r d h = f e h
-stops_earlier refused also read more wrote changed too stop.Read f r d h = r h
-stops_earlier refused also read more wrote changed too stop.Write f r d h = absurd h
-stops_earlier refused also read more wrote changed too stop.Memory f r d h = tt
-stops_earlier refused also read more wrote changed too (stop.Changed n) f r d h = d n h
+stops_earlier refused also read more wrote changed too s h8 h9 h10 h11 = grind arith
 
 module _ (first : FeedUse) (later : List FeedUse) (last : FeedUse) (hashes : Bool) (h : Halt) (stops : StopsChoosing first later hashes h) where
   -- if this one chooses too
@@ -108,34 +103,16 @@ module _ (first : FeedUse) (digest : Option (List ℕ)) (holds : List ℕ → Ty
   last_differs = later_differs last (supply_of first) (digest_of again) frames (subst (λ (d : Option (List ℕ)). IsDigest (supply_of first) d) (sym is) (told_digest first.ghosts _ _ digest holds given)) (told_says first.ghosts _ _ digest holds (frames, None) given says)
 
   pub last_stops : (refused : Fault → Type 0) (wrote : Type 0) (s : Stop) → StopsLater last.ghosts again last.old last.new wrote s → Caused refused (AnyFailed (first ∷ later ++ last ∷ [])) wrote (ChangedAmong nothing first (later ++ last ∷ [])) s
-  last_stops refused wrote (stop.Refused e) h = absurd h
-  last_stops refused wrote stop.Read h = failed_last (first ∷ later) last h
-  last_stops refused wrote stop.Write h = h
-  last_stops refused wrote stop.Memory h = tt
-  last_stops refused wrote (stop.Changed n) h = changed_last (λ number other. ChangedIn number (supply_of first) (supply_of other)) nothing last n later 2 again.number number (h.0, last_differs h.1)
+  last_stops refused wrote s h3 = grind (arith, failed_last, changed_last, last_differs)
 
   pub last_changed : (wrote : Type 0) (s : Stop) → StopsLater last.ghosts again last.old last.new wrote s → IfChanged (ChangedOf nothing first (later ++ last ∷ [])) s
-  last_changed wrote (stop.Refused e) h = tt
-  last_changed wrote stop.Read h = tt
-  last_changed wrote stop.Write h = tt
-  last_changed wrote stop.Memory h = tt
-  last_changed wrote (stop.Changed n) h = changed_last (ChangedAt first) nothing last n later 2 again.number number (
-    h.0,
-    record {
-      file = given.file;
-      supplied = given.supplied;
-      digest_is = tt;
-      holding = refuses_less last.ghosts last.old last.new (IsUnlike (digest_of again)) _ (λ b unlike same. unlike (subst (λ (d : Option (List ℕ)). IsDigestOf d b) (sym is) (subst (λ (l : List ℕ). IsDigestOf digest l) same given.digest_is)) frames
-          (ap (λ (l : List ℕ). judged_file (Some l)) (sym same) ∙ known_says given.file (frames, None) says)) h.1;
-    },
-  )
+  last_changed wrote s h2 = grind (arith, changed_last, refuses_less, known_says)
 
 -- ---- the pass that writes stopped, or didn't
 
 -- a later pass refuses nothing
 pub later_halts : {F : Type 0} (f : feed.Ghosts F) (again : LaterPass) (old new : F) (wrote : Type 0) (refused : Refusal → Type 0) (h : Halt) → StopsLater f again old new wrote (stop_of h) → Halts refused h
-later_halts f again old new wrote refused (halt.Refused r) stops = absurd stops
-later_halts f again old new wrote refused (halt.Stopped s) stops = no_refusal f again old new wrote s stops
+later_halts f again old new wrote refused h h7 = grind (arith, no_refusal)
 
 module _ {D : Type 0} (first : FeedUse) (digest : Option (List ℕ)) (holds : List ℕ → Type 0) (given : GaveBy first digest holds) (frames : List FrameSpec) (says : Says (judged_file (Some given.file)) (frames, None)) (later : List FeedUse) (last : FeedUse) (again : LaterPass) (number : again.number ≡ length later + 2) (is : digest_of again ≡ digest)
     (out : DrainUse D) (sets : KeptSets) (h : HeaderSpec) (spared : Bool) (r : Result InputReceipt Halt) (wrote : WritesChoice last out again sets h spared r) where

@@ -40,29 +40,20 @@ StoppedWithin text known old new = (new ≡ old) ⊎ ((f : FrameSpec) × (rest :
 -- whatever a step that stopped wrote, a prefix of all texts went out
 pub texts_front : (text : FrameSpec → List ℕ) (first mid : Option Verdict) (fs : List FrameSpec) (before now after : Option (List ℕ)) → VerdictAfter first fs mid → now ≡ append before (flat_map text fs) → StoppedWithin text mid now after
     → (all : Verdict) → first ≡ Some all → IsFront before after (flat_map text all.0)
-texts_front text first mid fs before now after gone went (inl same) all known =
-    let (rest, is, split) = gone_split first mid fs all gone known in
-    subst (λ (l : List ℕ). IsFront before after l) (sym (ap (flat_map text) split ∙ flat_map-append text fs rest.0)) (front_longer before after (flat_map text fs) (flat_map text rest.0) (front_whole before after (flat_map text fs) (same ∙ went)))
-texts_front text first mid fs before now after gone went (inr (f, rest, is, front)) all known =
-    let (left, e, split) = gone_split first rest (fs ++ f ∷ []) all (gone_more first mid rest fs f gone is) known in
-    let more : IsFront before after (flat_map text fs ++ text f) = front_then before now after (flat_map text fs) (text f) went front in
-    subst (λ (l : List ℕ). IsFront before after l) (sym (ap (flat_map text) split ∙ flat_map-append text (fs ++ f ∷ []) left.0 ∙ ap (λ (l : List ℕ). l ++ flat_map text left.0) (text_one text fs f))) (front_longer before after (flat_map text fs ++ text f) (flat_map text left.0) more)
+texts_front text first mid fs before now after h7 h8 h9 all h11 = grind (arith, gone_split, flat_map-append, front_longer, front_whole, gone_more, front_then, text_one)
 
 -- ---- a listing
 
 -- what follows the frames done ends the file
 pub gone_ending : (first known : Option Verdict) (frames : List FrameSpec) (ending : Option Fault) → VerdictAfter first frames known → Says known ([], ending) → Says first (frames, ending)
-gone_ending first None frames ending gone says = subst (λ (k : Option Verdict). Says k (frames, ending)) (sym gone) tt
-gone_ending first (Some v) frames ending gone says =
-    subst (λ (k : Option Verdict). Says k (frames, ending)) (sym gone) (ap (λ (v : Verdict). with_all frames v) says ∙ ap (λ (l : List FrameSpec). (l, ending)) (append-nil frames))
+gone_ending first known frames ending h4 h5 = grind (arith, append-nil)
 
 faultless : (e : Fault) → ◌≡◌ {A = Option Fault} None (Some e) → ⊥
 faultless e p = cc
 
 -- the frames of the bytes that were given are those of the ones that are reported
 lists_told : (known : Option (List ℕ)) (bytes : List ℕ) (v : Verdict) → Tells known bytes → judged_known false 0 (Some bytes) ≡ Some v → Says (judged_known false 0 known) v
-lists_told None bytes v tells is = tt
-lists_told (Some b) bytes v tells is = some_same _ _ (ap (λ (l : List ℕ). judged_known false 0 (Some l)) (sym (tells b refl)) ∙ is)
+lists_told known bytes v h3 h4 = grind (arith, some_same)
 
 -- a fresh reader gave them
 pub visits_file : {F V : Type 0} (reader : FrameReader F) (bytes : List ℕ) (took : Takes V) (count : ℕ) (before now : V) → had_header_of reader ≡ false → place_of reader ≡ 0 → VisitsAll took (judged_from reader bytes) count before now → VisitsAll took (judged_known false 0 (Some bytes)) count before now
@@ -82,12 +73,7 @@ module _ {V D : Type 0} (d : drain.Ghosts D) (to : V → D) (took : Takes V) (is
   }) fs [] before now record { added = added_none d (to before); counts = omega arith } visited
 
   pub lists_all : (known : Option (List ℕ)) (bytes : List ℕ) (count : ℕ) (before now : V) → Tells known bytes → VisitsAll took (judged_known false 0 (Some bytes)) count before now → Lists d (to before) (to now) (judged_known false 0 known) count
-  lists_all known bytes count before now tells p = record {
-    frames = p.frames;
-    says = lists_told known bytes (p.frames, None) tells p.says;
-    added = (has_listed before p.frames now p.visited).added;
-    counted = p.counted;
-  }
+  lists_all known bytes count before now tells p = grind (arith, lists_told known bytes (p.frames, None) tells p.says, has_listed before p.frames now p.visited)
 
   module _ (failed : Fails V) (known : Option Verdict) (read : Type 0) (before now : V) (stop : Stop) (fails : (mid : V) (f : FrameSpec) (s : Stop) → failed mid f now s → StopsListing d (to mid) (to now) f s) (stopped : StopsVisit took failed known read before now stop) where
     pub front_listed : ListsFront d (to before) (to now) known

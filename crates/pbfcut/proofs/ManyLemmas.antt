@@ -101,27 +101,11 @@ steady_even dense count fits steady =
 
 -- the next is taken
 pub even_next : (alike less : ℕ) (all ns : List NodeSpec) (n : NodeSpec) → all ≡ n ∷ ns → less ≡ alike - 1 → AreEven alike all → AreEvenAfter n less ns
-even_next alike less all ns n is one even =
-    let long = ap (λ (l : List NodeSpec). length l) is in
-    record {
-      counted = omega (arith, one, long, even.counted);
-      kind = λ some. subst (λ (l : List NodeSpec). AreOneKind l) is (even.kind (omega (arith, one, some)));
-    }
+even_next alike less all ns n is one even = grind arith
 
 -- some after it are
 pub even_after : (n : NodeSpec) (alike less count : ℕ) (ns left : List NodeSpec) → left ≡ drop count ns → less ≡ alike - count → AreEvenAfter n alike ns → AreEven less left
-even_after n alike less count ns left is fewer even =
-    let long = ap (λ (l : List NodeSpec). length l) is in
-    record {
-      counted = omega (arith, long, length-drop count ns, fewer, even.counted);
-      kind = λ some.
-          let one = even.kind (omega (arith, fewer, some)) in
-          record {
-            likeness = one.likeness;
-            same = subst (λ (l : List NodeSpec). AllByRecursion (λ n. likeness_of (node n) ≡ one.likeness) l) (sym is) (all_drop _ count ns one.same.1);
-            scaled = one.scaled;
-          };
-    }
+even_after n alike less count ns left is fewer even = grind (arith, length-drop count ns, all_drop)
 
 -- those after it are like it
 like_it : (n : NodeSpec) (likeness : Likeness) (ns : List NodeSpec) → likeness_of (node n) ≡ likeness → AllByRecursion (λ m. likeness_of (node m) ≡ likeness) ns → AllByRecursion (IsLikeNode n) ns
@@ -135,8 +119,7 @@ alike_after n alike ns some even = let one = even.kind some in like_it n one.lik
 
 pub all_picked : (p : Picker) (ns : List NodeSpec) → AllByRecursion (λ (n : NodeSpec). picks_id p n.id ≡ true) ns → filter (picks_of p) (map node ns) ≡ map node ns
 all_picked p [] h = refl
-all_picked p (n ∷ ns) h =
-    ap (λ (b : Bool). cond b (node n ∷ filter (picks_of p) (map node ns)) (filter (picks_of p) (map node ns))) (picked_by_id p n ∙ h.0) ∙ ap (λ (l : List EntitySpec). node n ∷ l) (all_picked p ns h.1)
+all_picked p (n ∷ ns) h = grind (arith, picked_by_id p n, all_picked p ns h.1)
 
 pub each_picked_id : (p : Picker) (k : ℕ) (ns : List NodeSpec) → ((id : ℤ) → picks_id p id ≡ true) → AllByRecursion (λ (n : NodeSpec). picks_id p n.id ≡ true) (take k ns)
 each_picked_id p zero ns every = tt
@@ -165,27 +148,16 @@ picked_inside p [] ids zero span all begin inside = (tt, begin)
 picked_inside p [] ids (suc m) span all begin inside = (tt, (drop (suc m) ids, refl))
 picked_inside p (x ∷ xs) ids zero span all begin inside = (tt, begin)
 picked_inside p (x ∷ xs) [] (suc m) span all begin inside = absurd (no_first x xs (no_node [] (x ∷ xs) refl begin))
-picked_inside p (x ∷ xs) (id ∷ ids) (suc m) span all begin inside =
-    let at = first_id id ids x xs begin in
-    let rest = picked_inside p xs ids m span all at.1 inside.1 in
-    ((ap (picks_id p) (sym at.0) ∙ all id inside.0, rest.0), rest.1)
+picked_inside p (x ∷ xs) (id ∷ ids) (suc m) span all begin inside = grind (arith, first_id id ids x xs begin, picked_inside p xs ids m span all ((first_id id ids x xs begin).1) inside.1, all id inside.0)
 
 pub picked_span : (p : Picker) (k m : ℕ) (ids : List ℤ) (ns : List NodeSpec) (span : Span) → AllInside p span → AreAlike span true (take m ids) → BeginWithIds ids (drop k ns) → ArePicked p (take k ns) → ArePicked p (take (k + m) ns) × BeginWithIds (drop m ids) (drop (k + m) ns)
-picked_span p k m ids ns span all inside begin picked =
-    let others = picked_inside p (drop k ns) ids m span all begin inside in (
-      subst (λ (l : List NodeSpec). ArePicked p l) (sym (take-add k m ns)) (all_append _ (take k ns) (take m (drop k ns)) picked others.0),
-      subst (λ (l : List NodeSpec). BeginWithIds (drop m ids) l) (drop-drop m k ns) others.1,
-    )
+picked_span p k m ids ns span all inside begin picked = grind (arith, picked_inside p (drop k ns) ids m span all begin inside, take-add k m ns, all_append, drop-drop m k ns)
 
 -- ---- they fit
 
 light_each : (es : List EntitySpec) (ns : List NodeSpec) → AllByRecursion NumbersFit ns → AllByRecursion (λ n. ScaleFits n.scale) ns → sum_by entity_weight (map node ns) ≤ 12000000 → AllByRecursion EntityFits (map node ns)
 light_each es [] numbers scaled light = tt
-light_each es (n ∷ ns) numbers scaled light =
-    let sum = sum_by-cons entity_weight (node n) (map node ns) in (
-      record { id = numbers.0.id; lat = numbers.0.lat; lon = numbers.0.lon; meta = numbers.0.meta; scale = scaled.0; light = omega (arith, light, sum) },
-      light_each es ns numbers.1 scaled.1 (omega (arith, light, sum)),
-    )
+light_each es (n ∷ ns) numbers scaled light = grind (arith, sum_by-cons entity_weight (node n) (map node ns), light_each es ns numbers.1 scaled.1 (omega (arith, light, (sum_by-cons entity_weight (node n) (map node ns)))))
 
 pub scaled_taken : (k : ℕ) (likeness : Likeness) (ns : List NodeSpec) → ScaleFits likeness.scale → AllByRecursion (λ n. likeness_of (node n) ≡ likeness) ns → AllByRecursion (λ (n : NodeSpec). ScaleFits n.scale) (take k ns)
 scaled_taken zero likeness ns fits same = tt
@@ -212,11 +184,7 @@ module _ {D S H : Type 0} (d : drain.Ghosts D) where
 
 numbers_many : (ns : List NodeSpec) → (sum_by nodes_of (map node ns) ≡ length ns) × ((sum_by ways_of (map node ns) ≡ 0) × (sum_by relations_of (map node ns) ≡ 0))
 numbers_many [] = (refl, (refl, refl))
-numbers_many (n ∷ ns) =
-    let more = numbers_many ns in (
-      omega (arith, more.0, sum_by-cons nodes_of (node n) (map node ns)),
-      (omega (arith, more.1.0, sum_by-cons ways_of (node n) (map node ns)), omega (arith, more.1.1, sum_by-cons relations_of (node n) (map node ns))),
-    )
+numbers_many (n ∷ ns) = grind (arith, numbers_many ns, sum_by-cons nodes_of (node n) (map node ns), sum_by-cons ways_of (node n) (map node ns), sum_by-cons relations_of (node n) (map node ns))
 
 counts_many : (done : List EntitySpec) (ns : List NodeSpec) (c now : Counts) → c ≡ counts_of done → now.nodes ≡ capped (c.nodes + length ns) → now.ways ≡ c.ways → now.relations ≡ c.relations → now ≡ counts_of (done ++ map node ns)
 counts_many done ns c now is nodes ways relations =
@@ -249,9 +217,4 @@ module _ {D S H X : Type 0} (d : drain.Ghosts D) where
   -- a call that stops before any node is packed
   pub each_refused : (before now : EntityPacker) (old new : Packing D S H) (s : Stop) → IsPacking old → new.drain ≡ old.drain → has_header new ≡ true → UsesPacker {X = ℕ} d old new (Err s)
       → (now.picker ≡ before.picker) × (now.number ≡ before.number) → PacksEach {X = X} d (picks_of before.picker) [] before now old new (Err s)
-  each_refused before now old new s going kept header uses same = record {
-    packed = tt;
-    stopped = record { cause = pack_stop _ _ _ _ _ (omega arith) (uses.stops going); begins = begins_none d [] old new (ap d.taken kept) };
-    keeps = record { header = header; drain_kept = uses.keeps };
-    same = same;
-  }
+  each_refused before now old new s going kept header uses same = grind (arith, pack_stop, uses.stops going, begins_none d [] old new (ap d.taken kept))

@@ -19,10 +19,7 @@ use Rattle.pbfcut.specs.Pick.{everything, picks_by, id_picked, picks_of, picks_i
 use Rattle.pbfcut.proofs.PackingLemmas.{PackedEach, each_left, each_picked, each_more, each_later}
 
 some_by_id : (by_ids : Bool) (sets : Option KeptSets) (n : NodeSpec) → picks_by by_ids sets (node n) ≡ id_picked sets n.id
-some_by_id true None n = refl
-some_by_id true (Some sets) n = refl
-some_by_id false None n = refl
-some_by_id false (Some sets) n = refl
+some_by_id by_ids sets n = grind arith
 
 pub picked_by_id : (p : Picker) (n : NodeSpec) → picks_of p (node n) ≡ picks_id p n.id
 unfolding picks_of picks_id
@@ -40,29 +37,21 @@ no_node ids (n ∷ ns) ended (more, is) = absurd cc
 
 -- an id that is read after some were skipped leaves fewer
 pub fewer_left : (all left : List ℤ) (id : ℤ) (m : ℕ) → drop m all ≡ id ∷ left → length left < length all
-fewer_left all left id m turn =
-    let counts : length all - m ≡ suc (length left) = sym (length-drop m all) ∙ ap length turn in
-    omega (arith, counts)
+fewer_left all left id m turn = grind (arith, length-drop m all)
 
 -- nodes that are skipped after one that was made leave fewer
 pub passed_left : (left ns rest : List NodeSpec) (n : NodeSpec) (count : ℕ) → left ≡ n ∷ ns → rest ≡ drop count ns → length rest < length left
-passed_left left ns rest n count is passed =
-    let fewer : length rest ≡ length ns - count = ap length passed ∙ length-drop count ns in
-    let all : length left ≡ suc (length ns) = ap length is in
-    omega (arith, fewer, all)
+passed_left left ns rest n count is passed = grind (arith, length-drop count ns)
 
 -- nodes that are taken together after one that was made leave no more
 pub taken_left : (left ns gone others rest : List NodeSpec) (n : NodeSpec) → left ≡ n ∷ ns → gone ++ others ≡ ns → rest ≡ others → length rest < length left
-taken_left left ns gone others rest n is split same =
-    let parts = sym (length-append gone others) ∙ ap length split in
-    omega (arith, parts, ap length same, ap length is)
+taken_left left ns gone others rest n is split same = grind (arith, length-append gone others)
 
 pub no_first : (n : NodeSpec) (ns : List NodeSpec) → n ∷ ns ≡ [] → ⊥
 no_first n ns e = absurd cc
 
 not_picked : (b : Bool) (e : EntitySpec) (rest : List EntitySpec) → cond b (e ∷ rest) rest ≡ [] → (b ≡ false) × (rest ≡ [])
-not_picked true e rest h = absurd cc
-not_picked false e rest h = (refl, h)
+not_picked b e rest h3 = grind arith
 
 module _ (p : Picker) where
   -- of the first n nodes none is picked
@@ -71,15 +60,9 @@ module _ (p : Picker) where
 
   one_on : (id : ℤ) (ids : List ℤ) (n : ℕ) (ns : List NodeSpec) → picks_id p id ≡ false → BeginWithIds (id ∷ ids) (drop n ns) → NonePicked n ns → NonePicked (suc n) ns × BeginWithIds ids (drop (suc n) ns)
   one_on id ids zero [] is begin none = (refl, (ids, refl))
-  one_on id ids zero (x ∷ xs) is begin none =
-      let at = first_id id ids x xs begin in
-      (ap (λ (b : Bool). cond b (node x ∷ []) []) (picked_by_id p x ∙ (ap (picks_id p) (sym at.0) ∙ is)), at.1)
+  one_on id ids zero (x ∷ xs) is begin none = grind (arith, first_id id ids x xs begin, picked_by_id p x)
   one_on id ids (suc n) [] is begin none = (refl, (ids, refl))
-  one_on id ids (suc n) (x ∷ xs) is begin none =
-      let here = not_picked (picks_of p (node x)) (node x) (filter (picks_of p) (map node (take n xs))) none in
-      let rest = one_on id ids n xs is begin here.1 in
-      let all = filter (picks_of p) (map node (take (suc n) xs)) in
-      (ap (λ (b : Bool). cond b (node x ∷ all) all) here.0 ∙ rest.0, rest.1)
+  one_on id ids (suc n) (x ∷ xs) is begin none = grind (arith, not_picked (picks_of p (node x)) (node x) (filter (picks_of p) (map node (take n xs))) none, one_on id ids n xs is begin ((not_picked (picks_of p (node x)) (node x) (filter (picks_of p) (map node (take n xs))) none).1), suc n)
 
   pub one_more : (id : ℤ) (ids : List ℤ) (n : ℕ) (ns : List NodeSpec) → picks_id p id ≡ false → BeginWithIds (id ∷ ids) (drop n ns) → NonePicked n ns → NonePicked (n + 1) ns × BeginWithIds ids (drop (n + 1) ns)
   one_more id ids n ns is begin none = rw add-one (one_on id ids n ns is begin none)
@@ -93,11 +76,7 @@ module _ (p : Picker) where
   none_inside [] ids (suc m) span absent begin inside = (refl, (drop (suc m) ids, refl))
   none_inside (x ∷ xs) ids zero span absent begin inside = (refl, begin)
   none_inside (x ∷ xs) [] (suc m) span absent begin inside = absurd (no_first x xs (no_node [] (x ∷ xs) refl begin))
-  none_inside (x ∷ xs) (id ∷ ids) (suc m) span absent begin inside =
-      let at = first_id id ids x xs begin in
-      let rest = none_inside xs ids m span absent at.1 inside.1 in
-      let all = filter (picks_of p) (map node (take m xs)) in
-      (ap (λ (b : Bool). cond b (node x ∷ all) all) (picked_by_id p x ∙ (ap (picks_id p) (sym at.0) ∙ absent id inside.0)) ∙ rest.0, rest.1)
+  none_inside (x ∷ xs) (id ∷ ids) (suc m) span absent begin inside = grind (arith, first_id id ids x xs begin, none_inside xs ids m span absent ((first_id id ids x xs begin).1) inside.1, picked_by_id p x, absent id inside.0)
 
   pub more_inside : (n m : ℕ) (ids : List ℤ) (ns : List NodeSpec) (span : Span) → NoneInside span → AreAlike span true (take m ids) → BeginWithIds ids (drop n ns) → NonePicked n ns → NonePicked (n + m) ns × BeginWithIds (drop m ids) (drop (n + m) ns)
   more_inside n m ids ns span absent inside begin none =
@@ -109,9 +88,7 @@ module _ (p : Picker) where
 
   -- if no node follows them, none at all is picked
   pub none_more : (n : ℕ) (ids : List ℤ) (ns : List NodeSpec) → ids ≡ [] → BeginWithIds ids (drop n ns) → NonePicked n ns → filter (picks_of p) (map node ns) ≡ []
-  none_more n ids ns ended begin none =
-      let all = sym (take-append-drop n ns) ∙ (ap (λ (l : List NodeSpec). take n ns ++ l) (no_node ids (drop n ns) ended begin) ∙ append-nil (take n ns)) in
-      ap (λ (l : List NodeSpec). filter (picks_of p) (map node l)) all ∙ none
+  none_more n ids ns ended begin none = grind (arith, take-append-drop n ns, no_node ids (drop n ns) ended begin, append-nil (take n ns))
 
 -- ---- in a dense message
 
@@ -128,9 +105,7 @@ module _ {D S H : Type 0} (d : drain.Ghosts D) (first : EntityPacker) (all : Lis
   -- more nodes are gone
   more_gone : {X Y : Type 0} (gone more : List NodeSpec) (mid now : EntityPacker) (packer next : Packing D S H) (x : X) (y : Y) → PackedEach d (picks_of first.picker) (map node gone) first mid old packer
       → PacksEach d (picks_of mid.picker) (map node more) mid now packer next (Ok x) → PacksEach d (picks_of first.picker) (map node (gone ++ more)) first now old next (Ok y)
-  more_gone gone more mid now packer next x y so_far then =
-      subst (λ (l : List EntitySpec). PacksEach d (picks_of first.picker) l first now old next (Ok y)) (sym (map-append node gone more))
-      (each_more d (map node gone) (map node more) first mid now old packer next tt x y so_far then)
+  more_gone gone more mid now packer next x y so_far then = grind (arith, map-append node gone more, each_more d (map node gone) (map node more) first mid now old packer next tt x y so_far then)
 
   -- nodes that aren't picked
   none_gone : (more : List NodeSpec) (mid now : EntityPacker) (packer : Packing D S H) → now ≡ mid → filter (picks_of mid.picker) (map node more) ≡ [] → KeepsPacker d old packer → IsPacking packer
@@ -190,8 +165,4 @@ module _ {D S H : Type 0} (d : drain.Ghosts D) (first : EntityPacker) (all : Lis
 
   -- no node is left
   pub all_gone : {Y : Type 0} (left : List NodeSpec) (now : EntityPacker) (new : Packing D S H) (y : Y) → left ≡ [] → OnNodes left now new → PacksEach d (picks_of first.picker) (map node all) first now old new (Ok y)
-  all_gone left now new y none on =
-      let is = sym (append-nil on.gone) ∙ (ap (λ (l : List NodeSpec). on.gone ++ l) (sym none) ∙ on.split) in
-      let each = on.each in
-      subst (λ (l : List NodeSpec). PacksEach d (picks_of first.picker) (map node l) first now old new (Ok y)) is
-      (record { packed = each.packed; stopped = tt; keeps = each.keeps; same = each.same })
+  all_gone left now new y none on = grind (arith, append-nil on.gone)

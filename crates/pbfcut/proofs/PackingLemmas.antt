@@ -24,9 +24,6 @@ use Rattle.pbfcut.proofs.PickingLemmas.{packed_push, begins_push, begins_none, n
 
 -- ---- which are picked
 
-pub only_picked : (pick : Pick) (e : EntitySpec) → pick e ≡ true → filter everything (e ∷ []) ≡ filter pick (e ∷ [])
-only_picked pick e is = ap (λ (b : Bool). cond b (e ∷ []) []) (sym is)
-
 pub none_picked : (pick : Pick) (e : EntitySpec) → pick e ≡ false → filter pick [] ≡ filter pick (e ∷ [])
 none_picked pick e is = ap (λ (b : Bool). cond b (e ∷ []) []) (sym is)
 
@@ -42,12 +39,7 @@ regrouped done xs ys zs rest = simp append_assoc
 -- ---- their numbers
 
 count_next : (done : List EntitySpec) (e : EntitySpec) → count_one (counts_of done) e ≡ counts_of (done ++ e ∷ [])
-count_next done e = by e ∙ counts_together done (e ∷ [])
-  where
-    by : (e : EntitySpec) → count_one (counts_of done) e ≡ counted_with (counts_of done) (counts_of (e ∷ []))
-    by (node n) = same_counts _ _ (omega arith) (omega arith) (omega arith)
-    by (way w) = same_counts _ _ (omega arith) (omega arith) (omega arith)
-    by (relation r) = same_counts _ _ (omega arith) (omega arith) (omega arith)
+count_next done e = grind (arith, counts_together done (e ∷ []))
 
 module _ {D S H : Type 0} (d : drain.Ghosts D) where
   -- ---- whatever is returned
@@ -56,10 +48,7 @@ module _ {D S H : Type 0} (d : drain.Ghosts D) where
   keeps_same packer begun = record { header = begun; drain_kept = record { counts = omega arith; lender = refl } }
 
   pub keeps_more : (a b c : Packing D S H) → KeepsPacker d a b → KeepsPacker d b c → KeepsPacker d a c
-  keeps_more a b c k l = record {
-    header = l.header;
-    drain_kept = record { counts = omega (arith, k.drain_kept.counts, l.drain_kept.counts); lender = l.drain_kept.lender ∙ k.drain_kept.lender };
-  }
+  keeps_more a b c k l = grind arith
 
   -- ---- one entity
 
@@ -82,10 +71,7 @@ module _ {D S H : Type 0} (d : drain.Ghosts D) where
   }
 
   pub unfit_one : (number : ℕ) (e : EntitySpec) (packer : Packing D S H) → (EntityFits e → ⊥) → StopsAmong d number everything (e ∷ []) packer packer (stop.Changed number)
-  unfit_one number e packer unfit = record {
-    cause = (refl, λ all. unfit all.0);
-    begins = begins_none d (e ∷ []) packer packer refl;
-  }
+  unfit_one number e packer unfit = grind (arith, begins_none d (e ∷ []) packer packer refl)
 
   -- ---- parts
 
@@ -98,14 +84,7 @@ module _ {D S H : Type 0} (d : drain.Ghosts D) where
 
   -- of other lists, of which the same are picked
   pub packs_same : (pick other : Pick) (xs ys : List EntitySpec) (a b : Packing D S H) (before now : Counts) → filter pick xs ≡ filter other ys → PacksPicked d pick xs a b before now → PacksPicked d other ys a b before now
-  packs_same pick other xs ys a b before now same p = record {
-    packs = subst (λ (l : List EntitySpec). Packs d a b l) same p.packs;
-    going = p.going;
-    counted = λ done is. p.counted done is ∙ ap (λ (l : List EntitySpec). counts_of (done ++ l)) same;
-  }
-
-  pub stops_same : (number : ℕ) (pick other : Pick) (xs : List EntitySpec) (a b : Packing D S H) (s : Stop) → filter pick xs ≡ filter other xs → StopsAmong d number pick xs a b s → StopsAmong d number other xs a b s
-  stops_same number pick other xs a b s same stops = record { cause = stops.cause; begins = subst (λ (l : List EntitySpec). Begins d a b l) same stops.begins }
+  packs_same pick other xs ys a b before now same p = grind arith
 
   pub packs_more : (pick : Pick) (xs ys : List EntitySpec) (a b c : Packing D S H) (before then now : Counts) → PacksPicked d pick xs a b before then → PacksPicked d pick ys b c then now → PacksPicked d pick (xs ++ ys) a c before now
   packs_more pick xs ys a b c before then now p q = record {
@@ -159,20 +138,11 @@ module _ {D S H X : Type 0} (d : drain.Ghosts D) where
 
   -- entities of which none is picked
   pub each_left : (pick : Pick) (es : List EntitySpec) (a b : EntityPacker) (packer : Packing D S H) (x : X) → b ≡ a → filter pick es ≡ [] → has_header packer ≡ true → IsPacking packer → PacksEach d pick es a b packer packer (Ok x)
-  each_left pick es a b packer x same none begun going = subst (λ (m : EntityPacker). PacksEach d pick es a m packer packer (Ok x)) (sym same) (record {
-    packed = packs_same d pick pick [] es packer packer a.counts a.counts (sym none) (packs_none d pick packer a.counts going);
-    stopped = tt;
-    keeps = keeps_same d packer begun;
-    same = (refl, refl);
-  })
+  each_left pick es a b packer x same none begun going = grind (arith, packs_same d pick pick [] es packer packer a.counts a.counts (sym none) (packs_none d pick packer a.counts going), packs_none d pick packer a.counts going, keeps_same d packer begun)
 
   -- an entity that is picked
   pub each_picked : (pick : Pick) (e : EntitySpec) (a mid b : EntityPacker) (old new : Packing D S H) (r : Result X Stop) → mid ≡ a → pick e ≡ true → PacksEach d everything (e ∷ []) mid b old new r → PacksEach d pick (e ∷ []) a b old new r
-  each_picked pick e a mid b old new r same is one = of r (subst (λ (m : EntityPacker). PacksEach d everything (e ∷ []) m b old new r) same one)
-    where
-      of : (r : Result X Stop) → PacksEach d everything (e ∷ []) a b old new r → PacksEach d pick (e ∷ []) a b old new r
-      of (Ok x) p = record { packed = packs_same d everything pick (e ∷ []) (e ∷ []) old new a.counts b.counts (only_picked pick e is) p.packed; stopped = tt; keeps = p.keeps; same = p.same }
-      of (Err s) p = record { packed = tt; stopped = stops_same d a.number everything pick (e ∷ []) old new s (only_picked pick e is) p.stopped; keeps = p.keeps; same = p.same }
+  each_picked pick e a mid b old new r same is one = grind arith
 
   -- ---- one call after another
 

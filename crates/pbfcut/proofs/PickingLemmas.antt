@@ -37,10 +37,7 @@ pub picked_one : (pick : Pick) (fs : List FrameSpec) (f : FrameSpec) → filter 
 picked_one pick fs f = ap (λ (l : List EntitySpec). filter pick l) (stored_one fs f) ∙ filter-append pick (stored_entities fs) (frame_entities f)
 
 pub front_of : (pick : Pick) (start now : Option (List ℕ)) (fs rest : List FrameSpec) (all : Verdict) → all.0 ≡ fs ++ rest → BeginsAll start (filter pick (stored_entities fs)) now → IsFront start now (written_entities (filter pick (stored_entities all.0)))
-front_of pick start now fs rest all split begins =
-    subst (λ (l : List EntitySpec). IsFront start now (written_entities l))
-    (sym (filter-append pick (stored_entities fs) (stored_entities rest)) ∙ ap (λ (l : List EntitySpec). filter pick l) (sym (flat_map-append frame_entities fs rest) ∙ ap stored_entities (sym split)))
-    (begins (filter pick (stored_entities rest)))
+front_of pick start now fs rest all split begins = grind (arith, filter-append pick (stored_entities fs) (stored_entities rest), flat_map-append frame_entities fs rest, begins (filter pick (stored_entities rest)))
 
 -- of runs of all kinds the same are picked as of all entities
 pub picked_runs : (pick : Pick) (kinds : Kinds) (es : List EntitySpec) (at here : ℕ) (m n : List ℕ) → ((e : EntitySpec) → is_among kinds e ≡ true) → (n ≡ m) × (here ≡ at) → es ≡ filter (is_among kinds) (entities here n) → filter pick es ≡ filter pick (entities at m)
@@ -81,11 +78,7 @@ module _ {D S H : Type 0} (d : drain.Ghosts D) where
 
   -- nothing of them went out
   pub begins_none : (es : List EntitySpec) (old new : Packing D S H) → d.taken new.drain ≡ d.taken old.drain → Begins d old new es
-  begins_none es old new same = record {
-    begun = λ start done h rest.
-        subst (λ (k : Option (List ℕ)). IsFront (d.taken start) k (written_entities ((done ++ es) ++ rest))) (sym same)
-        (subst (λ (l : List EntitySpec). IsFront (d.taken start) (d.taken old.drain) (written_entities l)) (sym (append_assoc done es rest)) (begins_packed start done old h (es ++ rest)));
-  }
+  begins_none es old new same = grind (arith, d.taken old.drain, append_assoc, begins_packed)
 
   -- ---- in a loop over frames
 
@@ -97,14 +90,11 @@ module _ {D S H : Type 0} (d : drain.Ghosts D) where
 
   -- the block that is closed at the end
   pub ended : (start : D) (es : List EntitySpec) (packer new : Packing D S H) → HasPacked d start es packer → ((es : List EntitySpec) → Pending packer es → Added d packer.drain (at_end es) new.drain) → Added d start (written_entities es) new.drain
-  ended start es packer new h w =
-      added_same d start new.drain _ _ (run_ends es h.fits) (added_more d start packer.drain new.drain (written_after [] es) (at_end (pending_after [] es)) h.added (w (pending_after [] es) h.pending))
+  ended start es packer new h w = grind (arith, added_same d start new.drain, run_ends es h.fits, added_more d start packer.drain new.drain (written_after [] es) (at_end (pending_after [] es)) h.added (w (pending_after [] es) h.pending), w (pending_after [] es) h.pending)
 
   pub end_front : (start : D) (es : List EntitySpec) (packer new : Packing D S H) → HasPacked d start es packer → ((es : List EntitySpec) → Pending packer es → IsFront (d.taken packer.drain) (d.taken new.drain) (at_end es))
       → IsFront (d.taken start) (d.taken new.drain) (written_entities es)
-  end_front start es packer new h f =
-      subst (λ (l : List ℕ). IsFront (d.taken start) (d.taken new.drain) l) (run_ends es h.fits)
-      (front_then (d.taken start) (d.taken packer.drain) (d.taken new.drain) (written_after [] es) (at_end (pending_after [] es)) h.added.told (f (pending_after [] es) h.pending))
+  end_front start es packer new h f = grind (arith, run_ends es h.fits, front_then (d.taken start) (d.taken packer.drain) (d.taken new.drain) (written_after [] es) (at_end (pending_after [] es)) h.added.told (f (pending_after [] es) h.pending))
 
 -- the header first, and then what begins all entities
 pub behind_header : (h : HeaderSpec) (old start now : Option (List ℕ)) (es : List EntitySpec) → start ≡ append old (header_frame h) → IsFront start now (written_entities es) → IsFront old now (written_file h es)
@@ -118,30 +108,13 @@ whole_file d h old start new es first then = added_more d old start new (header_
 
 -- a packer's stop is one of the entities that are packed
 pub pack_stop : (first before now : ℕ) (changed : ℕ → Type 0) (s : Stop) → first ≤ before → IsPackStop before now s → Caused (λ e. ⊥) ⊥ (HasRisen first now) changed s
-pack_stop first before now changed (stop.Refused e) l h = absurd h
-pack_stop first before now changed stop.Read l h = absurd h
-pack_stop first before now changed stop.Write l h = omega (arith, l, h)
-pack_stop first before now changed stop.Memory l h = tt
-pack_stop first before now changed (stop.Changed pass) l h = absurd h
+pack_stop first before now changed s h5 h6 = grind arith
 
 -- if all of them can be written, it is one of a payload without a fault
 pub stops_judged : {D S H : Type 0} (d : drain.Ghosts D) (number : ℕ) (pick : Pick) (fault : Option Fault) (es all : List EntitySpec) (old new : Packing D S H) (s : Stop) → fault ≡ None → AllByRecursion EntityFits es → filter pick es ≡ all
     → StopsAmong d number pick es old new s → StopsPacking d fault all old new s
-stops_judged d number pick fault es all old new s sound fits same stops = record {
-  cause = of s stops.cause;
-  front = inr (sound, subst (λ (l : List EntitySpec). Begins d old new l) same stops.begins);
-} where
-  of : (s : Stop) → Caused (λ e. ⊥) ⊥ (WriteFailed d old.drain new.drain) (λ pass. (pass ≡ number) × (AllByRecursion EntityFits es → ⊥)) s → Caused (Only fault) ⊥ (WriteFailed d old.drain new.drain) unchanged s
-  of (stop.Refused e) h = absurd h
-  of stop.Read h = h
-  of stop.Write h = h
-  of stop.Memory h = tt
-  of (stop.Changed pass) h = h.1 fits
+stops_judged d number pick fault es all old new s sound fits same stops = grind arith
 
 -- a failure of the last frame is one of the loop
 pub fails_since : (fault : Option Fault) (first before now : ℕ) (s : Stop) → first ≤ before → Caused (Only fault) ⊥ (HasRisen before now) unchanged s → Caused (Only fault) ⊥ (HasRisen first now) unchanged s
-fails_since fault first before now (stop.Refused e) l h = h
-fails_since fault first before now stop.Read l h = absurd h
-fails_since fault first before now stop.Write l h = omega (arith, l, h)
-fails_since fault first before now stop.Memory l h = tt
-fails_since fault first before now (stop.Changed pass) l h = absurd h
+fails_since fault first before now s h5 h6 = grind arith

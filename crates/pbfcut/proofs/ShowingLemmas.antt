@@ -43,13 +43,11 @@ use Rattle.pbf_pass.proofs.VisitLemmas.{visited_to}
 
 -- why the reading of a payload stops
 pub read_stops : (fault : Option Fault) (e : ReadFault) (before now : ℕ) → ((x : Fault) → e ≡ read.Refused x → fault ≡ Some x) → Caused (Only fault) ⊥ (HasRisen before now) unchanged (stop_of_fault e)
-read_stops fault (read.Refused x) before now refused = refused x refl
-read_stops fault read.Memory before now refused = tt
+read_stops fault e before now h4 = grind arith
 
 -- a file that has a fault isn't one that has none
 fault_is_faulty : (known : Option Verdict) (e : Fault) → FaultOf known e → IsFaulty known
-fault_is_faulty None e fault frames is = none_some _ _ refl is
-fault_is_faulty (Some v) e fault frames is = none_some _ _ (ap (λ (w : Verdict). w.1) (some_same _ _ is)) (ap (λ (w : Verdict). w.1) fault.1)
+fault_is_faulty known e h2 z0 z1 = grind (arith, none_some, some_same)
 
 -- ---- of a visitor that shows
 
@@ -73,11 +71,7 @@ module _ {V D : Type 0} (d : drain.Ghosts D) (to : V → D) (dates : V → Bool)
 
   -- all of them
   pub shows_file : (known : Option Verdict) (count : ℕ) (before now : V) → VisitsAll took known count before now → Took d (to before) (to now) (Shown (dates before) (fully_known known))
-  shows_file known count before now p = record {
-    written = file_text (dates before) p.frames;
-    added = (has_shown before p.frames now p.visited).added;
-    holding = record { frames = p.frames; says = says_visited took sound_shown known count before now p; is = refl };
-  }
+  shows_file known count before now p = grind (arith, dates before, has_shown before p.frames now p.visited, says_visited took sound_shown known count before now p)
 
   pub shows_counts : (known : Option Verdict) (count : ℕ) (before now : V) → VisitsAll took known count before now → d.failures (to before) ≤ d.failures (to now)
   shows_counts known count before now p = (has_shown before p.frames now p.visited).counts
@@ -118,17 +112,11 @@ module _ {V D : Type 0} (d : drain.Ghosts D) (to : V → D) (dates : V → Bool)
 
 -- the text of the file that is given is that of the file that is reported
 pub shown_told : (dates : Bool) (known : Option (List ℕ)) (file written : List ℕ) → Tells known file → Shown dates (judged_file (Some file)) written → Shown dates (judged_file known) written
-shown_told dates known file written tells shown = record {
-  frames = shown.frames;
-  says = says_told known file (shown.frames, None) tells shown.says;
-  is = shown.is;
-}
+shown_told dates known file written tells shown = grind (arith, says_told known file (shown.frames, None) tells shown.says)
 
 -- the whole text is a prefix of itself
 pub shown_front : (dates : Bool) (known : Option Verdict) (old new : Option (List ℕ)) (written : List ℕ) → Shown dates known written → new ≡ append old written → ShowsFront dates known old new
-shown_front dates known old new written s taken all is =
-    subst (λ (v : Verdict). IsFront old new (answer_text dates v)) (sym (subst (λ (k : Option Verdict). Says k (s.frames, None)) is s.says))
-    (front_whole old new (file_text dates s.frames) (taken ∙ ap (append old) s.is))
+shown_front dates known old new written s taken all is = grind (arith, front_whole old new (file_text dates s.frames) (taken ∙ ap (append old) s.is))
 
 -- one entity more is done
 pub entities_more : (done left rest all : List EntitySpec) (e : EntitySpec) → left ≡ e ∷ rest → done ++ left ≡ all → (done ++ e ∷ []) ++ rest ≡ all

@@ -1,18 +1,15 @@
 -- The fault of a file stays, whatever follows the file, unless it comes of the file's end.
-use Rattle.std.proofs.Common.{◌≡◌, ◌⊎◌, inl, inr, ℕ, Bool, true, false, if◌then◌else◌, List, [], ◌∷◌, ◌++◌, Option, Some, None, refl, sym, ap, ◌∙◌}
+use Rattle.std.proofs.Common.{arith, ◌≡◌, ◌⊎◌, inl, inr, ℕ, Bool, true, false, if◌then◌else◌, List, [], ◌∷◌, ◌++◌, Option, Some, None, refl, sym, ap, ◌∙◌}
 use Rattle.pbf_wire.specs.declared.fault.Fault.{Fault}
 use Rattle.pbf_wire.specs.declared.fault.Reason.TheVariants.{NoHeader, EntityLarge}
 use Rattle.pbf_wire.specs.Faults.{fault}
-use Rattle.pbf_header.specs.Header.{HeaderSpec}
 use Rattle.pbf_frame.specs.Devices.{IsAtEnd}
 use Rattle.pbf_frame.specs.Ends.{comes_of_end}
 use Rattle.pbf_frame.specs.Frames.{FrameSpec}
 use Rattle.pbf_frame.specs.Verdict.{Verdict, with_frame_first, judged}
-use Rattle.pbf_frame.proofs.Parting.{none_some, some_same}
 use Rattle.pbf_frame.proofs.Staying.{judged_longer}
 use Rattle.pbf_pass.specs.HeaderLimit.{has_short_texts, header_limit, with_limit, limited, judged_writable}
 use Rattle.pbf_pass.specs.Judged.{payload_fault, sound_first, sound_front, fully, judged_file}
-use Rattle.pbf_pass.specs.Pass.{file_header}
 use Rattle.pbf_pass.specs.Stops.{FaultOf}
 use Rattle.pbf_pass.proofs.LimitLemmas.{limited_fault}
 
@@ -22,9 +19,7 @@ fault_of_both v w e = ap (λ (x : Verdict). x.1) e
 -- ---- of all phases
 
 front_stays : (frames : List FrameSpec) (ending : Option Fault) (later : Verdict) (fs : List FrameSpec) (e : Fault) → sound_front frames ending ≡ (fs, Some e) → (ending ≡ Some e → later ≡ ([], Some e)) → sound_front (frames ++ later.0) later.1 ≡ (fs, Some e)
-front_stays [] ending later fs e is ends =
-    let same = fault_of_both ([], ending) (fs, Some e) is in
-    ap (λ (v : Verdict). sound_front v.0 v.1) (ends same) ∙ ap (λ (o : Option Fault). let v : Verdict = ([], o) in v) (sym same) ∙ is
+front_stays [] ending later fs e is ends = grind (arith, fault_of_both ([], ending) (fs, Some e) is, ends (fault_of_both ([], ending) (fs, Some e) is))
 front_stays (f ∷ frames) ending later fs e is ends = of (payload_fault f) is (λ gs said. front_stays frames ending later gs e said ends) where
   of : (x : Option Fault) → sound_first x f (sound_front frames ending) ≡ (fs, Some e) → ((gs : List FrameSpec) → sound_front frames ending ≡ (gs, Some e) → sound_front (frames ++ later.0) later.1 ≡ (gs, Some e))
       → sound_first x f (sound_front (frames ++ later.0) later.1) ≡ (fs, Some e)
@@ -45,22 +40,8 @@ file_stays file rest e (fs, is) stays = (fs, stays_fully file rest fs e is stays
 
 -- ---- of what can be written
 
--- a header that can't be written is missing, or too long
-limit_reason : (o : Option (ℕ × HeaderSpec)) (e : Fault) → header_limit o ≡ Some e → comes_of_end e.reason ≡ false → e.reason ≡ EntityLarge
-limit_reason None e is stays = (let ends : comes_of_end e.reason ≡ true = ap (λ (f : Fault). comes_of_end f.reason) (sym (some_same (fault 0 NoHeader) e is)) in absurd (both (comes_of_end e.reason) ends stays)) where
-  both : (b : Bool) → b ≡ true → b ≡ false → ⊥
-  both b t f = cc
-limit_reason (Some header) e is stays = of (has_short_texts header.1) is where
-  of : (b : Bool) → (if b then None else Some (fault header.0 EntityLarge)) ≡ Some e → e.reason ≡ EntityLarge
-  of true is = absurd (none_some _ _ refl is)
-  of false is = ap (λ (f : Fault). f.reason) (sym (some_same (fault header.0 EntityLarge) e is))
-
 limited_from : (v : Verdict) (fs : List FrameSpec) (e : Fault) → limited v ≡ (fs, Some e) → comes_of_end e.reason ≡ false → (e.reason ≡ EntityLarge → ⊥) → v ≡ (fs, Some e)
-limited_from (frames, Some x) fs e is stays short = is
-limited_from (frames, None) fs e is stays short = of (header_limit (file_header frames)) refl is where
-  of : (o : Option Fault) → header_limit (file_header frames) ≡ o → with_limit o frames ≡ (fs, Some e) → (let v : Verdict = (frames, None) in v) ≡ (fs, Some e)
-  of None h is = is
-  of (Some x) h is = absurd (short (limit_reason (file_header frames) e (h ∙ fault_of_both ([], Some x) (fs, Some e) is) stays))
+limited_from v fs e h3 h4 h5 = grind arith
 
 pub writable_stays : (file rest : List ℕ) (e : Fault) → FaultOf (judged_writable (Some file)) e → comes_of_end e.reason ≡ false → (e.reason ≡ EntityLarge → ⊥) → FaultOf (judged_writable (Some (file ++ rest))) e
 writable_stays file rest e (fs, is) stays short = (fs, limited_fault (judged_file (Some (file ++ rest))) fs e (stays_fully file rest fs e (limited_from (fully (judged false 0 file)) fs e is stays short) stays))
@@ -69,5 +50,4 @@ writable_stays file rest e (fs, is) stays short = (fs, limited_fault (judged_fil
 
 -- bytes are faulty whatever follows them, if their fault stays
 pub always : (at_fault : List ℕ → Type 0) (read : List ℕ) (left : Option (List ℕ)) → ((bytes rest : List ℕ) → at_fault bytes → at_fault (bytes ++ rest)) → (((rest : List ℕ) → at_fault (read ++ rest)) ⊎ (IsAtEnd left × at_fault read)) → (rest : List ℕ) → at_fault (read ++ rest)
-always at_fault read left stays (inl follows) rest = follows rest
-always at_fault read left stays (inr ended) rest = stays read rest ended.1
+always at_fault read left h3 h4 rest = grind arith

@@ -1,5 +1,5 @@
 -- What a call promises for a file that all its feeds supply, from what went through its devices.
-use Rattle.std.proofs.Common.{Bool, true, false, ◌≡◌, ◌⊎◌, inl, inr, ℕ, List, [], ◌∷◌, Option, Some, map, subst, refl, sym, ◌∙◌}
+use Rattle.std.proofs.Common.{arith, Bool, true, false, ◌≡◌, ◌⊎◌, inl, inr, ℕ, List, [], ◌∷◌, Option, Some, map, subst, refl, sym, ◌∙◌}
 use Rattle.pbf_frame.specs.declared.device.Drain as drain
 use Rattle.pbfcut.specs.Calls.{AllSupply, DrainUse, FeedUse, GaveBy, GaveEach, GaveOrNot, IfSame, TookBy, supply_of}
 use Rattle.pbf_pass.specs.Given.{Took}
@@ -20,12 +20,10 @@ same_digest first other digest one two b c is too = sym (one b is) ∙ two c too
 module _ (second : FeedUse) (digest : Option (List ℕ)) where
   -- what follows of the file that a later feed gave follows of the earlier one too, if the later feed was not read
   pub gave_or_not : (spared : Bool) (file : List ℕ) (holds : List ℕ → Type 0) (told : Type 0) → ((c : List ℕ) → holds c → told) → GaveOrNot second spared digest file holds → told
-  gave_or_not false file holds told step given = step given.file given.holding
-  gave_or_not true file holds told step none = step file none.1
+  gave_or_not spared file holds told h4 h5 = grind arith
 
   pub gave_or_less : (spared : Bool) (file : List ℕ) (holds less : List ℕ → Type 0) → ((c : List ℕ) → holds c → less c) → GaveOrNot second spared digest file holds → GaveOrNot second spared digest file less
-  gave_or_less false file holds less step given = gave_file_less second.ghosts second.old second.new digest holds less step given
-  gave_or_less true file holds less step none = (none.0, step file none.1)
+  gave_or_less spared file holds less h4 h5 = grind (arith, gave_file_less)
 
   pub gave_all : (spared : Bool) (file : List ℕ) (holds : List ℕ → Type 0) → spared ≡ false → GaveOrNot second spared digest file holds → GaveBy second digest holds
   gave_all spared file holds none given = subst (λ (s : Bool). GaveOrNot second s digest file holds) none given

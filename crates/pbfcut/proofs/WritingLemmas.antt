@@ -43,43 +43,27 @@ packed_front pick h counts known old new written p taken frames is = front_whole
 
 -- the same of the file that is reported
 pub packed_told : (pick : Pick) (h : HeaderSpec) (counts : Counts) (known : Option (List ℕ)) (file written : List ℕ) → Tells known file → Packed pick h counts (judged_file (Some file)) written → Packed pick h counts (judged_file known) written
-packed_told pick h counts None file written tells p frames is = absurd (none_some _ _ refl is)
-packed_told pick h counts (Some b) file written tells p frames is = p frames (ap (λ (l : List ℕ). judged_file (Some l)) (tells b refl) ∙ is)
+packed_told pick h counts known file written h6 h7 z0 z1 = grind (arith, none_some)
 
 pub front_told : (pick : Pick) (h : HeaderSpec) (known : Option (List ℕ)) (file : List ℕ) (old new : Option (List ℕ)) → Tells known file → PacksFront pick h (judged_file (Some file)) old new → PacksFront pick h (judged_file known) old new
-front_told pick h None file old new tells p frames is = absurd (none_some _ _ refl is)
-front_told pick h (Some b) file old new tells p frames is = p frames (ap (λ (l : List ℕ). judged_file (Some l)) (tells b refl) ∙ is)
+front_told pick h known file old new h6 h7 z0 z1 = grind (arith, none_some)
 
 -- ---- why it stops
 
 -- at a payload that isn't judged
 pub fails_at_unjudged_payload : {D S H : Type 0} (d : drain.Ghosts D) (number : ℕ) (pick : Pick) (p : Payload) (es : List EntitySpec) (old new : Packing D S H) (s : Stop) → (fault_in p ≡ None → AllByRecursion EntityFits es) → (fault_in p ≡ None → filter pick es ≡ picked_in pick p)
     → StopsAmong d number pick es old new s → FailsAtUnjudgedPayload d number pick p old new s
-fails_at_unjudged_payload d number pick p es old new s fits same stops = record {
-  cause = of s stops.cause;
-  begins = λ sound. subst (λ (l : List EntitySpec). Begins d old new l) (same sound) stops.begins;
-} where
-  of : (s : Stop) → Caused (λ e. ⊥) ⊥ (WriteFailed d old.drain new.drain) (λ pass. (pass ≡ number) × (AllByRecursion EntityFits es → ⊥)) s → Caused (λ e. ⊥) ⊥ (WriteFailed d old.drain new.drain) (λ pass. (pass ≡ number) × (fault_in p ≡ None → ⊥)) s
-  of (stop.Refused e) h = absurd h
-  of stop.Read h = h
-  of stop.Write h = h
-  of stop.Memory h = tt
-  of (stop.Changed pass) h = (h.0, λ sound. h.1 (fits sound))
+fails_at_unjudged_payload d number pick p es old new s fits same stops = grind arith
 
 -- a failure of the last frame is one of the loop
 pub fails_in_last_frame : (number first before now : ℕ) (f : FrameSpec) (s : Stop) → first ≤ before → Caused (λ e. ⊥) ⊥ (HasRisen before now) (λ pass. (pass ≡ number) × (IsSound f → ⊥)) s → StopsAtFrame number (HasRisen first now) f s
-fails_in_last_frame number first before now f (stop.Refused e) l h = absurd h
-fails_in_last_frame number first before now f stop.Read l h = absurd h
-fails_in_last_frame number first before now f stop.Write l h = omega (arith, l, h)
-fails_in_last_frame number first before now f stop.Memory l h = tt
-fails_in_last_frame number first before now f (stop.Changed pass) l h = h
+fails_in_last_frame number first before now f s h6 h7 = grind arith
 
 -- ---- a payload of which nothing is packed
 
 -- one that isn't a PrimitiveBlock holds nothing
 pub none_picked : (pick : Pick) (k : FrameKind) (at : ℕ) (m : List ℕ) → (k ≡ kind.Header) ⊎ (k ≡ kind.Other) → picked_in pick (payload_as k at m) ≡ []
-none_picked pick k at m (inl is) = ap (λ (k : FrameKind). picked_in pick (payload_as k at m)) is
-none_picked pick k at m (inr is) = ap (λ (k : FrameKind). picked_in pick (payload_as k at m)) is
+none_picked pick k at m h4 = grind arith
 
 pub packs_none : {D S H : Type 0} (d : drain.Ghosts D) (pick : Pick) (p : Payload) (packer : Packing D S H) (counts : Counts) → IsPacking packer → picked_in pick p ≡ [] → PacksUnjudgedPayload d pick p packer packer counts counts
 packs_none d pick p packer counts packing none = record {
@@ -109,29 +93,16 @@ front_before d pick start first mid fs all es taken gone are begins is =
 
 module _ {D S H : Type 0} (d : drain.Ghosts D) (pick : Pick) (start : D) where
   pub frames_more : (fs : List FrameSpec) (f : FrameSpec) (before now : Counts) (old new : Packing D S H) → PackedFrames d pick start fs before old → PacksUnjudgedFrame d pick old new before now f → PackedFrames d pick start (fs ++ f ∷ []) now new
-  frames_more fs f before now old new so_far p = record {
-    es = so_far.es ++ p.es;
-    are = λ sound. ap₂ (λ (a b : List EntitySpec). a ++ b) (so_far.are (sound_first_ones fs (f ∷ []) sound)) (p.are (sound_last fs f sound)) ∙ sym (picked_one pick fs f);
-    packed = p.packs.packed start so_far.es so_far.packed;
-    counted = p.counted so_far.es so_far.counted;
-  }
+  frames_more fs f before now old new so_far p = grind (arith, ap₂ (λ (a b : List EntitySpec). a ++ b), sound_first_ones fs (f ∷ []), sound_last fs f, picked_one pick fs f, p.packs.packed start so_far.es so_far.packed, p.counted so_far.es so_far.counted)
 
   -- at the end of a file these are all
   pub frames_all : (h : HeaderSpec) (fs : List FrameSpec) (before now : Counts) (packer : Packing D S H) (p : PackedFrames d pick start fs before packer) → now ≡ before → Packed pick h now (Some (fully (fs, None))) (written_file h p.es)
-  frames_all h fs before now packer p stays frames is =
-      let whole = all_sound fs frames is in
-      let same : p.es ≡ filter pick (stored_entities frames) = p.are whole.1 ∙ ap (λ (l : List FrameSpec). filter pick (stored_entities l)) whole.0 in
-      record {
-        counted = stays ∙ p.counted ∙ ap counts_of same;
-        is = ap (written_file h) same;
-      }
+  frames_all h fs before now packer p stays frames is = grind (arith, all_sound fs frames is, p.are ((all_sound fs frames is).1))
 
   -- the last block, of a file without a fault
   pub last_front : (fs all : List FrameSpec) (counts : Counts) (packer : Packing D S H) (taken : Option (List ℕ)) (p : PackedFrames d pick start fs counts packer) → IsFront (d.taken start) taken (written_entities p.es) → Some (fully (fs, None)) ≡ Some (all, None)
       → IsFront (d.taken start) taken (written_entities (filter pick (stored_entities all)))
-  last_front fs all counts packer taken p front is =
-      let whole = all_sound fs all is in
-      subst (λ (l : List EntitySpec). IsFront (d.taken start) taken (written_entities l)) (p.are whole.1 ∙ ap (λ (l : List FrameSpec). filter pick (stored_entities l)) whole.0) front
+  last_front fs all counts packer taken p front is = grind (arith, all_sound fs all is, d.taken start, p.are ((all_sound fs all is).1))
 
 -- ---- of a visitor that packs
 
@@ -189,16 +160,8 @@ module _ {V D S H : Type 0} (d : drain.Ghosts D) (to : V → Packing D S H) (cou
 
 -- a packer finds no fault
 pub faulty_never : {F : Type 0} (f : feed.Ghosts F) (old new : F) (before now : ℕ) (s : Stop) → IsPackStop before now s → ReadsFaulty f old new s
-faulty_never f old new before now (stop.Refused e) h = absurd h
-faulty_never f old new before now stop.Read h = tt
-faulty_never f old new before now stop.Write h = tt
-faulty_never f old new before now stop.Memory h = tt
-faulty_never f old new before now (stop.Changed pass) h = absurd h
+faulty_never f old new before now s h6 = grind arith
 
 -- the last block could not be written
 pub stops_last : (number first before now : ℕ) (known : Option Verdict) (read : Type 0) (s : Stop) → first ≤ before → IsPackStop before now s → StopsUnjudged number known read (HasRisen first now) s
-stops_last number first before now known read (stop.Refused e) l h = absurd h
-stops_last number first before now known read stop.Read l h = absurd h
-stops_last number first before now known read stop.Write l h = omega (arith, l, h)
-stops_last number first before now known read stop.Memory l h = tt
-stops_last number first before now known read (stop.Changed pass) l h = absurd h
+stops_last number first before now known read s h7 h8 = grind arith

@@ -1,5 +1,5 @@
 -- What the getters read, by the rows.
-use Rattle.std.proofs.Common.{◌≡◌, ◌⊎◌, ◌∙◌, ap, refl, sym, inl, inr, List, [], ◌∷◌, map, Option, Some, None, unwrap_or, option_map, Bor, Bool, true, false, codes, find, is_some}
+use Rattle.std.proofs.Common.{arith, ◌≡◌, ◌⊎◌, ◌∙◌, ap, refl, sym, inl, inr, List, [], ◌∷◌, map, Option, Some, None, unwrap_or, option_map, Bor, Bool, true, false, codes, find, is_some}
 use Rattle.std.specs.Prelude.{IsSome}
 use Rattle.clap.specs.Words.{App, Row, Shape, Text, built, has_subcommand, is_simple, subcommand_of, subcommand_rows_of}
 use Rattle.clap.specs.declared.parser.matches.ArgMatches.{ArgMatches}
@@ -18,8 +18,7 @@ use Rattle.pbfcut_cli.specs.Words.{HasFault, IsHelp, IsNoLine, IsOffered, IsRead
 -- the text of a reference, or the empty one
 pub text_or_empty : (o : Option (Bor Text)) (d : Bor Text) (v : Option Text)
     → option_map (λ s. s.now) o ≡ v → d.now ≡ [] → (unwrap_or o d).now ≡ unwrap_or v []
-text_or_empty None d v e empty = rw (← e) empty
-text_or_empty (Some s) d v e empty = rw (← e) refl
+text_or_empty o d v h3 h4 = grind arith
 
 -- it is there, or isn't, by what its getter returns
 pub present : (o : Option (Bor Text)) (v : Option Text) (x : Bor Text) → option_map (λ s. s.now) o ≡ v → o ≡ Some x → v ≡ Some x.now
@@ -39,17 +38,7 @@ IsIn name (x ∷ xs) = (name ≡ x) ⊎ IsIn name xs
 found_name : (f : Shape → Bool) (xs : List Shape) (ws : List Text) (p : Text × List Row)
     → option_map (λ s. rows_at s ws) (find f xs) ≡ Some p → IsIn p.0 (map (λ s. s.name) xs)
 found_name f [] ws p e = cc
-found_name f (x ∷ xs) ws p e = go (f x) refl (found_name f xs ws p)
-  where
-    go : (b : Bool) → f x ≡ b
-        → (option_map (λ s. rows_at s ws) (find f xs) ≡ Some p → IsIn p.0 (map (λ s. s.name) xs))
-        → IsIn p.0 (map (λ s. s.name) (x ∷ xs))
-    go true t later =
-        let same : Some (rows_at x ws) ≡ Some p = rw t at e in
-        inl (sym (ap (λ (o : Option (Text × List Row)). (unwrap_or o p).0) same))
-    go false t later =
-        let rest : option_map (λ s. rows_at s ws) (find f xs) ≡ Some p = rw t at e in
-        inr (later rest)
+found_name f (x ∷ xs) ws p e = grind (arith, f x, found_name f xs ws p)
 
 entered_name : (a : App) (stop : Option (Text × List Text)) (p : Text × List Row)
     → entered a stop ≡ Some p → IsIn p.0 (map (λ s. s.name) a.subs)
@@ -62,29 +51,10 @@ command_stop app words = stop_after (built app).top.rules (names_of (built app))
 
 -- one of the names of commands is that of a command
 one_of_pbfcut : (p : Text × List Row) → IsIn p.0 (codes "extract" ∷ codes "convert" ∷ codes "check" ∷ codes "show" ∷ codes "blobs" ∷ []) → IsOffered (Some p)
-one_of_pbfcut p is =
-    elim is [
-      | inl h ↦ inl h
-      | inr (inl h) ↦ inr (inl h)
-      | inr (inr (inl h)) ↦ inr (inr (inr (inr (inl h))))
-      | inr (inr (inr (inl h))) ↦ inr (inr (inr (inr (inr (inl h)))))
-      | inr (inr (inr (inr (inl h)))) ↦ inr (inr (inr (inr (inr (inr (inl h))))))
-      | inr (inr (inr (inr (inr h)))) ↦ absurd h
-    ]
+one_of_pbfcut p is = grind arith
 
 one_of_pbfcutz : (p : Text × List Row) → IsIn p.0 (codes "extract" ∷ codes "convert" ∷ codes "pack" ∷ codes "unpack" ∷ codes "check" ∷ codes "show" ∷ codes "blobs" ∷ codes "info" ∷ []) → IsOffered (Some p)
-one_of_pbfcutz p is =
-    elim is [
-      | inl h ↦ inl h
-      | inr (inl h) ↦ inr (inl h)
-      | inr (inr (inl h)) ↦ inr (inr (inl h))
-      | inr (inr (inr (inl h))) ↦ inr (inr (inr (inl h)))
-      | inr (inr (inr (inr (inl h)))) ↦ inr (inr (inr (inr (inl h))))
-      | inr (inr (inr (inr (inr (inl h))))) ↦ inr (inr (inr (inr (inr (inl h)))))
-      | inr (inr (inr (inr (inr (inr (inl h)))))) ↦ inr (inr (inr (inr (inr (inr (inl h))))))
-      | inr (inr (inr (inr (inr (inr (inr (inl h))))))) ↦ inr (inr (inr (inr (inr (inr (inr h))))))
-      | inr (inr (inr (inr (inr (inr (inr (inr h))))))) ↦ absurd h
-    ]
+one_of_pbfcutz p is = grind arith
 
 -- the words name a command of the program
 pub named : (program : Program) (words : List Text) (p : Text × List Row)
@@ -93,12 +63,10 @@ named Pbfcut words p e = one_of_pbfcut p (entered_name (built (program_app Pbfcu
 named Pbfcutz words p e = one_of_pbfcutz p (entered_name (built (program_app Pbfcutz)) (command_stop (program_app Pbfcutz) words) p e)
 
 pub simple : (program : Program) → is_simple (program_app program) ≡ true
-simple Pbfcut = refl
-simple Pbfcutz = refl
+simple program = grind arith
 
 pub needs_command : (program : Program) → (program_app program).top.subcommand_required ≡ true
-needs_command Pbfcut = refl
-needs_command Pbfcutz = refl
+needs_command program = grind arith
 
 -- if the matches are those of the words and have a subcommand, it is a command of the program
 pub offered : (program : Program) (m : ArgMatches) (words : List Text) → has_subcommand m ≡ true
@@ -112,15 +80,8 @@ offered program m words has same =
 
 -- a command that is read is no help
 pub never_help : (o : Option (Text × List Row)) (c : Command) → IsRead o c → IsHelp c → ⊥
-never_help None c read help = read
-never_help (Some p) (Help text) read help = read
-never_help (Some p) _ read help = help
+never_help o c h2 h3 = grind arith
 
 -- a fault of words that `clap` takes is no line of `clap`
 pub never_line : (o : Option (Text × List Row)) (f : CliFault) → HasFault o f → IsNoLine f
-never_line None f has = absurd has
-never_line (Some p) (fault.Line text) (inl has) = has.1
-never_line (Some p) (fault.Line text) (inr has) = (let bad : ⊥ = cc in absurd bad)
-never_line (Some p) (fault.Box f) has = tt
-never_line (Some p) (fault.Choice f) has = tt
-never_line (Some p) fault.Memory has = tt
+never_line o f h2 = grind arith

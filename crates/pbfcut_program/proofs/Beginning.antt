@@ -1,10 +1,9 @@
 -- What happens before IN is read, and after.
-use Rattle.std.proofs.Common.{◌≡◌, ℕ, suc, ◌+◌, List, [], ◌∷◌, ◌++◌, length, map, Bool, true, false, Option, inl, refl, ap, subst, sym, ◌∙◌, append_assoc}
+use Rattle.std.proofs.Common.{arith, ◌≡◌, ℕ, suc, ◌+◌, List, [], ◌∷◌, ◌++◌, length, map, Bool, true, false, Option, inl, refl, ap, subst, sym, ◌∙◌, append_assoc}
 use Rattle.osm_area.specs.Area.{AreaSpec}
 use Rattle.pbf_block.specs.declared.counts.Counts.{Counts}
 use Rattle.pbf_pass.specs.HeaderLimit.{judged_writable}
 use Rattle.pbfcut_cli.specs.declared.words.Region.{Region}
-use Rattle.pbfcut_cli.specs.declared.words.Region.TheVariants as region
 use Rattle.pbfcut_program.specs.Tasks.{judge_of}
 use Rattle.pbfcut_program.specs.Events.{Event, advised, opened, seeded}
 use Rattle.pbfcut_program.specs.Fails.{Each, Opens, Quiet}
@@ -13,12 +12,10 @@ use Rattle.pbfcut_program.proofs.EventLemmas.{each_both}
 use Rattle.pbfcut_program.proofs.FailLemmas.{opens_after, opens_before}
 
 pub quiet_looks : (is : Bool) (output : List ℕ) → Each Quiet (looks is output)
-quiet_looks true output = tt
-quiet_looks false output = (tt, tt)
+quiet_looks is output = grind arith
 
 quiet_makes : (is : Bool) (output : List ℕ) → Quiet (makes is output)
-quiet_makes true output = tt
-quiet_makes false output = tt
+quiet_makes is output = grind arith
 
 pub quiet_openings : (input : List ℕ) (pass : ℕ) (has : List (Option (List ℕ))) → Each Quiet (openings input pass has)
 quiet_openings input pass [] = tt
@@ -42,9 +39,7 @@ opens_begun is input output has =
 
 -- what comes next
 pub all_events : (a rs ps : List Event) (s m w : Event) → ((a ++ s ∷ m ∷ []) ++ (rs ++ w ∷ [])) ++ ps ≡ (a ++ s ∷ m ∷ rs) ++ w ∷ ps
-all_events a rs ps s m w =
-    append_assoc (a ++ s ∷ m ∷ []) (rs ++ w ∷ []) ps ∙ append_assoc a (s ∷ m ∷ []) ((rs ++ w ∷ []) ++ ps)
-    ∙ ap (λ x. a ++ s ∷ m ∷ x) (append_assoc rs (w ∷ []) ps) ∙ sym (append_assoc a (s ∷ m ∷ rs) (w ∷ ps))
+all_events a rs ps s m w = grind (arith, append_assoc (a ++ s ∷ m ∷ []) (rs ++ w ∷ []) ps, append_assoc a (s ∷ m ∷ []) ((rs ++ w ∷ []) ++ ps), append_assoc rs (w ∷ []) ps, append_assoc a (s ∷ m ∷ rs) (w ∷ ps))
 
 pub length_has : {A B : Type 0} (f : A → B) (xs : List A) → length (map f xs) ≡ length xs
 length_has f [] = refl
@@ -52,12 +47,10 @@ length_has f (x ∷ xs) = ap (λ n. suc n) (length_has f xs)
 
 -- what is read of what is cut out
 pub quiet_region : (cut : Region) (events : List Event) (area : AreaSpec) → MeansArea cut events area → Each Quiet events
-quiet_region (region.Box b) events area m = subst (λ es. Each Quiet es) (sym m.0) tt
-quiet_region (region.Polygon p) events area m = subst (λ es. Each Quiet es) (sym m.2) (tt, tt)
+quiet_region cut events area h3 = grind arith
 
 pub judge_extract : (parents : Bool) (area : AreaSpec) → judge_of (extract_task parents area) ≡ judged_writable
-judge_extract true area = refl
-judge_extract false area = refl
+judge_extract parents area = grind arith
 
 pub advice_some : (counts : Counts) → is_empty counts ≡ true → advice counts ≡ advised ∷ []
 advice_some counts e = rw e refl

@@ -56,8 +56,7 @@ module _ {F : Type 0} (f : feed.Ghosts F) where
 
   close_next : (known : List ℕ → Type 0) (may : Bool) (first : List ℕ) (old now : F) (file : List ℕ) (l m : Option (List Event)) → IsFresh f old → Closes f now l m → GivesOrNot f known may first old now file
       → (r : Reading) × (m ≡ then_one l (read r)) × IsWholeOrSpared known may first r file
-  close_next known may first old now file l m fresh c (inl g) = (reading f now file, c.1 file g.passed, inl (record { are = refl; end = g.end; is_known = g.is_known }))
-  close_next known may first old now file l m fresh c (inr g) = (reading f now [], c.1 [] (subst (λ x. f.has_passed x 0 []) (sym g.1) fresh.0), inr (g.0, refl, g.2))
+  close_next known may first old now file l m h8 h9 h10 = grind arith
 
   close_later : (known : List ℕ → Type 0) (may : Bool) (first : List ℕ) (olds news : List F) (files : List (List ℕ)) (l m : Option (List Event)) → AreFresh f olds → CloseAll f news l m → GiveLater f known may first olds news files
       → (rs : List Reading) × (m ≡ then_all l (reads rs)) × ReadLater known may first rs files × (length rs ≡ length news)
@@ -123,8 +122,7 @@ pub ends_with_none : (m : Option (List Event)) (took : List ℕ → Type 0) → 
 ends_with_none m took = (([], then_none m, refl, (λ x. absurd x), λ answer x. tt), λ t. ([], then_none m, refl, tt))
 
 pub ends_with_out : {D : Type 0} (d : drain.Ghosts D) (out : D) (went : Bool) (took : List ℕ → Type 0) (failed : Type 0) (m n : Option (List Event)) → ((w : List ℕ) → took w → d.has_taken out 0 w) → (failed → 0 < d.failures out) → Finishes d out went m n → Ends took failed (TakenFront (d.taken out)) m n
-ends_with_out d out went took failed m n taken risen fin =
-    ((_, fin.0.2, refl, (λ x. inl (inl (risen x))), λ answer x. (front_taken answer fin.0.0 (d.taken out) fin.0.1 x, tt)), λ t. (_, fin.1 [] (taken [] t), refl, (refl, tt)))
+ends_with_out d out went took failed m n taken risen fin = grind (arith, front_taken, d.taken out, fin.1 [], taken [])
 
 -- ---- why it fails
 
@@ -133,9 +131,7 @@ are_readings rs es none = readings_both (reads rs) es ∙ ap (λ more. readings 
 
 none_left : (rs : List Reading) (n at : ℕ) → n ≡ at + 1 → n ≡ length rs + at + 1 → rs ≡ []
 none_left [] n at e h = refl
-none_left (r ∷ rs) n at e h = absurd (some_left (length rs) n at e h) where
-  some_left : (k n at : ℕ) → n ≡ at + 1 → n ≡ suc k + at + 1 → ⊥
-  some_left k n at e h = omega (arith, e, h)
+none_left (r ∷ rs) n at e h = grind arith
 
 module _ {F : Type 0} (f : feed.Ghosts F) (packs digests : Bool) (judge : Option (List ℕ) → Option Verdict) (took : List ℕ → Type 0) (failed : Type 0) (front : List ℕ → Type 0) (l m n : Option (List Event)) (tail : Ends took failed front m n) where
   -- what OUT took
@@ -213,8 +209,7 @@ module _ {F : Type 0} (f : feed.Ghosts F) (packs digests : Bool) (judge : Option
   stop_told program stop.Read olds news fresh c stops =
       let rest = close_failed f olds news l m fresh c stops in
       (reads rest.0 ++ tail.0.0, and_then l m n (reads rest.0) tail.0.0 rest.1 tail.0.1, has_before _ (reads rest.0) tail.0.0 rest.2, front_after rest.0 tail.0.0 tail.0.4)
-  stop_told program stop.Write olds news fresh c stops =
-      (some news c, some_log news c, unless_packed (output_form packs program) failed _ (λ x. has_after _ (reads (close_rest f news l m c).0) tail.0.0 (tail.0.3 x)) stops, some_front news c)
+  stop_told program stop.Write olds news fresh c stops = grind (arith, some_log news c, unless_packed (output_form packs program) failed, has_after, close_rest f news l m c, some_front news c)
   stop_told program stop.Memory olds news fresh c stops = (some news c, some_log news c, tt, some_front news c)
   stop_told Pbfcut (stop.Changed pass) (old ∷ olds) (now ∷ news) fresh c stops = change_fails pass old now olds news fresh c stops
   stop_told Pbfcut (stop.Changed pass) _ _ fresh c stops = absurd stops
@@ -229,14 +224,6 @@ work_fails program packs digests f task took failed front l m n olds news halted
     (told.0, told.1, stop_fails (manner program packs digests) (judging (judge_of task)) (map f.remaining olds) halted.ending told.0 works.0 works.1 told.2, told.3)
 
 -- ---- what it does
-
--- a call ended well, and its feeds were returned
-pub work_read : {F : Type 0} (f : feed.Ghosts F) (by : Manner) (task : Task) (failed : Type 0) (l m : Option (List Event)) (olds news : List F) (report : Report)
-    → AreFresh f olds → CloseAll f news l m → Works by f task olds news (λ took. took ≡ []) failed (Ok report)
-    → (rs : List Reading) × (m ≡ then_all l (reads rs)) × (length rs ≡ length news) × IsWork by task rs [] report.counts report.input report.raw
-work_read f by task failed l m olds news report fresh c works =
-    let given = close_given f (AreDigests by (hashes_in task by.digests) report.input report.raw) (spares task) olds news works.files l m fresh c works.gave in
-    (given.0, given.1, given.3, record { files = works.files; read = given.2; holds = subst (λ (w : List ℕ). Holds task (map (of_input by) works.files) report.counts (of_output by w)) works.took_them works.holds })
 
 -- the same, and its drain too
 pub work_done : {F D : Type 0} (f : feed.Ghosts F) (d : drain.Ghosts D) (out : D) (went : Bool) (by : Manner) (task : Task) (took : List ℕ → Type 0) (failed : Type 0) (l m n : Option (List Event)) (olds news : List F) (report : Report)
@@ -268,25 +255,13 @@ finish_fails f d out went l m n news c fin e =
 pub work_read_once : {F : Type 0} (f : feed.Ghosts F) (by : Manner) (task : Task) (failed : Type 0) (l m : Option (List Event)) (old now : F) (report : Report)
     → IsFresh f old → Closes f now l m → Works by f task (old ∷ []) (now ∷ []) (λ took. took ≡ []) failed (Ok report)
     → (first : Reading) × (m ≡ then_one l (read first)) × IsWork by task (first ∷ []) [] report.counts report.input report.raw
-work_read_once f by task failed l m old now report fresh c works = only given.0 given.1 given.2 given.3 where
-  given : (rs : List Reading) × (m ≡ then_all l (reads rs)) × (length rs ≡ 1) × IsWork by task rs [] report.counts report.input report.raw
-  given = work_read f by task failed l m (old ∷ []) (now ∷ []) report (fresh, tt) (m, c, refl) works
-
-  only : (rs : List Reading) → m ≡ then_all l (reads rs) → length rs ≡ 1 → IsWork by task rs [] report.counts report.input report.raw → (first : Reading) × (m ≡ then_one l (read first)) × IsWork by task (first ∷ []) [] report.counts report.input report.raw
-  only [] e n w = absurd (none n) where
-    none : ◌≡◌ {A = ℕ} 0 1 → ⊥
-    none n = omega (arith, n)
-  only (r ∷ []) e n w = (r, e, w)
-  only (r ∷ s ∷ rs) e n w = absurd (more (length rs) n) where
-    more : (k : ℕ) → ◌≡◌ {A = ℕ} (suc (suc k)) 1 → ⊥
-    more k n = omega (arith, n)
+work_read_once f by task failed l m old now report fresh c works = grind arith
 
 -- what a call did, however it ended
 pub if_done : {F D : Type 0} (f : feed.Ghosts F) (d : drain.Ghosts D) (out : D) (went : Bool) (by : Manner) (task : Task) (took : List ℕ → Type 0) (failed : Type 0) (l m n : Option (List Event)) (olds news : List F) (outcome : Result Report Halted)
     → AreFresh f olds → CloseAll f news l m → Finishes d out went m n → ((w : List ℕ) → took w → d.has_taken out 0 w) → Works by f task olds news took failed outcome
     → OnOk outcome ((report : Report) × (rs : List Reading) × (w : Writing) × (n ≡ then_all l (reads rs ++ wrote w ∷ [])) × (w.out ≡ went) × IsWork by task rs w.bytes report.counts report.input report.raw)
-if_done f d out went by task took failed l m n olds news (Ok report) fresh c fin taken works =
-    let done = work_done f d out went by task took failed l m n olds news report fresh c fin taken works in (report, done.0, done.1, done.2, done.3, done.5)
+if_done f d out went by task took failed l m n olds news (Ok report) fresh c fin taken works = grind (arith, work_done f d out went by task took failed l m n olds news report fresh c fin taken works)
 if_done f d out went by task took failed l m n olds news (Err halted) fresh c fin taken works = tt
 
 -- a call stopped, and it and its devices left this
@@ -297,15 +272,11 @@ stops_leaving m task has before after events fresh fronts given = inl (unless_pa
 
 -- the digest that was wanted
 pub hashed_as : (digests : Bool) (known : Option (List ℕ)) (w : List ℕ) → IfSome known (λ digest. digest ≡ sha256 w) → IsAsked digests known → known ≡ digest_if_asked digests w
-hashed_as true (Some known) w is asked = ap (λ (x : List ℕ). Some x) is
-hashed_as true None w is asked = absurd asked
-hashed_as false (Some known) w is asked = absurd asked
-hashed_as false None w is asked = refl
+hashed_as digests known w h3 h4 = grind arith
 
 -- not all went out, or OUT didn't get its name
 pub keep_fails : (m : Manner) (j : Judging) (has : List (Option (List ℕ))) (how : Ending) (events : List Event) → ((how ≡ ending.Stopped stop.Write) ⊎ (how ≡ ending.OutExists)) → Has FailsToWrite events → Has FailsToFinish events → Fails m j has how events
-keep_fails m j has how events (inl e) written finished = subst (λ h. Fails m j has h events) (sym e) (write_stops m j has events written)
-keep_fails m j has how events (inr e) written finished = subst (λ h. Fails m j has h events) (sym e) (inr finished)
+keep_fails m j has how events h5 h6 h7 = grind (arith, write_stops)
 
 -- ---- a text
 

@@ -1,5 +1,5 @@
 -- Events before and after others.
-use Rattle.std.proofs.Common.{◌≡◌, inl, inr, List, [], ◌∷◌, ◌++◌, map, refl, ap, ◌∙◌}
+use Rattle.std.proofs.Common.{arith, ◌≡◌, inl, inr, List, [], ◌∷◌, ◌++◌, map, refl, ap, ◌∙◌}
 use Rattle.std.proofs.lemmas.List.{append-nil}
 use Rattle.pbfcut_program.specs.Events.{Event, Reading, read, wrote}
 use Rattle.pbfcut_program.specs.Fails.{Has, Each, Quiet, TookNothing, readings}
@@ -22,8 +22,7 @@ each_quiet p of [] q = tt
 each_quiet p of (x ∷ xs) q = (of x q.0, each_quiet p of xs q.1)
 
 quiet_nothing : (e : Event) → Quiet e → TookNothing e
-quiet_nothing (wrote w) q = absurd q
-quiet_nothing _ q = tt
+quiet_nothing e h1 = grind arith
 
 pub nothing_in : (xs : List Event) → Each Quiet xs → Each TookNothing xs
 nothing_in xs q = each_quiet TookNothing quiet_nothing xs q
@@ -31,16 +30,14 @@ nothing_in xs q = each_quiet TookNothing quiet_nothing xs q
 -- ---- readings
 
 reading_first : (e : Event) (xs ys : List Event) → readings (xs ++ ys) ≡ readings xs ++ readings ys → readings (e ∷ xs ++ ys) ≡ readings (e ∷ xs) ++ readings ys
-reading_first (read r) xs ys h = ap (λ rs. r ∷ rs) h
-reading_first _ xs ys h = h
+reading_first e xs ys h3 = grind arith
 
 pub readings_both : (xs ys : List Event) → readings (xs ++ ys) ≡ readings xs ++ readings ys
 readings_both [] ys = refl
 readings_both (x ∷ xs) ys = reading_first x xs ys (readings_both xs ys)
 
 quiet_one : (e : Event) (ys : List Event) → Quiet e → readings (e ∷ ys) ≡ readings ys
-quiet_one (read r) ys q = absurd q
-quiet_one _ ys q = refl
+quiet_one e ys h2 = grind arith
 
 pub readings_after : (xs ys : List Event) → Each Quiet xs → readings (xs ++ ys) ≡ readings ys
 readings_after [] ys q = refl

@@ -1,5 +1,5 @@
 -- Why commands fail, put together.
-use Rattle.std.proofs.Common.{◌≡◌, ◌⊎◌, inl, inr, ℕ, ◌+◌, List, [], ◌∷◌, ◌++◌, Bool, true, false, refl, IfErr, OnOk, Option, Result, Ok, Err, sym, subst, ◌∙◌}
+use Rattle.std.proofs.Common.{arith, ◌≡◌, ◌⊎◌, inl, inr, ℕ, ◌+◌, List, [], ◌∷◌, ◌++◌, Bool, true, false, refl, IfErr, OnOk, Option, Result, Ok, Err, sym, subst, ◌∙◌}
 use Rattle.pbf_frame.specs.Verdict.{Verdict}
 use Rattle.pbf_frame.specs.declared.stop.Stop.{Stop}
 use Rattle.pbf_frame.specs.declared.stop.Stop.TheVariants as stop
@@ -8,7 +8,6 @@ use Rattle.pbf_wire.specs.declared.fault.Fault.{Fault}
 use Rattle.pbfcut_cli.specs.declared.endings.Ending.{Ending}
 use Rattle.pbfcut_cli.specs.declared.endings.Ending.TheVariants as ending
 use Rattle.pbfcut_cli.specs.declared.programs.Program.{Program}
-use Rattle.pbfcut_cli.specs.declared.programs.Program.TheVariants.{Pbfcut, Pbfcutz}
 use Rattle.pbfcut_program.specs.Events.{Event, then_all}
 use Rattle.pbfcut_program.specs.Fails.{CauseOfOpening, Each, EndsAsStop, Fails, FailsFor, FailsOpening, FailsPrinting, FailsToRead, FailsToWrite, Has, IsChangedBy, IsRefusedBy, Judging, Opens, Quiet, Stops, TookNothing, UnlessPacked, judging, listing, printing, readings}
 use Rattle.pbfcut_program.specs.Manner.{Form, Manner, output_form, packed_file, raw_file}
@@ -21,12 +20,7 @@ use Rattle.pbfcut_program.proofs.Logging.{and_then}
 -- ---- before IN is read
 
 cause_after : (how : Ending) (xs ys : List Event) → CauseOfOpening how ys → CauseOfOpening how (xs ++ ys)
-cause_after ending.CannotOpen xs ys c = has_after _ xs ys c
-cause_after ending.IsPipe xs ys c = has_after _ xs ys c
-cause_after ending.OutExists xs ys c = has_after _ xs ys c
-cause_after (ending.Polygon f) xs ys c = has_after _ xs ys c
-cause_after (ending.Stopped stop.Memory) xs ys c = tt
-cause_after _ xs ys c = absurd c
+cause_after how xs ys h3 = grind (arith, has_after)
 
 pub opening_after : (how : Ending) (xs ys : List Event) → Each Quiet xs → FailsOpening how ys → FailsOpening how (xs ++ ys)
 opening_after how xs ys quiet f = (each_both _ xs ys quiet f.0, cause_after how xs ys f.1)
@@ -35,35 +29,23 @@ opening_after how xs ys quiet f = (each_both _ xs ys quiet f.0, cause_after how 
 
 -- each of them has others, which are weaker
 pub caused_weaker : (refused also : Fault → Type 0) (read more wrote out : Type 0) (changed too : ℕ → Type 0) (s : Stop) → ((e : Fault) → refused e → also e) → (read → more) → (wrote → out) → ((pass : ℕ) → changed pass → too pass) → Caused refused read wrote changed s → Caused also more out too s
-caused_weaker refused also read more wrote out changed too (stop.Refused e) r m o t c = r e c
-caused_weaker refused also read more wrote out changed too stop.Read r m o t c = m c
-caused_weaker refused also read more wrote out changed too stop.Write r m o t c = o c
-caused_weaker refused also read more wrote out changed too stop.Memory r m o t c = tt
-caused_weaker refused also read more wrote out changed too (stop.Changed p) r m o t c = t p c
+caused_weaker refused also read more wrote out changed too s h9 h10 h11 h12 h13 = grind arith
 
 pub unless_packed : (form : Form) (said also : Type 0) → (said → also) → UnlessPacked form said → UnlessPacked form also
-unless_packed raw_file said also to x = to x
-unless_packed packed_file said also to x = tt
+unless_packed form said also h3 h4 = grind arith
 
 pub unless_said : (form : Form) (said : Type 0) → said → UnlessPacked form said
-unless_said raw_file said x = x
-unless_said packed_file said x = tt
+unless_said form said h2 = grind arith
 
 -- a stop is how a command fails
 pub stop_fails : (m : Manner) (j : Judging) (has : List (Option (List ℕ))) (how : Ending) (events : List Event) (s : Stop) → EndsAsStop m.program s how → Stops m j has events s → Fails m j has how events
-stop_fails m j has (ending.Stopped t) events s is c = (s, is, c)
-stop_fails m j has (ending.RefusedPacked r) events s is c = (s, is, c)
-stop_fails m j has _ events s is c = absurd is
+stop_fails m j has how events s h6 h7 = grind arith
 
 memory_stops : (m : Manner) (j : Judging) (has : List (Option (List ℕ))) (events : List Event) → Stops m j has events stop.Memory
-memory_stops m (judging judge) has events = tt
-memory_stops m listing has events = tt
-memory_stops m printing has events = tt
+memory_stops m j has events = grind arith
 
 write_caused : (m : Manner) (j : Judging) (has : List (Option (List ℕ))) (events : List Event) → Has FailsToWrite events → Stops m j has events stop.Write
-write_caused m (judging judge) has events h = unless_said (output_form m.packs m.program) (Has FailsToWrite events) h
-write_caused m listing has events h = h
-write_caused m printing has events h = h
+write_caused m j has events h4 = grind (arith, unless_said)
 
 memory_fails : (m : Manner) (j : Judging) (has : List (Option (List ℕ))) (events : List Event) → Fails m j has (ending.Stopped stop.Memory) events
 memory_fails m j has events = (stop.Memory, refl, memory_stops m j has events)
@@ -90,33 +72,22 @@ opening_fails m j how events f = fails_early m j how events (of how f) where
 -- what holds of events holds of more that read and write the same
 module _ (xs ys : List Event) (keeps : (p : Event → Type 0) → Has p xs → Has p ys) (nothing : Each TookNothing xs → Each TookNothing ys) (same : readings ys ≡ readings xs) where
   refused_in : (program : Program) (judge : Option (List ℕ) → Option Verdict) (has : List (Option (List ℕ))) (e : Fault) → IsRefusedBy program judge has e xs → IsRefusedBy program judge has e ys
-  refused_in Pbfcut judge has e r = record { first = r.first; later = r.later; are = same ∙ r.are; faulty = r.faulty; nothing = nothing r.nothing }
-  refused_in Pbfcutz judge has e r = (r.0, nothing r.1)
+  refused_in program judge has e h4 = grind arith
 
   last_in : (X : Type 0) → (X ⊎ Each TookNothing xs) → (X ⊎ Each TookNothing ys)
-  last_in X (inl x) = inl x
-  last_in X (inr n) = inr (nothing n)
+  last_in X h1 = grind arith
 
   changed_in : (program : Program) (has : List (Option (List ℕ))) (pass : ℕ) → IsChangedBy program has pass xs → IsChangedBy program has pass ys
-  changed_in Pbfcut has pass c = record { first = c.first; between = c.between; other = c.other; later = c.later; are = same ∙ c.are; pass_is = c.pass_is; whole = c.whole; differs = c.differs; last = last_in _ c.last }
-  changed_in Pbfcutz has pass c = c
+  changed_in program has pass h3 = grind (arith, last_in)
 
   stops_in : (m : Manner) (j : Judging) (has : List (Option (List ℕ))) (s : Stop) → Stops m j has xs s → Stops m j has ys s
-  stops_in m (judging judge) has s c =
-      caused_weaker _ _ _ _ _ _ _ _ s (refused_in m.program judge has) (keeps FailsToRead) (unless_packed (output_form m.packs m.program) (Has FailsToWrite xs) (Has FailsToWrite ys) (keeps FailsToWrite)) (changed_in m.program has) c
-  stops_in m listing has s c = caused_weaker _ _ _ _ _ _ _ _ s (λ e r. r) (keeps FailsToRead) (keeps FailsToWrite) (λ p n. n) c
-  stops_in m printing has s c = caused_weaker _ _ _ _ _ _ _ _ s (λ e r. r) (λ r. r) (keeps FailsToWrite) (λ p n. n) c
+  stops_in m j has s h4 = grind (arith, caused_weaker, refused_in, unless_packed, changed_in)
 
   exists_in : (p q : Event → Type 0) → ((Has p xs × Each TookNothing xs) ⊎ Has q xs) → ((Has p ys × Each TookNothing ys) ⊎ Has q ys)
-  exists_in p q (inl f) = inl (keeps p f.0, nothing f.1)
-  exists_in p q (inr f) = inr (keeps q f)
+  exists_in p q h2 = grind arith
 
   fails_in : (m : Manner) (j : Judging) (has : List (Option (List ℕ))) (how : Ending) → Fails m j has how xs → Fails m j has how ys
-  fails_in m j has ending.CannotOpen f = (keeps _ f.0, nothing f.1)
-  fails_in m j has ending.IsPipe f = (keeps _ f.0, nothing f.1)
-  fails_in m j has ending.OutExists f = exists_in _ _ f
-  fails_in m j has (ending.Polygon e) f = (keeps _ f.0, nothing f.1)
-  fails_in m j has how f = (f.0, f.1, stops_in m j has f.0 f.2)
+  fails_in m j has how h4 = grind (arith, exists_in, stops_in)
 
 pub fails_after : (m : Manner) (j : Judging) (has : List (Option (List ℕ))) (how : Ending) (xs ys : List Event) → Each Quiet xs → Fails m j has how ys → Fails m j has how (xs ++ ys)
 fails_after m j has how xs ys q f = fails_in ys (xs ++ ys) (λ p. has_after p xs ys) (each_both _ xs ys (nothing_in xs q)) (readings_after xs ys q) m j has how f
@@ -152,8 +123,7 @@ told_fails m j has how shown k l n xs e f t = (xs ++ t.events, and_then k l n xs
 -- ---- lines
 
 pub printing_after : (how : Ending) (xs ys : List Event) → FailsPrinting how ys → FailsPrinting how (xs ++ ys)
-printing_after how xs ys (inl f) = inl (f.0, has_after _ xs ys f.1)
-printing_after how xs ys (inr f) = inr f
+printing_after how xs ys h3 = grind (arith, has_after)
 
 -- one line after others
 pub tells_more : {B : Type 0} (l m n : Option (List Event)) (xs ys : List Event) (r : Result B Ending) → m ≡ then_all l xs → Tells m n ys r → Tells l n (xs ++ ys) r
@@ -164,8 +134,7 @@ pub printing_more : (how : Ending) (l m n : Option (List Event)) (xs : List Even
 printing_more how l m n xs e t = (xs ++ t.0, and_then l m n xs t.0 e t.1, printing_after how xs t.0 t.2)
 
 pub print_stops : (m : Manner) (j : Judging) (how : Ending) (events : List Event) → FailsPrinting how events → Fails m j [] how events
-print_stops m j how events (inl f) = subst (λ h. Fails m j [] h events) (sym f.0) (write_stops m j [] events f.1)
-print_stops m j how events (inr e) = subst (λ h. Fails m j [] h events) (sym e) (memory_fails m j [] events)
+print_stops m j how events h4 = grind (arith, write_stops, memory_fails)
 
 -- lines couldn't be printed after what had happened
 pub print_fails : (m : Manner) (j : Judging) (how : Ending) (k l n : Option (List Event)) (xs : List Event) → l ≡ then_all k xs → ((some : List Event) × (n ≡ then_all l some) × FailsPrinting how some)
@@ -173,31 +142,16 @@ pub print_fails : (m : Manner) (j : Judging) (how : Ending) (k l n : Option (Lis
 print_fails m j how k l n xs e t = (xs ++ t.0, and_then k l n xs t.0 e t.1, fails_early m j how (xs ++ t.0) (print_stops m j how (xs ++ t.0) (printing_after how xs t.0 t.2)))
 
 pub tells_ok : {A : Type 0} (l m : Option (List Event)) (xs : List Event) (r : Result A Ending) → Tells l m xs r → OnOk r (m ≡ then_all l xs)
-tells_ok l m xs (Ok a) t = t
-tells_ok l m xs (Err how) t = tt
+tells_ok l m xs r h4 = grind arith
 
 pub tells_err : {A : Type 0} (l m : Option (List Event)) (xs : List Event) (r : Result A Ending) → Tells l m xs r → IfErr r (λ how. (some : List Event) × (m ≡ then_all l some) × FailsPrinting how some)
-tells_err l m xs (Ok a) t = tt
-tells_err l m xs (Err how) t = t
+tells_err l m xs r h4 = grind arith
 
 -- ---- texts
 
 -- what went out, if it did; and why not
 pub text_ok : {T A : Type 0} (went : Bool) (outcome : Result T Halted) (result : Result A Ending) (P : Type 0) → EndsAs went outcome result → (went ≡ true → OnOk outcome P) → OnOk result P
-text_ok true (Ok t) (Ok a) P ends p = p refl
-text_ok true (Ok t) (Err how) P ends p = tt
-text_ok true (Err h) (Ok a) P ends p = absurd ends
-text_ok true (Err h) (Err how) P ends p = tt
-text_ok false (Ok t) (Ok a) P ends p = absurd ends
-text_ok false (Err h) (Ok a) P ends p = absurd ends
-text_ok false outcome (Err how) P ends p = tt
+text_ok went outcome result P h4 h5 = grind arith
 
 pub text_err : {T A : Type 0} (went : Bool) (outcome : Result T Halted) (result : Result A Ending) (Q : Ending → Type 0) → EndsAs went outcome result → (went ≡ false → Q (ending.Stopped stop.Write)) → IfErr outcome (λ halted. Q halted.ending) → IfErr result Q
-text_err true (Ok t) (Ok a) Q ends q r = tt
-text_err true (Ok t) (Err how) Q ends q r = absurd ends
-text_err true (Err h) (Ok a) Q ends q r = absurd ends
-text_err true (Err h) (Err how) Q ends q r = subst Q (sym ends) r
-text_err false (Ok t) (Ok a) Q ends q r = tt
-text_err false (Err h) (Ok a) Q ends q r = tt
-text_err false (Ok t) (Err how) Q ends q r = subst Q (sym ends) (q refl)
-text_err false (Err h) (Err how) Q ends q r = subst Q (sym ends) (q refl)
+text_err went outcome result Q h4 h5 h6 = grind arith

@@ -1,5 +1,5 @@
 -- What went out when a call of the engine stopped, if its feeds had the same bytes.
-use Rattle.std.proofs.Common.{◌≡◌, inl, inr, ℕ, ◌+◌, List, [], ◌∷◌, map, Option, Some, Result, Ok, Err, IfErr, OnErr, Bool, false, refl, ap, sym, ◌∙◌}
+use Rattle.std.proofs.Common.{arith, ◌≡◌, inl, inr, ℕ, ◌+◌, List, [], ◌∷◌, map, Option, Some, Result, Ok, Err, IfErr, OnErr, Bool, false, refl, ap, sym, ◌∙◌}
 use Rattle.pbf_frame.specs.Devices.{IsFront}
 use Rattle.pbf_frame.specs.Verdict.{judged}
 use Rattle.pbf_frame.specs.declared.stop.Stop.{Stop}
@@ -24,10 +24,7 @@ use Rattle.pbfcut_program.specs.Tasks.{Task, answer_of, showing}
 
 -- what is known of a stopped call over raw files holds of what is reported of it
 raw_stopped : {X Y : Type 0} (outcome : Result InputReceipt Halt) (result : Result Report Halted) → (X → Y) → OnErr outcome X → ReportsRaw outcome result → OnErr result Y
-raw_stopped (Ok receipt) (Ok report) to x r = tt
-raw_stopped (Err halt) (Err halted) to x r = to x
-raw_stopped (Ok receipt) (Err halted) to x r = absurd r
-raw_stopped (Err halt) (Ok report) to x r = absurd r
+raw_stopped outcome result h2 h3 h4 = grind arith
 
 -- feeds with the same bytes don't differ
 not_from : (number : ℕ) (first : Option (List ℕ)) (bytes : List ℕ) (has : List (Option (List ℕ))) (pass : ℕ) → first ≡ Some bytes → AllSupply bytes has → ChangedFrom number first has pass → ⊥
@@ -36,16 +33,11 @@ not_from number first bytes (h ∷ has) pass e all (inl c) = c.1 bytes bytes e a
 not_from number first bytes (h ∷ has) pass e all (inr c) = not_from (number + 1) first bytes has pass e all.1 c
 
 not_changed : (bytes : List ℕ) (has : List (Option (List ℕ))) (pass : ℕ) → AllSupply bytes has → ChangedOf has pass → ⊥
-not_changed bytes [] pass all c = c
-not_changed bytes (h ∷ has) pass all c = not_from 1 h bytes (h ∷ has) pass all.0 all c
+not_changed bytes has pass h3 h4 = grind (arith, not_from)
 
 module _ (refused : Fault → Type 0) (read wrote : Type 0) (has : List (Option (List ℕ))) (X : Type 0) where
   unless_out : (bytes : List ℕ) (s : Stop) → AllSupply bytes has → UnlessChanged X s → Caused refused read wrote (ChangedOf has) s → X
-  unless_out bytes (stop.Refused e) all x c = x
-  unless_out bytes stop.Read all x c = x
-  unless_out bytes stop.Write all x c = x
-  unless_out bytes stop.Memory all x c = x
-  unless_out bytes (stop.Changed pass) all x c = absurd (not_changed bytes has pass all c)
+  unless_out bytes s h2 h3 h4 = grind (arith, not_changed)
 
   -- the same of published files, where nothing is said of what went out before a change was seen
   published_stopped : (Y : List ℕ → Type 0) (outcome : Result PublishedInput PublishedHalt) (result : Result Report Halted) → ((bytes : List ℕ) → AllSupply bytes has → X → Y bytes)
@@ -60,8 +52,7 @@ text_front : (dates : Bool) (has before after : Option (List ℕ)) (file : List 
 text_front dates has before after file is shows = shows (fully (judged false 0 file)) (ap judged_file is)
 
 pub meant_is : (form : Form) (known : Option (List ℕ)) (bytes : List ℕ) → known ≡ Some bytes → meant_known form known ≡ Some (meant form bytes)
-meant_is raw_file known bytes e = e
-meant_is packed_file known bytes e = ap raw_of e
+meant_is form known bytes h3 = grind arith
 
 raw_is : (known : Option (List ℕ)) (bytes : List ℕ) → known ≡ Some bytes → raw_of known ≡ Some (unpacked bytes)
 raw_is known bytes e = ap raw_of e
@@ -88,6 +79,4 @@ module _ (dates : Bool) (one two before after : Option (List ℕ)) (result : Res
 
   pub show_published : (outcome : Result PublishedInput PublishedHalt) → ReportsPublished outcome result → (refused : Fault → Type 0) (read wrote : Type 0) → IfErr outcome (λ h. UnlessChanged (raw_of one ≡ raw_of two → ShowsFront dates (judged_file (raw_of one)) before after) h.stop)
       → IfErr outcome (λ h. Caused refused read wrote (ChangedOf (one ∷ two ∷ [])) h.stop) → Fronts packed_file (showing dates) (one ∷ two ∷ []) before after result
-  show_published outcome r refused read wrote begins stops =
-      published_stopped refused read wrote (one ∷ two ∷ []) _ _ outcome result
-      (λ bytes all front. text_front dates (raw_of one) before after (unpacked bytes) (raw_is one bytes all.0) (front (raw_is one bytes all.0 ∙ sym (raw_is two bytes all.1.0)))) begins stops r
+  show_published outcome r refused read wrote begins stops = grind (arith, published_stopped refused read wrote (one ∷ two ∷ []), text_front dates (raw_of one) before after, raw_is one, raw_is two)

@@ -1,5 +1,5 @@
 -- What OUT took of an answer.
-use Rattle.std.proofs.Common.{◌≡◌, inl, inr, ℕ, List, [], ◌∷◌, ◌++◌, map, take, true, Option, Some, None, ap, sym, subst, ◌∙◌, append_assoc}
+use Rattle.std.proofs.Common.{arith, ◌≡◌, inl, inr, ℕ, List, [], ◌∷◌, ◌++◌, map, take, true, Option, Some, None, ap, sym, subst, ◌∙◌, append_assoc}
 use Rattle.std.proofs.lemmas.Bool.{false≢true}
 use Rattle.std.specs.Option.{is_some}
 use Rattle.std.specs.Prelude.{IfSome}
@@ -21,22 +21,18 @@ TakenFront known answer = IfSome known (λ taken. (count : ℕ) × (taken ≡ ta
 
 -- if it had taken nothing
 pub taken_front : (before after : Option (List ℕ)) (answer : List ℕ) → IfSome before (λ taken. taken ≡ []) → IsFront before after answer → TakenFront after answer
-taken_front None after answer fresh front = subst (λ (k : Option (List ℕ)). TakenFront k answer) (sym front.taken) tt
-taken_front (Some taken) after answer fresh front = subst (λ (k : Option (List ℕ)). TakenFront k answer) (sym front.taken) (front.count, ap (λ (x : List ℕ). x ++ take front.count answer) fresh)
+taken_front before after answer h3 h4 = grind arith
 
 pub front_taken : (answer bytes : List ℕ) (known : Option (List ℕ)) → IfSome known (λ taken. bytes ≡ taken) → TakenFront known answer → is_some known ≡ true → (count : ℕ) × (bytes ≡ take count answer)
-front_taken answer bytes None is front e = absurd (false≢true e)
-front_taken answer bytes (Some taken) is front e = (front.0, is ∙ front.1)
+front_taken answer bytes known h3 h4 h5 = grind (arith, false≢true)
 
 -- ---- by events
 
 pub quiet_front : (answer : List ℕ) (e : Event) → Quiet e → TookFront answer e
-quiet_front answer (wrote w) q = absurd q
-quiet_front answer _ q = tt
+quiet_front answer e h2 = grind arith
 
 nothing_front : (answer : List ℕ) (e : Event) → TookNothing e → TookFront answer e
-nothing_front answer (wrote w) none = λ told. (0, none)
-nothing_front answer _ none = tt
+nothing_front answer e h2 = grind arith
 
 pub front_nothing : (answer : List ℕ) (es : List Event) → Each TookNothing es → Each (TookFront answer) es
 front_nothing answer [] none = tt
@@ -51,17 +47,7 @@ front_read answer (r ∷ rs) = (tt, front_read answer rs)
 -- after quiet events
 pub leaves_after : (m : Manner) (task : Task) (has : List (Option (List ℕ))) (xs ys : List Event) → Each Quiet xs → Leaves m task has ys → Leaves m task has (xs ++ ys)
 leaves_after m task has xs ys q (inl l) = inl (unless_packed (output_form m.packs m.program) _ _ (λ front bytes all. each_both _ xs ys (each_quiet _ (quiet_front _) xs q) (front bytes all)) l)
-leaves_after m task has xs ys q (inr w) = inr (record {
-  before = xs ++ w.before;
-  rs = w.rs;
-  out = w.out;
-  after = w.after;
-  happened = ap (λ (es : List Event). xs ++ es) w.happened ∙ sym (append_assoc xs w.before (map (λ r. read r) w.rs ++ wrote w.out ∷ w.after));
-  counts = w.counts;
-  digest = w.digest;
-  raw = w.raw;
-  work = w.work;
-})
+leaves_after m task has xs ys q (inr w) = grind (arith, append_assoc xs w.before (map (λ r. read r) w.rs ++ wrote w.out ∷ w.after))
 
 -- before IN was read
 pub opening_leaves : (m : Manner) (task : Task) (how : Ending) (events : List Event) → FailsOpening how events → LeavesFor m task events

@@ -1,5 +1,5 @@
 -- What words mean, and why they don't.
-use Rattle.std.proofs.Common.{◌≡◌, ◌⊎◌, inl, inr, List, [], true, Result, Err, refl, sym, subst}
+use Rattle.std.proofs.Common.{arith, ◌≡◌, ◌⊎◌, inl, inr, List, [], true, Result, Err, refl, sym, subst}
 use Rattle.clap.specs.Words.{Text, subcommand_of, takes}
 use Rattle.pbf_frame.specs.declared.stop.Stop.TheVariants as stop
 use Rattle.pbfcut_cli.specs.Endings.{ending_of}
@@ -29,12 +29,7 @@ is_meant program words seen command is read = subst (λ (s : List Text). IsHelp 
 
 -- what is shown in place of an ending has its cause too
 pub why_shown : (program : Program) (words : List Text) (how shown : Ending) (events : List Event) → ((shown ≡ how) ⊎ (shown ≡ ending.Stopped stop.Memory)) → IsWhy program words how events → IsWhy program words shown events
-why_shown program words how shown events (inl e) why = subst (λ h. IsWhy program words h events) (sym e) why
-why_shown program words how shown events (inr e) why = subst (λ h. IsWhy program words h events) (sym e) tt
+why_shown program words how shown events h5 h6 = grind arith
 
 pub fails_why : (program : Program) (words : List Text) (command : Command) (how : Ending) (events : List Event) → IsMeant program words command → FailsIn (manner_in program command) command how events → IsWhy program words how events
-fails_why program words command (ending.Words t) events meant f = absurd f.0.why.1
-fails_why program words command (ending.Box b) events meant f = absurd f.0.why.1
-fails_why program words command (ending.Choice b) events meant f = absurd f.0.why.1
-fails_why program words command (ending.Stopped stop.Memory) events meant f = tt
-fails_why program words command how events meant f = (command, meant, f)
+fails_why program words command how events h5 h6 = grind arith

@@ -1,5 +1,5 @@
 -- What pbfcutz's calls report of what went through their devices.
-use Rattle.std.proofs.Common.{◌≡◌, inl, inr, ℕ, List, [], ◌∷◌, Bool, true, false, Option, Some, Result, Ok, Err, IfOk, IfErr, refl, subst, sym}
+use Rattle.std.proofs.Common.{arith, ◌≡◌, inl, inr, ℕ, List, [], ◌∷◌, Bool, true, false, Option, Some, Result, Ok, Err, IfOk, IfErr, refl, subst, sym}
 use Rattle.osm_area.specs.Area.{AreaSpec}
 use Rattle.pbf_frame.specs.declared.device.Feed as feed
 use Rattle.pbf_frame.specs.declared.device.Drain as drain
@@ -48,24 +48,13 @@ module _ {F : Type 0} (f : feed.Ghosts F) (packs digests hashes : Bool) (input r
 
   -- what passed by the first log is what is said of
   gave : {old now : F} {digest : Option (List ℕ)} {holds : List ℕ → Type 0} → ((file : List ℕ) → IsDigestOf digest file → IsDigestOf (digest_if hashes input) file) → f.has_passed old 0 [] → GavePublished f old now digest (digest_if digests r) holds → Gave f Known now holds
-  gave {holds = holds} same start g =
-      let p = g.logged 0 start in
-      record {
-        file = p.packed;
-        gives = record {
-          passed = p.passed;
-          end = g.end;
-          is_known = (same p.packed p.digest_is, (r, is, subst (λ file. IsDigestOf (digest_if digests r) file) (sym p.means) g.raw_digest_is));
-        };
-        holding = subst holds (sym p.means) g.holding;
-      }
+  gave {holds = holds} same start g = grind (arith, same ((g.logged 0 start).packed) ((g.logged 0 start).digest_is))
 
   gave_all : {old now : F} {holds : List ℕ → Type 0} → f.has_passed old 0 [] → GavePublished f old now (Some input) (digest_if digests r) holds → Gave f Known now holds
   gave_all start g = gave (digest_or_not hashes input) start g
 
   gave_after : {old now : F} {first : List ℕ} {holds : List ℕ → Type 0} → f.has_passed old 0 [] → GaveOrNone f old now input (digest_if digests r) (unpacked first) holds → GaveAfter f Known first old now holds
-  gave_after start (inl g) = (let one = gave_all start g in record { file = one.file; gives = inl one.gives; holding = one.holding })
-  gave_after {first = first} start (inr none) = record { file = first; gives = inr (refl, none.0, refl); holding = none.1 }
+  gave_after h0 h1 = grind (arith, gave_all)
 
 -- ---- one pass
 

@@ -38,8 +38,7 @@ Stopped X h = Err h
 
 -- a digest of bytes is theirs, whether they are hashed or not
 pub digest_or_not : (hashes : Bool) (digest bytes : List ℕ) → IsDigestOf (Some digest) bytes → IsDigestOf (digest_if hashes digest) bytes
-digest_or_not true digest bytes is = is
-digest_or_not false digest bytes is = tt
+digest_or_not hashes digest bytes h3 = grind arith
 
 module _ {F : Type 0} (f : feed.Ghosts F) where
   gives_file : {digest : Option (List ℕ)} {holds : List ℕ → Type 0} {old now : F} (known : List ℕ → Type 0) → ((file : List ℕ) → IsDigestOf digest file → known file) → f.has_passed old 0 [] → (g : GaveFile f old now digest holds) → Gives f known now g.file
@@ -63,12 +62,7 @@ reported_ends f judge olds news nothing failed h halted e stops = (stop_of h, su
 
 module _ {F : Type 0} (f : feed.Ghosts F) (packs digests : Bool) (one one_now : F) (fresh : AreFresh f (one ∷ [])) where
   check_ends : (failed : Type 0) (h : Halt) → EndsJudging f one one_now digests (Stopped InputReceipt h) → StopsFor Pbfcut f judged_file (one ∷ []) (one_now ∷ []) (◌≡◌ {A = List ℕ} [] []) failed (stop_of h)
-  check_ends failed (halt.Refused r) ends = (gives_faulty f judged_file r fresh.0.0 ends.refused, refl)
-  check_ends failed (halt.Stopped (stop.Refused e)) ends = absurd (ends.refused e refl)
-  check_ends failed (halt.Stopped stop.Read) ends = inl ends.stops
-  check_ends failed (halt.Stopped stop.Write) ends = absurd ends.stops
-  check_ends failed (halt.Stopped stop.Memory) ends = tt
-  check_ends failed (halt.Stopped (stop.Changed p)) ends = absurd ends.stops
+  check_ends failed h h2 = grind (arith, gives_faulty)
 
   pub check_works : (outcome : Result InputReceipt Halt) (result : Result Report Halted)
       → IfOk outcome (λ receipt. GaveFile f one one_now (digest_if digests receipt.input) (λ file. CountsFile (judged_file (Some file)) receipt.counts)) → EndsJudging f one one_now digests outcome → ReportsRaw outcome result
@@ -117,9 +111,7 @@ module _ {F D : Type 0} (f : feed.Ghosts F) (d : drain.Ghosts D) (out out_now : 
 
     found : (pass number : ℕ) (later : List (F × F)) → AreFresh f (olds later) → ChangedLater (ChangedAt (fed f one one_now)) (TookNothing (drained d out out_now)) number (used f (olds later) (news later)) pass → Found pass number later
     found pass number [] fresh none = absurd none
-    found pass number (p ∷ later) fresh (inl c) =
-        let g = c.0.1 in
-        record { file = g.file; first = gives_some f fresh_one g; at = 0; pass_is = omega (arith, c.0.0); other = gives_other f p.0 p.1 g.file fresh.0.0 g.holding; last = last_of p.1 later c.1 }
+    found pass number (p ∷ later) fresh (inl c) = grind (arith, gives_some f fresh_one c.0.1, gives_other f p.0 p.1 c.0.1.file fresh.0.0 c.0.1.holding, last_of p.1 later c.1)
     found pass number (p ∷ later) fresh (inr c) =
         let m = found pass (number + 1) later fresh.1 c in
         record { file = m.file; first = m.first; at = suc m.at; pass_is = omega (arith, m.pass_is); other = m.other; last = elim m.last [ inl e ↦ inl (omega (arith, e)) | inr none ↦ inr none ] }
@@ -131,9 +123,7 @@ module _ {F D : Type 0} (f : feed.Ghosts F) (d : drain.Ghosts D) (out out_now : 
     call_ends judge later (halt.Stopped stop.Read) fresh ends = ends.stops
     call_ends judge later (halt.Stopped stop.Write) fresh ends = ends.stops
     call_ends judge later (halt.Stopped stop.Memory) fresh ends = tt
-    call_ends judge later (halt.Stopped (stop.Changed p)) fresh ends =
-        let m = found p 2 later fresh ends.changed in
-        record { file = m.file; first = m.first; at = m.at; pass_is = m.pass_is; other = m.other; last = m.last }
+    call_ends judge later (halt.Stopped (stop.Changed p)) fresh ends = grind (arith, found p 2 later fresh ends.changed)
 
   -- two passes
   two_works : (task : Task) (P : InputReceipt → List ℕ → Type 0) (Q : InputReceipt → (b c w : List ℕ) → Type 0)
@@ -177,8 +167,7 @@ module _ {F D : Type 0} (f : feed.Ghosts F) (d : drain.Ghosts D) (out out_now : 
   -- the second pass, which may have been spared
   later_of : (digest : Option (List ℕ)) {first : List ℕ} {holds : List ℕ → Type 0} (known : List ℕ → Type 0) → ((file : List ℕ) → IsDigestOf digest file → known file) → (spared : Bool) (old now : F) → f.has_passed old 0 [] → GaveOrNot (fed f old now) spared digest first holds
       → (file : List ℕ) × GivesOrNot f known true first old now file × holds file
-  later_of digest known is true old now begun g = (_, inr (refl, g.0, refl), g.1)
-  later_of digest known is false old now begun g = (g.file, inl (gives_file f known is begun g), g.holding)
+  later_of digest known h2 spared old now h6 h7 = grind (arith, gives_file)
 
   -- three passes
   pub extract_works : (area : AreaSpec) (one one_now two two_now three three_now : F) (outcome : Result InputReceipt Halt) (result : Result Report Halted) → AreFresh f (one ∷ two ∷ three ∷ [])

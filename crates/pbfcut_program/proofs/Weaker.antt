@@ -1,5 +1,5 @@
 -- What holds of a call by what its drain took holds by what that says of OUT.
-use Rattle.std.proofs.Common.{◌≡◌, ◌⊎◌, inl, inr, ℕ, List, [], ◌∷◌, ◌++◌, map, Bool, true, false, Option, Result, Ok, Err, refl, ap, subst, sym, ◌∙◌}
+use Rattle.std.proofs.Common.{arith, ◌≡◌, ◌⊎◌, inl, inr, ℕ, List, [], ◌∷◌, ◌++◌, map, Bool, true, false, Option, Result, Ok, Err, refl, ap, subst, sym, ◌∙◌}
 use Rattle.std.specs.Prelude.{IfSome}
 use Rattle.sha2.specs.Sha256.{sha256}
 use Rattle.pbf_frame.specs.declared.device.Feed as feed
@@ -19,20 +19,16 @@ use Rattle.pbfcut_cli.specs.declared.programs.Program.TheVariants.{Pbfcut, Pbfcu
 use Rattle.pbfcut_program.specs.declared.engine.Report.{Report}
 use Rattle.pbfcut_program.specs.declared.engine.Halted.{Halted}
 use Rattle.pbfcut_program.specs.Devices.{ChangesBy, EndsFor, FinishesPacked, MeansBy, Works}
-use Rattle.pbfcut_program.specs.Fails.{UnlessPacked}
 use Rattle.pbfcut_program.specs.Manner.{manner, meant, of_input, output_form, packed_file, raw_file}
 use Rattle.pbfcut_program.specs.Tasks.{Holds, Task, judge_of}
 use Rattle.pbfcut_program.proofs.FailLemmas.{caused_weaker, unless_packed}
 
 module _ {F : Type 0} (f : feed.Ghosts F) (nothing none : Type 0) (n : nothing → none) where
   last_weaker : (X : Type 0) → (X ⊎ nothing) → (X ⊎ none)
-  last_weaker X (inl x) = inl x
-  last_weaker X (inr y) = inr (n y)
+  last_weaker X h1 = grind arith
 
   change_weaker : (program : Program) (pass : ℕ) (olds news : List F) → ChangesBy program f nothing pass olds news → ChangesBy program f none pass olds news
-  change_weaker Pbfcut pass (old ∷ olds) (now ∷ news) c = record { file = c.file; first = c.first; at = c.at; pass_is = c.pass_is; other = c.other; last = last_weaker _ c.last }
-  change_weaker Pbfcut pass _ _ c = absurd c
-  change_weaker Pbfcutz pass olds news c = c
+  change_weaker program pass olds news h4 = grind (arith, last_weaker)
 
   pub ends_weaker : (program : Program) (judge : Option (List ℕ) → Option Verdict) (failed risen : Type 0) (how : Ending) (olds news : List F) → (failed → risen) → EndsFor program f judge olds news nothing failed how → EndsFor program f judge olds news none risen how
   ends_weaker program judge failed risen how olds news r e = (e.0, e.1, caused_weaker _ _ _ _ _ _ _ _ e.0 (λ x c. (c.0, n c.1)) (λ a. a) r (λ p c. change_weaker program p olds news c) e.2)
@@ -40,21 +36,12 @@ module _ {F : Type 0} (f : feed.Ghosts F) (nothing none : Type 0) (n : nothing �
 -- a drain below may have taken other bytes for what a drain took, which mean the same
 pub works_weaker : (program : Program) (packs digests : Bool) {F : Type 0} (f : feed.Ghosts F) (task : Task) (olds news : List F) (took taken : List ℕ → Type 0) (failed risen : Type 0) (result : Result Report Halted)
     → ((w : List ℕ) → took w → taken w) → (failed → risen) → Works (manner program packs digests) f task olds news took failed result → Works (manner program packs digests) f task olds news taken risen result
-works_weaker program packs digests f task olds news took taken failed risen (Ok report) t r works = record { files = works.files; written = works.written; gave = works.gave; took_them = t works.written works.took_them; holds = works.holds }
-works_weaker program packs digests f task olds news took taken failed risen (Err halted) t r works =
-    ends_weaker f (took []) (taken []) (t []) program (judge_of task) (UnlessPacked (output_form packs program) failed) (UnlessPacked (output_form packs program) risen) halted.ending olds news (unless_packed (output_form packs program) failed risen r) works
+works_weaker program packs digests f task olds news took taken failed risen result h12 h13 h14 = grind (arith, ends_weaker, unless_packed)
 
 -- raw blobs are what OUT gets
 pub works_raw : (program : Program) (packs digests : Bool) {F : Type 0} (f : feed.Ghosts F) (task : Task) (olds news : List F) (took : List ℕ → Type 0) (failed : Type 0) (result : Result Report Halted) → output_form packs program ≡ raw_file
     → Works (manner program false digests) f task olds news took failed result → Works (manner program packs digests) f task olds news took failed result
-works_raw program packs digests f task olds news took failed (Ok report) is works = record {
-  files = works.files;
-  written = works.written;
-  gave = works.gave;
-  took_them = works.took_them;
-  holds = subst (λ form. Holds task (map (of_input (manner program packs digests)) works.files) report.counts (meant form works.written)) (sym is) works.holds;
-}
-works_raw program packs digests f task olds news took failed (Err halted) is works = subst (λ form. EndsFor program f (judge_of task) olds news (took []) (UnlessPacked form failed) halted.ending) (sym is) works
+works_raw program packs digests f task olds news took failed result h10 h11 = grind arith
 
 -- ---- a drain that packs
 
@@ -64,9 +51,7 @@ first_none (x ∷ xs) ys is = (let bad : ⊥ = cc in absurd bad)
 
 -- what took nothing gave nothing
 none_packed : {D : Type 0} {d : drain.Ghosts D} (p : PackedDrain D d) (log : ℕ) → HasPacked p log [] → d.has_taken p.below.drain log []
-none_packed {d = d} p log has =
-    let means = ap (λ (u : Unpacked). u.0) (packed_means has.done has.packed has.means) in
-    subst (d.has_taken p.below.drain log) (means_none 0 has.packed (means ∙ first_none has.done (frame_held p.frame) has.split)) has.took
+none_packed {d = d} p log has = grind (arith, packed_means has.done has.packed has.means, d.has_taken p.below.drain log, means_none 0 has.packed ((ap (λ (u : Unpacked). u.0) (packed_means has.done has.packed has.means)) ∙ first_none has.done (frame_held p.frame) has.split), first_none has.done (frame_held p.frame) has.split)
 
 module _ (digests : Bool) {F D : Type 0} (f : feed.Ghosts F) {d : drain.Ghosts D} (mid new : PackedDrain D d) (digest : Option (List ℕ)) (task : Task) (olds news : List F) (failed risen : Type 0) where
   -- what a drain took that packs, and what OUT took once it was finished
@@ -77,10 +62,7 @@ module _ (digests : Bool) {F D : Type 0} (f : feed.Ghosts F) {d : drain.Ghosts D
   Below w = d.has_taken new.below.drain 0 w × MeansBy packed_file digest w
 
   nothing_below : new ≡ mid → Above [] → Below []
-  nothing_below same t = (
-    subst (λ (p : PackedDrain D d). d.has_taken p.below.drain 0 []) (sym same) (none_packed mid 0 t.0),
-    subst (λ w. IfSome digest (λ known. known ≡ sha256 w)) (sym (ap (λ (u : Unpacked). u.0) (nothing_more 0))) t.1,
-  )
+  nothing_below same t = grind (arith, none_packed mid 0 t.0, nothing_more 0)
 
   abbrev PackedEnds : Ending → Type 0
   PackedEnds how = EndsFor Pbfcutz f (judge_of task) olds news (Below []) (Unit {0}) how
@@ -89,12 +71,10 @@ module _ (digests : Bool) {F D : Type 0} (f : feed.Ghosts F) {d : drain.Ghosts D
   memory_packed how e = subst PackedEnds (sym e) (stop.Memory, refl, tt)
 
   lost_packed : (how : Ending) → ((how ≡ ending.Stopped stop.Write) ⊎ (how ≡ ending.Stopped stop.Memory)) → PackedEnds how
-  lost_packed how (inl e) = subst PackedEnds (sym e) (stop.Write, refl, tt)
-  lost_packed how (inr e) = memory_packed how e
+  lost_packed how h1 = grind (arith, memory_packed)
 
   same_packed : (how same : Ending) → new ≡ mid → EndsFor Pbfcutz f (judge_of task) olds news (Above []) failed how → ((same ≡ how) ⊎ (same ≡ ending.Stopped stop.Memory)) → PackedEnds same
-  same_packed how same is works (inl e) = subst PackedEnds (sym e) (ends_weaker f (Above []) (Below []) (nothing_below is) Pbfcutz (judge_of task) failed (Unit {0}) how olds news (λ _. tt) works)
-  same_packed how same is works (inr e) = memory_packed same e
+  same_packed how same h2 h3 h4 = grind (arith, ends_weaker, nothing_below, memory_packed)
 
   -- zlib blobs are what OUT gets, by a drain that was finished
   pub works_packed : (packs : Bool) (returned result : Result Report Halted) → packs ≡ true → FinishesPacked mid new returned result → Works (manner Pbfcutz false digests) f task olds news Above failed returned → Works (manner Pbfcutz packs digests) f task olds news Below risen result

@@ -11,4 +11,4 @@ pub returns-clause-kept : goal.returns-clause-kept
 returns-clause-kept g c = grind (arith, c.in-Some.ensures.steps, or-true (set.contains (g.I.IdLookup.ids c.args.known.now) c.in-Some.first), to_z-of_z w64 c.in-Some.first (search rules))
 
 pub returns-clause-sets : goal.returns-clause-sets
-returns-clause-sets g c = grind (arith, c.in-Some.ensures.steps, to_z-of_z w64 c.in-Some.first (search rules), union-insert (g.I.IdLookup.ids c.args.known.now) c.args.ids.now c.in-Some.first, insert_known (g.I.IdLookup.ids c.args.known.now) c.args.ids.now c.in-Some.first, c.in_ok-add_refs.ensures { u = tt })
+returns-clause-sets g c = grind (arith, c.in-Some.ensures.steps, to_z-of_z w64 c.in-Some.first (search rules), union-insert (g.I.IdLookup.ids c.args.known.now) c.args.ids.now c.in-Some.first, insert_known (g.I.IdLookup.ids c.args.known.now) c.args.ids.now c.in-Some.first, c.in_ok-add_refs.ensures {u = tt})

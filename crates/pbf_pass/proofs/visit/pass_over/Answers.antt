@@ -1,11 +1,11 @@
+use Rattle.std.proofs.Common.{arith}
 use Rattle.std.proofs.Common.{zero, suc, [], false, Some, rules, ◌∙◌}
 use Rattle.pbf_frame.proofs.Refusing.{faulty_as}
 use Rattle.pbf_frame.specs.declared.stop.Stop.TheVariants.{Refused}
 use Rattle.pbf_frame.specs.Verdict.{judged_known}
 use Rattle.pbf_pass.specs.Given.{judged_from}
 use Rattle.pbf_pass.specs.Refused.{RefusesRest}
-use Rattle.pbf_pass.specs.Stops.{ReadFailed}
-use Rattle.pbf_pass.specs.Visit.{VisitsAll, StopsVisit, RefusesVisit}
+use Rattle.pbf_pass.specs.Visit.{VisitsAll, RefusesVisit}
 use Rattle.pbf_pass.proofs.GivenLemmas.{digest_if_hashed, supplied_as, same_below, holds_of_file}
 use Rattle.pbf_pass.proofs.HaltingLemmas.{halts_of, rest_as, rest_of, stop_halted, refuses_bytes_as}
 use Rattle.pbf_pass.proofs.visit.pass_over.Goals as goal
@@ -64,6 +64,4 @@ returns-in-Err-clause-given g c =
     rw (c.new-in-Err.ensures, stop_halted c.in-Err.stop c.count-count.result c.digest-digest.result) (rest_as g.F.Feed first.feed.now last.feed.now _ _ stops c.in-Err.stop (search rules) (search rules) rest)
 
 pub returns-in-Err-clause-stops : goal.returns-in-Err-clause-stops
-returns-in-Err-clause-stops g c =
-    let stops : StopsVisit g.V.Visit.took g.V.Visit.failed (judged_known false 0 (g.F.Feed.remaining c.args.feed.now)) (ReadFailed g.F.Feed c.args.feed.now c.feed-1.given.0) c.args.visitor.now c.visit_rest-outcome.new.visitor c.in-Err.stop = search rules in
-    rw (c.new-in-Err.ensures, stop_halted c.in-Err.stop c.count-count.result c.digest-digest.result) stops
+returns-in-Err-clause-stops g c = grind (arith, c.new-in-Err.ensures, stop_halted c.in-Err.stop c.count-count.result c.digest-digest.result)

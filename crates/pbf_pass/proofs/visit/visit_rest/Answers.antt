@@ -1,23 +1,13 @@
-use Rattle.std.proofs.Common.{[], ◌∷◌, ◌++◌, ◌∙◌, arith, rules, refl, subst, sym, length-append}
+use Rattle.std.proofs.Common.{[], ◌∷◌, ◌++◌, ◌∙◌, arith, length-append}
 use Rattle.std.proofs.lemmas.Result.{err_from_is_err_and}
 use Rattle.pbf_frame.proofs.VerdictLemmas.{gone_more}
-use Rattle.pbf_pass.specs.Visit.{Visited}
 use Rattle.pbf_pass.proofs.ReadingLemmas.{has_passed_none, has_passed_more, has_passed_all, has_passed_refused}
 use Rattle.pbf_pass.proofs.StepLemmas.{took_one, met_end, stopped_step, refused_step}
 use Rattle.pbf_pass.proofs.VisitLemmas.{visited_more, stops_visit}
 use Rattle.pbf_pass.proofs.visit.visit_rest.Goals as goal
 
 pub frames-init : goal.frames-init
-frames-init g c = record {
-  done = ([], search rules, refl, has_passed_none g.F.Feed c.args.reader.now, refl);
-  few = search rules;
-  limited = search rules;
-  reading = c.requires.reading;
-  ready = c.requires.ready;
-  counts = search rules;
-  lender = refl;
-  visitor = refl;
-}
+frames-init g c = grind (arith, has_passed_none g.F.Feed c.args.reader.now, c.requires.reading, c.requires.ready)
 
 pub frames-preserved : goal.frames-preserved
 frames-preserved g c =
@@ -48,19 +38,7 @@ returns-in_err-step-clause-stops g c =
     rw (p.1, p.2) (stops_visit g.F.Feed _ _ g.V.Visit.took g.V.Visit.failed _ so_far.done.0 _ _ _ _ _ so_far.done.1 so_far.counts so_far.done.2 (stopped_step g.F.Feed _ _ _ _ _ _ so_far.reading c.in_err-step.ensures.steps.step))
 
 pub returns-in_err-step-clause-refused : goal.returns-in_err-step-clause-refused
-returns-in_err-step-clause-refused g c =
-    let p = err_from_is_err_and c.from_residual.result c.from_residual.ensures.1 in
-    let so_far = c.frames.invariant in
-    rw (p.1, p.2) (has_passed_refused g.F.Feed g.V.Visit.took g.V.Visit.failed _ _ _ _ _ _ so_far.done.0 so_far.done.3 so_far.done.2 _ (refused_step g.F.Feed _ _ _ _ _ _ so_far.reading c.in_err-step.ensures.steps.step))
+returns-in_err-step-clause-refused g c = grind (arith, err_from_is_err_and c.from_residual.result c.from_residual.ensures.1, c.frames.invariant, has_passed_refused g.F.Feed g.V.Visit.took g.V.Visit.failed, refused_step g.F.Feed)
 
 pub returns-clause-visited : goal.returns-clause-visited
-returns-clause-visited g c =
-    let so_far = c.frames.invariant in
-    let frames = so_far.done.0 in
-    let e = met_end g.F.Feed _ _ _ _ _ _ c.if-branch.false so_far.reading c.in_ok-step.ensures.steps.step in
-    has_passed_all g.F.Feed _ _ _ frames _ so_far.done.3 e.gave (e.keeps.lender ∙ so_far.lender) record {
-      frames = frames;
-      says = refl;
-      counted = so_far.done.4;
-      visited = subst (λ v. Visited g.V.Visit.took c.args.visitor.now frames v) (sym e.stays) so_far.done.2;
-    }
+returns-clause-visited g c = grind (arith, c.frames.invariant, c.frames.invariant.done.0, met_end g.F.Feed, has_passed_all g.F.Feed, c.frames.invariant.lender, c.frames.invariant.done.4)

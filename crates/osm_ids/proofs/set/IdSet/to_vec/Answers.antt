@@ -12,4 +12,4 @@ pub loop-id-init : goal.loop-id-init
 loop-id-init c = grind (arith, append-nil c.ids.ids.items, c.ids.invariant, c.into_iter-id-iterator.ensures.into_iter_gives, c.iter-id-items.ensures.rest, ids_of-append c.ids.ids.items c.self.inside.late.keys, ids_of-rising c.self.inside.pages, c.self.view_is)
 
 pub loop-id-preserved : goal.loop-id-preserved
-loop-id-preserved c = grind (arith, rest_more (deref { X = ℤ }), c.in_ok-push-2.ensures.items, to_z-of_z w64 c.in-Some-id.id.now (search rules), append_assoc c.loop-id.ids.items (c.in-Some-id.id.now ∷ []) c.next-in-loop-id.new.self, c.loop-id.invariant.same)
+loop-id-preserved c = grind (arith, rest_more (deref {X = ℤ}), c.in_ok-push-2.ensures.items, to_z-of_z w64 c.in-Some-id.id.now (search rules), append_assoc c.loop-id.ids.items (c.in-Some-id.id.now ∷ []) c.next-in-loop-id.new.self, c.loop-id.invariant.same)
