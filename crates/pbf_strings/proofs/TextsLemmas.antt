@@ -4,7 +4,7 @@ use Rattle.std.specs.Prelude.{Option, Some, None, Result, Ok, Err, nat_lt, false
 use Rattle.std.specs.List.{AllByRecursion, cons_option, flat_map}
 use Rattle.std.proofs.lemmas.List.{length-drop, drop-drop, drop_all}
 use Rattle.pbf_wire.specs.declared.fault.Reason.{Reason}
-use Rattle.pbf_wire.specs.Occurrence.{Content, Number, Eight, Four, Bytes, unplaced, without_places, Occurrence, Item, items, items_past, items_from, occurrence_at, body_at, found}
+use Rattle.pbf_wire.specs.Occurrence.{Content, Number, unplaced, without_places, Occurrence, Item, items, items_past, items_from, occurrence_at, body_at, found}
 use Rattle.pbf_wire.specs.Reading.{each, bytes_held, bytes_in, bytes_of}
 use Rattle.pbf_wire.proofs.Cutting.{front_ok}
 use Rattle.pbf_wire.proofs.PlaceLemmas.{same_at}
@@ -81,9 +81,7 @@ each_is (o ∷ os) = elim (bytes_of 1 o) as (λ t. cons_option t (each 1 os) ≡
 
 same_bytes : (c : Content) → bytes_in c ≡ bytes_in (unplaced c)
 same_bytes (Number v) = refl
-same_bytes (Eight bytes) = refl
-same_bytes (Four bytes) = refl
-same_bytes (Bytes bytes at) = refl
+same_bytes c = refl
 
 without : (o : Occurrence) → one_text o ≡ one_text (without_places o)
 without o = ap (λ (t : Option (List ℕ)). cons_option (cond (eqb o.number 1) t None) []) (same_bytes o.content)
@@ -105,8 +103,7 @@ unfolding items_past occurrence_at body_at
 short_spelled at size bs small le = rw (alone 10 (size ∷ bs) (omega arith), alone size bs small, enough_bytes size bs le) refl
 
 pub short_text_is : (at : ℕ) (bs : List ℕ) (size : ℕ) → 1 < length bs → get_or bs 0 0 ≡ 10 → get_or bs 1 0 ≡ size → size < 128 → size ≤ length bs - 2 → first_text (items at bs) ≡ take size (drop 2 bs)
-short_text_is at [] size two tag length_is small le = absurd (omega arith)
-short_text_is at (b ∷ []) size two tag length_is small le = absurd (omega arith)
 short_text_is at (b ∷ c ∷ bs) size two tag length_is small le =
     subst (λ x. first_text (items at (x ∷ c ∷ bs)) ≡ take size bs) (sym tag)
     (subst (λ x. first_text (items at (10 ∷ x ∷ bs)) ≡ take size bs) (sym length_is) (short_spelled at size bs small (omega arith)))
+short_text_is at bs size two tag length_is small le = absurd (omega arith)
