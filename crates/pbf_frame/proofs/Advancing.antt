@@ -8,7 +8,7 @@ use Rattle.pbf_frame.specs.declared.reader.State.{State}
 use Rattle.pbf_frame.specs.declared.reader.State.TheVariants.{Reading, Ended, Stopped}
 use Rattle.pbf_frame.specs.declared.frame_parts.BufferedFrame.{BufferedFrame}
 use Rattle.pbf_frame.specs.declared.stop.Stop.{Stop}
-use Rattle.pbf_frame.specs.declared.stop.Stop.TheVariants.{Refused, Read, Write, Memory, Changed}
+use Rattle.pbf_frame.specs.declared.stop.Stop.TheVariants.{Refused}
 use Rattle.pbf_frame.specs.Frames.{FrameSpec, is_header, frame_kind, frame_end, blob_at, next_of}
 use Rattle.pbf_frame.specs.Verdict.{Verdict, judged_known, with_first_known}
 use Rattle.pbf_frame.specs.Reads.{IsSeen, IsReaderStop, GaveFrame, GaveEnd}

@@ -13,7 +13,7 @@ use Rattle.pbf_frame.specs.declared.frame.FrameKind.TheVariants as kind
 use Rattle.pbf_frame.specs.declared.header.Head.{Head}
 use Rattle.pbf_frame.specs.declared.header.TheConstants.{HEADER_LIMIT}
 use Rattle.pbf_frame.specs.declared.stop.Stop.{Stop}
-use Rattle.pbf_frame.specs.declared.stop.Stop.TheVariants.{Refused, Read, Write, Memory, Changed}
+use Rattle.pbf_frame.specs.declared.stop.Stop.TheVariants.{Refused}
 use Rattle.pbf_frame.specs.Blob.{blob_fault}
 use Rattle.pbf_frame.specs.Devices.{prepend, Passes, IsAtEnd, given_prefix}
 use Rattle.pbf_frame.specs.declared.frame.TheConstants.{FILE_LIMIT}

@@ -36,7 +36,8 @@ use Rattle.pbf_unpack.proofs.WholeLemmas.{at_header}
 
 has_raw : (at : ℕ) (raw : Option Occurrence) (others : List Fault) → raw_faults at raw others ≡ [] → is_none raw ≡ false
 has_raw at (Some o) others e = refl
-has_raw at raw others e = (let bad : ⊥ = cc in absurd bad)
+has_raw at None [] e = (let bad : ⊥ = cc in absurd bad)
+has_raw at None (f ∷ others) e = (let bad : ⊥ = cc in absurd bad)
 
 second_of_six : (a b c d e g : Bool) → b ≡ false → (a && (b && c && d && e && g)) ≡ false
 second_of_six true b c d e g is = rw is refl

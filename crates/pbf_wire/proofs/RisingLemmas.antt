@@ -1,6 +1,5 @@
 -- The offsets of a column's numbers rise, so the first value that isn't good is the least fault.
 use Rattle.std.proofs.Common.{◌≡◌, ℕ, zero, suc, ◌+◌, ◌-◌, ◌≤◌, List, [], ◌∷◌, ◌++◌, map, refl, ap, sym, ◌∙◌, arith, ◌==◌, true, false, Bool, ℤ, pos, ◌+ℤ◌}
-use Rattle.std.proofs.lemmas.Int.{ints}
 use Rattle.std.specs.Prelude.{Some, Result, Ok, Err, if◌then◌else◌, not}
 use Rattle.std.specs.List.{flat_map, zip}
 use Rattle.pbf_wire.specs.declared.fault.Fault.{Fault}

@@ -1,14 +1,14 @@
 -- Entries of one byte that aren't negative, sixteen at once.
 use Rattle.std.proofs.Common.{◌≡◌, ◌<◌, ◌≤◌, ◌+◌, ◌-◌, ◌*◌, ◌/◌, ◌%◌, ◌^◌, ℕ, zero, suc, Bool, true, false, not, cond, leb, ◌≢◌, List, [], ◌∷◌, ◌++◌, length, map, take, drop, replicate, bit_and, ℤ, pos, negsuc, ◌+ℤ◌, ◌<ℤ◌, refl, sym, ap, subst, ◌∙◌, arith, w8, take-append-drop}
 use Rattle.std.specs.List.{AllByRecursion, fold, prefix_len, sum}
-use Rattle.std.specs.Simd.Lanes.{mask_l, sum_l, fold_l, zip2, top}
+use Rattle.std.specs.Simd.Lanes.{mask_l, sum_l, zip2, top}
 use Rattle.std.proofs.lemmas.Bool.{eq-eqb, le-leb}
 use Rattle.std.proofs.lemmas.Bool.Decides.{nat_tests}
 use Rattle.std.proofs.lemmas.Int.{ints}
-use Rattle.std.proofs.lemmas.List.{length-map, map-id, take-replicate, take-take}
+use Rattle.std.proofs.lemmas.List.{length-map, take-replicate, take-take}
 use Rattle.std.proofs.lemmas.Nat.{and_mask}
 use Rattle.std.proofs.lemmas.List.Sums.{prefix_len-le-length}
-use Rattle.std.proofs.lemmas.Simd.{fold-sum, mask_l-mod, tops_compared, trailing_mask_l, zip2_splat_left}
+use Rattle.std.proofs.lemmas.Simd.{mask_l-mod, tops_compared, trailing_mask_l, zip2_splat_left}
 use Rattle.std.specs.Int.Count.{count_trailing_zeros}
 use mir.Val.{bits, hbits}
 use Rattle.pbf_wire.specs.Columns.{entries, read_entries, placed}

@@ -1,8 +1,8 @@
 -- What is read at one field of a list of slots.
-use Rattle.std.proofs.Common.{length, ◌≡◌, ◌≤◌, arith, ℕ, ◌^◌, ◌<◌, true, false, eqb, List, [], ◌∷◌, ◌++◌, Option, Some, None, refl, ap, ◌∙◌}
-use Rattle.std.specs.List.{flat_map, last_or, AllByRecursion}
+use Rattle.std.proofs.Common.{length, ◌≡◌, ◌≤◌, arith, ℕ, ◌^◌, ◌<◌, [], ◌++◌, Option, Some, None, refl, ap}
+use Rattle.std.specs.List.{last_or}
 use Rattle.std.specs.Option.{option_map, option_to_list}
-use Rattle.pbf_wire.specs.Message.{Slot, Scalar, Column, Each, SlotFits, scalars_at}
+use Rattle.pbf_wire.specs.Message.{Scalar, SlotFits}
 
 -- ---- options
 
