@@ -1,5 +1,5 @@
 -- Late ids among those of a set.
-use Rattle.std.proofs.Common.{◌≡◌, Bool, true, false, ◌||◌, inl, inr, List, [], ◌∷◌, Option, IfNone, Bor, Some, None, ℤ, ◌<ℤ◌, ◌≤ℤ◌, sym, ap, subst, ◌∙◌, arith, true≢false}
+use Rattle.std.proofs.Common.{◌≡◌, Bool, true, false, ◌||◌, inl, inr, List, [], ◌∷◌, Option, IfNone, Bor, Some, None, ℤ, ◌<ℤ◌, ◌≤ℤ◌, sym, subst, ◌∙◌, arith, true≢false}
 use Rattle.std.specs.List.{list_any, cons_option}
 use Rattle.std.specs.Option.{option_copied}
 use Rattle.std.specs.Map.Iter.{TakesFirst, deref}

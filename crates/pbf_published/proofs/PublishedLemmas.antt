@@ -1,6 +1,6 @@
 -- What a feed gave, unpacked, is the raw file that packed bytes mean.
-use Rattle.std.proofs.Common.{arith, ◌≡◌, ◌==◌, ◌&&◌, ◌||◌, ◌⊎◌, inl, inr, ℕ, suc, Bool, true, false, List, [], length, Option, Some, None, Result, Ok, Err, IfOk, IfErr, IfSome, OnErr, refl, sym, ap, ◌∙◌, subst}
-use Rattle.std.specs.Option.{is_none, option_map}
+use Rattle.std.proofs.Common.{arith, ◌≡◌, ◌||◌, ◌⊎◌, inl, inr, ℕ, Bool, true, false, List, [], Option, Some, None, Result, Ok, Err, IfOk, IfErr, IfSome, OnErr, refl, sym, ap, ◌∙◌, subst}
+use Rattle.std.specs.Option.{option_map}
 use Rattle.std.proofs.lemmas.Option.{same_Some}
 use Rattle.sha2.specs.Sha256.{sha256}
 use Rattle.pbf_wire.specs.declared.fault.Fault.{Fault}
@@ -19,12 +19,12 @@ use Rattle.pbf_pass.specs.Stops.{Caused, FaultOf, ReadFailed}
 use Rattle.pbf_unpack.specs.declared.feed.UnpackedFeed.{UnpackedFeed}
 use Rattle.pbf_unpack.specs.declared.feed.State.{State}
 use Rattle.pbf_unpack.specs.Reports.{has_all, stop_in}
-use Rattle.pbf_unpack.specs.Supplying.{left_in, unless_failed}
+use Rattle.pbf_unpack.specs.Supplying.{unless_failed}
 use Rattle.pbf_unpack.specs.Unpacked.{unpacked}
 use Rattle.pbfcut.specs.Calls.{Differ, FeedUse, GaveBy, GaveOrNot, supply_of}
 use Rattle.pbfcut.proofs.ConvertingLemmas.{nothing_out}
 use Rattle.pbf_published.specs.declared.input.PublishedHalt.{PublishedHalt}
-use Rattle.pbf_published.specs.Published.{Closed, GavePublished, GaveOrNone, Opened, ReportsOutcome, UnlessChanged, log_number, log_of, raw_of, told_by}
+use Rattle.pbf_published.specs.Published.{Closed, GavePublished, GaveOrNone, Opened, ReportsOutcome, UnlessChanged, log_of, raw_of}
 
 -- a feed of a pass that was opened, in the log that says most
 pub opened_by : {D H : Type 0} (holds : H → List ℕ → Type 0) (below : D → ℕ → List ℕ → Type 0) (device : D) (flag hashes : Bool) (hasher : H) (count : ℕ) → flag ≡ hashes → holds hasher [] → count ≡ 0 → HasCounted holds below device flag hasher count (log_of hashes) []

@@ -1,5 +1,5 @@
 -- The lines of a header, and how it is stored.
-use Rattle.std.proofs.Common.{arith, ◌≡◌, ℕ, List, Bool, false, Option, sym, ap, ◌∙◌}
+use Rattle.std.proofs.Common.{arith, ◌≡◌, Bool, false, Option}
 use Rattle.pbf_frame.specs.declared.device.Drain as drain
 use Rattle.pbf_frame.specs.Transfers.{Added}
 use Rattle.pbf_frame.specs.Verdict.{Verdict}

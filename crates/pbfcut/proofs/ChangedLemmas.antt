@@ -1,5 +1,5 @@
 -- A later pass that stopped for a change: what its feed gave isn't the first feed's file.
-use Rattle.std.proofs.Common.{arith, ◌≡◌, ℕ, inr, Bool, true, List, Option, subst, refl, sym, ◌∙◌}
+use Rattle.std.proofs.Common.{arith, ◌≡◌, ℕ, Bool, true, List, Option, subst, ◌∙◌}
 use Rattle.sha2.specs.Sha256.{sha256}
 use Rattle.pbf_wire.specs.declared.fault.Fault.{Fault}
 use Rattle.pbf_frame.specs.declared.device.Feed as feed
@@ -13,7 +13,7 @@ use Rattle.pbf_pass.specs.Stops.{Caused, unchanged, ReadFailed}
 use Rattle.pbf_pass.proofs.UnjudgedLemmas.{refuses_less}
 use Rattle.pbfcut.specs.declared.repeat.LaterPass.{LaterPass}
 use Rattle.pbfcut.specs.Changes.{IfChanged}
-use Rattle.pbfcut.specs.Repeat.{IsUnlike, StopsLater, as_change, digest_of}
+use Rattle.pbfcut.specs.Repeat.{StopsLater, as_change}
 
 -- ---- of one later pass
 

@@ -13,12 +13,12 @@ use Rattle.pbf_pass.specs.declared.pass.Pass.{Pass}
 use Rattle.pbfcut.specs.Theorem.{IsConverted}
 use Rattle.pbfcut.specs.Converting.{answer_bytes, conversion, CanBeWritten}
 use Rattle.pbf_pass.specs.HeaderLimit.{header_limit, judged_writable, held_header}
-use Rattle.pbf_pass.specs.Counting.{counts_of, stored_entities}
+use Rattle.pbf_pass.specs.Counting.{stored_entities}
 use Rattle.pbf_pass.specs.Judged.{judged_file}
-use Rattle.pbfcut.specs.Kept.{verdict_on, conversion_of, IsWritable}
+use Rattle.pbfcut.specs.Kept.{conversion_of, IsWritable}
 use Rattle.pbf_pass.proofs.GivenLemmas.{Tells}
 use Rattle.pbf_pass.proofs.LimitLemmas.{held_is, judged_sound}
-use Rattle.pbfcut.proofs.KeptLaw.{IsKept, same_verdict, conversion_kept}
+use Rattle.pbfcut.proofs.KeptLaw.{same_verdict, conversion_kept}
 use Rattle.pbfcut.specs.Pick.{everything, take_of}
 use Rattle.pbfcut.specs.Write.{Packed, PacksFront}
 use Rattle.pbf_pass.specs.Pass.{TakesFile, file_header}

@@ -1,11 +1,11 @@
 -- A copy that ends, and one that is too long.
-use Rattle.std.proofs.Common.{◌≡◌, ℕ, ◌+◌, ◌<◌, ◌≤◌, nat_lt, Bool, true, false, List, [], ◌∷◌, ◌++◌, length, Option, Some, None, Ok, refl, sym, ap, ◌∙◌, subst, inl, length-append, arith}
-use Rattle.std.specs.Prelude.{◌&&◌, ◌||◌, not, unwrap_or}
+use Rattle.std.proofs.Common.{◌≡◌, ℕ, ◌+◌, ◌<◌, ◌≤◌, nat_lt, Bool, false, List, [], ◌∷◌, ◌++◌, length, Option, Some, None, Ok, ap, ◌∙◌, subst, length-append, arith}
+use Rattle.std.specs.Prelude.{◌||◌, unwrap_or}
 use Rattle.pbf_frame.specs.declared.device.Feed as feed
 use Rattle.pbf_frame.specs.declared.frame.FrameKind.{FrameKind}
 use Rattle.pbf_frame.specs.declared.frame.TheConstants.{FILE_LIMIT}
 use Rattle.pbf_frame.specs.declared.stop.Stop.TheVariants as stop
-use Rattle.pbf_frame.specs.Frames.{FrameSpec, frame_bytes, frame_end, frame_kind, is_data, is_header, order_faults, next_of}
+use Rattle.pbf_frame.specs.Frames.{FrameSpec, frame_bytes, frame_end, frame_kind, is_header, order_faults, next_of}
 use Rattle.pbf_frame.specs.Sound.{AreFrames, EndsAs, had_after, place_after}
 use Rattle.pbf_frame.specs.Devices.{IsFront, append, prepend}
 use Rattle.pbf_frame.specs.Transfers.{SuppliedFirst}

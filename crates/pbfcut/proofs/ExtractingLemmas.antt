@@ -27,13 +27,13 @@ use Rattle.pbf_block.specs.declared.counts.Counts.{Counts}
 use Rattle.osm_ways.specs.declared.in_area.InArea.{InArea}
 use Rattle.pbf_pass.specs.declared.pass.Pass.{Pass}
 use Rattle.pbf_pass.specs.HeaderLimit.{HasShortTexts, header_limit, judged_writable, held_header}
-use Rattle.pbf_pass.specs.Counting.{counts_of, stored_entities}
+use Rattle.pbf_pass.specs.Counting.{stored_entities}
 use Rattle.pbfcut.specs.Calls.{FeedUse, GaveOrNot}
 use Rattle.pbfcut.specs.Theorem.{IsExtraction}
 use Rattle.pbfcut.specs.Extracting.{Choice, complete_ways, all_parents, extraction, extract_bytes, Begins, Chooses, ChoosesParents, AddsParents, IsChoice, IsChoiceWithParents}
 use Rattle.pbfcut.specs.Kept.{verdict_on, extract_of, IsWritable}
 use Rattle.pbf_pass.proofs.GivenLemmas.{gave_file_less}
-use Rattle.pbfcut.proofs.KeptLaw.{IsSelection, IsKeptExtract, same_verdict, extract_kept}
+use Rattle.pbfcut.proofs.KeptLaw.{IsSelection, same_verdict, extract_kept}
 use Rattle.pbf_pass.specs.Pass.{with_seen, with_seen_in, with_way, with_relation, TakesFile, file_header}
 use Rattle.pbfcut.specs.Repeat.{GathersRest}
 use Rattle.pbf_pass.specs.Unjudged.{GathersFile}

@@ -15,7 +15,7 @@ use Rattle.pbf_header.specs.HeaderFaults.{header_fault}
 use Rattle.pbf_block.specs.PrimitiveBlock.{block_fault}
 use Rattle.pbfcut.specs.FileFaults.{payload_phases, frame_faults, end_faults, faults_within, file_faults, file_rank}
 use Rattle.pbf_pass.specs.Judged.{fault_in, payload_fault, sound_first, fully, judged_file}
-use Rattle.pbf_pass.specs.Payload.{Payload, header_block, primitive_block, unknown, payload_of}
+use Rattle.pbf_pass.specs.Payload.{Payload, payload_of}
 
 -- ---- a frame
 

@@ -38,12 +38,12 @@ use Rattle.pbf_pass.proofs.SoundLemmas.{ends_well}
 use Rattle.pbfcut.specs.Converting.{conversion, answer_bytes}
 use Rattle.pbf_pass.specs.HeaderLimit.{header_limit, has_short_texts, with_limit, limited, judged_writable}
 use Rattle.pbf_pass.specs.Counting.{entities_in, frame_entities, stored_entities}
-use Rattle.pbfcut.specs.Extracting.{Choice, complete_ways, all_parents, extraction, extract_bytes}
+use Rattle.pbfcut.specs.Extracting.{Choice, complete_ways, all_parents, extract_bytes}
 use Rattle.pbf_pass.specs.Judged.{fault_in, payload_fault, sound_first, sound_front, fully}
 use Rattle.pbfcut.specs.Kept.{verdict_within, verdict_on, IsWritable, header_read, conversion_of, extract_of}
 use Rattle.pbfcut.specs.Theorem.{IsConversion, IsExtract, IsExtraction, IsCanonical}
 use Rattle.pbf_pass.specs.Pass.{headers_in, frame_headers, file_header}
-use Rattle.pbf_pass.specs.Payload.{Payload, header_block, primitive_block, unknown, payload_of}
+use Rattle.pbf_pass.specs.Payload.{Payload, payload_of}
 use Rattle.pbfcut.proofs.FileLaw.{IsFileOf, written_is_file}
 use Rattle.pbf_header.specs.declared.write.TheConstants.{MOST_HEADER_TEXT}
 

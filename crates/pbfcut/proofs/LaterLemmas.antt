@@ -27,8 +27,8 @@ use Rattle.pbf_pass.proofs.GivenLemmas.{IsDigest, told_digest, told_says}
 use Rattle.pbf_pass.proofs.HaltingLemmas.{halts_first}
 use Rattle.pbf_pass.proofs.UnjudgedLemmas.{refuses_less}
 use Rattle.pbfcut.specs.declared.repeat.LaterPass.{LaterPass}
-use Rattle.pbfcut.specs.Calls.{AnyFailed, ChangedAmong, ChangedIn, ChangedLater, Differ, DrainUse, FailedDrain, FailedFeed, FeedUse, GaveBy, IfMore, KeepsAll, KeepsFed, RefusedFirst, drained, supply_of, taken_after, taken_before}
-use Rattle.pbfcut.specs.Changes.{ChangedAt, ChangedOf, IfChanged}
+use Rattle.pbfcut.specs.Calls.{AnyFailed, ChangedAmong, ChangedLater, Differ, DrainUse, FailedDrain, FailedFeed, FeedUse, GaveBy, IfMore, KeepsAll, KeepsFed, RefusedFirst, drained, supply_of, taken_after, taken_before}
+use Rattle.pbfcut.specs.Changes.{ChangedOf, IfChanged}
 use Rattle.pbfcut.specs.Choosing.{StopsChoosing}
 use Rattle.pbfcut.specs.Ends.{EndsPasses, TookNothing}
 use Rattle.pbfcut.specs.Repeat.{IsUnlike, StopsLater, digest_of}

@@ -1,5 +1,5 @@
 -- Texts of frames that went out one after another.
-use Rattle.std.proofs.Common.{false, refl, ◌≡◌, ◌⊎◌, ℕ, ◌≤◌, List, [], ◌∷◌, ◌++◌, Option, Some, None, arith, subst, inl, inr, sym, ap, ◌∙◌}
+use Rattle.std.proofs.Common.{false, refl, ◌≡◌, ◌⊎◌, ℕ, ◌≤◌, List, [], ◌∷◌, ◌++◌, Option, Some, None, arith, inl, inr, sym, ap, ◌∙◌}
 use Rattle.std.specs.List.{flat_map}
 use Rattle.std.proofs.lemmas.List.{append-nil}
 use Rattle.std.proofs.lemmas.Grind.{flat_map-append}
@@ -10,7 +10,7 @@ use Rattle.pbf_frame.specs.declared.stop.Stop.TheVariants as why
 use Rattle.pbf_frame.specs.Devices.{append, IsFront}
 use Rattle.pbf_frame.specs.Transfers.{Added}
 use Rattle.pbf_frame.specs.Frames.{FrameSpec}
-use Rattle.pbf_frame.specs.Verdict.{Verdict, judged_known, VerdictAfter, Says, with_all, with_first_known}
+use Rattle.pbf_frame.specs.Verdict.{Verdict, judged_known, VerdictAfter, Says, with_first_known}
 use Rattle.pbf_frame.proofs.Passed.{added_none, added_more, added_same}
 use Rattle.pbf_frame.proofs.Beginnings.{front_whole, front_longer, front_then}
 use Rattle.pbf_frame.proofs.VerdictLemmas.{gone_more, gone_split}

@@ -1,5 +1,5 @@
 -- Nodes of a dense message that are packed many at a time.
-use Rattle.std.proofs.Common.{◌≡◌, ℕ, zero, suc, ◌+◌, ◌-◌, ◌<◌, ◌≤◌, Bool, true, ℤ, List, [], ◌∷◌, ◌++◌, length, map, take, drop, cond, Ok, Err, subst, refl, sym, ap, ◌∙◌, arith, add-one, append-nil}
+use Rattle.std.proofs.Common.{◌≡◌, ℕ, zero, suc, ◌+◌, ◌-◌, ◌<◌, ◌≤◌, Bool, true, ℤ, List, [], ◌∷◌, ◌++◌, length, map, take, drop, Ok, Err, subst, refl, sym, ap, ◌∙◌, arith, add-one, append-nil}
 use Rattle.std.specs.Option.{is_some}
 use Rattle.std.specs.List.{AllByRecursion, filter, sum_by}
 use Rattle.std.proofs.Math.Seq.{take-add}
@@ -37,7 +37,7 @@ use Rattle.pbf_wire.proofs.AllLemmas.{all_append, all_drop}
 use Rattle.pbfcut.specs.declared.pick.Picker.{Picker}
 use Rattle.pbfcut.specs.declared.pick.EntityPacker.{EntityPacker}
 use Rattle.pbfcut.specs.Pick.{picks_of, picks_id, HasPacked, PacksEach}
-use Rattle.pbfcut.specs.Many.{AreOneKind, AreEven, AreEvenAfter}
+use Rattle.pbfcut.specs.Many.{AreEven, AreEvenAfter}
 use Rattle.pbfcut.proofs.NodeLemmas.{first_id, no_first, no_node, picked_by_id}
 use Rattle.pbfcut.proofs.PickingLemmas.{begins_none, pack_stop}
 

@@ -1,5 +1,5 @@
 -- The nodes of a dense message, if their ids decide which are picked.
-use Rattle.std.proofs.Common.{◌≡◌, ℕ, zero, suc, ◌+◌, ◌-◌, ◌<◌, length, length-append, arith, ℤ, Bool, true, false, cond, Ok, Err, List, [], ◌∷◌, ◌++◌, map, append_assoc, append-nil, take-append-drop, take, drop, add-one, Option, Some, None, subst, refl, sym, ap, ap₂, ◌∙◌}
+use Rattle.std.proofs.Common.{◌≡◌, ℕ, zero, suc, ◌+◌, ◌<◌, length, length-append, arith, ℤ, Bool, true, false, cond, Ok, Err, List, [], ◌∷◌, ◌++◌, map, append_assoc, append-nil, take-append-drop, take, drop, add-one, Option, subst, refl, sym, ap, ap₂, ◌∙◌}
 use Rattle.std.specs.List.{filter}
 use Rattle.std.proofs.Math.Seq.{take-add}
 use Rattle.std.proofs.lemmas.List.{map-append, drop-drop, length-drop}

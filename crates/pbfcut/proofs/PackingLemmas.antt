@@ -3,7 +3,7 @@ use Rattle.std.proofs.Common.{◌≡◌, ℕ, List, [], ◌∷◌, ◌++◌, app
 use Rattle.std.specs.Prelude.{cond, Result, Ok, Err}
 use Rattle.std.proofs.lemmas.List.Elements.{filter-append}
 use Rattle.std.specs.List.{AllByRecursion, filter}
-use Rattle.osm_entity.specs.Entity.{EntitySpec, node, way, relation}
+use Rattle.osm_entity.specs.Entity.{EntitySpec}
 use Rattle.osm_entity.specs.Ranges.{EntityFits}
 use Rattle.pbf_block.specs.declared.counts.Counts.{Counts}
 use Rattle.pbf_frame.specs.declared.stop.Stop.{Stop}
@@ -14,12 +14,12 @@ use Rattle.pbf_frame.specs.Transfers.{Added}
 use Rattle.osm_pack.specs.Cuts.{written_entities, then_pending, then_written}
 use Rattle.osm_pack.specs.Packing.{Packing, Pending, IsPacking, has_header}
 use Rattle.osm_pack.specs.Stops.{IsPackStop}
-use Rattle.pbf_pass.specs.Counting.{counts_of, counted_with, count_one}
+use Rattle.pbf_pass.specs.Counting.{counts_of, count_one}
 use Rattle.pbf_pass.specs.Stops.{Caused, WriteFailed}
-use Rattle.pbf_pass.proofs.CountLemmas.{same_counts, counts_together}
+use Rattle.pbf_pass.proofs.CountLemmas.{counts_together}
 use Rattle.pbfcut.specs.declared.pick.EntityPacker.{EntityPacker}
 use Rattle.pbfcut.specs.declared.pick.Picker.{Picker}
-use Rattle.pbfcut.specs.Pick.{Pick, everything, picks_of, HasPacked, Packs, Begins, PacksPicked, StopsAmong, PacksEach, KeepsPacker}
+use Rattle.pbfcut.specs.Pick.{Pick, everything, picks_of, HasPacked, PacksPicked, StopsAmong, PacksEach, KeepsPacker}
 use Rattle.pbfcut.proofs.PickingLemmas.{packed_push, begins_push, begins_none, none_gone, pack_stop}
 
 -- ---- which are picked

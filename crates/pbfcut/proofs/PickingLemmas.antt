@@ -1,5 +1,5 @@
 -- Entities that are picked, on their way into the drain.
-use Rattle.std.proofs.Common.{◌≡◌, ℕ, ◌≤◌, List, [], ◌∷◌, ◌++◌, append_assoc, append-nil, true, Option, None, subst, inr, sym, ap, ap₂, ◌∙◌, arith}
+use Rattle.std.proofs.Common.{◌≡◌, ℕ, ◌≤◌, List, [], ◌∷◌, ◌++◌, append_assoc, append-nil, true, Option, None, subst, sym, ap, ap₂, ◌∙◌, arith}
 use Rattle.std.proofs.lemmas.List.Elements.{filter-append}
 use Rattle.std.specs.List.{AllByRecursion, filter}
 use Rattle.pbf_wire.specs.declared.fault.Fault.{Fault}
@@ -30,7 +30,7 @@ use Rattle.pbf_block.specs.Kinds.{is_among}
 use Rattle.pbf_block.specs.PrimitiveBlock.{entities}
 use Rattle.pbf_block.proofs.KindLemmas.{filter_every}
 use Rattle.pbfcut.specs.Pick.{Pick, HasPacked, BeginsAll, Begins, StopsPacking, StopsAmong}
-use Rattle.pbf_pass.specs.Stops.{Caused, Only, unchanged, WriteFailed}
+use Rattle.pbf_pass.specs.Stops.{Caused, Only, unchanged}
 
 -- what is picked of the frames
 pub picked_one : (pick : Pick) (fs : List FrameSpec) (f : FrameSpec) → filter pick (stored_entities (fs ++ f ∷ [])) ≡ filter pick (stored_entities fs) ++ filter pick (frame_entities f)

@@ -12,7 +12,7 @@ use Rattle.pbf_frame.specs.Reads.{IsReaderStop}
 use Rattle.pbf_frame.specs.declared.reader.FrameReader.{FrameReader}
 use Rattle.pbf_frame.specs.Frames.{FrameSpec}
 use Rattle.pbf_frame.specs.Stops.{stop_of_fault}
-use Rattle.pbf_frame.specs.Verdict.{Verdict, VerdictAfter, judged_known, with_first_known, Says}
+use Rattle.pbf_frame.specs.Verdict.{Verdict, VerdictAfter, judged_known, with_first_known}
 use Rattle.pbf_frame.specs.declared.device.Drain as drain
 use Rattle.pbf_frame.specs.declared.device.Feed as feed
 use Rattle.pbf_frame.specs.declared.stop.Stop.{Stop}
@@ -28,7 +28,7 @@ use Rattle.pbf_pass.specs.Refused.{RefusesRest}
 use Rattle.pbf_pass.proofs.UnjudgedLemmas.{refuses_less}
 use Rattle.pbf_pass.specs.Visit.{Takes, Fails, Visited, VisitsAll, StopsVisit, RefusesVisit}
 use Rattle.pbfcut.specs.declared.showing.LineWriter.{LineWriter}
-use Rattle.pbfcut.specs.Showing.{frame_text, file_text, answer_text, RefusedAtOnce, Shown, ShowsFront, StopsShowing, WritesFront, WritesLines, ShowsNext, FailsToShowNext}
+use Rattle.pbfcut.specs.Showing.{frame_text, file_text, RefusedAtOnce, Shown, ShowsFront, StopsShowing, WritesFront, WritesLines, ShowsNext, FailsToShowNext}
 use Rattle.pbf_pass.specs.Stops.{Caused, FaultOf, Only, ReadFailed, unchanged, WriteFailed}
 use Rattle.pbf_frame.specs.Keeps.{KeepsDrain}
 use Rattle.pbf_frame.proofs.Beginnings.{front_whole, front_longer, front_then}

@@ -1,14 +1,14 @@
 -- The fault of a file stays, whatever follows the file, unless it comes of the file's end.
-use Rattle.std.proofs.Common.{arith, ◌≡◌, ◌⊎◌, inl, inr, ℕ, Bool, true, false, if◌then◌else◌, List, [], ◌∷◌, ◌++◌, Option, Some, None, refl, sym, ap, ◌∙◌}
+use Rattle.std.proofs.Common.{arith, ◌≡◌, ◌⊎◌, ℕ, false, List, [], ◌∷◌, ◌++◌, Option, Some, None, refl, ap, ◌∙◌}
 use Rattle.pbf_wire.specs.declared.fault.Fault.{Fault}
-use Rattle.pbf_wire.specs.declared.fault.Reason.TheVariants.{NoHeader, EntityLarge}
+use Rattle.pbf_wire.specs.declared.fault.Reason.TheVariants.{EntityLarge}
 use Rattle.pbf_wire.specs.Faults.{fault}
 use Rattle.pbf_frame.specs.Devices.{IsAtEnd}
 use Rattle.pbf_frame.specs.Ends.{comes_of_end}
 use Rattle.pbf_frame.specs.Frames.{FrameSpec}
 use Rattle.pbf_frame.specs.Verdict.{Verdict, with_frame_first, judged}
 use Rattle.pbf_frame.proofs.Staying.{judged_longer}
-use Rattle.pbf_pass.specs.HeaderLimit.{has_short_texts, header_limit, with_limit, limited, judged_writable}
+use Rattle.pbf_pass.specs.HeaderLimit.{limited, judged_writable}
 use Rattle.pbf_pass.specs.Judged.{payload_fault, sound_first, sound_front, fully, judged_file}
 use Rattle.pbf_pass.specs.Stops.{FaultOf}
 use Rattle.pbf_pass.proofs.LimitLemmas.{limited_fault}

@@ -25,13 +25,13 @@ use Rattle.pbf_pass.specs.Counting.{counts_of, stored_entities}
 use Rattle.pbf_pass.specs.Judged.{fault_in, fully, fully_known, judged_file}
 use Rattle.pbf_pass.specs.Payload.{Payload, payload_as, payload_of}
 use Rattle.pbf_pass.specs.Refused.{RefusesRest}
-use Rattle.pbf_pass.specs.Stops.{Caused, WriteFailed}
+use Rattle.pbf_pass.specs.Stops.{Caused}
 use Rattle.pbf_pass.proofs.GivenLemmas.{Tells}
 use Rattle.pbf_pass.proofs.SoundLemmas.{sound_first_ones, sound_last, all_sound, rest_sound}
 use Rattle.pbf_pass.specs.Visit.{Takes, Fails, Visited, StopsVisit, RefusesVisit}
 use Rattle.pbf_pass.proofs.UnjudgedLemmas.{stops_visited, faulty_visited}
 use Rattle.pbf_pass.proofs.VisitLemmas.{visited_to}
-use Rattle.pbfcut.specs.Pick.{Pick, HasPacked, BeginsAll, Begins, StopsAmong, picked_in}
+use Rattle.pbfcut.specs.Pick.{Pick, HasPacked, BeginsAll, StopsAmong, picked_in}
 use Rattle.pbfcut.specs.Write.{PacksUnjudgedPayload, FailsAtUnjudgedPayload, PacksUnjudgedFrame, FailsAtFrame, PacksNext, FailsAtNext, Packed, PacksFront}
 use Rattle.pbfcut.proofs.PickingLemmas.{picked_one, front_of, begins_packed, none_gone}
 

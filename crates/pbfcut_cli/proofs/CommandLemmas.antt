@@ -1,9 +1,8 @@
 -- Commands and arguments that are put together.
-use Rattle.std.proofs.Common.{arith, ◌≡◌, ℕ, Bool, false, List, [], ◌∷◌, ◌++◌, Result, IfOk, IsOkAnd, Ok, Err, subst, codes, map, ap, ◌∙◌}
+use Rattle.std.proofs.Common.{arith, ◌≡◌, ℕ, Bool, false, List, [], ◌∷◌, ◌++◌, Result, IfOk, IsOkAnd, Ok, Err, subst, codes}
 use Rattle.std.proofs.lemmas.List.{map-append}
-use Rattle.std.proofs.lemmas.Result.{IfOk-weaker}
 use Rattle.std.specs.Borrow.{Bor}
-use Rattle.clap.specs.Words.{App, Rule, Text, AddsAliases, app_of, rule_of, with_rule, with_subcommand}
+use Rattle.clap.specs.Words.{App, Rule, AddsAliases, app_of, rule_of, with_rule, with_subcommand}
 use Rattle.clap.specs.declared.builder.arg.Arg.{Arg}
 use Rattle.clap.specs.declared.builder.command.Command.{Command}
 use Rattle.pbfcut_cli.specs.Commands.{HasNoGlobals, IsArgument, IsCommand, IsWith}

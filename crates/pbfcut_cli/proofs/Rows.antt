@@ -1,5 +1,5 @@
 -- What the getters read, by the rows.
-use Rattle.std.proofs.Common.{arith, ◌≡◌, ◌⊎◌, ◌∙◌, ap, refl, sym, inl, inr, List, [], ◌∷◌, map, Option, Some, None, unwrap_or, option_map, Bor, Bool, true, false, codes, find, is_some}
+use Rattle.std.proofs.Common.{arith, ◌≡◌, ◌⊎◌, ◌∙◌, ap, refl, sym, List, [], ◌∷◌, map, Option, Some, None, unwrap_or, option_map, Bor, Bool, true, codes, find, is_some}
 use Rattle.std.specs.Prelude.{IsSome}
 use Rattle.clap.specs.Words.{App, Row, Shape, Text, built, has_subcommand, is_simple, subcommand_of, subcommand_rows_of}
 use Rattle.clap.specs.declared.parser.matches.ArgMatches.{ArgMatches}
@@ -12,7 +12,6 @@ use Rattle.pbfcut_cli.specs.declared.programs.Program.TheVariants.{Pbfcut, Pbfcu
 use Rattle.pbfcut_cli.specs.declared.words.CliFault.{CliFault}
 use Rattle.pbfcut_cli.specs.declared.words.CliFault.TheVariants as fault
 use Rattle.pbfcut_cli.specs.declared.words.Command.{Command}
-use Rattle.pbfcut_cli.specs.declared.words.Command.TheVariants.{Help}
 use Rattle.pbfcut_cli.specs.Words.{HasFault, IsHelp, IsNoLine, IsOffered, IsRead, program_app}
 
 -- the text of a reference, or the empty one

@@ -1,5 +1,5 @@
 -- What a call of the engine did, as events, once its devices are returned.
-use Rattle.std.proofs.Common.{◌≡◌, ◌⊎◌, inl, inr, ℕ, zero, suc, ◌+◌, ◌<◌, List, [], ◌∷◌, ◌++◌, length, map, Bool, true, false, Option, Some, None, Result, Ok, Err, IfErr, OnOk, refl, ap, sym, subst, ◌∙◌, arith}
+use Rattle.std.proofs.Common.{◌≡◌, ◌⊎◌, inl, inr, ℕ, zero, suc, ◌+◌, ◌<◌, List, [], ◌∷◌, ◌++◌, length, map, Bool, true, false, Option, Result, Ok, Err, IfErr, OnOk, refl, ap, sym, subst, ◌∙◌, arith}
 use Rattle.std.proofs.lemmas.List.{append-nil}
 use Rattle.std.specs.Option.{is_some}
 use Rattle.std.specs.Prelude.{IfSome}
@@ -21,12 +21,12 @@ use Rattle.pbfcut.specs.Calls.{AllSupply, AnyFailed}
 use Rattle.pbfcut_program.specs.Devices.{AreFresh, ChangeIn, CloseAll, Closes, Finishes, Fronts, GiveAll, GiveLater, GivesOrNot, GivesOtherAt, IsAsked, IsFresh, IsFreshOut, StopsFor, Works, used}
 use Rattle.pbfcut_program.specs.Events.{Event, Reading, Writing, read, wrote, then_all, then_one}
 use Rattle.pbfcut_program.specs.Fails.{Each, Fails, FailsToFinish, FailsToRead, FailsToWrite, Has, Judging, Stops, TookNothing, UnlessPacked, judging, readings}
-use Rattle.pbfcut_program.specs.Manner.{AreDigests, Manner, input_form, manner, of_input, of_output, output_form}
+use Rattle.pbfcut_program.specs.Manner.{AreDigests, Manner, input_form, manner, of_input, output_form}
 use Rattle.pbfcut_program.specs.Outcomes.{EndsAs}
 use Rattle.pbfcut_program.specs.Program.{digest_if_asked}
 use Rattle.pbfcut_program.specs.Readings.{IsOther, IsWholeOrSpared, IsWork, ReadAll, ReadLater}
 use Rattle.pbfcut_program.specs.Leaving.{Leaves, TookFront}
-use Rattle.pbfcut_program.specs.Tasks.{Holds, Task, answer_of, hashes_in, judge_of, spares}
+use Rattle.pbfcut_program.specs.Tasks.{Task, answer_of, hashes_in, judge_of, spares}
 use Rattle.pbfcut_program.proofs.EventLemmas.{each_both, has_after, has_before, nothing_read, readings_both, readings_of}
 use Rattle.pbfcut_program.proofs.FailLemmas.{stop_fails, unless_packed, write_stops}
 use Rattle.pbfcut_program.proofs.LeavingLemmas.{TakenFront, front_nothing, front_read, front_taken, taken_front}

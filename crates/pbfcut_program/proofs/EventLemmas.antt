@@ -1,7 +1,7 @@
 -- Events before and after others.
 use Rattle.std.proofs.Common.{arith, ◌≡◌, inl, inr, List, [], ◌∷◌, ◌++◌, map, refl, ap, ◌∙◌}
 use Rattle.std.proofs.lemmas.List.{append-nil}
-use Rattle.pbfcut_program.specs.Events.{Event, Reading, read, wrote}
+use Rattle.pbfcut_program.specs.Events.{Event, Reading, read}
 use Rattle.pbfcut_program.specs.Fails.{Has, Each, Quiet, TookNothing, readings}
 
 pub has_after : (p : Event → Type 0) (xs ys : List Event) → Has p ys → Has p (xs ++ ys)

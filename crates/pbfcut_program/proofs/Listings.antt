@@ -1,16 +1,15 @@
 -- What a listing did, as events.
-use Rattle.std.proofs.Common.{arith, ◌≡◌, inl, inr, ℕ, List, [], ◌∷◌, Bool, true, false, Option, Result, Ok, Err, IfErr, OnOk, refl, subst, sym, None, Some}
+use Rattle.std.proofs.Common.{arith, ◌≡◌, inl, inr, ℕ, List, [], ◌∷◌, Bool, true, false, Option, Result, IfErr, OnOk, refl, Some}
 use Rattle.std.specs.Option.{is_some}
 use Rattle.pbf_frame.specs.declared.device.Feed as feed
 use Rattle.pbf_frame.specs.declared.device.Drain as drain
 use Rattle.pbf_frame.specs.declared.stop.Stop.TheVariants as stop
 use Rattle.pbf_frame.specs.Transfers.{Added}
-use Rattle.pbf_frame.specs.Verdict.{Says, Verdict, judged_known}
+use Rattle.pbf_frame.specs.Verdict.{judged_known}
 use Rattle.pbf_frame.proofs.Beginnings.{front_whole}
 use Rattle.pbf_pass.specs.Judged.{judged_file}
 use Rattle.pbf_pass.specs.Stops.{WriteFailed}
 use Rattle.pbf_published.specs.Showing.{ShowsHeader}
-use Rattle.pbfcut.specs.Blobs.{lines}
 use Rattle.pbfcut_cli.specs.declared.endings.Ending.{Ending}
 use Rattle.pbfcut_cli.specs.declared.endings.Ending.TheVariants as ending
 use Rattle.pbfcut_cli.specs.declared.programs.Program.{Program}
@@ -23,7 +22,7 @@ use Rattle.pbfcut_program.specs.Outcomes.{ListsBy}
 use Rattle.pbfcut_program.specs.Manner.{Manner, input_form, manner, meant, meant_known, of_input, packed_file, to_raw}
 use Rattle.pbfcut_program.specs.Program.{IsHeaderText, IsListing}
 use Rattle.pbfcut_program.specs.Leaving.{LeavesFor}
-use Rattle.pbfcut_program.specs.Tasks.{answer_of, checking, listing_frames}
+use Rattle.pbfcut_program.specs.Tasks.{answer_of, listing_frames}
 use Rattle.pbfcut_program.proofs.Closing.{ends_with_out, has_failed, reading, work_fails}
 use Rattle.pbfcut_program.proofs.FailLemmas.{caused_weaker, opened_fails, stop_fails, write_stops}
 use Rattle.pbfcut_program.proofs.FrontLemmas.{meant_is}

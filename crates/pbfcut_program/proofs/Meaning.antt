@@ -1,5 +1,5 @@
 -- What words mean, and why they don't.
-use Rattle.std.proofs.Common.{arith, ◌≡◌, ◌⊎◌, inl, inr, List, [], true, Result, Err, refl, sym, subst}
+use Rattle.std.proofs.Common.{arith, ◌≡◌, ◌⊎◌, List, [], true, Result, Err, refl, sym, subst}
 use Rattle.clap.specs.Words.{Text, subcommand_of, takes}
 use Rattle.pbf_frame.specs.declared.stop.Stop.TheVariants as stop
 use Rattle.pbfcut_cli.specs.Endings.{ending_of}

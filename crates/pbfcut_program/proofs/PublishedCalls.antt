@@ -1,5 +1,5 @@
 -- What pbfcutz's calls report of what went through their devices.
-use Rattle.std.proofs.Common.{arith, ◌≡◌, inl, inr, ℕ, List, [], ◌∷◌, Bool, true, false, Option, Some, Result, Ok, Err, IfOk, IfErr, refl, subst, sym}
+use Rattle.std.proofs.Common.{arith, ◌≡◌, inl, ℕ, List, [], ◌∷◌, Bool, true, false, Option, Some, Result, Ok, Err, IfOk, IfErr, refl}
 use Rattle.osm_area.specs.Area.{AreaSpec}
 use Rattle.pbf_frame.specs.declared.device.Feed as feed
 use Rattle.pbf_frame.specs.declared.device.Drain as drain

@@ -1,5 +1,5 @@
 -- What holds of a call by what its drain took holds by what that says of OUT.
-use Rattle.std.proofs.Common.{arith, ◌≡◌, ◌⊎◌, inl, inr, ℕ, List, [], ◌∷◌, ◌++◌, map, Bool, true, false, Option, Result, Ok, Err, refl, ap, subst, sym, ◌∙◌}
+use Rattle.std.proofs.Common.{arith, ◌≡◌, ◌⊎◌, ℕ, List, [], ◌∷◌, ◌++◌, map, Bool, true, false, Option, Result, Ok, Err, refl, ap, subst, sym, ◌∙◌}
 use Rattle.std.specs.Prelude.{IfSome}
 use Rattle.sha2.specs.Sha256.{sha256}
 use Rattle.pbf_frame.specs.declared.device.Feed as feed
@@ -15,11 +15,11 @@ use Rattle.pbf_unpack.proofs.UnpackedLemmas.{nothing_more}
 use Rattle.pbfcut_cli.specs.declared.endings.Ending.{Ending}
 use Rattle.pbfcut_cli.specs.declared.endings.Ending.TheVariants as ending
 use Rattle.pbfcut_cli.specs.declared.programs.Program.{Program}
-use Rattle.pbfcut_cli.specs.declared.programs.Program.TheVariants.{Pbfcut, Pbfcutz}
+use Rattle.pbfcut_cli.specs.declared.programs.Program.TheVariants.{Pbfcutz}
 use Rattle.pbfcut_program.specs.declared.engine.Report.{Report}
 use Rattle.pbfcut_program.specs.declared.engine.Halted.{Halted}
 use Rattle.pbfcut_program.specs.Devices.{ChangesBy, EndsFor, FinishesPacked, MeansBy, Works}
-use Rattle.pbfcut_program.specs.Manner.{manner, meant, of_input, output_form, packed_file, raw_file}
+use Rattle.pbfcut_program.specs.Manner.{manner, of_input, output_form, packed_file, raw_file}
 use Rattle.pbfcut_program.specs.Tasks.{Holds, Task, judge_of}
 use Rattle.pbfcut_program.proofs.FailLemmas.{caused_weaker, unless_packed}
 

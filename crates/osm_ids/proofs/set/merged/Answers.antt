@@ -1,10 +1,9 @@
-use Rattle.std.proofs.Common.{◌≡◌, ◌∷◌, ◌<ℤ◌, [], List, ℤ, Option, IfNone, Some, length, sym, ap, subst, ◌∙◌, arith, rules, to_z, of_z, w64}
+use Rattle.std.proofs.Common.{◌≡◌, ◌∷◌, ◌<ℤ◌, [], ℤ, Option, IfNone, Some, sym, ap, subst, ◌∙◌, arith, rules, to_z, of_z, w64}
 use mir.Val.{SFits}
 use Rattle.std.specs.List.{cons_option}
 use Rattle.std.specs.FinSet as set
 use Rattle.std.proofs.lemmas.Int.{to_z-of_z, ints}
 use Rattle.osm_ids.specs.Pages.{Rises}
-use Rattle.osm_ids.proofs.Sets.{Ids}
 use Rattle.osm_ids.proofs.Rising.{rising_from_sorted}
 use Rattle.osm_ids.proofs.OrderLemmas.{with_late}
 use Rattle.osm_ids.proofs.MergeLemmas.{Merging, merging_start, merging_id, merging_late, merging_end, taken, taken_none, up_some, up_none}

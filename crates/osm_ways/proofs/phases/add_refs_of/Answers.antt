@@ -4,7 +4,6 @@ use Rattle.std.specs.FinSet as set
 use Rattle.std.proofs.lemmas.Int.{to_z-of_z}
 use Rattle.std.proofs.Math.Bool.{or-true}
 use Rattle.osm_ways.proofs.Shown.{insert_known, union-insert}
-use Rattle.osm_ways.proofs.phases.add_refs_of.Goals.{then-not-has_near+else-not-is_kept_by+in_ok-add, else-not-has_near}
 use Rattle.osm_ways.proofs.phases.add_refs_of.Goals as goal
 
 pub returns-clause-kept : goal.returns-clause-kept

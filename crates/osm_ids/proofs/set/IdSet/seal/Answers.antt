@@ -1,5 +1,5 @@
 use Rattle.std.proofs.Common.{arith}
-use Rattle.std.proofs.Common.{◌≡◌, length, sym, ◌∙◌, rules}
+use Rattle.std.proofs.Common.{rules}
 use Rattle.osm_ids.proofs.OrderLemmas.{empty_late}
 use Rattle.osm_ids.proofs.set.IdSet.seal.Goals as goal
 

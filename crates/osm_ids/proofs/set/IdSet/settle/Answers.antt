@@ -1,6 +1,4 @@
-use Rattle.std.proofs.Common.{arith, List, ℤ, ap, sym, ◌∙◌, true≢false}
-use Rattle.std.specs.List.{list_any}
-use Rattle.std.specs.Ordering.{int_eq}
+use Rattle.std.proofs.Common.{arith}
 use Rattle.osm_ids.proofs.OrderLemmas.{none_late}
 use Rattle.osm_ids.proofs.set.IdSet.settle.Goals as goal
 

@@ -1,9 +1,7 @@
-use Rattle.std.proofs.Common.{arith, ◌≡◌, ◌∷◌, ◌++◌, [], List, ℤ, append_assoc, append-nil, sym, ap, ◌∙◌, rules, w64}
-use mir.Val.{SFits}
+use Rattle.std.proofs.Common.{arith, ◌∷◌, [], ℤ, append_assoc, append-nil, rules, w64}
 use Rattle.std.specs.Map.Iter.{deref}
 use Rattle.std.proofs.lemmas.Int.{to_z-of_z}
 use Rattle.std.proofs.lemmas.Map.Iter.{rest_more}
-use Rattle.osm_ids.specs.Pages.{rising}
 use Rattle.osm_ids.proofs.OrderLemmas.{ids_of-append}
 use Rattle.osm_ids.proofs.Rising.{ids_of-rising}
 use Rattle.osm_ids.proofs.set.IdSet.to_vec.Goals as goal

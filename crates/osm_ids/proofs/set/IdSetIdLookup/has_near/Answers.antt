@@ -1,10 +1,6 @@
-use Rattle.std.proofs.Common.{arith, ◌≡◌, length, false, sym, ap, subst, ◌∙◌, rules, w64}
-use Rattle.std.specs.List.{list_any}
-use Rattle.std.specs.Ordering.{int_eq}
+use Rattle.std.proofs.Common.{arith, false, sym, ap, ◌∙◌, rules, w64}
 use Rattle.std.specs.FinSet as set
 use Rattle.std.proofs.lemmas.Int.{to_z-of_z}
-use Rattle.osm_ids.specs.Windows.{IsOf}
-use Rattle.osm_ids.proofs.Sets.{Ids}
 use Rattle.osm_ids.proofs.OrderLemmas.{empty_late, new_late}
 use Rattle.osm_ids.proofs.set.IdSetIdLookup.has_near.Goals as goal
 

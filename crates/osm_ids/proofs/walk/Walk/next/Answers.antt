@@ -1,4 +1,4 @@
-use Rattle.std.proofs.Common.{◌≡◌, ◌<◌, ◌*◌, ◌+◌, ◌%◌, ◌/◌, ◌∷◌, pos, List, ℤ, length, take, drop, get_or, sym, ap, subst, ◌∙◌, arith, rules, w64}
+use Rattle.std.proofs.Common.{◌≡◌, ◌<◌, ◌*◌, ◌+◌, ◌%◌, ◌/◌, ◌∷◌, pos, List, ℤ, length, take, drop, get_or, sym, ap, ◌∙◌, arith, rules, w64}
 use mir.Val.{SFits}
 use Rattle.std.proofs.lemmas.Int.{to_z-of_z}
 use Rattle.std.proofs.lemmas.List.{drop_all}
@@ -7,7 +7,7 @@ use Rattle.osm_ids.specs.Pages.{rising}
 use Rattle.osm_ids.specs.Windows.{held}
 use Rattle.osm_ids.proofs.Walking.{len_is, walked}
 use Rattle.osm_ids.proofs.walk.Walk.next.Goals as goal
-use Rattle.osm_ids.proofs.walk.Walk.next.Goals.{Joined-self-eq0, then-self-eq0, else-self-eq0}
+use Rattle.osm_ids.proofs.walk.Walk.next.Goals.{Joined-self-eq0}
 
 pub returns-then-self-count : goal.returns-then-self-count
 returns-then-self-count c = grind (arith, drop_all c.self.inside.came (rising c.self.inside.ids.now) (omega (arith, len_is c.self.inside.ids.now, c.count.ensures, c.if-self-count.true)), len_is c.self.inside.ids.now, c.count.ensures, c.if-self-count.true)
