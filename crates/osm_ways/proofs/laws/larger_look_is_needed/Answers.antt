@@ -1,4 +1,4 @@
-use Rattle.std.proofs.Common.{pos, true, false, List, [], ◌∷◌}
+use Rattle.std.proofs.Common.{◌≡◌, pos, true, false, List, [], ◌∷◌}
 use Rattle.osm_ways.specs.Selection.{Seen, a_node}
 use Rattle.osm_ways.proofs.laws.larger_look_is_needed.Goals as goal
 

@@ -1,4 +1,4 @@
-use Rattle.std.proofs.Common.{arith, ap, subst, sym, ◌∙◌, to_z, of_z, w64}
+use Rattle.std.proofs.Common.{◌≡◌, arith, ap, subst, sym, ◌∙◌, to_z, of_z, w64}
 use Rattle.std.specs.BTreeSet.{insert_key}
 use Rattle.std.proofs.lemmas.Int.{to_z-of_z}
 use Rattle.osm_ids.specs.declared.links.Link.{Link}
