@@ -1,15 +1,16 @@
 -- What a listing did, as events.
-use Rattle.std.proofs.Common.{arith, ◌≡◌, inl, inr, ℕ, List, [], ◌∷◌, Bool, true, false, Option, Result, IfErr, OnOk, refl, Some}
+use Rattle.std.proofs.Common.{◌≡◌, inl, inr, ℕ, List, [], ◌∷◌, Bool, true, false, Option, Result, Ok, Err, IfErr, OnOk, refl, subst, sym, None, Some}
 use Rattle.std.specs.Option.{is_some}
 use Rattle.pbf_frame.specs.declared.device.Feed as feed
 use Rattle.pbf_frame.specs.declared.device.Drain as drain
 use Rattle.pbf_frame.specs.declared.stop.Stop.TheVariants as stop
 use Rattle.pbf_frame.specs.Transfers.{Added}
-use Rattle.pbf_frame.specs.Verdict.{judged_known}
+use Rattle.pbf_frame.specs.Verdict.{Says, Verdict, judged_known}
 use Rattle.pbf_frame.proofs.Beginnings.{front_whole}
 use Rattle.pbf_pass.specs.Judged.{judged_file}
 use Rattle.pbf_pass.specs.Stops.{WriteFailed}
 use Rattle.pbf_published.specs.Showing.{ShowsHeader}
+use Rattle.pbfcut.specs.Blobs.{lines}
 use Rattle.pbfcut_cli.specs.declared.endings.Ending.{Ending}
 use Rattle.pbfcut_cli.specs.declared.endings.Ending.TheVariants as ending
 use Rattle.pbfcut_cli.specs.declared.programs.Program.{Program}
@@ -22,7 +23,7 @@ use Rattle.pbfcut_program.specs.Outcomes.{ListsBy}
 use Rattle.pbfcut_program.specs.Manner.{Manner, input_form, manner, meant, meant_known, of_input, packed_file, to_raw}
 use Rattle.pbfcut_program.specs.Program.{IsHeaderText, IsListing}
 use Rattle.pbfcut_program.specs.Leaving.{LeavesFor}
-use Rattle.pbfcut_program.specs.Tasks.{answer_of, listing_frames}
+use Rattle.pbfcut_program.specs.Tasks.{answer_of, checking, listing_frames}
 use Rattle.pbfcut_program.proofs.Closing.{ends_with_out, has_failed, reading, work_fails}
 use Rattle.pbfcut_program.proofs.FailLemmas.{caused_weaker, opened_fails, stop_fails, write_stops}
 use Rattle.pbfcut_program.proofs.FrontLemmas.{meant_is}
@@ -40,11 +41,22 @@ module _ {F D : Type 0} (f : feed.Ghosts F) (d : drain.Ghosts D) (now : F) (out 
 
   pub list_done : (program : Program) (old : F) (before : D) (outcome : Result ℕ Halted) → IsFreshOut d before → ListsBy program f d old now before out outcome
       → OnOk outcome ((r : Reading) × (w : Writing) × (n ≡ then_all l (read r ∷ wrote w ∷ [])) × (w.out ≡ went) × IsListing program (f.remaining old) w.bytes)
-  list_done program old before outcome h4 h5 = grind (arith, and_then)
+  list_done program old before (Ok count) fresh lists =
+      let end = fin.1 _ (lists.added.logged 0 [] fresh.0) in
+      (reading f now c.0.0, record { bytes = _; reports = is_some (d.taken out); failures = d.failures out; out = went }, and_then l m n (read (reading f now c.0.0) ∷ []) (wrote (record { bytes = _; reports = is_some (d.taken out); failures = d.failures out; out = went }) ∷ []) c.0.1 end, refl, (lists.frames, lists.says, refl))
+  list_done program old before (Err halted) fresh lists = tt
 
   pub header_done : {T : Type 0} (has : Option (List ℕ)) (before : D) (outcome : Result T Halted) → IsFreshOut d before → OnOk outcome (ShowsHeader d before out (judged_known false 0 (meant_known packed_file has)))
       → OnOk outcome ((r : Reading) × (w : Writing) × (n ≡ then_all l (read r ∷ wrote w ∷ [])) × (w.out ≡ went) × IsHeaderText has w.bytes)
-  header_done has before outcome h3 h4 = grind (arith, and_then)
+  header_done has before (Ok t) fresh shows =
+      let end = fin.1 _ (shows.added.logged 0 [] fresh.0) in (
+        reading f now c.0.0,
+        record { bytes = _; reports = is_some (d.taken out); failures = d.failures out; out = went },
+        and_then l m n (read (reading f now c.0.0) ∷ []) (wrote (record { bytes = _; reports = is_some (d.taken out); failures = d.failures out; out = went }) ∷ []) c.0.1 end,
+        refl,
+        (shows.frame, shows.rest, shows.is_packed, shows.begins, refl),
+      )
+  header_done has before (Err halted) fresh shows = tt
 
   -- with what came before
   abbrev all : (input : List ℕ) → Option (List ℕ) → List Event
@@ -62,7 +74,10 @@ module _ {F D : Type 0} (f : feed.Ghosts F) (d : drain.Ghosts D) (now : F) (out 
 
   pub list_front : (program : Program) (old : F) (before : D) (outcome : Result ℕ Halted) → IsFreshOut d before → ListsBy program f d old now before out outcome → Fronts (input_form program) listing_frames (f.remaining old ∷ []) (d.taken before) (d.taken out) outcome
       → (bytes : List ℕ) → f.remaining old ≡ Some bytes → TakenFront (d.taken out) (answer_of listing_frames (meant (input_form program) bytes))
-  list_front program old before outcome h4 h5 h6 bytes h8 = grind (arith, taken_front, meant_is, front_whole)
+  list_front program old before (Err halted) fresh lists front bytes is = taken_front (d.taken before) (d.taken out) _ fresh.1 (front bytes (is, tt))
+  list_front program old before (Ok count) fresh listed front bytes is =
+      let same = subst (λ (k : Option (List ℕ)). Says (judged_known false 0 k) (listed.frames, None)) (meant_is (input_form program) (f.remaining old) bytes is) listed.says in
+      subst (λ (v : Verdict). TakenFront (d.taken out) (lines v.0)) (sym same) (taken_front (d.taken before) (d.taken out) (lines listed.frames) fresh.1 (front_whole _ _ (lines listed.frames) listed.added.told))
 
   -- by what it has
   pub listing_fails : (m : Manner) (j : Judging) (how : Ending) (k : Option (List Event)) (input : List ℕ) (has : Option (List ℕ)) → l ≡ then_all k (opened input 1 has ∷ screened true ∷ []) → Fails m j (has ∷ []) how (all input has)
@@ -75,9 +90,20 @@ module _ {F D : Type 0} (f : feed.Ghosts F) (d : drain.Ghosts D) (now : F) (out 
 
   pub list_fails : (m : Manner) (old : F) (before : D) (outcome : Result ℕ Halted) (k : Option (List Event)) (input : List ℕ) → IsFresh f old → IsFreshOut d before → l ≡ then_all k (opened input 1 (f.remaining old) ∷ screened true ∷ []) → ListsBy m.program f d old now before out outcome
       → IfErr outcome (λ halted. (events : List Event) × (n ≡ then_all k events) × FailsFor m listing halted.ending events × LeavesLines m (f.remaining old) events)
-  list_fails m old before outcome k input h6 h7 h8 h9 = grind (arith, listing_fails, stop_fails, caused_weaker, has_failed)
+  list_fails m old before (Err halted) k input fresh start e ends =
+      listing_fails m listing halted.ending k input (f.remaining old) e (stop_fails m listing (f.remaining old ∷ []) halted.ending (all input (f.remaining old)) ends.0 ends.1
+      (caused_weaker _ _ _ _ _ _ _ _ ends.0 (λ x fault. fault) (λ risen. inr (inr (inl (has_failed _ _ fresh.1 risen)))) (λ risen. inr (inr (inr (inl (inl (has_failed _ _ start.2 risen)))))) (λ p c. c) ends.2))
+  list_fails m old before (Ok count) k input fresh start e ends = tt
 
   pub header_fails : {T : Type 0} (digests : Bool) (old : F) (before : D) (outcome : Result T Halted) (k : Option (List Event)) (input : List ℕ) → IsFresh f old → IsFreshOut d before → l ≡ then_all k (opened input 1 (f.remaining old) ∷ screened true ∷ [])
       → IfErr outcome (λ halted. EndsFor Pbfcutz f judged_file (old ∷ []) (now ∷ []) (Added d before [] out) (WriteFailed d before out) halted.ending)
       → IfErr outcome (λ halted. (events : List Event) × (n ≡ then_all k events) × FailsFor (manner Pbfcutz false digests) (judging judged_file) halted.ending events)
-  header_fails digests old before outcome k input h6 h7 h8 h9 = grind (arith, ends_weaker, ends_with_out, has_failed, work_fails, and_then, opened_fails)
+  header_fails digests old before (Err halted) k input fresh start e ends =
+      let took = d.has_taken out 0 in
+      let failed = WriteFailed d before out in
+      let first : List Event = opened input 1 (f.remaining old) ∷ screened true ∷ [] in
+      let works = ends_weaker f (Added d before [] out) (took []) (λ none. none.logged 0 [] start.0) Pbfcutz judged_file failed failed halted.ending (old ∷ []) (now ∷ []) (λ w. w) ends in
+      let tail = ends_with_out d out went took failed m n (λ w t. t) (λ risen. has_failed _ _ start.2 risen) fin in
+      let why = work_fails Pbfcutz false digests f checking took failed (TakenFront (d.taken out)) l m n (old ∷ []) (now ∷ []) halted tail (fresh, tt) (m, c, refl) works in
+      (_, and_then k l n first why.0 e why.1, opened_fails (manner Pbfcutz false digests) (judging judged_file) (f.remaining old ∷ []) halted.ending first why.0 (tt, (tt, tt)) (inl (refl, refl), tt) why.2)
+  header_fails digests old before (Ok t) k input fresh start e ends = tt
