@@ -95,5 +95,5 @@ module _ {F : Type 0} (f : feed.Ghosts F) (old new : F) (hashes : Bool) where
 
   module _ {D : Type 0} (d : drain.Ghosts D) (judge : List ℕ → Option Verdict) where
     -- nothing was written yet
-    pub halts_first : (at : D) (h : Halt) → Halts (RefusesFile f old new hashes judge) h → HaltsFile f old new hashes d at at judge h
+    pub halts_first : (at : D) (h : Halt) → Halts (RefusesFile f old new hashes judge) h → HaltsFile f old new hashes judge (Added d at [] at) h
     halts_first at h h2 = grind (arith, added_none)

@@ -2,7 +2,6 @@
 use Rattle.std.specs.Prelude.{◌≡◌, ℕ, List, [], Bool, Option, Some, Result, IfErr}
 use Rattle.pbf_wire.specs.declared.fault.Fault.{Fault}
 use Rattle.pbf_frame.specs.declared.device.Feed as feed
-use Rattle.pbf_frame.specs.declared.device.Drain as drain
 use Rattle.pbf_frame.specs.declared.stop.Stop.{Stop}
 use Rattle.pbf_frame.specs.declared.stop.Stop.TheVariants as stop
 use Rattle.pbf_frame.specs.Keeps.{KeepsFeed}
@@ -56,9 +55,9 @@ abbrev pub Halts : (Refusal → Type 0) → Halt → Type 0
 Halts refused (halt.Refused refusal) = refused refusal
 Halts refused (halt.Stopped s) = (e : Fault) → s ≡ stop.Refused e → ⊥
 
--- a call halted: if it refuses a file, nothing went out
-abbrev pub HaltsFile : {F D : Type 0} → feed.Ghosts F → (old new : F) → Bool → drain.Ghosts D → (before now : D) → (List ℕ → Option Verdict) → Halt → Type 0
-HaltsFile f old new hashes d before now judge h = Halts (λ refusal. RefusesFile f old new hashes judge refusal × Added d before [] now) h
+-- a call halted: if it refuses a file, this stands too, as that nothing went out
+abbrev pub HaltsFile : {F : Type 0} → feed.Ghosts F → (old new : F) → Bool → (List ℕ → Option Verdict) → Type 0 → Halt → Type 0
+HaltsFile f old new hashes judge also h = Halts (λ refusal. RefusesFile f old new hashes judge refusal × also) h
 
 -- the file that was judged has no fault, but a header that can't be written: it is refused after all of its bytes
 abbrev pub IsLimitRefused : Judged → Halt → Type 0
