@@ -208,7 +208,6 @@ fn read_known_blob<F: Feed>(
 }
 
 // The blob after a header; one of another type is skipped.
-#[tactic(auto, using(crate::proofs::FrontLemmas::gave_skipped, crate::proofs::Refusing::refused_other))]
 fn read_blob<F: Feed>(feed: &mut F, blob: &mut Vec<u8>, head: Head, at: u64) -> Result<(), Stop>
     requires in_range { at + head.size ≤ OFFSET_LIMIT }
     ensures gave { OnOk result

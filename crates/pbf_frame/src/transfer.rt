@@ -44,7 +44,6 @@ pub fn write_all<D: Drain>(drain: &mut D, bytes: &[u8]) -> Result<(), DrainFault
 }
 
 /// Writes both slices, one after the other; after a failure a prefix of their bytes went out. It does not allocate.
-#[tactic(auto, using(crate::proofs::Beginnings::front_longer, crate::proofs::Beginnings::front_then))]
 pub fn write_both<D: Drain>(drain: &mut D, first: &[u8], second: &[u8]) -> Result<(), DrainFault>
     ensures ok { OnOk result (Added D.Drain drain.old (first.now ++ second.now) drain.new) }
     ensures front { IsFront (D.taken drain.old) (D.taken drain.new) (first.now ++ second.now) }

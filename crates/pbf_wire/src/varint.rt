@@ -171,7 +171,6 @@ pub fn get_varint(bytes: &[u8], at: usize) -> Result<(u64, usize), Reason>
 }
 
 /// The shortest spelling, at the start of the array, and its length. It does not allocate.
-#[tactic(auto, using(crate::proofs::Shortest::starts, crate::proofs::Shortest::ends_with))]
 pub fn shortest_spelling(value: u64) -> ([u8; 10], usize)
     ensures within { result.1 ≤ 10 }
     ensures spelling { take result.1 result.0 ≡ shortest value }
