@@ -20,8 +20,6 @@ use Rattle.pbf_frame.specs.Writing.{written_at}
 use Rattle.pbf_frame.proofs.AnyLength.{whole_file}
 use Rattle.pbf_frame.proofs.ReadBack.{written_is_frame, written_kind, written_payload, written_bytes}
 use Rattle.pbf_header.specs.Header.{HeaderSpec}
-use Rattle.pbf_header.specs.HeaderFaults.{header_fault}
-use Rattle.pbf_block.specs.PrimitiveBlock.{block_fault, entities}
 use Rattle.pbf_block.specs.WrittenBlock.{is_block, block_message}
 use Rattle.pbf_header.specs.WrittenHeader.{HeaderFits, header_message, header_out_for_convert}
 use Rattle.pbf_header.proofs.HeaderLaw.{header_short, light_read, light_sound}
@@ -36,7 +34,7 @@ use Rattle.pbf_pass.specs.Counting.{entities_in, frame_entities, stored_entities
 use Rattle.pbfcut.specs.Kept.{verdict_within, header_read}
 use Rattle.pbf_pass.specs.Judged.{fault_in, payload_fault, sound_first, sound_front, fully}
 use Rattle.pbf_pass.specs.Pass.{headers_in, frame_headers, file_header}
-use Rattle.pbf_pass.specs.Payload.{header_block, payload_as}
+use Rattle.pbf_pass.specs.Payload.{header_block, primitive_block, payload_as, payload_of}
 use Rattle.pbf_header.specs.declared.write.TheConstants.{MOST_HEADER_TEXT}
 use Rattle.osm_entity.specs.declared.weight.TheConstants.{HIGHEST_WEIGHT}
 use Rattle.pbf_wire.proofs.AllLemmas.{all_left, all_right}
@@ -51,6 +49,16 @@ pub record IsFileOf (read : Verdict) (h : HeaderSpec) (es : List EntitySpec) : T
   pub placed : file_header frames ≡ Some (place, h)
   pub entities : stored_entities frames ≡ es
 
+module _ (read : Verdict) (h : HeaderSpec) (es : List EntitySpec) (is : IsFileOf read h es) where
+  pub is_sound : read.1 ≡ None
+  is_sound = ap (λ (v : Verdict). v.1) is.verdict
+
+  pub header_is : header_read read ≡ Some h
+  header_is = ap header_read is.verdict ∙ ap (λ (o : Option (ℕ × HeaderSpec)). option_map (λ p. p.1) o) is.placed
+
+  pub entities_are : stored_entities read.0 ≡ es
+  entities_are = ap (λ (v : Verdict). stored_entities v.0) is.verdict ∙ is.entities
+
 -- ---- one frame
 
 known_data : kind.Data ≡ kind.Other → ⊥
@@ -58,6 +66,11 @@ known_data e = cc
 
 known_header : kind.Header ≡ kind.Other → ⊥
 known_header e = cc
+
+payload_written : (place : ℕ) (k : FrameKind) (message : List ℕ) → (k ≡ kind.Other → ⊥) → length message < 33554432 → payload_of (written_at place k message) ≡ payload_as k (frame_payload_at (written_at place k message)) message
+payload_written place k message known short =
+    let f = written_at place k message in
+    ap (λ (x : FrameKind). payload_as x (frame_payload_at f) (frame_payload f)) (written_kind place k message known short) ∙ ap (payload_as k (frame_payload_at f)) (written_payload place k message known short)
 
 -- ---- the frame of a block
 
@@ -71,29 +84,20 @@ abbrev block_at : ℕ → List EntitySpec → FrameSpec
 block_at place block = written_at place kind.Data (block_message block)
 
 module _ (place : ℕ) (block : List EntitySpec) (is : IsWritten block) where
-  block_kind : frame_kind (block_at place block) ≡ kind.Data
-  block_kind = written_kind place kind.Data (block_message block) known_data (block_fits block is.together)
-
-  block_payload : frame_payload (block_at place block) ≡ block_message block
-  block_payload = written_payload place kind.Data (block_message block) known_data (block_fits block is.together)
+  block_payload : payload_of (block_at place block) ≡ primitive_block (frame_payload_at (block_at place block)) (block_message block)
+  block_payload = payload_written place kind.Data (block_message block) known_data (block_fits block is.together)
 
   block_is_frame : IsFrameWithin None true place (block_at place block)
   block_is_frame = written_is_frame place kind.Data (block_message block) known_data (block_fits block is.together) None true refl
 
   block_sound : payload_fault (block_at place block) ≡ None
-  block_sound =
-      let at = frame_payload_at (block_at place block) in
-      ap (λ (k : FrameKind). fault_in (payload_as k at (frame_payload (block_at place block)))) block_kind
-      ∙ (ap (λ (m : List ℕ). block_fault at m) block_payload ∙ written_sound block is.together is.fit is.typed at)
+  block_sound = ap fault_in block_payload ∙ written_sound block is.together is.fit is.typed (frame_payload_at (block_at place block))
 
   block_entities : frame_entities (block_at place block) ≡ block
-  block_entities =
-      let at = frame_payload_at (block_at place block) in
-      ap (λ (k : FrameKind). entities_in (payload_as k at (frame_payload (block_at place block)))) block_kind
-      ∙ (ap (λ (m : List ℕ). entities at m) block_payload ∙ written_read block is.together is.fit is.typed at)
+  block_entities = ap entities_in block_payload ∙ written_read block is.together is.fit is.typed (frame_payload_at (block_at place block))
 
   block_headers : frame_headers (block_at place block) ≡ []
-  block_headers = ap (λ (k : FrameKind). headers_in (payload_as k (frame_payload_at (block_at place block)) (frame_payload (block_at place block)))) block_kind
+  block_headers = ap headers_in block_payload
 
 -- ---- the frames of blocks
 
@@ -158,7 +162,7 @@ module _ (h : HeaderSpec) (es : List EntitySpec) (fits : HeaderFits (header_out_
   abbrev later : List FrameSpec
   later = blocks_at (frame_end first) (cuts es)
 
-  abbrev pub file_frames : List FrameSpec
+  abbrev file_frames : List FrameSpec
   file_frames = first ∷ later
 
   message_short : length message < 33554432
@@ -167,25 +171,21 @@ module _ (h : HeaderSpec) (es : List EntitySpec) (fits : HeaderFits (header_out_
   first_kind : frame_kind first ≡ kind.Header
   first_kind = written_kind 0 kind.Header message known_header message_short
 
-  first_payload : frame_payload first ≡ message
-  first_payload = written_payload 0 kind.Header message known_header message_short
+  first_payload : payload_of first ≡ header_block (frame_payload_at first) message
+  first_payload = payload_written 0 kind.Header message known_header message_short
 
   first_sound : payload_fault first ≡ None
-  first_sound =
-      let at = frame_payload_at first in
-      ap (λ (k : FrameKind). fault_in (payload_as k at (frame_payload first))) first_kind ∙ (ap (λ (m : List ℕ). header_fault at m) first_payload ∙ light_sound at (header_out_for_convert h) fits short)
+  first_sound = ap fault_in first_payload ∙ light_sound (frame_payload_at first) (header_out_for_convert h) fits short
 
   first_entities : frame_entities first ≡ []
-  first_entities = ap (λ (k : FrameKind). entities_in (payload_as k (frame_payload_at first) (frame_payload first))) first_kind
+  first_entities = ap entities_in first_payload
 
   abbrev placed : ℕ × HeaderSpec
   placed = (frame_payload_at first, header_out_for_convert h)
 
   first_headers : frame_headers first ≡ placed ∷ []
   first_headers =
-      let at = frame_payload_at first in
-      ap (λ (k : FrameKind). headers_in (payload_as k at (frame_payload first))) first_kind
-      ∙ (ap (λ (m : List ℕ). headers_in (header_block at m)) first_payload ∙ ap (λ (g : HeaderSpec). let p : ℕ × HeaderSpec = (at, g) in p ∷ []) (light_read at (header_out_for_convert h) fits short))
+      ap headers_in first_payload ∙ ap (λ (g : HeaderSpec). let p : ℕ × HeaderSpec = (frame_payload_at first, g) in p ∷ []) (light_read (frame_payload_at first) (header_out_for_convert h) fits short)
 
   written : AllByRecursion IsWritten (cuts es)
   written = cuts_written es fit typed
@@ -208,10 +208,10 @@ module _ (h : HeaderSpec) (es : List EntitySpec) (fits : HeaderFits (header_out_
   file_sound : fully (file_frames, None) ≡ (file_frames, None)
   file_sound = ap (λ (o : Option Fault). sound_first o first (sound_front later None)) first_sound ∙ ap (λ (v : Verdict). with_frame_first first v) (blocks_sound (frame_end first) (cuts es) written)
 
-  pub file_stored : stored_entities file_frames ≡ es
+  file_stored : stored_entities file_frames ≡ es
   file_stored = ap (λ (l : List EntitySpec). l ++ stored_entities later) first_entities ∙ (blocks_stored (frame_end first) (cuts es) written ∙ cuts_joined es)
 
-  pub file_placed : file_header file_frames ≡ Some placed
+  file_placed : file_header file_frames ≡ Some placed
   file_placed =
       ap (λ (l : List (ℕ × HeaderSpec)). last_or None (l ++ flat_map frame_headers later)) first_headers ∙ ap (λ (l : List (ℕ × HeaderSpec)). last_or None (placed ∷ l)) (blocks_headers (frame_end first) (cuts es) written)
 
@@ -231,8 +231,6 @@ module _ (h : HeaderSpec) (es : List EntitySpec) (fits : HeaderFits (header_out_
   written_is_file = record { frames = file_frames; verdict = file_limited; place = frame_payload_at first; placed = file_placed; entities = file_stored }
 
   pub file_read : ((verdict_within None (written_file h es)).1 ≡ None) × (header_read (verdict_within None (written_file h es)) ≡ Some (header_out_for_convert h)) × (stored_entities (verdict_within None (written_file h es)).0 ≡ es)
-  file_read = (
-    ap (λ (v : Verdict). v.1) file_limited,
-    ap header_read file_limited ∙ ap (λ (o : Option (ℕ × HeaderSpec)). option_map (λ p. p.1) o) file_placed,
-    ap (λ (v : Verdict). stored_entities v.0) file_limited ∙ file_stored,
-  )
+  file_read =
+      let out = header_out_for_convert h in
+      (is_sound _ out es written_is_file, header_is _ out es written_is_file, entities_are _ out es written_is_file)

@@ -44,7 +44,7 @@ use Rattle.pbfcut.specs.Kept.{verdict_within, verdict_on, IsWritable, header_rea
 use Rattle.pbfcut.specs.Theorem.{IsConversion, IsExtract, IsExtraction, IsCanonical}
 use Rattle.pbf_pass.specs.Pass.{headers_in, frame_headers, file_header}
 use Rattle.pbf_pass.specs.Payload.{Payload, payload_of}
-use Rattle.pbfcut.proofs.FileLaw.{IsFileOf, written_is_file}
+use Rattle.pbfcut.proofs.FileLaw.{IsFileOf, is_sound, header_is, entities_are, written_is_file}
 use Rattle.pbf_header.specs.declared.write.TheConstants.{MOST_HEADER_TEXT}
 
 -- ---- the payloads of a file without a fault
@@ -154,15 +154,6 @@ written_out_is_file : (h : HeaderSpec) (es : List EntitySpec) → CanWrite h es 
 written_out_is_file h es can = written_is_file h es can.fits can.short can.fit can.typed
 
 module _ (read : Verdict) (h : HeaderSpec) (es : List EntitySpec) (is : IsFileOf read h es) where
-  is_sound : read.1 ≡ None
-  is_sound = ap (λ (v : Verdict). v.1) is.verdict
-
-  header_is : header_read read ≡ Some h
-  header_is = ap header_read is.verdict ∙ ap (λ (o : Option Placed). option_map (λ p. p.1) o) is.placed
-
-  entities_are : stored_entities read.0 ≡ es
-  entities_are = ap (λ (v : Verdict). stored_entities v.0) is.verdict ∙ is.entities
-
   converted_is : answer_bytes read ≡ written_file h es
   converted_is = grind arith
 
