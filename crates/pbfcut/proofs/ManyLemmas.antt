@@ -38,7 +38,7 @@ use Rattle.pbfcut.specs.declared.pick.Picker.{Picker}
 use Rattle.pbfcut.specs.declared.pick.EntityPacker.{EntityPacker}
 use Rattle.pbfcut.specs.Pick.{picks_of, picks_id, HasPacked, PacksEach}
 use Rattle.pbfcut.specs.Many.{AreEven, AreEvenAfter}
-use Rattle.pbfcut.proofs.NodeLemmas.{first_id, no_first, no_node, picked_by_id}
+use Rattle.pbfcut.proofs.NodeLemmas.{ArePicked, picked_by_id}
 use Rattle.pbfcut.proofs.PickingLemmas.{begins_none, pack_stop}
 
 -- ---- how many are alike
@@ -117,41 +117,14 @@ alike_after n alike ns some even = let one = even.kind some in like_it n one.lik
 
 -- ---- which are picked
 
-pub all_picked : (p : Picker) (ns : List NodeSpec) → AllByRecursion (λ (n : NodeSpec). picks_id p n.id ≡ true) ns → filter (picks_of p) (map node ns) ≡ map node ns
+pub all_picked : (p : Picker) (ns : List NodeSpec) → ArePicked p true ns → filter (picks_of p) (map node ns) ≡ map node ns
 all_picked p [] h = refl
 all_picked p (n ∷ ns) h = grind (arith, picked_by_id p n, all_picked p ns h.1)
 
-pub each_picked_id : (p : Picker) (k : ℕ) (ns : List NodeSpec) → ((id : ℤ) → picks_id p id ≡ true) → AllByRecursion (λ (n : NodeSpec). picks_id p n.id ≡ true) (take k ns)
+pub each_picked_id : (p : Picker) (k : ℕ) (ns : List NodeSpec) → ((id : ℤ) → picks_id p id ≡ true) → ArePicked p true (take k ns)
 each_picked_id p zero ns every = tt
 each_picked_id p (suc k) [] every = tt
 each_picked_id p (suc k) (n ∷ ns) every = (every n.id, each_picked_id p k ns every)
-
--- one more is picked, if its id is
-abbrev pub ArePicked : Picker → List NodeSpec → Type 0
-ArePicked p ns = AllByRecursion (λ (n : NodeSpec). picks_id p n.id ≡ true) ns
-
-picked_on : (p : Picker) (id : ℤ) (ids : List ℤ) (k : ℕ) (ns : List NodeSpec) → picks_id p id ≡ true → BeginWithIds (id ∷ ids) (drop k ns) → ArePicked p (take k ns) → ArePicked p (take (suc k) ns) × BeginWithIds ids (drop (suc k) ns)
-picked_on p id ids zero [] is begin all = (tt, (ids, refl))
-picked_on p id ids zero (x ∷ xs) is begin all = let at = first_id id ids x xs begin in ((ap (picks_id p) (sym at.0) ∙ is, tt), at.1)
-picked_on p id ids (suc k) [] is begin all = (tt, (ids, refl))
-picked_on p id ids (suc k) (x ∷ xs) is begin all = let rest = picked_on p id ids k xs is begin all.1 in ((all.0, rest.0), rest.1)
-
-pub picked_more : (p : Picker) (id : ℤ) (ids : List ℤ) (k : ℕ) (ns : List NodeSpec) → picks_id p id ≡ true → BeginWithIds (id ∷ ids) (drop k ns) → ArePicked p (take k ns) → ArePicked p (take (k + 1) ns) × BeginWithIds ids (drop (k + 1) ns)
-picked_more p id ids k ns is begin all = rw add-one (picked_on p id ids k ns is begin all)
-
--- and so are those after it whose ids a span has, as it has none that isn't
-abbrev pub AllInside : Picker → Span → Type 0
-AllInside p span = (id : ℤ) → is_in span id ≡ true → picks_id p id ≡ true
-
-picked_inside : (p : Picker) (ns : List NodeSpec) (ids : List ℤ) (m : ℕ) (span : Span) → AllInside p span → BeginWithIds ids ns → AreAlike span true (take m ids) → ArePicked p (take m ns) × BeginWithIds (drop m ids) (drop m ns)
-picked_inside p [] ids zero span all begin inside = (tt, begin)
-picked_inside p [] ids (suc m) span all begin inside = (tt, (drop (suc m) ids, refl))
-picked_inside p (x ∷ xs) ids zero span all begin inside = (tt, begin)
-picked_inside p (x ∷ xs) [] (suc m) span all begin inside = absurd (no_first x xs (no_node [] (x ∷ xs) refl begin))
-picked_inside p (x ∷ xs) (id ∷ ids) (suc m) span all begin inside = grind (arith, first_id id ids x xs begin, picked_inside p xs ids m span all ((first_id id ids x xs begin).1) inside.1, all id inside.0)
-
-pub picked_span : (p : Picker) (k m : ℕ) (ids : List ℤ) (ns : List NodeSpec) (span : Span) → AllInside p span → AreAlike span true (take m ids) → BeginWithIds ids (drop k ns) → ArePicked p (take k ns) → ArePicked p (take (k + m) ns) × BeginWithIds (drop m ids) (drop (k + m) ns)
-picked_span p k m ids ns span all inside begin picked = grind (arith, picked_inside p (drop k ns) ids m span all begin inside, take-add k m ns, all_append, drop-drop m k ns)
 
 -- ---- they fit
 
@@ -197,7 +170,7 @@ counts_many done ns c now is nodes ways relations =
 
 module _ {D S H X : Type 0} (d : drain.Ghosts D) where
   -- nodes that are picked, and wait with those that waited
-  pub each_many : (ns : List NodeSpec) (before now : EntityPacker) (old new : Packing D S H) (x : X) → AllByRecursion (λ (n : NodeSpec). picks_id before.picker n.id ≡ true) ns → AllByRecursion NumbersFit ns
+  pub each_many : (ns : List NodeSpec) (before now : EntityPacker) (old new : Packing D S H) (x : X) → ArePicked before.picker true ns → AllByRecursion NumbersFit ns
       → AllByRecursion (λ n. ScaleFits n.scale) ns → ((es : List EntitySpec) → Pending old es → Pending new (es ++ map node ns)) → new.drain ≡ old.drain → has_header new ≡ true → IsPacking new
       → now.counts.nodes ≡ capped (before.counts.nodes + length ns) → (now.counts.ways ≡ before.counts.ways) × (now.counts.relations ≡ before.counts.relations) → (now.picker ≡ before.picker) × (now.number ≡ before.number)
       → PacksEach d (picks_of before.picker) (map node ns) before now old new (Ok x)

@@ -1,11 +1,12 @@
 -- The nodes of a dense message, if their ids decide which are picked.
 use Rattle.std.proofs.Common.{◌≡◌, ℕ, zero, suc, ◌+◌, ◌<◌, length, length-append, arith, ℤ, Bool, true, false, cond, Ok, Err, List, [], ◌∷◌, ◌++◌, map, append_assoc, append-nil, take-append-drop, take, drop, add-one, Option, subst, refl, sym, ap, ap₂, ◌∙◌}
-use Rattle.std.specs.List.{filter}
+use Rattle.std.specs.List.{AllByRecursion, filter}
 use Rattle.std.proofs.Math.Seq.{take-add}
 use Rattle.std.proofs.lemmas.List.{map-append, drop-drop, length-drop}
 use Rattle.std.proofs.lemmas.List.Elements.{filter-append}
 use Rattle.pbf_wire.specs.declared.span.Span.{Span}
 use Rattle.pbf_wire.specs.Spans.{is_in, AreAlike}
+use Rattle.pbf_wire.proofs.AllLemmas.{all_append}
 use Rattle.osm_entity.specs.Entity.{NodeSpec, EntitySpec, node}
 use Rattle.pbf_dense.specs.Places.{BeginWithIds}
 use Rattle.pbf_frame.specs.declared.device.Drain as drain
@@ -25,7 +26,7 @@ pub picked_by_id : (p : Picker) (n : NodeSpec) → picks_of p (node n) ≡ picks
 unfolding picks_of picks_id
 picked_by_id p n = some_by_id p.by_ids p.chooser n
 
--- ---- nodes that aren't picked, by their ids
+-- ---- what comes next, and how many are left
 
 -- an id that comes next is that of the next node, if there is one
 pub first_id : (id : ℤ) (ids : List ℤ) (n : NodeSpec) (ns : List NodeSpec) → BeginWithIds (id ∷ ids) (n ∷ ns) → (id ≡ n.id) × BeginWithIds ids ns
@@ -47,48 +48,49 @@ passed_left left ns rest n count is passed = grind (arith, length-drop count ns)
 pub taken_left : (left ns gone others rest : List NodeSpec) (n : NodeSpec) → left ≡ n ∷ ns → gone ++ others ≡ ns → rest ≡ others → length rest < length left
 taken_left left ns gone others rest n is split same = grind (arith, length-append gone others)
 
-pub no_first : (n : NodeSpec) (ns : List NodeSpec) → n ∷ ns ≡ [] → ⊥
+no_first : (n : NodeSpec) (ns : List NodeSpec) → n ∷ ns ≡ [] → ⊥
 no_first n ns e = absurd cc
 
-not_picked : (b : Bool) (e : EntitySpec) (rest : List EntitySpec) → cond b (e ∷ rest) rest ≡ [] → (b ≡ false) × (rest ≡ [])
-not_picked b e rest h3 = grind arith
+-- ---- nodes as their ids come, of which all are picked, or none is
 
-module _ (p : Picker) where
-  -- of the first n nodes none is picked
-  abbrev pub NonePicked : ℕ → List NodeSpec → Type 0
-  NonePicked n ns = filter (picks_of p) (map node (take n ns)) ≡ []
+module _ (p : Picker) (picked : Bool) where
+  abbrev pub ArePicked : List NodeSpec → Type 0
+  ArePicked ns = AllByRecursion (λ (n : NodeSpec). picks_id p n.id ≡ picked) ns
 
-  one_on : (id : ℤ) (ids : List ℤ) (n : ℕ) (ns : List NodeSpec) → picks_id p id ≡ false → BeginWithIds (id ∷ ids) (drop n ns) → NonePicked n ns → NonePicked (suc n) ns × BeginWithIds ids (drop (suc n) ns)
-  one_on id ids zero [] is begin none = (refl, (ids, refl))
-  one_on id ids zero (x ∷ xs) is begin none = grind (arith, first_id id ids x xs begin, picked_by_id p x)
-  one_on id ids (suc n) [] is begin none = (refl, (ids, refl))
-  one_on id ids (suc n) (x ∷ xs) is begin none = grind (arith, not_picked (picks_of p (node x)) (node x) (filter (picks_of p) (map node (take n xs))) none, one_on id ids n xs is begin ((not_picked (picks_of p (node x)) (node x) (filter (picks_of p) (map node (take n xs))) none).1), suc n)
+  one_on : (id : ℤ) (ids : List ℤ) (k : ℕ) (ns : List NodeSpec) → picks_id p id ≡ picked → BeginWithIds (id ∷ ids) (drop k ns) → ArePicked (take k ns) → ArePicked (take (suc k) ns) × BeginWithIds ids (drop (suc k) ns)
+  one_on id ids zero [] is begin all = (tt, (ids, refl))
+  one_on id ids zero (x ∷ xs) is begin all = let at = first_id id ids x xs begin in ((ap (picks_id p) (sym at.0) ∙ is, tt), at.1)
+  one_on id ids (suc k) [] is begin all = (tt, (ids, refl))
+  one_on id ids (suc k) (x ∷ xs) is begin all = let rest = one_on id ids k xs is begin all.1 in ((all.0, rest.0), rest.1)
 
-  pub one_more : (id : ℤ) (ids : List ℤ) (n : ℕ) (ns : List NodeSpec) → picks_id p id ≡ false → BeginWithIds (id ∷ ids) (drop n ns) → NonePicked n ns → NonePicked (n + 1) ns × BeginWithIds ids (drop (n + 1) ns)
-  one_more id ids n ns is begin none = rw add-one (one_on id ids n ns is begin none)
+  pub one_more : (id : ℤ) (ids : List ℤ) (k : ℕ) (ns : List NodeSpec) → picks_id p id ≡ picked → BeginWithIds (id ∷ ids) (drop k ns) → ArePicked (take k ns) → ArePicked (take (k + 1) ns) × BeginWithIds ids (drop (k + 1) ns)
+  one_more id ids k ns is begin all = rw add-one (one_on id ids k ns is begin all)
 
-  -- of the nodes whose ids a span has none is picked
-  abbrev pub NoneInside : Span → Type 0
-  NoneInside span = (id : ℤ) → is_in span id ≡ true → picks_id p id ≡ false
+  -- all ids that a span has are picked, or none is
+  abbrev pub AreInside : Span → Type 0
+  AreInside span = (id : ℤ) → is_in span id ≡ true → picks_id p id ≡ picked
 
-  none_inside : (ns : List NodeSpec) (ids : List ℤ) (m : ℕ) (span : Span) → NoneInside span → BeginWithIds ids ns → AreAlike span true (take m ids) → NonePicked m ns × BeginWithIds (drop m ids) (drop m ns)
-  none_inside [] ids zero span absent begin inside = (refl, begin)
-  none_inside [] ids (suc m) span absent begin inside = (refl, (drop (suc m) ids, refl))
-  none_inside (x ∷ xs) ids zero span absent begin inside = (refl, begin)
-  none_inside (x ∷ xs) [] (suc m) span absent begin inside = absurd (no_first x xs (no_node [] (x ∷ xs) refl begin))
-  none_inside (x ∷ xs) (id ∷ ids) (suc m) span absent begin inside = grind (arith, first_id id ids x xs begin, none_inside xs ids m span absent ((first_id id ids x xs begin).1) inside.1, picked_by_id p x, absent id inside.0)
+  inside_on : (ns : List NodeSpec) (ids : List ℤ) (m : ℕ) (span : Span) → AreInside span → BeginWithIds ids ns → AreAlike span true (take m ids) → ArePicked (take m ns) × BeginWithIds (drop m ids) (drop m ns)
+  inside_on [] ids zero span all begin inside = (tt, begin)
+  inside_on [] ids (suc m) span all begin inside = (tt, (drop (suc m) ids, refl))
+  inside_on (x ∷ xs) ids zero span all begin inside = (tt, begin)
+  inside_on (x ∷ xs) [] (suc m) span all begin inside = absurd (no_first x xs (no_node [] (x ∷ xs) refl begin))
+  inside_on (x ∷ xs) (id ∷ ids) (suc m) span all begin inside = grind (arith, first_id id ids x xs begin, inside_on xs ids m span all ((first_id id ids x xs begin).1) inside.1, all id inside.0)
 
-  pub more_inside : (n m : ℕ) (ids : List ℤ) (ns : List NodeSpec) (span : Span) → NoneInside span → AreAlike span true (take m ids) → BeginWithIds ids (drop n ns) → NonePicked n ns → NonePicked (n + m) ns × BeginWithIds (drop m ids) (drop (n + m) ns)
-  more_inside n m ids ns span absent inside begin none =
-      let others = none_inside (drop n ns) ids m span absent begin inside in
-      let both : filter (picks_of p) (map node (take n ns ++ take m (drop n ns))) ≡ [] =
-      ap (filter (picks_of p)) (map-append node (take n ns) (take m (drop n ns))) ∙ filter-append (picks_of p) (map node (take n ns)) (map node (take m (drop n ns)))
-      ∙ ap₂ (λ (a b : List EntitySpec). a ++ b) none others.0 in
-      (ap (λ (l : List NodeSpec). filter (picks_of p) (map node l)) (take-add n m ns) ∙ both, subst (λ (l : List NodeSpec). BeginWithIds (drop m ids) l) (drop-drop m n ns) others.1)
+  pub more_inside : (k m : ℕ) (ids : List ℤ) (ns : List NodeSpec) (span : Span) → AreInside span → AreAlike span true (take m ids) → BeginWithIds ids (drop k ns) → ArePicked (take k ns) → ArePicked (take (k + m) ns) × BeginWithIds (drop m ids) (drop (k + m) ns)
+  more_inside k m ids ns span all inside begin are = grind (arith, inside_on (drop k ns) ids m span all begin inside, take-add k m ns, all_append, drop-drop m k ns)
 
-  -- if no node follows them, none at all is picked
-  pub none_more : (n : ℕ) (ids : List ℤ) (ns : List NodeSpec) → ids ≡ [] → BeginWithIds ids (drop n ns) → NonePicked n ns → filter (picks_of p) (map node ns) ≡ []
-  none_more n ids ns ended begin none = grind (arith, take-append-drop n ns, no_node ids (drop n ns) ended begin, append-nil (take n ns))
+-- of the first n nodes none is picked
+abbrev pub NonePicked : Picker → ℕ → List NodeSpec → Type 0
+NonePicked p n ns = filter (picks_of p) (map node (take n ns)) ≡ []
+
+pub none_picked_of : (p : Picker) (ns : List NodeSpec) → ArePicked p false ns → filter (picks_of p) (map node ns) ≡ []
+none_picked_of p [] none = refl
+none_picked_of p (n ∷ ns) none = grind (arith, picked_by_id p n, none_picked_of p ns none.1)
+
+-- if no node follows them, none at all is picked
+pub none_more : (p : Picker) (n : ℕ) (ids : List ℤ) (ns : List NodeSpec) → ids ≡ [] → BeginWithIds ids (drop n ns) → ArePicked p false (take n ns) → filter (picks_of p) (map node ns) ≡ []
+none_more p n ids ns ended begin none = grind (arith, take-append-drop n ns, no_node ids (drop n ns) ended begin, append-nil (take n ns), none_picked_of p (take n ns) none)
 
 -- ---- in a dense message
 

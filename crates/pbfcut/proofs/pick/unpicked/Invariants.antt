@@ -1,8 +1,8 @@
-use Rattle.std.proofs.Common.{◌≡◌, ◌≤◌, drop, length}
+use Rattle.std.proofs.Common.{◌≡◌, ◌≤◌, drop, take, length, false}
 use Rattle.pbf_wire.specs.Cursors.{sums_left}
 use Rattle.pbf_dense.specs.Cursors.{AreIdsAfter, dense_left}
 use Rattle.pbf_dense.specs.Places.{BeginWithIds}
-use Rattle.pbfcut.proofs.NodeLemmas.{NonePicked}
+use Rattle.pbfcut.proofs.NodeLemmas.{ArePicked}
 use Rattle.pbfcut.proofs.pick.unpicked.Given as goal
 
 -- the ids that are left are those of the nodes after so many, of which none is picked
@@ -12,7 +12,7 @@ invariant-ids l = record {
   few : l.count ≤ 8000;
   ids_are : BeginWithIds (sums_left l.ids) (drop l.count (dense_left l.dense));
   after : AreIdsAfter l.count l.dense l.ids;
-  none : NonePicked l.fn.picker l.count (dense_left l.dense);
+  none : ArePicked l.fn.picker false (take l.count (dense_left l.dense));
 }
 
 abbrev pub decreases-ids : goal.decreases-ids
