@@ -1,8 +1,9 @@
 -- Text that is put together part by part.
 use Rattle.std.proofs.Common.{◌≡◌, ℕ, ℤ, List, ◌∷◌, ◌++◌, Bool, ap, sym, ◌∙◌, append_assoc}
+use Rattle.std.specs.List.{flat_map}
 use Rattle.osm_entity.specs.declared.scale.Scale.{Scale}
 use Rattle.osm_entity.specs.Entity.{TagSpec, MetaSpec, LocationSpec, meta_in_millis}
-use Rattle.osm_text.specs.EntityText.{common_text, ref_text, location_text, refs_text}
+use Rattle.osm_text.specs.EntityText.{common_text, meta_text, tag_text, ref_text, location_text, refs_text}
 
 -- parts were put, and then one more
 pub part_then : (before mid after parts last : List ℕ) → mid ≡ before ++ parts → after ≡ mid ++ last → after ≡ before ++ (parts ++ last)
@@ -14,9 +15,10 @@ four_parts before a b c after first second third last e f g h =
     part_then before c after (first ++ second ++ third) last (part_then before b c (first ++ second) third (part_then before a b first second e f) g) h
 
 -- the metadata and tags that were put are those of an entity
-pub common_of_entity : (dates : Bool) (s scale : Scale) (m meta : MetaSpec) (ts tags : List TagSpec) (before after : List ℕ) → s ≡ scale → m ≡ meta → ts ≡ tags → after ≡ before ++ common_text dates (meta_in_millis s m) ts → after ≡ before ++ common_text dates (meta_in_millis scale meta) tags
-common_of_entity dates s scale m meta ts tags before after is_scale is_meta is_tags e =
-    e
+pub common_of_entity : (dates : Bool) (s scale : Scale) (m meta : MetaSpec) (ts tags : List TagSpec) (before mid after : List ℕ) → s ≡ scale → m ≡ meta → ts ≡ tags → mid ≡ before ++ meta_text dates (meta_in_millis s m) → after ≡ mid ++ flat_map tag_text ts → after ≡ before ++ common_text dates (meta_in_millis scale meta) tags
+unfolding common_text
+common_of_entity dates s scale m meta ts tags before mid after is_scale is_meta is_tags e f =
+    part_then before mid after (meta_text dates (meta_in_millis s m)) (flat_map tag_text ts) e f
     ∙ ap (λ (x : Scale). before ++ common_text dates (meta_in_millis x m) ts) is_scale
     ∙ ap (λ (x : MetaSpec). before ++ common_text dates (meta_in_millis scale x) ts) is_meta
     ∙ ap (λ (x : List TagSpec). before ++ common_text dates (meta_in_millis scale meta) x) is_tags

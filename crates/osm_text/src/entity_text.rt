@@ -6,7 +6,7 @@ ghost use Rattle.std.specs.Option.{option_map};
 ghost use Rattle.osm_entity.specs.Entity.{node, way, relation, meta_in_millis};
 ghost use Rattle.osm_entity.specs.Sources.{tags_left, refs_left, nano_locations_left, members_left, lent_member};
 ghost use Rattle.osm_entity.specs.Views.{meta_of, node_of, way_of, relation_of, entity_of};
-ghost use Rattle.osm_text.specs.EntityText.{number_part, time_part, user_part, visible_part, meta_text, tag_text, ref_text, location_text, refs_text, kind_mark, member_text, start_text, common_text, entity_line};
+ghost use Rattle.osm_text.specs.EntityText.{number_part, time_part, user_part, visible_part, meta_text, tag_text, ref_text, location_text, refs_text, kind_mark, member_text, start_text, entity_line};
 
 use crate::dates::put_time;
 use crate::number::{put_signed, put_spaced, put_spaced_pair};
@@ -185,23 +185,6 @@ fn put_start(out: &mut Vec<u8>, letter: u8, id: i64) -> Result<(), AllocError>
     put_spaced(out, i128::from(id))
 }
 
-/// Appends what every entity has: its metadata and its tags.
-#[tactic(auto, unfolding(crate::specs::EntityText::common_text))]
-fn put_common(
-    out: &mut Vec<u8>,
-    meta: &MetaRef<'_>,
-    scale: Scale,
-    tags: Tags<'_>,
-    dates: bool,
-) -> Result<(), AllocError>
-    ensures { OnOk result (out.new.items
-        ≡ out.old.items ++ common_text dates (meta_in_millis scale (meta_of meta.now))
-        (tags_left tags.entry)) }
-{
-    put_meta(out, meta, scale, dates)?;
-    put_tags(out, tags)
-}
-
 /// Appends the line of a node.
 fn put_node(out: &mut Vec<u8>, view: &NodeRef<'_>, dates: bool) -> Result<(), AllocError>
     ensures { OnOk result
@@ -209,7 +192,8 @@ fn put_node(out: &mut Vec<u8>, view: &NodeRef<'_>, dates: bool) -> Result<(), Al
 {
     put_start(out, b'N', view.id())?;
     put_spaced_pair(out, view.nano_lat(), view.nano_lon())?;
-    put_common(out, &view.meta(), view.scale(), view.tags(), dates)?;
+    put_meta(out, &view.meta(), view.scale(), dates)?;
+    put_tags(out, view.tags())?;
     out.push(b'\n')?;
     Ok(())
 }
@@ -220,7 +204,8 @@ fn put_way(out: &mut Vec<u8>, view: &WayRef<'_>, dates: bool) -> Result<(), Allo
         (out.new.items ≡ out.old.items ++ entity_line dates (way (way_of view.now))) }
 {
     put_start(out, b'W', view.id())?;
-    put_common(out, &view.meta(), view.scale(), view.tags(), dates)?;
+    put_meta(out, &view.meta(), view.scale(), dates)?;
+    put_tags(out, view.tags())?;
     put_refs(out, view.refs(), view.nano_locations())?;
     out.push(b'\n')?;
     Ok(())
@@ -232,7 +217,8 @@ fn put_relation(out: &mut Vec<u8>, view: &RelationRef<'_>, dates: bool) -> Resul
         (out.new.items ≡ out.old.items ++ entity_line dates (relation (relation_of view.now))) }
 {
     put_start(out, b'R', view.id())?;
-    put_common(out, &view.meta(), view.scale(), view.tags(), dates)?;
+    put_meta(out, &view.meta(), view.scale(), dates)?;
+    put_tags(out, view.tags())?;
     put_members(out, view.members())?;
     out.push(b'\n')?;
     Ok(())

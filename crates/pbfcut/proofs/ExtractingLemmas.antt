@@ -96,19 +96,27 @@ pub record Selects (b : List ℕ) (choose : Choice) (area : AreaSpec) (pick : Pi
   pub picked : filter pick (stored_entities frames) ≡ choose (stored_entities frames)
   pub typed : EdgesTyped (edges_of area.bounds)
 
--- the passes for nodes and for ways choose the complete-ways extract
-pub selects_ways : (area : AreaSpec) (b : List ℕ) (first second : Option Verdict) (sets : WaySets) (h : HeaderSpec) → first ≡ judged_file (Some b) → second ≡ judged_file (Some b) → Chooses area first second sets h → Selects b (complete_ways area) area (taken_by (without_parents sets)) h
-selects_ways area b first second sets h is too c =
-    let judged = known_says b (c.frames, None) (subst (λ (k : Option Verdict). Says k (c.frames, None)) is c.judged) in
-    let gathered = c.chosen c.frames (too ∙ judged) ∙ sets_are area (stored_entities c.frames) in
-    record {
-      frames = c.frames;
-      judged = judged;
-      writable = judged_sound b c.frames judged c.within;
-      bytes = header_from area (file_header c.frames) h c.header (complete_ways area) (stored_entities c.frames);
-      picked = ap (λ (s : WaySets). filter (taken_by (without_parents s)) (stored_entities c.frames)) gathered ∙ taken_are area (stored_entities c.frames);
-      typed = c.typed;
-    }
+-- of what was chosen by passes over the same file
+module _ (area : AreaSpec) (b : List ℕ) (first second : Option Verdict) (sets : WaySets) (h : HeaderSpec) (is : first ≡ judged_file (Some b)) (too : second ≡ judged_file (Some b)) (c : Chooses area first second sets h) where
+  its_frames : judged_file (Some b) ≡ Some (c.frames, None)
+  its_frames = known_says b (c.frames, None) (subst (λ (k : Option Verdict). Says k (c.frames, None)) is c.judged)
+
+  its_ways : sets ≡ way_pass (map (seen_entity area) (stored_entities c.frames))
+  its_ways = c.chosen c.frames (too ∙ its_frames) ∙ sets_are area (stored_entities c.frames)
+
+  selects : (choose : Choice) (pick : Pick) → filter pick (stored_entities c.frames) ≡ choose (stored_entities c.frames) → Selects b choose area pick h
+  selects choose pick picked = record {
+    frames = c.frames;
+    judged = its_frames;
+    writable = judged_sound b c.frames its_frames c.within;
+    bytes = header_from area (file_header c.frames) h c.header choose (stored_entities c.frames);
+    picked = picked;
+    typed = c.typed;
+  }
+
+  -- the passes for nodes and for ways choose the complete-ways extract
+  pub selects_ways : Selects b (complete_ways area) area (taken_by (without_parents sets)) h
+  selects_ways = selects (complete_ways area) (taken_by (without_parents sets)) (ap (λ (s : WaySets). filter (taken_by (without_parents s)) (stored_entities c.frames)) its_ways ∙ taken_are area (stored_entities c.frames))
 
 -- ---- the box
 
@@ -181,18 +189,10 @@ pub selects_parents : (sets : KeptSets) (area : AreaSpec) (b : List ℕ) (first 
 selects_parents sets area b first second third h is too more p =
     let c = p.chosen in
     let es = stored_entities c.frames in
-    let judged = known_says b (c.frames, None) (subst (λ (k : Option Verdict). Says k (c.frames, None)) is c.judged) in
-    let ways = c.chosen c.frames (too ∙ judged) ∙ sets_are area es in
     let relations : p.relations ≡ relation_pass (map (seen_entity area) es) =
-    p.gathered c.frames (more ∙ judged) ∙ (ap (λ (w : WaySets). fold with_relation (start_relations w) es) ways ∙ relations_folded area (start_relations (way_pass (map (seen_entity area) es))) es) in
-    record {
-      frames = c.frames;
-      judged = judged;
-      writable = judged_sound b c.frames judged c.within;
-      bytes = header_from area (file_header c.frames) h c.header (all_parents area) es;
-      typed = c.typed;
-      picked = parents_are area es sets (p.kept ∙ ap (λ (r : RelationSets). r.ways) relations) (subst (λ (r : RelationSets). IsLeast (set.contains r.links) r.start sets.relation_ids) relations p.least);
-    }
+    p.gathered c.frames (more ∙ its_frames area b first second _ h is too c) ∙ (ap (λ (w : WaySets). fold with_relation (start_relations w) es) (its_ways area b first second _ h is too c) ∙ relations_folded area (start_relations (way_pass (map (seen_entity area) es))) es) in
+    selects area b first second _ h is too c (all_parents area) (taken_by sets)
+    (parents_are area es sets (p.kept ∙ ap (λ (r : RelationSets). r.ways) relations) (subst (λ (r : RelationSets). IsLeast (set.contains r.links) r.start sets.relation_ids) relations p.least))
 
 -- what the pass that takes relations reports
 pub adds_parents : (known : Option Verdict) (before given now : KeptSets) (begun relations : RelationSets) → begun ≡ start_relations before.ways → GathersFile with_relation known begun relations → given.ways ≡ relations.ways
