@@ -55,7 +55,7 @@ abbrev pub Halts : (Refusal → Type 0) → Halt → Type 0
 Halts refused (halt.Refused refusal) = refused refusal
 Halts refused (halt.Stopped s) = (e : Fault) → s ≡ stop.Refused e → ⊥
 
--- a call halted: if it refuses a file, this stands too, as that nothing went out
+-- a call halted: if it refuses a file, something else holds too, such as that nothing went out
 abbrev pub HaltsFile : {F : Type 0} → feed.Ghosts F → (old new : F) → Bool → (List ℕ → Option Verdict) → Type 0 → Halt → Type 0
 HaltsFile f old new hashes judge also h = Halts (λ refusal. RefusesFile f old new hashes judge refusal × also) h
 
