@@ -52,9 +52,6 @@ any_push (first ∷ texts) text = grind (arith, any_push texts text)
 pub any_with : (texts : List (List ℕ)) (text : List ℕ) → list_any (bytes_eq text) (with_text texts text) ≡ true
 any_with texts text = grind (arith, any_push texts text)
 
-same_if : (one other : List ℕ) → bytes_eq one other ≡ true → one ≡ other
-same_if one other h = (bytes_eq-Decides one other).0 h
-
 at_next : (first : List ℕ) (texts : List (List ℕ)) (n : ℕ) → slice_get (first ∷ texts) (1 + n) ≡ slice_get texts n
 at_next first texts n = let e : 1 + n ≡ suc n = omega arith in ap (λ (k : ℕ). slice_get (first ∷ texts) k) e
 
