@@ -1,6 +1,5 @@
 -- What a halt says of the bytes that were read.
-use Rattle.std.proofs.Common.{arith}
-use Rattle.std.proofs.Common.{◌≡◌, ℕ, Bool, List, Option, Some, sym, subst}
+use Rattle.std.proofs.Common.{◌≡◌, ℕ, Bool, List, [], Option, Some, arith, sym, subst}
 use Rattle.osm_entity.specs.Entity.{EntitySpec}
 use Rattle.pbf_wire.specs.declared.fault.Fault.{Fault}
 use Rattle.pbf_frame.specs.declared.device.Feed as feed
@@ -9,6 +8,7 @@ use Rattle.pbf_frame.specs.declared.stop.Stop.{Stop}
 use Rattle.pbf_frame.specs.declared.stop.Stop.TheVariants as stop
 use Rattle.pbf_frame.specs.Refusals.{Refuses}
 use Rattle.pbf_frame.specs.Verdict.{Verdict}
+use Rattle.pbf_frame.specs.Transfers.{Added}
 use Rattle.pbf_frame.proofs.Passed.{added_none}
 use Rattle.pbf_frame.proofs.Refusing.{faulty_as}
 use Rattle.pbf_pass.specs.declared.pass.Judged.{Judged}

@@ -24,9 +24,6 @@ returns-in_ok-command_in-in-Ok-clause-read c =
     (c.in-Ok.ensures.matches (ap is_simple app ∙ simple c.args.program)).1 ∙ ap (λ (a : App). subcommand_of a words) app in
     inr (subst (λ o. IsRead o c.in_ok-command_in-in-Ok.field-0) rows c.in_ok-command_in-in-Ok.ensures)
 
-pub returns-in_ok-command_in-in-Ok-clause-taken : goal.returns-in_ok-command_in-in-Ok-clause-taken
-returns-in_ok-command_in-in-Ok-clause-taken c = λ t. never_help (subcommand_rows_of c.in-Ok.matches) _ c.in_ok-command_in-in-Ok.ensures
-
 pub returns-in_err-command_in-in-Ok-clause-fault : goal.returns-in_err-command_in-in-Ok-clause-fault
 returns-in_err-command_in-in-Ok-clause-fault c =
     let p = err_from_is_err_and c.from_residual-in_err-command_in-in-Ok.result c.from_residual-in_err-command_in-in-Ok.ensures.1 in
@@ -35,15 +32,3 @@ returns-in_err-command_in-in-Ok-clause-fault c =
     let rows : subcommand_rows_of c.in-Ok.matches ≡ command_words c.args.program c.args.words.now =
     (c.in-Ok.ensures.matches (ap is_simple app ∙ simple c.args.program)).1 ∙ ap (λ (a : App). subcommand_of a words) app in
     rw (p.1, p.2) (λ taken. subst (λ o. HasFault o c.in_err-command_in-in-Ok.field-0.0) rows c.in_err-command_in-in-Ok.ensures)
-
-pub returns-in_err-command_in-in-Ok-clause-taken : goal.returns-in_err-command_in-in-Ok-clause-taken
-returns-in_err-command_in-in-Ok-clause-taken c =
-    let p = err_from_is_err_and c.from_residual-in_err-command_in-in-Ok.result c.from_residual-in_err-command_in-in-Ok.ensures.1 in
-    rw (p.1, p.2) (λ t. never_line (subcommand_rows_of c.in-Ok.matches) c.in_err-command_in-in-Ok.field-0.0 c.in_err-command_in-in-Ok.ensures)
-
-pub returns-in-Err-clause-taken : goal.returns-in-Err-clause-taken
-returns-in-Err-clause-taken c = λ t.
-    let words = word_texts c.args.words.now in
-    let taken : takes (program_app c.args.program) words ≡ true = t in
-    let kind = c.in-Err.ensures.passes (ap (λ (a : App). takes a words) c.in_ok-command_line.ensures.is ∙ taken) in
-    rw (c.refused.ensures.memory kind) tt
