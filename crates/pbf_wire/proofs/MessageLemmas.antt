@@ -73,9 +73,7 @@ one_part k at (Whole number bytes) =
 joined_parts : (k at : ℕ) (ps : List Part) → column k (occurrences_of at ps) ≡ flat_map (part_numbers k) ps
 joined_parts k at [] = refl
 joined_parts k at (p ∷ ps) =
-    map-append (λ (p : ℕ × ℕ). p.0) (column_of k (occurrence_of at p)) (joined k (occurrences_of (at + length (spelling p)) ps))
-    ∙ ap (λ (xs : List ℕ). xs ++ map (λ (p : ℕ × ℕ). p.0) (joined k (occurrences_of (at + length (spelling p)) ps))) (one_part k at p)
-    ∙ ap (λ (xs : List ℕ). part_numbers k p ++ xs) (joined_parts k (at + length (spelling p)) ps)
+    simp (map-append, one_part, joined_parts k (at + length (spelling p)) ps)
 
 abbrev no_numbers : List ℕ
 no_numbers = []
@@ -100,9 +98,7 @@ one_slot k (Each number messages) h = none_at number k messages (eqb number k) r
 slots_numbers : (k : ℕ) (slots : List Slot) → AllByRecursion SlotFits slots → flat_map (part_numbers k) (flat_map parts_of slots) ≡ flat_map (numbers_at k) slots
 slots_numbers k [] h = refl
 slots_numbers k (s ∷ slots) h =
-    flat_map-append (part_numbers k) (parts_of s) (flat_map parts_of slots)
-    ∙ ap (λ (xs : List ℕ). xs ++ flat_map (part_numbers k) (flat_map parts_of slots)) (one_slot k s h.0)
-    ∙ ap (λ (xs : List ℕ). numbers_at k s ++ xs) (slots_numbers k slots h.1)
+    cc (flat_map-append (part_numbers k) (parts_of s) (flat_map parts_of slots), one_slot k s h.0, slots_numbers k slots h.1)
 
 pub column_written : (k at : ℕ) (slots : List Slot) → AllByRecursion SlotFits slots → length (message slots) < 2 ^ 64 → column k (found (items at (message slots))) ≡ flat_map (numbers_at k) slots
 column_written k at slots h lt =
@@ -135,9 +131,7 @@ slot_scalars k s = refl
 pub slots_scalars : (k : ℕ) (slots : List Slot) → flat_map (part_scalars k) (flat_map parts_of slots) ≡ flat_map (scalars_at k) slots
 slots_scalars k [] = refl
 slots_scalars k (s ∷ slots) =
-    flat_map-append (part_scalars k) (parts_of s) (flat_map parts_of slots)
-    ∙ ap (λ (xs : List ℕ). xs ++ flat_map (part_scalars k) (flat_map parts_of slots)) (slot_scalars k s)
-    ∙ ap (λ (xs : List ℕ). scalars_at k s ++ xs) (slots_scalars k slots)
+    simp (flat_map-append, slot_scalars, slots_scalars k slots)
 
 pub values_written : (k at : ℕ) (slots : List Slot) → numbers (values k (occurrences_of at (flat_map parts_of slots))) ≡ flat_map (scalars_at k) slots
 values_written k at slots = scalar_parts k at (flat_map parts_of slots) ∙ slots_scalars k slots
@@ -177,13 +171,11 @@ slot_messages k s = refl
 pub slots_messages : (k : ℕ) (slots : List Slot) → flat_map (part_messages k) (flat_map parts_of slots) ≡ flat_map (messages_at k) slots
 slots_messages k [] = refl
 slots_messages k (s ∷ slots) =
-    flat_map-append (part_messages k) (parts_of s) (flat_map parts_of slots)
-    ∙ ap (λ (xs : List (List ℕ)). xs ++ flat_map (part_messages k) (flat_map parts_of slots)) (slot_messages k s)
-    ∙ ap (λ (xs : List (List ℕ)). messages_at k s ++ xs) (slots_messages k slots)
+    grind (arith, flat_map-append, slot_messages, slots_messages k slots)
 
 pub each_written : (k at : ℕ) (slots : List Slot) → AllByRecursion SlotFits slots → length (message slots) < 2 ^ 64 → each k (found (items at (message slots))) ≡ flat_map (messages_at k) slots
 each_written k at slots h lt =
-    ap (each k) (fields_written at slots h lt) ∙ message_parts k at (flat_map parts_of slots) ∙ slots_messages k slots
+    simp (fields_written at slots h lt, message_parts, slots_messages)
 
 -- ---- each field has its type
 

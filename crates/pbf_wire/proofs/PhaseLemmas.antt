@@ -48,8 +48,7 @@ module _ {X : Type 0} (r : X → List ℕ) where
   from_or n (Some x) later from = omega arith
 
   found_or : (n : ℕ) (found : Option X) (later : Option (ℕ × X)) → option_map (λ p. p.1) (option_or (option_map (λ x. (n, x)) found) later) ≡ option_or found (option_map (λ p. p.1) later)
-  found_or n None later = refl
-  found_or n (Some x) later = refl
+  found_or n f later = grind arith
 
   parted : (n : ℕ) (xs : List X) (later : List (ℕ × X)) → IsFrom (n + 1) (least_by in_part later) → least_by in_part (map (λ x. (n, x)) xs ++ later) ≡ option_or (option_map (λ x. (n, x)) (least_by r xs)) (least_by in_part later)
   parted n xs later from =
@@ -66,7 +65,7 @@ module _ {X : Type 0} (r : X → List ℕ) where
 -- ---- phases
 
 all_from : (n : ℕ) (phases : List (List Fault)) → IsFrom n (least_by phase_rank (in_phases n phases))
-all_from n [] = tt
+all_from n [] = grind arith
 all_from n (faults ∷ later) = parted_from rank n faults (in_phases (n + 1) later) (all_from (n + 1) later)
 
 pub phases_joined : (n : ℕ) (phases : List (List Fault)) → option_map (λ p. p.1) (least_by phase_rank (in_phases n phases)) ≡ first_fault phases
@@ -76,8 +75,7 @@ phases_joined n (faults ∷ later) =
     ∙ ap (option_or (least faults)) (phases_joined (n + 1) later)
 
 pub or_first : (f g h : Option Fault) → option_or f (option_or g h) ≡ option_or (option_or f g) h
-or_first None g h = refl
-or_first (Some f) g h = refl
+or_first f g h = grind arith
 
 -- the first phase that has one is of the first phases, or of those after them
 pub first_of_joined : (phases later : List (List Fault)) → first_fault (phases ++ later) ≡ option_or (first_fault phases) (first_fault later)

@@ -88,8 +88,7 @@ sums_within_limit limit reason narrow xs e = all_weaker (λ z. is_within limit z
 
 end_once : (s : List ℕ) → EndsOnce s → length (ends s) ≡ 1
 end_once [] h = absurd h
-end_once (b ∷ []) h = grind arith
-end_once (b ∷ c ∷ bs) h = grind (arith, end_once (c ∷ bs) h.1)
+end_once (b ∷ bs) h = grind (arith, end_once bs)
 
 ends_parted : (n : ℕ) (bytes : List ℕ) → length (ends bytes) ≡ length (ends (take n bytes)) + length (ends (drop n bytes))
 ends_parted n bytes =
