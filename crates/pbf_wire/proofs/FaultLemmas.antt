@@ -40,13 +40,7 @@ all_next k o os same = grind arith
 pub occurs_later : (seen : Bool) (so_far : Option Fault) (k : ℕ) (os t : List Occurrence) (o : Occurrence) (all : Option Fault) → seen ≡ true → os ≡ o ∷ t → o.number ≡ k
     → lesser so_far (least (map (λ o. fault o.place TwiceMessage) (if seen then all_of k os else drop 1 (all_of k os)))) ≡ all
     → lesser (lesser so_far (Some (fault o.place TwiceMessage))) (least (map (λ o. fault o.place TwiceMessage) (all_of k t))) ≡ all
-occurs_later seen so_far k os t o all e next same h =
-    let left : Bool → List Occurrence → List Occurrence = λ b w. if b then all_of k w else drop 1 (all_of k w) in
-    let whole : List Occurrence → Option Fault = λ w. lesser so_far (least (map (λ o. fault o.place TwiceMessage) w)) in
-    least_next so_far (fault o.place TwiceMessage) (map (λ o. fault o.place TwiceMessage) (all_of k t))
-    ∙ ap whole (sym (all_next k o t same))
-    ∙ sym (ap (λ w. whole (left seen w)) next ∙ ap (λ b. whole (left b (o ∷ t))) e)
-    ∙ h
+occurs_later seen so_far k os t o all e next same h = grind (arith, least_next, all_next)
 
 -- ---- how many numbers a column has
 
@@ -62,17 +56,10 @@ spelled_long v [] h = absurd h.ended
 spelled_long v (b ∷ bs) h = omega arith
 
 ends_short : (c : Content) (kind end : ℕ) (s : List ℕ) → IsBody c kind end s → length (ends_in c) ≤ length s
-ends_short (Number v) kind end s h = spelled_long v s h.1
-ends_short (Bytes bytes at) kind end s h =
-    omega (arith, ends_counted bytes, count_by-le-length (λ b. nat_lt b 128) bytes, ap length h.1.3, length-append h.1.0 bytes)
-ends_short c kind end s h = omega arith
+ends_short c kind end s h = grind (arith, spelled_long, ends_counted, count_by-le-length, length-append)
 
 one_short : (k : ℕ) (o : Occurrence) (s : List ℕ) → IsSpelled o s → length (ends_of k o) ≤ length s
-one_short k o s h =
-    elim (o.number == k) as (λ b. length (if b then ends_in o.content else []) ≤ length s) [
-      | true ↦ omega (arith, ends_short o.content h.kind (o.place + length h.tag) h.body h.holds, ap length h.whole, length-append h.tag h.body)
-      | false ↦ omega arith
-    ]
+one_short k o s h = grind (arith, ends_short, length-append)
 
 front_within : (r : Result (ℕ × ℕ) Reason) (more : ℕ → List Entry) (n : ℕ) → ((skip : ℕ) → length (read_entries (more skip)) ≤ n) → length (read_entries (entries_from r more)) ≤ suc n
 front_within (Ok front) more n h = omega (arith, h (front.1 - 1))
@@ -85,16 +72,10 @@ numbers_within (suc skip) (b ∷ bs) = omega (arith, numbers_within skip bs)
 numbers_within zero (b ∷ bs) = front_within (varint_at (b ∷ bs)) (λ skip. entries_past skip bs) (length bs) (λ skip. numbers_within skip bs)
 
 numbers_short : (c : Content) (kind end : ℕ) (s : List ℕ) → IsBody c kind end s → length (numbers_in c) ≤ length s
-numbers_short (Number v) kind end s h = spelled_long v s h.1
-numbers_short (Bytes bytes at) kind end s h = omega (arith, numbers_within 0 bytes, ap length h.1.3, length-append h.1.0 bytes)
-numbers_short c kind end s h = omega arith
+numbers_short c kind end s h = grind (arith, spelled_long, numbers_within, length-append)
 
 one_column_short : (k : ℕ) (o : Occurrence) (s : List ℕ) → IsSpelled o s → length (column_of k o) ≤ length s
-one_column_short k o s h =
-    elim (o.number == k) as (λ b. length (if b then placed o.place (numbers_in o.content) else []) ≤ length s) [
-      | true ↦ omega (arith, length-map {B = ℕ × ℕ} (numbers_in o.content) (λ v. (v, o.place)), numbers_short o.content h.kind (o.place + length h.tag) h.body h.holds, ap length h.whole, length-append h.tag h.body)
-      | false ↦ omega arith
-    ]
+one_column_short k o s h = grind (arith, length-map, numbers_short, length-append)
 
 module _ {X : Type 0} (f : Occurrence → List X) (one : (o : Occurrence) (s : List ℕ) → IsSpelled o s → length (f o) ≤ length s) where
   joined_short : (at : ℕ) (m : List ℕ) (os : List Occurrence) → Joins at m os → length (flat_map f os) ≤ length m

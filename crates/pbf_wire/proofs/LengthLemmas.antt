@@ -51,10 +51,7 @@ each_short number [] = omega arith
 each_short number (m ∷ ms) = omega (arith, length-append (spelling (Whole number m)) (written (map (Whole number) ms)), whole_short number m, each_short number ms)
 
 slot_short : (s : Slot) → length (written (parts_of s)) ≤ slot_room s
-slot_short (Scalar number (Some value)) = omega (arith, ap (λ (xs : List ℕ). length xs) (append-nil (spelling (Single number value))), number_short number value)
-slot_short (Column number (v ∷ vs)) = omega (arith, ap (λ (xs : List ℕ). length xs) (append-nil (spelling (Whole number (packed (v ∷ vs))))), whole_short number (packed (v ∷ vs)))
-slot_short (Each number ms) = each_short number ms
-slot_short s = omega arith
+slot_short s = grind (arith, append-nil, number_short, whole_short, each_short)
 
 written_append : (ps qs : List Part) → length (written (ps ++ qs)) ≡ length (written ps) + length (written qs)
 written_append [] qs = omega arith

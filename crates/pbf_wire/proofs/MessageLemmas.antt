@@ -89,11 +89,7 @@ nothing true = refl
 nothing false = refl
 
 one_slot : (k : ℕ) (s : Slot) → SlotFits s → flat_map (part_numbers k) (parts_of s) ≡ numbers_at k s
-one_slot k (Scalar number None) h = refl
-one_slot k (Scalar number (Some value)) h = append-nil _
-one_slot k (Column number []) h = nothing (eqb number k)
-one_slot k (Column number (v ∷ vs)) h = append-nil _ ∙ ap (λ (xs : List ℕ). cond (eqb number k) xs []) (column_read (v ∷ vs) h.2)
-one_slot k (Each number messages) h = none_at number k messages (eqb number k) refl
+one_slot k s h = grind (arith, append-nil, nothing, column_read, none_at)
 
 slots_numbers : (k : ℕ) (slots : List Slot) → AllByRecursion SlotFits slots → flat_map (part_numbers k) (flat_map parts_of slots) ≡ flat_map (numbers_at k) slots
 slots_numbers k [] h = refl
@@ -163,10 +159,7 @@ whole_messages k number (m ∷ ms) true e = rw e (ap (λ (xs : List (List ℕ)).
 whole_messages k number (m ∷ ms) false e = rw e (whole_messages k number ms false e)
 
 slot_messages : (k : ℕ) (s : Slot) → flat_map (part_messages k) (parts_of s) ≡ messages_at k s
-slot_messages k (Scalar number (Some value)) = refl
-slot_messages k (Column number (v ∷ vs)) = append-nil _
-slot_messages k (Each number messages) = whole_messages k number messages (eqb number k) refl
-slot_messages k s = refl
+slot_messages k s = grind (arith, append-nil, whole_messages)
 
 pub slots_messages : (k : ℕ) (slots : List Slot) → flat_map (part_messages k) (flat_map parts_of slots) ≡ flat_map (messages_at k) slots
 slots_messages k [] = refl

@@ -115,10 +115,7 @@ module _ {X : Type 0} (f : Occurrence → List X) where
 module _ (kinds : List (ℕ × Kind)) (inner : Occurrence → List Fault) where
   field_faultless : (o : Occurrence) (rest : List Item) (r : Option Reason) → or_at o.place r (wire kinds rest) ≡ None → inner o ++ flat_map inner (found rest) ≡ []
       → (wire kinds rest ≡ None → flat_map inner (found rest) ≡ [] → message_faults kinds inner rest ≡ []) → or_more o.place r (inner o ++ message_faults kinds inner rest) ≡ []
-  field_faultless o rest (Some reason) e h more = absurd (cc)
-  field_faultless o rest None e h more =
-      let both = both_nil (inner o) (flat_map inner (found rest)) h in
-      ap₂ (λ (xs ys : List Fault). xs ++ ys) both.0 (more e both.1)
+  field_faultless o rest r e h more = grind (arith, both_nil)
 
   -- a message without a fault of its own has none if its fields give none
   faultless : (its : List Item) → wire kinds its ≡ None → flat_map inner (found its) ≡ [] → message_faults kinds inner its ≡ []

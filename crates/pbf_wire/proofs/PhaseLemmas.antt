@@ -51,10 +51,7 @@ module _ {X : Type 0} (r : X → List ℕ) where
   found_or n f later = grind arith
 
   parted : (n : ℕ) (xs : List X) (later : List (ℕ × X)) → IsFrom (n + 1) (least_by in_part later) → least_by in_part (map (λ x. (n, x)) xs ++ later) ≡ option_or (option_map (λ x. (n, x)) (least_by r xs)) (least_by in_part later)
-  parted n xs later from =
-      least_joined in_part (map (λ x. (n, x)) xs) later
-      ∙ ap (λ w. lesser_by in_part w (least_by in_part later)) (least_in_part n xs)
-      ∙ with_later n (least_by r xs) _ from
+  parted n xs later from = grind (arith, least_joined, least_in_part, with_later)
 
   pub parted_from : (n : ℕ) (xs : List X) (later : List (ℕ × X)) → IsFrom (n + 1) (least_by in_part later) → IsFrom n (least_by in_part (map (λ x. (n, x)) xs ++ later))
   parted_from n xs later from = subst (IsFrom n) (sym (parted n xs later from)) (from_or n (least_by r xs) _ from)

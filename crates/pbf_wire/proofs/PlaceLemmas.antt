@@ -1,5 +1,5 @@
 -- What is read of a message doesn't depend on its place.
-use Rattle.std.proofs.Common.{◌≡◌, ℕ, zero, suc, ◌+◌, ◌-◌, ◌/◌, ◌%◌, ◌^◌, Bool, true, false, cond, eqb, ltb, List, [], ◌∷◌, ◌++◌, length, take, drop, map, refl, sym, ap, ap₂, ◌∙◌}
+use Rattle.std.proofs.Common.{◌≡◌, ℕ, zero, suc, ◌+◌, ◌-◌, ◌/◌, ◌%◌, ◌^◌, Bool, true, false, cond, eqb, ltb, List, [], ◌∷◌, ◌++◌, length, take, drop, map, refl, sym, ap, ap₂, ◌∙◌, arith}
 use Rattle.std.specs.Prelude.{Result, Ok, Err}
 use Rattle.std.specs.List.{flat_map}
 use Rattle.std.proofs.lemmas.List.Concat.{flat_map_single}
@@ -35,12 +35,7 @@ abbrev framed : ℕ → ℕ × ℕ → Content × ℕ → Result (Occurrence × 
 framed at tag body = Ok (record { place = at; number = tag.0 / 8; content = body.0 }, tag.1 + body.1)
 
 framed_same : (at bt : ℕ) (tag : ℕ × ℕ) (r s : Result (Content × ℕ) Reason) → bare_body r ≡ bare_body s → bare_front (r >>= framed at tag) ≡ bare_front (s >>= framed bt tag)
-framed_same at bt tag (Ok p) (Ok q) h =
-    let one : bare_body (Ok p) ≡ bare_body (Ok q) = h in
-    let both : (unplaced p.0, p.1) ≡ (unplaced q.0, q.1) = cc in
-    ap (framed 0 tag) both
-framed_same at bt tag (Err e) (Err f) h = let same : e ≡ f = cc in ap (λ (r : Reason). bare_front (Err r)) same
-framed_same at bt tag r s h = absurd (cc)
+framed_same at bt tag r s h = grind arith
 
 front_cases : (a b : Bool) (x y : Result (Occurrence × ℕ) Reason) (s t : Result (Occurrence × ℕ) Reason) → bare_front s ≡ bare_front t → bare_front (cond a (cond b x s) y) ≡ bare_front (cond a (cond b x t) y)
 front_cases true false x y s t h = h
@@ -60,13 +55,7 @@ module _ {X : Type 0} (f : Occurrence → List X) (blind : (o : Occurrence) → 
   got xs = flat_map f (found xs)
 
   fronts : (at bt : ℕ) (r s : Result (Occurrence × ℕ) Reason) (more others : ℕ → List Item) → bare_front r ≡ bare_front s → ((k : ℕ) → got (more k) ≡ got (others k)) → got (items_from at r more) ≡ got (items_from bt s others)
-  fronts at bt (Ok p) (Ok q) more others h same =
-      let both : (without_places p.0, p.1) ≡ (without_places q.0, q.1) = cc in
-      let here : f p.0 ≡ f q.0 = blind p.0 ∙ ap (λ (w : Occurrence × ℕ). f w.0) both ∙ sym (blind q.0) in
-      let len : p.1 ≡ q.1 = ap (λ (w : Occurrence × ℕ). w.1) both in
-      ap₂ (λ (xs ys : List X). xs ++ ys) here (same (p.1 - 1) ∙ ap (λ k. got (others (k - 1))) len)
-  fronts at bt (Err e) (Err g) more others h same = refl
-  fronts at bt r s more others h same = absurd (cc)
+  fronts at bt r s more others h same = grind (arith, blind)
 
   past_same : (skip at bt : ℕ) (m : List ℕ) → got (items_past skip at m) ≡ got (items_past skip bt m)
   unfolding items_past

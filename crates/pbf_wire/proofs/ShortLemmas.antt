@@ -51,11 +51,7 @@ moved mask k i = let e : k + i ≡ i + k = omega arith in ap (λ n. n % 2) (shr-
 
 -- a bit of a mask joined with a shifted one is in the one, or so many places on in the other
 either : (a b k i : ℕ) → bit_at (bit_or a (b / 2 ^ k)) i ≡ 1 → (bit_at a i ≡ 1) ⊎ (bit_at b (i + k) ≡ 1)
-either a b k i e =
-    elim (cases_lt (bit_at a i) 1) [
-      | inl lt ↦ inr (omega (arith, e, bit_at_or a (b / 2 ^ k) i, moved b k i))
-      | inr ge ↦ inl (omega (arith, bit_at-lt a i))
-    ]
+either a b k i e = grind (arith, cases_lt, bit_at_or, moved, bit_at-lt)
 
 -- one of so many places from i on
 abbrev Near : ℕ → ℕ → ℕ → Type 0
@@ -252,11 +248,7 @@ column_more k os rest o is here later = subst (λ (w : List Occurrence). AllSmal
 
 -- and as many more as it has
 pub count_more : (k : ℕ) (os rest : List Occurrence) (o : Occurrence) → os ≡ o ∷ rest → o.number ≡ k → length (joined k os) ≡ length (numbers_in o.content) + length (joined k rest)
-count_more k os rest o is same =
-    ap (λ (w : List Occurrence). length (joined k w)) is
-    ∙ length-append (column_of k o) (joined k rest)
-    ∙ ap (λ (b : Bool). length (if b then placed o.place (numbers_in o.content) else []) + length (joined k rest)) (eq-eqb _ _ same)
-    ∙ ap (λ n. n + length (joined k rest)) (length-map {B = ℕ × ℕ} (numbers_in o.content) (λ v. (v, o.place)))
+count_more k os rest o is same = grind (arith, length-append, length-map)
 
 -- the numbers of the occurrence that was begun, and those of the fields after it
 pub begun_counted : (column : Column) (begun left : ℕ) → begun ≡ count_by (λ b. nat_lt b 128) column.packed.now → IsShort column.packed.now → left ≡ length (joined column.number (found_left column.fields)) → begun + left ≡ length (column_left column)
@@ -277,9 +269,7 @@ left_short k fields = column_short k fields.at fields.rest.now
 
 pub numbers_fit : (column : Column) → length (column_left column) ≤ length column.packed.now + length column.fields.0.rest.now
 unfolding column_left
-numbers_fit column =
-    let ns = read_entries (entries column.packed.now) in
-    omega (arith, numbers_within 0 column.packed.now, left_short column.number column.fields.0, length-append (placed column.packed_place ns) (joined column.number (found_left column.fields)), length-map {B = ℕ × ℕ} ns (λ v. (v, column.packed_place)))
+numbers_fit column = grind (arith, numbers_within, left_short, length-append, length-map)
 
 -- ---- their sums
 

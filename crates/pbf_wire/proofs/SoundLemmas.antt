@@ -130,10 +130,7 @@ ended_in (Bytes bytes at) = entries_ended (length bytes) bytes (omega arith)
 ended_in c = omega arith
 
 one_ended : (k : ℕ) (o : Occurrence) → length (column_of k o) ≤ length (ends_of k o)
-one_ended k o = elim (o.number == k) as (λ b. length (if b then placed o.place (numbers_in o.content) else []) ≤ length (if b then ends_in o.content else [])) [
-  | true ↦ omega (arith, length-map {B = ℕ × ℕ} (numbers_in o.content) (λ v. (v, o.place)), ended_in o.content)
-  | false ↦ omega arith
-]
+one_ended k o = grind (arith, length-map, ended_in)
 
 -- a column has no more numbers than are counted, whatever is wrong with it
 pub length_counted : (k : ℕ) (os : List Occurrence) → length (joined k os) ≤ column_count k os
@@ -141,9 +138,7 @@ length_counted k [] = omega arith
 length_counted k (o ∷ os) = omega (arith, length-append (column_of k o) (joined k os), length-append (ends_of k o) (flat_map (ends_of k) os), one_ended k o, length_counted k os)
 
 count_in : (c : Content) → reason_in (Some kind.Column) c ≡ None → length (ends_in c) ≡ length (numbers_in c)
-count_in (Number v) e = refl
-count_in (Bytes bytes at) e = ends_are_numbers bytes e
-count_in c e = absurd (cc)
+count_in c e = grind (arith, ends_are_numbers)
 
 module _ (kinds : List (ℕ × Kind)) (inner : Occurrence → List Fault) where
   abbrev pub IsSound : Occurrence → Type 0
@@ -161,10 +156,7 @@ module _ (kinds : List (ℕ × Kind)) (inner : Occurrence → List Fault) where
   fields_sound (Err e ∷ rest) h = absurd (cc)
 
 one_counted : (k : ℕ) (o : Occurrence) → (o.number ≡ k → reason_in (Some kind.Column) o.content ≡ None) → length (ends_of k o) ≡ length (column_of k o)
-one_counted k o h = by (o.number == k) refl where
-  by : (b : Bool) → (o.number == k) ≡ b → length (if b then ends_in o.content else []) ≡ length (if b then placed o.place (numbers_in o.content) else [])
-  by true is = count_in o.content (h (grind arith)) ∙ sym (length-map {B = ℕ × ℕ} (numbers_in o.content) (λ v. (v, o.place)))
-  by false is = refl
+one_counted k o h = grind (arith, count_in, length-map)
 
 -- the count of a column whose fields have its type is the number of its entries
 pub count_is_length : (kinds : List (ℕ × Kind)) (inner : Occurrence → List Fault) (k : ℕ) (os : List Occurrence) → kind_of kinds k ≡ Some kind.Column

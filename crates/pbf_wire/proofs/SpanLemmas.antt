@@ -21,9 +21,7 @@ one_past span is_there (v ∷ vs) left value (suc n) past there =
     record { passed = more.passed; alike = (past.alike.0, more.alike); there = omega (arith, more.there); few = past.few }
 
 pub same_test : (a b : Bool) → not (beq a b) ≡ false → a ≡ b
-same_test true false e = search rules
-same_test false true e = search rules
-same_test a b e = refl
+same_test a b e = grind arith
 
 pub in_span : (span : Span) (n : ℤ) → is_in span n ≡ true → (span.above <ℤ n) × (n <ℤ span.below)
 in_span span n h = (search rules, search rules)
@@ -33,9 +31,7 @@ span_has span n above below = search (rules, above, below)
 
 -- what a span has, one that reaches further has too
 pub wider_has : (span wider : Span) (n : ℤ) → wider.above ≤ℤ span.above → span.below ≤ℤ wider.below → is_in span n ≡ true → is_in wider n ≡ true
-wider_has span wider n above below h =
-    let inside = in_span span n h in
-    span_has wider n (omega (arith, ints, above, inside.0)) (omega (arith, ints, below, inside.1))
+wider_has span wider n above below h = grind (arith, in_span, span_has, ints)
 
 -- ---- how many there are
 

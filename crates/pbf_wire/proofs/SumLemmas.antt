@@ -32,14 +32,7 @@ difference_fits a b p q = zigzag_fits (a -ℤ b) (omega (arith, ints)) (omega (a
 
 -- all 64 bits are read back
 pub signs_read : (z : ℤ) → neg_ℤ (pos (2 ^ 63)) ≤ℤ z → z <ℤ pos (2 ^ 63) → low_i64 (sign_extended z) ≡ z
-signs_read (pos n) above below =
-    let lt : n < 2 ^ 63 = omega (arith, ints) in
-    let e : ltb n (2 ^ 63) ≡ true = grind (arith, nat_tests) in
-    rw e refl
-signs_read (negsuc n) above below =
-    let small : n < 2 ^ 63 = omega (arith, ints) in
-    let e : ltb (2 ^ 64 - 1 - n) (2 ^ 63) ≡ false = grind (arith, nat_tests) in
-    rw e (ap negsuc (omega arith))
+signs_read z above below = grind (arith, ints, nat_tests)
 
 pub signs_fit : (z : ℤ) → neg_ℤ (pos (2 ^ 63)) ≤ℤ z → z <ℤ pos (2 ^ 63) → sign_extended z < 2 ^ 64
 signs_fit (pos n) above below = omega (arith, ints)
@@ -47,16 +40,7 @@ signs_fit (negsuc n) above below = omega (arith, ints)
 
 -- and the low 32
 pub low_signs_read : (z : ℤ) → neg_ℤ (pos (2 ^ 31)) ≤ℤ z → z <ℤ pos (2 ^ 31) → low_i32 (sign_extended z) ≡ z
-low_signs_read (pos n) above below =
-    let lt : n < 2 ^ 31 = omega (arith, ints) in
-    let m : n % 2 ^ 32 ≡ n = omega arith in
-    let e : ltb n (2 ^ 31) ≡ true = grind (arith, nat_tests) in
-    rw (m, e) refl
-low_signs_read (negsuc n) above below =
-    let small : n < 2 ^ 31 = omega (arith, ints) in
-    let m : (2 ^ 64 - 1 - n) % 2 ^ 32 ≡ 2 ^ 32 - 1 - n = omega arith in
-    let e : ltb (2 ^ 32 - 1 - n) (2 ^ 31) ≡ false = grind (arith, nat_tests) in
-    rw (m, e) (ap negsuc (omega arith))
+low_signs_read z above below = grind (arith, ints, nat_tests)
 
 -- ---- a negative number takes ten bytes
 
@@ -158,11 +142,7 @@ within_is limit n h = record { above = search rules; below = search rules }
 
 pub added_out : (limit total number : ℤ) → ¬ IsWithin limit (total +ℤ number) → added limit total number ≡ None
 unfolding added
-added_out limit total number h = by (is_within limit (total +ℤ number)) refl
-  where
-    by : (b : Bool) → is_within limit (total +ℤ number) ≡ b → cond b (Some (total +ℤ number)) None ≡ None
-    by true e = absurd (h (within_is limit (total +ℤ number) e))
-    by false e = refl
+added_out limit total number h = grind (arith, within_is)
 
 abbrev pub then_more : ℤ → List ℤ → Option ℤ → List ℤ
 then_more limit ds sum = elim sum [ None ↦ [] | Some sum ↦ sum ∷ sums_within limit sum ds ]

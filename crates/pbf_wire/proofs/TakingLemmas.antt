@@ -35,10 +35,7 @@ last_append start [] ys = refl
 last_append start (x ∷ xs) ys = last_append x xs ys
 
 written_append : (start : ℤ) (xs ys : List ℤ) → written_after start (xs ++ ys) ≡ written_after start xs ++ written_after (last_from start xs) ys
-written_append start xs ys =
-    ap (λ (ds : List ℤ). packed (map zigzag ds)) (differences_append start xs ys)
-    ∙ ap packed (map-append zigzag (differences start xs) (differences (last_from start xs) ys))
-    ∙ flat_map-append shortest (map zigzag (differences start xs)) (map zigzag (differences (last_from start xs) ys))
+written_append start xs ys = grind (arith, differences_append, map-append, flat_map-append)
 
 pub none_taken : (left : Left) → PassesSpelled left left 0
 none_taken left = record { taken = []; counted = refl; given = refl; last = refl; front = []; bytes = refl; spelled = λ _. refl }
@@ -64,10 +61,7 @@ then_taken a b c m n h k = record {
 -- ---- one value
 
 pub zigzag_unzigzag : (n : ℕ) → zigzag (unzigzag n) ≡ n
-zigzag_unzigzag n = by (eqb (n % 2) 0) refl where
-  by : (b : Bool) → eqb (n % 2) 0 ≡ b → zigzag (cond b (pos (n / 2)) (negsuc (n / 2))) ≡ n
-  by true e = let even : n % 2 ≡ 0 = grind (arith, nat_tests) in omega (arith, even)
-  by false e = let odd : n % 2 ≡ 1 = grind (arith, nat_tests) in omega (arith, odd)
+zigzag_unzigzag n = grind (arith, nat_tests)
 
 difference_is : (a d : ℤ) → (a +ℤ d) -ℤ a ≡ d
 difference_is a d = omega (arith, ints)
@@ -183,10 +177,7 @@ module _ (a b : Left) (n : ℕ) (h : PassesSpelled a b n) where
   last_is = h.last ∙ ap (last_from a.last) taken_are
 
   pub front_is : (front : List ℕ) → front ≡ take (length a.bytes - length b.bytes) a.bytes → AreNeeded 0 front → front ≡ written_after a.last (take n a.values)
-  front_is front is needed =
-      let long : length h.front ≡ length a.bytes - length b.bytes = omega (arith, ap length h.bytes, length-append h.front b.bytes) in
-      let same : front ≡ h.front = is ∙ ap (take (length a.bytes - length b.bytes)) h.bytes ∙ take_at h.front b.bytes (length a.bytes - length b.bytes) long in
-      same ∙ h.spelled (subst (AreNeeded 0) same needed) ∙ ap (written_after a.last) taken_are
+  front_is front is needed = grind (arith, length-append, take_at, taken_are)
 
 -- what is left to be skipped then
 pub some_passed : (old new : Sums) (count left : ℕ) → PassesSpelled (left_of old) (left_of new) (count - left) → left ≤ count → PassesSome old new count left

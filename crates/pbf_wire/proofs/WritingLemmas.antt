@@ -10,9 +10,7 @@ use Rattle.pbf_wire.specs.Message.{Slot, Scalar, Column, Each, parts_of, slot_by
 
 spelled_positive : (n v : ℕ) → 0 < length (spelled_within n v)
 unfolding spelled_within
-spelled_positive zero v = omega arith
-spelled_positive (suc n) v =
-    elim (ltb v 128) as (λ b. 0 < length (cond b (v ∷ []) ((v % 128 + 128) ∷ spelled_within n (v / 128)))) [ true ↦ omega arith | false ↦ omega arith ]
+spelled_positive n v = grind arith
 
 -- each spelling takes a byte
 pub shortest_positive : (v : ℕ) → 0 < length (shortest v)
@@ -102,9 +100,7 @@ each_joined number ms others =
 
 -- more is written under the same number
 pub each_after : (number : ℕ) (ms others : List (List ℕ)) (old new all : List ℕ) → new ≡ old ++ slot_bytes (Each number ms) → all ≡ new ++ slot_bytes (Each number others) → all ≡ old ++ slot_bytes (Each number (ms ++ others))
-each_after number ms others old new all e h =
-    h ∙ ap (λ (w : List ℕ). w ++ slot_bytes (Each number others)) e ∙ append_assoc old (slot_bytes (Each number ms)) (slot_bytes (Each number others))
-    ∙ ap (λ (w : List ℕ). old ++ w) (sym (each_joined number ms others))
+each_after number ms others old new all e h = grind (arith, append_assoc, each_joined)
 
 -- a message without fields isn't written
 pub empty_left : (number : ℕ) (m old : List ℕ) → length m ≡ 0 → old ≡ old ++ slot_bytes (Each number (unless_empty m))
