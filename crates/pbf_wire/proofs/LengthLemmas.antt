@@ -12,9 +12,7 @@ use Rattle.pbf_wire.specs.Message.{Slot, Scalar, Column, Each, parts_of, message
 spelled_short : (n v : ℕ) → length (spelled_within n v) ≤ n + 1
 unfolding spelled_within
 spelled_short zero v = omega arith
-spelled_short (suc n) v =
-    elim (ltb v 128) as (λ b. length (cond b (v ∷ []) ((v % 128 + 128) ∷ spelled_within n (v / 128))) ≤ suc n + 1)
-    [ true ↦ omega arith | false ↦ omega (arith, spelled_short n (v / 128)) ]
+spelled_short (suc n) v = grind (arith, spelled_short n (v / 128))
 
 pub varint_short : (v : ℕ) → length (shortest v) ≤ 10
 unfolding shortest
@@ -28,8 +26,7 @@ number_short : (number value : ℕ) → length (spelling (Single number value)) 
 number_short number value = omega (arith, length-append (shortest (number * 8)) (shortest value), varint_short (number * 8), varint_short value)
 
 whole_short : (number : ℕ) (bytes : List ℕ) → length (spelling (Whole number bytes)) ≤ 20 + length bytes
-whole_short number bytes =
-    omega (arith, length-append (shortest (number * 8 + 2)) (shortest (length bytes) ++ bytes), length-append (shortest (length bytes)) bytes, varint_short (number * 8 + 2), varint_short (length bytes))
+whole_short number bytes = grind (arith, length-append, varint_short)
 
 -- ---- messages
 

@@ -72,8 +72,7 @@ one_part k at (Whole number bytes) =
 
 joined_parts : (k at : ℕ) (ps : List Part) → column k (occurrences_of at ps) ≡ flat_map (part_numbers k) ps
 joined_parts k at [] = refl
-joined_parts k at (p ∷ ps) =
-    simp (map-append, one_part, joined_parts k (at + length (spelling p)) ps)
+joined_parts k at (p ∷ ps) = grind (arith, map-append, one_part, joined_parts k (at + length (spelling p)) ps)
 
 abbrev no_numbers : List ℕ
 no_numbers = []
@@ -93,8 +92,7 @@ one_slot k s h = grind (arith, append-nil, nothing, column_read, none_at)
 
 slots_numbers : (k : ℕ) (slots : List Slot) → AllByRecursion SlotFits slots → flat_map (part_numbers k) (flat_map parts_of slots) ≡ flat_map (numbers_at k) slots
 slots_numbers k [] h = refl
-slots_numbers k (s ∷ slots) h =
-    cc (flat_map-append (part_numbers k) (parts_of s) (flat_map parts_of slots), one_slot k s h.0, slots_numbers k slots h.1)
+slots_numbers k (s ∷ slots) h = grind (arith, flat_map-append, one_slot, slots_numbers k slots h.1)
 
 pub column_written : (k at : ℕ) (slots : List Slot) → AllByRecursion SlotFits slots → length (message slots) < 2 ^ 64 → column k (found (items at (message slots))) ≡ flat_map (numbers_at k) slots
 column_written k at slots h lt =
@@ -126,8 +124,7 @@ slot_scalars k s = refl
 
 pub slots_scalars : (k : ℕ) (slots : List Slot) → flat_map (part_scalars k) (flat_map parts_of slots) ≡ flat_map (scalars_at k) slots
 slots_scalars k [] = refl
-slots_scalars k (s ∷ slots) =
-    simp (flat_map-append, slot_scalars, slots_scalars k slots)
+slots_scalars k (s ∷ slots) = grind (arith, flat_map-append, slot_scalars, slots_scalars k slots)
 
 pub values_written : (k at : ℕ) (slots : List Slot) → numbers (values k (occurrences_of at (flat_map parts_of slots))) ≡ flat_map (scalars_at k) slots
 values_written k at slots = scalar_parts k at (flat_map parts_of slots) ∙ slots_scalars k slots
@@ -163,8 +160,7 @@ slot_messages k s = grind (arith, append-nil, whole_messages)
 
 pub slots_messages : (k : ℕ) (slots : List Slot) → flat_map (part_messages k) (flat_map parts_of slots) ≡ flat_map (messages_at k) slots
 slots_messages k [] = refl
-slots_messages k (s ∷ slots) =
-    grind (arith, flat_map-append, slot_messages, slots_messages k slots)
+slots_messages k (s ∷ slots) = grind (arith, flat_map-append, slot_messages, slots_messages k slots)
 
 pub each_written : (k at : ℕ) (slots : List Slot) → AllByRecursion SlotFits slots → length (message slots) < 2 ^ 64 → each k (found (items at (message slots))) ≡ flat_map (messages_at k) slots
 each_written k at slots h lt =

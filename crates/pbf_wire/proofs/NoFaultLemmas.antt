@@ -58,10 +58,8 @@ module _ {X : Type 0} (f : Occurrence → List X) where
 
   parts_quiet : (at : ℕ) (ps : List Part) → AllByRecursion PartQuiet ps → flat_map f (occurrences_of at ps) ≡ []
   parts_quiet at [] h = refl
-  parts_quiet at (Single number value ∷ ps) h =
-      ap₂ (λ (xs ys : List X). xs ++ ys) (h.0 at) (parts_quiet (at + length (spelling (Single number value))) ps h.1)
-  parts_quiet at (Whole number bytes ∷ ps) h =
-      ap₂ (λ (xs ys : List X). xs ++ ys) (h.0 at (at + length (shortest (number * 8 + 2)) + length (shortest (length bytes)))) (parts_quiet (at + length (spelling (Whole number bytes))) ps h.1)
+  parts_quiet at (Single number value ∷ ps) h = grind (arith, parts_quiet (at + length (spelling (Single number value))) ps h.1)
+  parts_quiet at (Whole number bytes ∷ ps) h = grind (arith, parts_quiet (at + length (spelling (Whole number bytes))) ps h.1)
 
   slot_quiet : (s : Slot) → SlotQuiet s → AllByRecursion PartQuiet (parts_of s)
   slot_quiet (Scalar number (Some value)) h = (h, tt)
@@ -126,8 +124,7 @@ module _ (kinds : List (ℕ × Kind)) (inner : Occurrence → List Fault) where
 -- a written message has no wire fault if its slots have their types and what is in them has none
 pub no_fault_within : (kinds : List (ℕ × Kind)) (inner : Occurrence → List Fault) (at : ℕ) (slots : List Slot) → AllByRecursion (SlotIs kinds) slots → AllByRecursion (SlotQuiet inner) slots → AllByRecursion SlotFits slots → length (message slots) < 2 ^ 64
     → message_faults kinds inner (items at (message slots)) ≡ []
-no_fault_within kinds inner at slots h quiet fits lt =
-    faultless kinds inner (items at (message slots)) (no_wire_fault kinds at slots h fits lt) (fields_quiet inner at slots quiet fits lt)
+no_fault_within kinds inner at slots h quiet fits lt = grind (arith, faultless, no_wire_fault, fields_quiet)
 
 abbrev no_faults : Occurrence → List Fault
 no_faults o = []
@@ -137,8 +134,7 @@ nothing_given [] = refl
 nothing_given (o ∷ os) = nothing_given os
 
 pub leaf_quiet : (kinds : List (ℕ × Kind)) (place at : ℕ) (slots : List Slot) → AllByRecursion (SlotIs kinds) slots → AllByRecursion SlotFits slots → length (message slots) < 2 ^ 64 → leaf_faults kinds place at (message slots) ≡ []
-leaf_quiet kinds place at slots h fits lt =
-    faultless kinds no_faults (items at (message slots)) (no_wire_fault kinds at slots h fits lt) (nothing_given (fields_in at (message slots)))
+leaf_quiet kinds place at slots h fits lt = grind (arith, faultless, no_wire_fault, nothing_given)
 
 -- ---- counts
 
@@ -216,8 +212,7 @@ none_behind os le = refl
 
 -- a field that is written once doesn't occur twice
 pub once_written : (k at : ℕ) (slots : List Slot) → AllByRecursion SlotFits slots → length (message slots) < 2 ^ 64 → field_count k slots ≤ 1 → twice k (fields_in at (message slots)) ≡ []
-once_written k at slots fits lt few =
-    ap (λ (os : List Occurrence). map (λ o. fault o.place TwiceMessage) os) (none_behind (all_of k (fields_in at (message slots))) (omega (arith, fields_counted k at slots fits lt, few)))
+once_written k at slots fits lt few = grind (arith, none_behind, fields_counted)
 
 -- ---- the last message that a field holds
 

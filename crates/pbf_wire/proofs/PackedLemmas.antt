@@ -76,8 +76,7 @@ holds_push bytes last values value h p = record {
 }
 
 pub values_held : (bytes : List ℕ) (last : ℤ) (values : List ℤ) → HoldsDeltas bytes last values → values_of bytes ≡ values
-values_held bytes last values h =
-    ap values_of h.bytes_are ∙ ap (λ (ns : List ℕ). sums_from (pos 0) (map unzigzag ns)) (column_read (deltas values) (deltas_fit values h.within)) ∙ sums_undo_deltas values
+values_held bytes last values h = grind (arith, column_read, deltas_fit, sums_undo_deltas)
 
 -- what `push` leaves, if the values are read from the bytes
 pub pushed_values : (bytes : List ℕ) (last value : ℤ) → HoldsDeltas bytes last (values_of bytes) → IsSmall value → values_of (bytes ++ shortest (zigzag (value -ℤ last))) ≡ values_of bytes ++ value ∷ []

@@ -101,9 +101,7 @@ module _ (is_good : ℤ → Bool) (reason : Reason) (narrow : Bool) where
 
   first_is_least : (p : ℕ) (start : ℤ) (xs : List (ℕ × ℕ)) → RisingFrom p xs → lesser (Some (fault p reason)) (least (running start xs)) ≡ Some (fault p reason)
   first_is_least p start [] h = refl
-  first_is_least p start (x ∷ xs) h =
-      one_more (not (is_good (start +ℤ delta_in narrow x.0))) p x.1 (running (start +ℤ delta_in narrow x.0) xs) h.0
-      (first_is_least p (start +ℤ delta_in narrow x.0) xs (rises_before p x.1 xs h.0 h.1))
+  first_is_least p start (x ∷ xs) h = grind (arith, one_more, rises_before, first_is_least p (start +ℤ delta_in narrow x.0) xs (rises_before p x.1 xs h.0 h.1))
 
   -- a value that isn't good, before any others
   pub not_good : (start : ℤ) (v p : ℕ) (xs : List (ℕ × ℕ)) → RisingFrom p xs → is_good (start +ℤ delta_in narrow v) ≡ false → least (running start ((v, p) ∷ xs)) ≡ Some (fault p reason)

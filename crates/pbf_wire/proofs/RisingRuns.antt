@@ -139,12 +139,8 @@ run_is old new entries rise span vs n h numbers above below is entries_are limit
 
 zeros_first : (xs : List ℕ) → take (prefix_len (λ b. not (leb 1 b)) xs) xs ≡ replicate (prefix_len (λ b. not (leb 1 b)) xs) 0
 zeros_first [] = refl
-zeros_first (zero ∷ xs) =
-    let one : suc (prefix_len (λ b. not (leb 1 b)) xs) ≡ 1 + prefix_len (λ b. not (leb 1 b)) xs = omega arith in
-    subst (λ n. take n (0 ∷ xs) ≡ replicate n 0) one (ap (λ (w : List ℕ). 0 ∷ w) (zeros_first xs))
-zeros_first (suc b ∷ xs) =
-    let n = 1 + prefix_len (λ b. not (leb 1 b)) xs in
-    subst (λ (t : Bool). take (cond (not t) n 0) (suc b ∷ xs) ≡ replicate (cond (not t) n 0) 0) (sym (le-leb 1 (suc b) (omega arith))) refl
+zeros_first (zero ∷ xs) = grind (arith, zeros_first xs)
+zeros_first (suc b ∷ xs) = grind (arith, le-leb)
 
 module _ (xs : List ℕ) (long : length xs ≡ 16) (some : mask_l (map (top (hbits w8)) (zip2 (λ a b. cond (leb a b) (2 ^ bits w8 - 1) 0) (replicate 16 1) xs)) % 2 ^ 64 ≢ 0) where
   zeros_counted : count_trailing_zeros 64 (mask_l (map (top (hbits w8)) (zip2 (λ a b. cond (leb a b) (2 ^ bits w8 - 1) 0) (replicate 16 1) xs)) % 2 ^ 64) ≡ prefix_len (λ b. not (leb 1 b)) xs

@@ -162,9 +162,7 @@ one_counted k o h = grind (arith, count_in, length-map)
 pub count_is_length : (kinds : List (ℕ × Kind)) (inner : Occurrence → List Fault) (k : ℕ) (os : List Occurrence) → kind_of kinds k ≡ Some kind.Column
     → AllByRecursion (IsSound kinds inner) os → column_count k os ≡ length (joined k os)
 count_is_length kinds inner k [] known h = refl
-count_is_length kinds inner k (o ∷ os) known h =
-    let one = one_counted k o (λ same. ap (λ (t : Option Kind). reason_in t o.content) (sym known ∙ ap (kind_of kinds) (sym same)) ∙ h.0.0) in
-    omega (arith, length-append (ends_of k o) (flat_map (ends_of k) os), length-append (column_of k o) (joined k os), one, count_is_length kinds inner k os known h.1)
+count_is_length kinds inner k (o ∷ os) known h = grind (arith, one_counted, length-append, count_is_length kinds inner k os known h.1)
 
 -- ---- the last occurrence of a field
 

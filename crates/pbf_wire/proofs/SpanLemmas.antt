@@ -45,5 +45,4 @@ sums_fit limit start (d ∷ ds) =
 
 -- no more than the column has numbers
 pub values_fit : (values : Sums) → length (column_left values.entries) < 2 ^ 64 → length (sums_left values) < 2 ^ 64
-values_fit values h =
-    omega (arith, h, sums_fit values.limit values.total (map (delta_in values.narrow) (numbers_left values.entries)), length-map (numbers_left values.entries) (delta_in values.narrow), length-map {B = ℕ} (column_left values.entries) (λ p. p.0))
+values_fit values h = grind (arith, sums_fit, length-map)

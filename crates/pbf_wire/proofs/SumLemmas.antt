@@ -51,11 +51,7 @@ power_positive (suc n) = omega (arith, pow-suc 128 n, power_positive n)
 long : (n v : ℕ) → 128 ^ n ≤ v → length (spelled_within n v) ≡ n + 1
 unfolding spelled_within
 long zero v le = omega arith
-long (suc n) v le =
-    let power : 128 ^ suc n ≡ 128 ^ n * 128 = pow-suc 128 n in
-    let one = power_positive n in
-    let t : ltb v 128 ≡ false = le-ltb _ _ (omega arith) in
-    rw t (omega (arith, long n (v / 128) (omega arith)))
+long (suc n) v le = grind (arith, pow-suc, power_positive, le-ltb, long n (v / 128) (omega arith))
 
 pub ten_bytes : (n : ℕ) → n < 2 ^ 63 → length (shortest (sign_extended (negsuc n))) ≡ 10
 unfolding shortest
@@ -75,9 +71,7 @@ deltas_fit values h = differences_fit (pos 0) values small_zero h
 
 pub sums_undo_differences : (start : ℤ) (values : List ℤ) → sums_from start (differences start values) ≡ values
 sums_undo_differences start [] = refl
-sums_undo_differences start (v ∷ vs) =
-    let e : start +ℤ (v -ℤ start) ≡ v = omega (arith, ints) in
-    rw e (ap (λ (ws : List ℤ). v ∷ ws) (sums_undo_differences v vs))
+sums_undo_differences start (v ∷ vs) = grind (arith, ints, sums_undo_differences v vs)
 
 all_unzigzag : (ds : List ℤ) → map unzigzag (map zigzag ds) ≡ ds
 all_unzigzag [] = refl
@@ -149,9 +143,7 @@ then_more limit ds sum = elim sum [ None ↦ [] | Some sum ↦ sum ∷ sums_with
 
 pub all_within : (limit start : ℤ) (ds : List ℤ) → AllByRecursion (IsWithin limit) (sums_from start ds) → sums_within limit start ds ≡ sums_from start ds
 all_within limit start [] h = refl
-all_within limit start (d ∷ ds) h =
-    ap (then_more limit ds) (added_within limit start d h.0) ∙ ap (λ (zs : List ℤ). (start +ℤ d) ∷ zs) (all_within limit (start +ℤ d) ds h.1)
+all_within limit start (d ∷ ds) h = grind (arith, added_within, all_within limit (start +ℤ d) ds h.1)
 
 pub sums_in_range : (limit : ℤ) (ds : List ℤ) → AllByRecursion (IsWithin limit) (sums ds) → sums_within limit (pos 0) ds ≡ sums ds
-sums_in_range limit ds h =
-    all_within limit (pos 0) ds (subst (λ (zs : List ℤ). AllByRecursion (IsWithin limit) zs) (sym (running_sums ds)) h) ∙ running_sums ds
+sums_in_range limit ds h = grind (arith, all_within, running_sums)

@@ -62,8 +62,7 @@ message_one s = message_first s [] ∙ ap (λ (w : List ℕ). slot_bytes s ++ w)
 
 -- one more slot is written
 pub one_more : (s : Slot) (slots : List Slot) (old new all : List ℕ) → new ≡ old ++ slot_bytes s → all ≡ new ++ message slots → all ≡ old ++ message (s ∷ slots)
-one_more s slots old new all e h =
-    h ∙ ap (λ (w : List ℕ). w ++ message slots) e ∙ append_assoc old (slot_bytes s) (message slots) ∙ ap (λ (w : List ℕ). old ++ w) (sym (message_first s slots))
+one_more s slots old new all e h = grind (arith, append_assoc, message_first)
 
 pub all_written : (all : List ℕ) → all ≡ all ++ message []
 all_written all = sym (ap (λ (w : List ℕ). all ++ w) message_none ∙ append-nil all)
@@ -75,9 +74,7 @@ last_slot s old new e = one_more s [] old new new e (all_written new)
 -- a slot is written after a message
 pub slot_put : (slots : List Slot) (s : Slot) (old new : List ℕ) → old ≡ message slots → new ≡ old ++ slot_bytes s → new ≡ message (slots ++ s ∷ [])
 slot_put [] s old new e h = h ∙ ap (λ (w : List ℕ). w ++ slot_bytes s) (e ∙ message_none) ∙ sym (message_one s)
-slot_put (t ∷ slots) s old new e h =
-    h ∙ ap (λ (w : List ℕ). w ++ slot_bytes s) (e ∙ message_first t slots) ∙ append_assoc (slot_bytes t) (message slots) (slot_bytes s)
-    ∙ ap (λ (w : List ℕ). slot_bytes t ++ w) (slot_put slots s (message slots) (message slots ++ slot_bytes s) refl refl) ∙ sym (message_first t (slots ++ s ∷ []))
+slot_put (t ∷ slots) s old new e h = grind (arith, message_first, append_assoc, slot_put slots s (message slots) (message slots ++ slot_bytes s) refl refl)
 
 -- nothing is written for an absent number
 pub scalar_none : (number : ℕ) → slot_bytes (Scalar number None) ≡ []
@@ -95,8 +92,7 @@ each_none number = refl
 
 pub each_joined : (number : ℕ) (ms others : List (List ℕ)) → slot_bytes (Each number (ms ++ others)) ≡ slot_bytes (Each number ms) ++ slot_bytes (Each number others)
 unfolding slot_bytes
-each_joined number ms others =
-    ap (λ (ps : List Part). flat_map spelling ps) (map-append (Whole number) ms others) ∙ flat_map-append spelling (map (Whole number) ms) (map (Whole number) others)
+each_joined number ms others = grind (arith, map-append, flat_map-append)
 
 -- more is written under the same number
 pub each_after : (number : ℕ) (ms others : List (List ℕ)) (old new all : List ℕ) → new ≡ old ++ slot_bytes (Each number ms) → all ≡ new ++ slot_bytes (Each number others) → all ≡ old ++ slot_bytes (Each number (ms ++ others))
