@@ -62,8 +62,7 @@ one_short : (k : ℕ) (o : Occurrence) (s : List ℕ) → IsSpelled o s → leng
 one_short k o s h = grind (arith, ends_short, length-append)
 
 front_within : (r : Result (ℕ × ℕ) Reason) (more : ℕ → List Entry) (n : ℕ) → ((skip : ℕ) → length (read_entries (more skip)) ≤ n) → length (read_entries (entries_from r more)) ≤ suc n
-front_within (Ok front) more n h = omega (arith, h (front.1 - 1))
-front_within (Err e) more n h = omega arith
+front_within r more n h = grind arith
 
 pub numbers_within : (skip : ℕ) (bytes : List ℕ) → length (read_entries (entries_past skip bytes)) ≤ length bytes
 unfolding entries_past
@@ -99,8 +98,7 @@ column_short k at m = all_within (column_of k) (one_column_short k) at m
 -- ---- how long the bytes in a message are
 
 body_short : (c : Content) (kind end : ℕ) (s : List ℕ) → IsBody c kind end s → length (bytes_held c) ≤ length s
-body_short (Bytes bytes at) kind end s h = omega (arith, ap length h.1.3, length-append h.1.0 bytes)
-body_short c kind end s h = omega arith
+body_short c kind end s h = grind (arith, length-append)
 
 abbrev ShorterThan : ℕ → Occurrence → Type 0
 ShorterThan n o = length (bytes_held o.content) ≤ n

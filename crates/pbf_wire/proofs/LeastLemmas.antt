@@ -22,8 +22,7 @@ not_less (x ∷ xs) (y ∷ ys) [] p q = absurd (cc)
 not_less (x ∷ xs) (y ∷ ys) (z ∷ zs) p q = grind (arith, not_less xs ys zs)
 
 pub lesser_none : {X : Type 0} (key : X → List ℕ) (f : Option X) → lesser_by key f None ≡ f
-lesser_none key None = refl
-lesser_none key (Some f) = refl
+lesser_none key f = grind arith
 
 pub lesser_joined : {X : Type 0} (key : X → List ℕ) (f g h : Option X) → lesser_by key (lesser_by key f g) h ≡ lesser_by key f (lesser_by key g h)
 lesser_joined key f g h = grind (arith, lesser_none, less_less, not_less)

@@ -84,8 +84,7 @@ none_at number k (m ∷ ms) true e = rw e (ap (λ (xs : List ℕ). read_entries 
 none_at number k (m ∷ ms) false e = rw e (none_at number k ms false e)
 
 nothing : (b : Bool) → no_numbers ≡ cond b no_numbers no_numbers
-nothing true = refl
-nothing false = refl
+nothing b = grind arith
 
 one_slot : (k : ℕ) (s : Slot) → SlotFits s → flat_map (part_numbers k) (parts_of s) ≡ numbers_at k s
 one_slot k s h = grind (arith, append-nil, nothing, column_read, none_at)
@@ -95,8 +94,7 @@ slots_numbers k [] h = refl
 slots_numbers k (s ∷ slots) h = grind (arith, flat_map-append, one_slot, slots_numbers k slots h.1)
 
 pub column_written : (k at : ℕ) (slots : List Slot) → AllByRecursion SlotFits slots → length (message slots) < 2 ^ 64 → column k (found (items at (message slots))) ≡ flat_map (numbers_at k) slots
-column_written k at slots h lt =
-    ap (column k) (fields_written at slots h lt) ∙ joined_parts k at (flat_map parts_of slots) ∙ slots_numbers k slots h
+column_written k at slots h lt = cc (fields_written at slots h lt, joined_parts k at (flat_map parts_of slots), slots_numbers k slots h)
 
 -- ---- single numbers
 
@@ -204,8 +202,7 @@ parts_are kinds (s ∷ slots) h fits = all_append (PartIs kinds) (parts_of s) (f
 
 -- a written message whose slots have their types has no wire fault
 pub no_wire_fault : (kinds : List (ℕ × Kind)) (at : ℕ) (slots : List Slot) → AllByRecursion (SlotIs kinds) slots → AllByRecursion SlotFits slots → length (message slots) < 2 ^ 64 → wire kinds (items at (message slots)) ≡ None
-no_wire_fault kinds at slots h fits lt =
-    ap (wire kinds) (items_written at slots fits lt) ∙ wire_parts kinds at (flat_map parts_of slots) (parts_are kinds slots h fits)
+no_wire_fault kinds at slots h fits lt = cc (items_written at slots fits lt, wire_parts kinds at (flat_map parts_of slots) (parts_are kinds slots h fits))
 
 -- ---- an embedded message is shorter than the whole
 

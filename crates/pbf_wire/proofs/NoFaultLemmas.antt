@@ -141,10 +141,7 @@ leaf_quiet kinds place at slots h fits lt = grind (arith, faultless, no_wire_fau
 -- a column counts as many numbers as were written
 pub counted_written : (kinds : List (ℕ × Kind)) (k at : ℕ) (slots : List Slot) → kind_of kinds k ≡ Some kind.Column → AllByRecursion (SlotIs kinds) slots → AllByRecursion SlotFits slots → length (message slots) < 2 ^ 64
     → column_count k (fields_in at (message slots)) ≡ length (flat_map (numbers_at k) slots)
-counted_written kinds k at slots known h fits lt =
-    whole_count kinds k at (message slots) known (no_wire_fault kinds at slots h fits lt)
-    ∙ sym (length-map (joined k (fields_in at (message slots))) (λ p. p.0))
-    ∙ ap (λ (ns : List ℕ). length ns) (column_written k at slots fits lt)
+counted_written kinds k at slots known h fits lt = cc (whole_count kinds k at (message slots) known (no_wire_fault kinds at slots h fits lt), length-map (joined k (fields_in at (message slots))) (λ p. p.0), column_written k at slots fits lt)
 
 -- ---- values
 
@@ -188,10 +185,7 @@ abbrev pub field_count : ℕ → List Slot → ℕ
 field_count k slots = length (flat_map (messages_at k) slots) + length (flat_map (scalars_at k) slots)
 
 fields_counted : (k at : ℕ) (slots : List Slot) → AllByRecursion SlotFits slots → length (message slots) < 2 ^ 64 → length (all_of k (fields_in at (message slots))) ≡ field_count k slots
-fields_counted k at slots fits lt =
-    ap (λ (os : List Occurrence). length (all_of k os)) (fields_written at slots fits lt)
-    ∙ parts_counted k at (flat_map parts_of slots)
-    ∙ ap₂ (λ (ms : List (List ℕ)) (vs : List ℕ). length ms + length vs) (slots_messages k slots) (slots_scalars k slots)
+fields_counted k at slots fits lt = cc (fields_written at slots fits lt, parts_counted k at (flat_map parts_of slots), slots_messages k slots, slots_scalars k slots)
 
 any_kept : (k : ℕ) (os : List Occurrence) → 0 < length (all_of k os) → list_any (λ o. o.number == k) os ≡ true
 any_kept k [] lt = absurd (omega arith)
@@ -203,8 +197,7 @@ any_kept k (o ∷ os) lt = by (o.number == k) lt (any_kept k os)
 
 -- a field that is written isn't missing
 pub present_written : (k place at : ℕ) (slots : List Slot) → AllByRecursion SlotFits slots → length (message slots) < 2 ^ 64 → 0 < field_count k slots → missing k place (fields_in at (message slots)) ≡ []
-present_written k place at slots fits lt some =
-    ap (λ b. fault_where (not b) place (Missing k)) (any_kept k (fields_in at (message slots)) (omega (arith, fields_counted k at slots fits lt, some)))
+present_written k place at slots fits lt some = grind (arith, any_kept, fields_counted)
 
 none_behind : (os : List Occurrence) → length os ≤ 1 → drop 1 os ≡ []
 none_behind (o ∷ p ∷ os) le = absurd (omega arith)
@@ -272,9 +265,7 @@ embedded_written k at slots m fits lt e h = let held = last_held k at slots m fi
 
 -- and nothing if there is none
 pub embedded_none : (k at : ℕ) (slots : List Slot) → AllByRecursion SlotFits slots → length (message slots) < 2 ^ 64 → flat_map (messages_at k) slots ≡ [] → flat_map (scalars_at k) slots ≡ [] → embedded k (fields_in at (message slots)) ≡ []
-embedded_none k at slots fits lt e h =
-    ap (embedded k) (fields_written at slots fits lt)
-    ∙ ap (λ (os : List Occurrence). fields_of (last_or None os)) (no_fields k at (flat_map parts_of slots) (slots_messages k slots ∙ e) (slots_scalars k slots ∙ h))
+embedded_none k at slots fits lt e h = cc (fields_written at slots fits lt, no_fields k at (flat_map parts_of slots) (slots_messages k slots ∙ e) (slots_scalars k slots ∙ h))
 
 pub no_items : fields_in 0 [] ≡ []
 unfolding items_past
@@ -291,17 +282,14 @@ unless_all P [] p = tt
 unless_all P (b ∷ bs) p = (p, tt)
 
 pub unless_below : (n : ℕ) (m : List ℕ) → 0 < n → AllByRecursion (λ m. length m < n) (unless_empty m) → length m < n
-unless_below n [] positive h = positive
-unless_below n (b ∷ bs) positive h = h.0
+unless_below n m positive h = grind arith
 
 pub unless_few : (m : List ℕ) → length (unless_empty m) ≤ 1
-unless_few [] = omega arith
-unless_few (b ∷ bs) = omega arith
+unless_few m = grind arith
 
 -- a column of another field gives no message
 pub column_passed : (k number : ℕ) (values : List ℕ) (rest : List (List ℕ)) → (number == k) ≡ false → messages_at k (Column number values) ++ rest ≡ rest
-column_passed k number [] rest e = refl
-column_passed k number (v ∷ vs) rest e = rw e refl
+column_passed k number values rest e = grind arith
 
 -- ---- the last number of a field
 

@@ -26,8 +26,7 @@ module _ {X : Type 0} (r : X → List ℕ) where
   -- ---- one part
 
   lesser_in_part : (n : ℕ) (f g : Option X) → lesser_by in_part (option_map (λ x. (n, x)) f) (option_map (λ x. (n, x)) g) ≡ option_map (λ x. (n, x)) (lesser_by r f g)
-  lesser_in_part n (Some f) (Some g) = grind arith
-  lesser_in_part n f g = refl
+  lesser_in_part n f g = grind arith
 
   least_in_part : (n : ℕ) (xs : List X) → least_by in_part (map (λ x. (n, x)) xs) ≡ option_map (λ x. (n, x)) (least_by r xs)
   least_in_part n [] = refl
@@ -67,9 +66,7 @@ all_from n (faults ∷ later) = parted_from rank n faults (in_phases (n + 1) lat
 
 pub phases_joined : (n : ℕ) (phases : List (List Fault)) → option_map (λ p. p.1) (least_by phase_rank (in_phases n phases)) ≡ first_fault phases
 phases_joined n [] = refl
-phases_joined n (faults ∷ later) =
-    parted_found rank n faults (in_phases (n + 1) later) (all_from (n + 1) later)
-    ∙ ap (option_or (least faults)) (phases_joined (n + 1) later)
+phases_joined n (faults ∷ later) = cc (parted_found rank n faults (in_phases (n + 1) later) (all_from (n + 1) later), phases_joined (n + 1) later)
 
 pub or_first : (f g h : Option Fault) → option_or f (option_or g h) ≡ option_or (option_or f g) h
 or_first f g h = grind arith

@@ -20,12 +20,10 @@ abbrev sized : List ℕ → ℕ → ℕ × ℕ → Result (Content × ℕ) Reaso
 sized bytes at n = cond (ltb (length (drop n.1 bytes)) n.0) (Err LengthPast) (Ok (Bytes (take n.0 (drop n.1 bytes)) (at + n.1), n.1 + n.0))
 
 sized_same : (bytes : List ℕ) (at bt : ℕ) (r : Result (ℕ × ℕ) Reason) → bare_body (r >>= sized bytes at) ≡ bare_body (r >>= sized bytes bt)
-sized_same bytes at bt (Err e) = refl
-sized_same bytes at bt (Ok n) = elim (ltb (length (drop n.1 bytes)) n.0) as (λ b. bare_body (cond b (Err LengthPast) (Ok (Bytes (take n.0 (drop n.1 bytes)) (at + n.1), n.1 + n.0))) ≡ bare_body (cond b (Err LengthPast) (Ok (Bytes (take n.0 (drop n.1 bytes)) (bt + n.1), n.1 + n.0)))) [ true ↦ refl | false ↦ refl ]
+sized_same bytes at bt r = grind arith
 
 body_cases : (a b c : Bool) (x y z : Result (Content × ℕ) Reason) (s t : Result (Content × ℕ) Reason) → bare_body s ≡ bare_body t → bare_body (cond a x (cond b y (cond c s z))) ≡ bare_body (cond a x (cond b y (cond c t z)))
-body_cases false false true x y z s t h = h
-body_cases a b c x y z s t h = refl
+body_cases a b c x y z s t h = grind arith
 
 body_same : (kind at bt : ℕ) (bytes : List ℕ) → bare_body (body_at kind at bytes) ≡ bare_body (body_at kind bt bytes)
 unfolding body_at
@@ -38,8 +36,7 @@ framed_same : (at bt : ℕ) (tag : ℕ × ℕ) (r s : Result (Content × ℕ) Re
 framed_same at bt tag r s h = grind arith
 
 front_cases : (a b : Bool) (x y : Result (Occurrence × ℕ) Reason) (s t : Result (Occurrence × ℕ) Reason) → bare_front s ≡ bare_front t → bare_front (cond a (cond b x s) y) ≡ bare_front (cond a (cond b x t) y)
-front_cases true false x y s t h = h
-front_cases a b x y s t h = refl
+front_cases a b x y s t h = grind arith
 
 front_same : (at bt : ℕ) (bytes : List ℕ) → bare_front (occurrence_at at bytes) ≡ bare_front (occurrence_at bt bytes)
 unfolding occurrence_at
@@ -68,8 +65,7 @@ module _ {X : Type 0} (f : Occurrence → List X) (blind : (o : Occurrence) → 
   same_at at bt m = past_same 0 at bt m
 
 same_unplaced : (c : Content) → unplaced c ≡ unplaced (unplaced c)
-same_unplaced (Number v) = refl
-same_unplaced c = refl
+same_unplaced c = grind arith
 
 blind : (o : Occurrence) → (without_places o ∷ []) ≡ (without_places (without_places o) ∷ [])
 blind o = ap (λ (c : Content). record { place = 0; number = o.number; content = c } ∷ []) (same_unplaced o.content)

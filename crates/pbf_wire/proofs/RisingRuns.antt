@@ -80,9 +80,7 @@ zeros_halved zero = tt
 zeros_halved (suc n) = ((omega arith, refl), zeros_halved n)
 
 pub run_read : (bytes front : List ℕ) (rise : ℕ) → front ≡ take 16 bytes → AreRising front rise → read_entries (entries bytes) ≡ front ++ read_entries (entries (drop 16 bytes))
-run_read bytes front rise is h =
-    ap (λ (w : List ℕ). read_entries (entries w)) (sym (take-append-drop 16 bytes) ∙ ap (λ (w : List ℕ). w ++ drop 16 bytes) (sym is))
-    ∙ all_read front (drop 16 bytes) (single front h.each)
+run_read bytes front rise is h = cc (take-append-drop 16 bytes, is, all_read front (drop 16 bytes) (single front h.each))
 
 -- before those that follow in the occurrence, and after it
 pub placed_run : (front ns : List ℕ) (place : ℕ) (more : List (ℕ × ℕ)) → map {B = ℕ} (λ p. p.0) (placed place (front ++ ns) ++ more) ≡ front ++ map (λ p. p.0) (placed place ns ++ more)

@@ -230,8 +230,7 @@ short_counted None bytes h n = tt
 short_counted (Some count) bytes h n = n ∙ sym (ends_counted bytes) ∙ ends_are_numbers bytes (short_column bytes h)
 
 pub short_below : (r : Option ℕ) (bytes : List ℕ) → MatchOption r ⊤ (λ _. IsShort bytes) → MatchOption r ⊤ (λ _. AllByRecursion (λ v. v < 2 ^ 35) (read_entries (entries bytes)))
-short_below None bytes h = tt
-short_below (Some count) bytes h = short_numbers bytes h
+short_below r bytes h = grind (arith, short_numbers)
 
 -- ---- columns of such numbers
 

@@ -42,8 +42,7 @@ both_none None other e = (refl, e)
 both_none (Some x) other e = absurd (cc)
 
 pub option_last : {X : Type 0} (o : Option X) → option_or o None ≡ o
-option_last None = refl
-option_last (Some x) = refl
+option_last o = grind arith
 
 pub both_nil : {X : Type 0} (xs ys : List X) → xs ++ ys ≡ [] → (xs ≡ []) × (ys ≡ [])
 both_nil [] ys e = (refl, e)
@@ -55,12 +54,10 @@ all_nil f (x ∷ xs) e = let both = both_nil (f x) (flat_map f xs) e in (both.0,
 
 -- a test that would be a fault doesn't hold
 pub not_wrong : (wrong : Bool) (place : ℕ) (reason : Reason) → fault_where wrong place reason ≡ [] → wrong ≡ false
-not_wrong true place reason e = absurd (cc)
-not_wrong false place reason e = refl
+not_wrong wrong place reason e = grind arith
 
 is_true : (b : Bool) → not b ≡ false → b ≡ true
-is_true true e = refl
-is_true false e = absurd (cc)
+is_true b e = grind arith
 
 -- a test without which there would be a fault holds
 pub is_right : (right : Bool) (place : ℕ) (reason : Reason) → fault_where (not right) place reason ≡ [] → right ≡ true
@@ -91,9 +88,7 @@ end_once [] h = absurd h
 end_once (b ∷ bs) h = grind (arith, end_once bs)
 
 ends_parted : (n : ℕ) (bytes : List ℕ) → length (ends bytes) ≡ length (ends (take n bytes)) + length (ends (drop n bytes))
-ends_parted n bytes =
-    ap (λ (w : List ℕ). length (ends w)) (sym (take-append-drop n bytes))
-    ∙ ap (λ (w : List ℕ). length w) (filter-append (λ b. nat_lt b 128) (take n bytes) (drop n bytes)) ∙ length-append (ends (take n bytes)) (ends (drop n bytes))
+ends_parted n bytes = cc (take-append-drop n bytes, filter-append (λ b. nat_lt b 128) (take n bytes) (drop n bytes), length-append (ends (take n bytes)) (ends (drop n bytes)))
 
 ends_next : (m : List ℕ) (r : Result (ℕ × ℕ) Reason) → 0 < length m → varint_at m ≡ r → entry_fault (entries m) ≡ None
     → ((n : ℕ) → 0 < n → entry_fault (entries (drop n m)) ≡ None → length (ends (drop n m)) ≡ length (read_entries (entries (drop n m)))) → length (ends m) ≡ length (read_entries (entries m))
@@ -126,8 +121,7 @@ entries_ended zero (b ∷ bs) le = absurd (omega arith)
 entries_ended (suc fuel) (b ∷ bs) le = entries_next (b ∷ bs) (varint_at (b ∷ bs)) (omega arith) refl (λ n positive. entries_ended fuel (drop n (b ∷ bs)) (omega (arith, length-drop n (b ∷ bs), positive)))
 
 ended_in : (c : Content) → length (numbers_in c) ≤ length (ends_in c)
-ended_in (Bytes bytes at) = entries_ended (length bytes) bytes (omega arith)
-ended_in c = omega arith
+ended_in c = grind (arith, entries_ended)
 
 one_ended : (k : ℕ) (o : Occurrence) → length (column_of k o) ≤ length (ends_of k o)
 one_ended k o = grind (arith, length-map, ended_in)

@@ -13,12 +13,10 @@ use Rattle.pbf_wire.specs.Sums.{sum_at, sums, sums_from, sums_within, added, dif
 -- ---- one number
 
 pub unzigzag_zigzag : (z : ℤ) → unzigzag (zigzag z) ≡ z
-unzigzag_zigzag (pos n) = let e : eqb ((2 * n) % 2) 0 ≡ true = grind (arith, nat_tests) in rw e (ap pos (omega arith))
-unzigzag_zigzag (negsuc n) = let e : eqb ((2 * n + 1) % 2) 0 ≡ false = grind (arith, nat_tests) in rw e (ap negsuc (omega arith))
+unzigzag_zigzag z = grind (arith, nat_tests)
 
 zigzag_fits : (z : ℤ) → neg_ℤ (pos (2 ^ 63)) <ℤ z → z <ℤ pos (2 ^ 63) → zigzag z < 2 ^ 64
-zigzag_fits (pos n) below above = omega (arith, ints)
-zigzag_fits (negsuc n) below above = omega (arith, ints)
+zigzag_fits z below above = grind (arith, ints)
 
 -- strictly between -2^62 and 2^62
 abbrev pub IsSmall : ℤ → Type 0
@@ -35,8 +33,7 @@ pub signs_read : (z : ℤ) → neg_ℤ (pos (2 ^ 63)) ≤ℤ z → z <ℤ pos (2
 signs_read z above below = grind (arith, ints, nat_tests)
 
 pub signs_fit : (z : ℤ) → neg_ℤ (pos (2 ^ 63)) ≤ℤ z → z <ℤ pos (2 ^ 63) → sign_extended z < 2 ^ 64
-signs_fit (pos n) above below = omega (arith, ints)
-signs_fit (negsuc n) above below = omega (arith, ints)
+signs_fit z above below = grind (arith, ints)
 
 -- and the low 32
 pub low_signs_read : (z : ℤ) → neg_ℤ (pos (2 ^ 31)) ≤ℤ z → z <ℤ pos (2 ^ 31) → low_i32 (sign_extended z) ≡ z

@@ -34,18 +34,15 @@ bytes_put number bytes old tagged sized new e f g = rw (each_bytes number bytes,
 -- a column that is empty has no bytes
 pub column_empty : (number : ℕ) (values : List ℕ) → length (packed values) ≡ 0 → slot_bytes (Column number values) ≡ []
 unfolding slot_bytes
-column_empty number [] e = refl
-column_empty number (v ∷ vs) e = absurd (omega (arith, length-append (shortest v) (packed vs), shortest_positive v))
+column_empty number values e = grind (arith, length-append, shortest_positive)
 
 whole : (bytes : List ℕ) → 0 < length bytes → unless_empty bytes ≡ bytes ∷ []
-whole [] h = absurd (omega arith)
-whole (b ∷ bs) h = refl
+whole bytes h = grind arith
 
 -- a column is written as a message that is left out if it is empty
 pub column_put : (number : ℕ) (values : List ℕ) → slot_bytes (Each number (unless_empty (packed values))) ≡ slot_bytes (Column number values)
 unfolding slot_bytes
-column_put number [] = refl
-column_put number (v ∷ vs) = rw (whole (packed (v ∷ vs)) (omega (arith, length-append (shortest v) (packed vs), shortest_positive v))) refl
+column_put number values = grind (arith, whole, length-append, shortest_positive)
 
 -- ---- for those who write a whole message
 
@@ -100,5 +97,4 @@ each_after number ms others old new all e h = grind (arith, append_assoc, each_j
 
 -- a message without fields isn't written
 pub empty_left : (number : ℕ) (m old : List ℕ) → length m ≡ 0 → old ≡ old ++ slot_bytes (Each number (unless_empty m))
-empty_left number [] old e = nothing_put (Each number []) old (each_none number)
-empty_left number (b ∷ bs) old e = absurd (omega arith)
+empty_left number m old e = grind (arith, nothing_put, each_none)

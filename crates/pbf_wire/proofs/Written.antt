@@ -39,17 +39,14 @@ spelled at (Whole number bytes) h =
     }
 
 place_is : (at : ℕ) (p : Part) → (occurrence_of at p).place ≡ at
-place_is at (Single number value) = refl
-place_is at (Whole number bytes) = refl
+place_is at p = grind arith
 
 pub joins : (at : ℕ) (ps : List Part) → AllByRecursion IsWritablePart ps → Joins at (written ps) (occurrences_of at ps)
 joins at [] h = refl
 joins at (p ∷ ps) h = (spelling p, written ps, refl, place_is at p, spelled at p h.0, joins (at + length (spelling p)) ps h.1)
 
 pub reads_back : (at : ℕ) (ps : List Part) → AllByRecursion IsWritablePart ps → items at (written ps) ≡ map Ok (occurrences_of at ps)
-reads_back at ps h =
-    ap (items at) (sym (append-nil (written ps))) ∙ walks at (written ps) [] (occurrences_of at ps) (joins at ps h)
-    ∙ ap (λ (w : List Item). all_ok (occurrences_of at ps) ++ w) (items_none (at + length (written ps)) [] refl) ∙ append-nil (all_ok (occurrences_of at ps))
+reads_back at ps h = cc (append-nil (written ps), walks at (written ps) [] (occurrences_of at ps) (joins at ps h), items_none (at + length (written ps)) [] refl, append-nil (all_ok (occurrences_of at ps)))
 
 -- ---- spellings, joined
 
