@@ -32,8 +32,7 @@ none_at_all a b c d e late is_a is_b is_c is_d is_e none = rw (is_a, is_b, is_c,
 
 blob_none : (k : FrameKind) (at : ℕ) (blob : List ℕ) → IsSoundBlob k at blob → first_fault (phases_of_blob k at blob) ≡ None
 unfolding blob_fault
-blob_none kind.Other at blob sound = refl
-blob_none k at blob sound = sound
+blob_none k at blob sound = grind arith
 
 -- after four bytes and a header, as these bytes begin
 abbrev from_prefix : ℕ → List ℕ → List ℕ → FrameSpec
@@ -65,36 +64,17 @@ module _ (limit : Option ℕ) (h : Bool) (f : FrameSpec) (rest : List ℕ) (is :
       ∙ ap (λ (b : List ℕ). record { offset = f.offset; prefix = f.prefix; header = f.header; blob = b }) (take_at f.blob rest (head_says (header_at f) f.header).size size_is)
 
   cut_none : cut_faults f ≡ []
-  cut_none =
-      let four : nat_lt (length f.prefix) 4 ≡ false = grind (arith, nat_tests, is.prefix_long) in
-      let small : nat_le HEADER_LIMIT (big_number 4 f.prefix) ≡ false = grind (arith, nat_tests, is.spelled, is.short) in
-      let whole : nat_lt (length f.header) (big_number 4 f.prefix) ≡ false = grind (arith, nat_tests, is.spelled) in
-      rw (four, small, whole) refl
+  cut_none = grind (arith, nat_tests)
 
   no_fault : first_fault (frame_phases limit h f) ≡ None
-  no_fault =
-      let size = (head_says (header_at f) f.header).size in
-      let whole : nat_lt (length f.blob) size ≡ false = grind (arith, nat_tests, size_is) in
-      none_at_all (cut_faults f) (leaf_faults HEADER_KINDS f.offset (header_at f) f.header) (header_faults (header_at f) f.header) (order_faults limit h f.offset (frame_kind f) (blob_at f + size))
-      (fault_where (nat_lt (length f.blob) size) (blob_at f) BlobCut) (phases_of_blob (frame_kind f) (blob_at f) f.blob)
-      (ap least cut_none) (leaf_is_wire HEADER_KINDS (items (header_at f) f.header) ∙ is.wired) is.whole
-      (ap (λ (n : ℕ). least (order_faults limit h f.offset (frame_kind f) (blob_at f + n))) (sym size_is) ∙ is.ordered)
-      (ap (λ (b : Bool). least (fault_where b (blob_at f) BlobCut)) whole) (blob_none (frame_kind f) (blob_at f) f.blob is.sound)
+  no_fault = grind (arith, nat_tests, size_is, none_at_all, cut_none, leaf_is_wire, blob_none)
 
   next_at : next_within limit h f.offset (frame_bytes f ++ rest) ≡ Ok (Some f, rest)
   unfolding next_within
-  next_at =
-      let all = frame_bytes f ++ rest in
-      let some : (length all == 0) ≡ false = grind (arith, nat_tests, ap length regrouped, length-append f.prefix (f.header ++ (f.blob ++ rest)), is.prefix_long) in
-      let at : frame_at f.offset all ≡ f = ap (frame_at f.offset) regrouped ∙ at_frame in
-      rw some (
-      ap (λ (g : FrameSpec). given_or (first_fault (frame_phases limit h g)) g all) at
-      ∙ ap (λ (o : Option Fault). given_or o f all) no_fault ∙ ap (λ (l : List ℕ). Ok (Some f, l)) (drop_at (frame_bytes f) rest (length (frame_bytes f)) refl)
-      )
+  next_at = grind (arith, nat_tests, regrouped, length-append, at_frame, given_or, no_fault, drop_at)
 
 pub frame_is_next_within : (limit : Option ℕ) (h : Bool) (p : ℕ) (f : FrameSpec) (rest : List ℕ) → IsFrameWithin limit h p f → next_within limit h p (frame_bytes f ++ rest) ≡ Ok (Some f, rest)
-frame_is_next_within limit h p f rest is =
-    subst (λ (n : ℕ). next_within limit h n (frame_bytes f ++ rest) ≡ Ok (Some f, rest)) is.offset (next_at limit h f rest (subst (λ (n : ℕ). IsFrameWithin limit h n f) (sym is.offset) is))
+frame_is_next_within limit h p f rest is = grind (arith, next_at)
 
 -- ---- frames without faults, and nothing after them
 
@@ -106,15 +86,11 @@ judged_frames : (fs : List FrameSpec) (limit : Option ℕ) (n : ℕ) (h : Bool) 
 unfolding judged_fueled
 judged_frames fs limit zero h p low are had = absurd (omega (arith, low))
 judged_frames [] limit (suc n) h p low are had = ap (judged_after (judged_fueled limit n) h) (nothing_next limit h p had)
-judged_frames (f ∷ fs) limit (suc n) h p low are had =
-    ap (judged_after (judged_fueled limit n) h) (frame_is_next_within limit h p f (joined_frames fs) are.0)
-    ∙ ap (with_frame_first f) (judged_frames fs limit n (h || is_header (frame_kind f)) (frame_end f) (omega (arith, low)) are.1 had)
+judged_frames (f ∷ fs) limit (suc n) h p low are had = grind (arith, frame_is_next_within, judged_frames fs limit n (h || is_header (frame_kind f)) (frame_end f) (omega (arith, low)) are.1 had)
 
 few_frames : (fs : List FrameSpec) (limit : Option ℕ) (h : Bool) (p : ℕ) → AreFramesWithin limit h p fs → length fs ≤ length (joined_frames fs)
 few_frames [] limit h p are = omega arith
-few_frames (f ∷ fs) limit h p are =
-    let later = few_frames fs limit (h || is_header (frame_kind f)) (frame_end f) are.1 in
-    omega (arith, later, are.0.prefix_long, length-append (frame_bytes f) (joined_frames fs), length-append (f.prefix ++ f.header) f.blob, length-append f.prefix f.header)
+few_frames (f ∷ fs) limit h p are = grind (arith, length-append, few_frames fs limit (h || is_header (frame_kind f)) (frame_end f) are.1)
 
 -- they are all that there is
 pub whole_file : (limit : Option ℕ) (h : Bool) (p : ℕ) (fs : List FrameSpec) → AreFramesWithin limit h p fs → had_after h fs ≡ true → judged_within limit h p (joined_frames fs) ≡ (fs, None)
@@ -133,12 +109,10 @@ ok_same : (x y : Found) → ◌≡◌ {A = Result Found Fault} (Ok x) (Ok y) →
 ok_same x y e = cc
 
 where_none : (b : Bool) (place : ℕ) (reason : Reason) → least (fault_where b place reason) ≡ None → b ≡ false
-where_none false place reason e = refl
-where_none true place reason e = (let bad : ⊥ = cc in absurd bad)
+where_none b place reason e = grind arith
 
 prefix_whole : (b : Bool) (x : Fault) (later : List Fault) → least (cond {A = List Fault} b (x ∷ []) later) ≡ None → b ≡ false
-prefix_whole false x later e = refl
-prefix_whole true x later e = (let bad : ⊥ = cc in absurd bad)
+prefix_whole b x later e = grind arith
 
 first_and_fifth : (a b c d e : List Fault) (late : List (List Fault)) → first_fault (a ∷ b ∷ c ∷ d ∷ e ∷ late) ≡ None → (least a ≡ None) × (least e ≡ None)
 first_and_fifth a b c d e late none =
@@ -149,9 +123,7 @@ first_and_fifth a b c d e late none =
     (one.0, (both_none (least e) (first_fault late) four.1).0)
 
 ordered_same : (limit : ℕ) (h : Bool) (p : ℕ) (k : FrameKind) (last : ℕ) → last ≤ limit → order_faults (Some limit) h p k last ≡ order_faults None h p k last
-ordered_same limit h p k last low =
-    let within : nat_lt limit last ≡ false = grind (arith, nat_tests, low) in
-    rw within refl
+ordered_same limit h p k last low = grind (arith, nat_tests)
 
 -- the next frame of bytes that keep to the limit, which has no fault without it
 module _ (limit : ℕ) (h : Bool) (p : ℕ) (bytes : List ℕ) (low : p + length bytes ≤ limit) where
@@ -183,11 +155,7 @@ module _ (limit : ℕ) (h : Bool) (p : ℕ) (bytes : List ℕ) (low : p + length
       record { room = room; whole = whole }
 
   phases_same : first_fault (frame_phases None h f) ≡ None → frame_phases (Some limit) h f ≡ frame_phases None h f
-  phases_same none =
-      let there = is_there none in
-      ap (λ (ordered : List Fault). cut_faults f ∷ leaf_faults HEADER_KINDS f.offset (header_at f) f.header ∷ header_faults (header_at f) f.header ∷ ordered
-      ∷ fault_where (nat_lt (length f.blob) size) (blob_at f) BlobCut ∷ phases_of_blob (frame_kind f) (blob_at f) f.blob)
-      (ordered_same limit h f.offset (frame_kind f) (blob_at f + size) (omega (arith, low, there.room, there.whole)))
+  phases_same none = grind (arith, is_there, ordered_same)
 
   -- the bytes after the next frame keep to the limit too
   abbrev Room : Found → Type 0

@@ -16,11 +16,7 @@ use Rattle.pbf_frame.specs.Blob.{compressed, raw_faults, blob_faults, blob_fault
 use Rattle.pbf_wire.proofs.SoundLemmas.{no_least, both_none, option_last}
 
 raw_short : (at : ℕ) (last : Option Occurrence) (others : List Fault) → raw_faults at last others ≡ [] → length (occurrence_text last) < RAW_LIMIT
-raw_short at None others e = omega arith
-raw_short at (Some o) others e = cases (nat_le RAW_LIMIT (length (bytes_held o.content))) refl e where
-  cases : (b : Bool) → nat_le RAW_LIMIT (length (bytes_held o.content)) ≡ b → fault_where b o.place RawLong ++ others ≡ [] → length (bytes_held o.content) < RAW_LIMIT
-  cases true is e = (let bad : ⊥ = cc in absurd bad)
-  cases false is e = grind (arith, nat_tests)
+raw_short at last others e = grind (arith, nat_tests)
 
 -- the first fault of a blob, in which the first wire fault represents the phase of its wire form
 pub blob_steps : (at : ℕ) (blob : List ℕ) → blob_fault at blob ≡ option_or (wire BLOB_KINDS (items at blob)) (least (blob_faults at blob))
