@@ -74,11 +74,8 @@ header_is : (k : FrameKind) (size : ℕ) → written_header k size ≡ message (
 unfolding written_header
 header_is k size = refl
 
-name_short : (k : FrameKind) → length (written_name k) ≤ 9
-name_short k = grind arith
-
 header_short : (k : FrameKind) (size : ℕ) → size < 2 ^ 64 → length (written_header k size) ≤ 49
-header_short k size small = grind (arith, header_is, message_first, message_none, append-nil, scalar_bytes, each_bytes, spelling_short, name_short, length-append)
+header_short k size small = grind (arith, header_is, message_first, message_none, append-nil, scalar_bytes, each_bytes, spelling_short, length-append)
 
 header_fits : (k : FrameKind) (size : ℕ) → size < 2 ^ 64 → AllByRecursion SlotFits (header_slots k size)
 header_fits k size small = ((omega arith, omega arith), ((omega arith, omega arith, small), tt))

@@ -107,11 +107,7 @@ module _ (h : Bool) (p : ℕ) (bytes : List ℕ) (some : length bytes == 0 ≡ f
 
   -- what follows the frame
   rest_is : drop (length (frame_bytes f)) bytes ≡ drop head.size (drop (length f.header) (drop 4 bytes))
-  rest_is =
-      ap (λ m. drop m bytes) (length-append (f.prefix ++ f.header) f.blob ∙ ap (λ m. m + length f.blob) (length-append f.prefix f.header))
-      ∙ sym (drop-drop (length f.blob) (length f.prefix + length f.header) bytes)
-      ∙ ap (λ l. drop (length f.blob) l) (sym (drop-drop (length f.header) (length f.prefix) bytes) ∙ ap (λ l. drop (length f.header) l) (drop_front 4 bytes))
-      ∙ drop_front head.size (drop (length f.header) (drop 4 bytes))
+  rest_is = cc (length-append (f.prefix ++ f.header) f.blob, length-append f.prefix f.header, drop-drop (length f.blob) (length f.prefix + length f.header) bytes, drop-drop (length f.header) (length f.prefix) bytes, drop_front 4 bytes, drop_front head.size (drop (length f.header) (drop 4 bytes)))
 
   -- the header has all of its bytes
   module _ (long : nat_lt (length (take 4 bytes)) 4 ≡ false) (small : nat_le HEADER_LIMIT n ≡ false) (whole : nat_lt (length f.header) n ≡ false) where

@@ -175,12 +175,10 @@ all_items os = map Ok os
 
 wire_parts : (kinds : List (ℕ × Kind)) (at : ℕ) (ps : List Part) → AllByRecursion (PartIs kinds) ps → wire kinds (all_items (occurrences_of at ps)) ≡ None
 wire_parts kinds at [] h = refl
-wire_parts kinds at (Single number value ∷ ps) h =
-    let next = at + length (spelling (Single number value)) in
-    ap (λ (r : Option Reason). or_at at r (wire kinds (all_items (occurrences_of next ps)))) h.0 ∙ wire_parts kinds next ps h.1
+wire_parts kinds at (Single number value ∷ ps) h = grind (arith, h.0, wire_parts kinds (at + length (spelling (Single number value))) ps h.1)
 wire_parts kinds at (Whole number bytes ∷ ps) h =
     let next = at + length (spelling (Whole number bytes)) in
-    ap (λ (r : Option Reason). or_at at r (wire kinds (all_items (occurrences_of next ps)))) (h.0 (at + length (shortest (number * 8 + 2)) + length (shortest (length bytes)))) ∙ wire_parts kinds next ps h.1
+    cc (h.0 (at + length (shortest (number * 8 + 2)) + length (shortest (length bytes))), wire_parts kinds next ps h.1)
 
 abbrev all_entries : List ℕ → List Entry
 all_entries ns = map Ok ns

@@ -98,10 +98,8 @@ module _ {X : Type 0} (f : Occurrence → List X) where
   slots_give : (at : ℕ) (given : List (Slot × List X)) → AllByRecursion (λ g. SlotGives g.0 g.1) given → flat_map f (occurrences_of at (flat_map parts_of (map (λ g. g.0) given))) ≡ flat_map (λ g. g.1) given
   slots_give at [] h = refl
   slots_give at (g ∷ given) h =
-      let slots = map (λ (g : Slot × List X). g.0) given in
-      let parts = split at (parts_of g.0) (flat_map parts_of slots) in
-      ap (flat_map f) parts.1 ∙ flat_map-append f (occurrences_of at (parts_of g.0)) (occurrences_of parts.0 (flat_map parts_of slots))
-      ∙ ap₂ (λ (xs ys : List X). xs ++ ys) (h.0 at) (slots_give parts.0 given h.1)
+      let parts = split at (parts_of g.0) (flat_map parts_of (map (λ g. g.0) given)) in
+      cc (parts.1, flat_map-append f (occurrences_of at (parts_of g.0)) (occurrences_of parts.0 (flat_map parts_of (map (λ g. g.0) given))), h.0 at, slots_give parts.0 given h.1)
 
   -- what the fields give is what the slots give, in order
   pub fields_give : (at : ℕ) (given : List (Slot × List X)) → AllByRecursion (λ g. SlotGives g.0 g.1) given → AllByRecursion SlotFits (map (λ g. g.0) given) → length (message (map (λ g. g.0) given)) < 2 ^ 64
@@ -189,11 +187,7 @@ fields_counted k at slots fits lt = cc (fields_written at slots fits lt, parts_c
 
 any_kept : (k : ℕ) (os : List Occurrence) → 0 < length (all_of k os) → list_any (λ o. o.number == k) os ≡ true
 any_kept k [] lt = absurd (omega arith)
-any_kept k (o ∷ os) lt = by (o.number == k) lt (any_kept k os)
-  where
-    by : (b : Bool) → 0 < length (if b then o ∷ all_of k os else all_of k os) → (0 < length (all_of k os) → list_any (λ o. o.number == k) os ≡ true) → (b || list_any (λ o. o.number == k) os) ≡ true
-    by true lt more = refl
-    by false lt more = more lt
+any_kept k (o ∷ os) lt = grind (arith, any_kept k os)
 
 -- a field that is written isn't missing
 pub present_written : (k place at : ℕ) (slots : List Slot) → AllByRecursion SlotFits slots → length (message slots) < 2 ^ 64 → 0 < field_count k slots → missing k place (fields_in at (message slots)) ≡ []

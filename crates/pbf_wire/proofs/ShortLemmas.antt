@@ -278,10 +278,7 @@ pub record IsNear (distance : ℕ) (n : ℤ) : Type 0 where
   pub below : n ≤ℤ pos distance
 
 small_number : (v : ℕ) → v < 2 ^ 35 → IsNear (2 ^ 35) (unzigzag v)
-small_number v lt = by (eqb (v % 2) 0) where
-  by : (b : Bool) → IsNear (2 ^ 35) (if b then pos (v / 2) else negsuc (v / 2))
-  by true = record { above = omega (arith, ints); below = omega (arith, ints) }
-  by false = record { above = omega (arith, ints); below = omega (arith, ints) }
+small_number v lt = record { above = grind (arith, ints); below = grind (arith, ints) }
 
 -- of 32 bits no entry is further
 small_delta : (narrow : Bool) (v : ℕ) → v < 2 ^ 35 → IsNear (2 ^ 35) (delta_in narrow v)

@@ -61,7 +61,7 @@ is_true b e = grind arith
 
 -- a test without which there would be a fault holds
 pub is_right : (right : Bool) (place : ℕ) (reason : Reason) → fault_where (not right) place reason ≡ [] → right ≡ true
-is_right right place reason e = is_true right (not_wrong (not right) place reason e)
+is_right right place reason e = grind arith
 
 -- ---- the values of a column of differences
 
@@ -169,9 +169,7 @@ later k o os = last_or o (filter (λ o. o.number == k) os)
 
 last_from : (P : Occurrence → Type 0) (k : ℕ) (os : List Occurrence) (before : Option Occurrence) → AllByRecursion P os → IfThere P k before → IfThere P k (later k before os)
 last_from P k [] before all h = h
-last_from P k (o ∷ os) before all h = chosen (o.number == k) refl
-    (λ same. last_from P k os (Some o) all.1 (all.0, same)) (last_from P k os before all.1 h)
-  where
+last_from P k (o ∷ os) before all h = chosen (o.number == k) refl (λ same. last_from P k os (Some o) all.1 (all.0, same)) (last_from P k os before all.1 h) where
     chosen : (b : Bool) → (o.number == k) ≡ b → (o.number ≡ k → IfThere P k (later k (Some o) os)) → IfThere P k (later k before os) → IfThere P k (last_or before (if b then o ∷ filter (λ o. o.number == k) os else filter (λ o. o.number == k) os))
     chosen true e taken skipped = taken (grind arith)
     chosen false e taken skipped = skipped

@@ -103,18 +103,17 @@ sum_at-suc : (d : ℤ) (ds : List ℤ) (i : ℕ) → sum_at (d ∷ ds) (i + 1) �
 sum_at-suc d ds i = let e : i + 1 + 1 ≡ suc (i + 1) = omega arith in rw e refl
 
 later_sum : (start d : ℤ) (ds : List ℤ) (i : ℕ) → start +ℤ sum_at (d ∷ ds) (i + 1) ≡ (start +ℤ d) +ℤ sum_at ds i
-later_sum start d ds i = ap (λ (z : ℤ). start +ℤ z) (sum_at-suc d ds i) ∙ regroup start d (sum_at ds i)
+later_sum start d ds i = rw (sum_at-suc d ds i) (omega (arith, ints))
 
 by_index : (start : ℤ) (ds : List ℤ) → sums_from start ds ≡ map (λ i. start +ℤ sum_at ds i) (range_with_len 0 (length ds))
 by_index start [] = refl
 by_index start (d ∷ ds) =
     let sum = start +ℤ d in
-    let f : ℕ → ℤ = λ i. start +ℤ sum_at (d ∷ ds) i in
-    let others = by_index sum ds ∙ sym (same_map (λ i. f (i + 1)) (λ i. sum +ℤ sum_at ds i) 0 (length ds) (later_sum start d ds)) in
-    ap₂ (λ (z : ℤ) (zs : List ℤ). z ∷ zs) (sym (plus_nothing start d)) others ∙ sym (from_index f (length ds))
+    let first : start +ℤ sum_at (d ∷ ds) 0 ≡ sum = omega (arith, ints) in
+    cc (first, by_index sum ds, same_map (λ i. start +ℤ sum_at (d ∷ ds) (i + 1)) (λ i. sum +ℤ sum_at ds i) 0 (length ds) (later_sum start d ds), from_index (λ i. start +ℤ sum_at (d ∷ ds) i) (length ds))
 
 pub running_sums : (ds : List ℤ) → sums_from (pos 0) ds ≡ sums ds
-running_sums ds = by_index (pos 0) ds ∙ same_map (λ i. pos 0 +ℤ sum_at ds i) (sum_at ds) 0 (length ds) (λ i. nothing_plus (sum_at ds i))
+running_sums ds = by_index (pos 0) ds ∙ same_map (λ i. pos 0 +ℤ sum_at ds i) (sum_at ds) 0 (length ds) (λ i. omega (arith, ints))
 
 pub sums_of_deltas : (values : List ℤ) → sums (map unzigzag (deltas values)) ≡ values
 sums_of_deltas values = sym (running_sums (map unzigzag (deltas values))) ∙ sums_undo_deltas values

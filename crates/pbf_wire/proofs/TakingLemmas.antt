@@ -224,8 +224,7 @@ more_moved all old new rest later left_over count left after h enough taken drop
 pub one_moved : (all old new rest later left_over : List ℤ) (value : ℤ) (count left : ℕ) → HaveMoved all old new rest count left → 0 < left → rest ≡ value ∷ left_over → later ≡ new ++ value ∷ [] → HaveMoved all old later left_over count (left - 1)
 one_moved all old new rest later left_over value count left h some first taken =
     let one : left - (left - 1) ≡ 1 = omega (arith, some) in
-    more_moved all old new rest later left_over count left (left - 1) h (omega arith)
-    (rw (one, first) taken) (rw (one, first) refl)
+    more_moved all old new rest later left_over count left (left - 1) h (omega arith) (rw (one, first) taken) (rw (one, first) refl)
 
 -- there are no more
 pub all_moved : (all old new rest : List ℤ) (count left : ℕ) → HaveMoved all old new rest count left → rest ≡ [] → (new ≡ old ++ take count all) × (rest ≡ drop count all)

@@ -62,8 +62,7 @@ joined_read ((v, s) ∷ pairs) h =
     let rest = bytes_of_all pairs in
     let one = spelling_is_read s rest v h.0 in
     let f = varint_ok (s ++ rest) v (length s) one in
-    entries_ok (s ++ rest) v (length s) f.positive f.within one
-    ∙ ap (λ (w : List Entry). Ok v ∷ w) (ap entries (drop_at s rest (length s) refl) ∙ joined_read pairs h.1)
+    cc (entries_ok (s ++ rest) v (length s) f.positive f.within one, drop_at s rest (length s) refl, joined_read pairs h.1)
 
 not_empty : (v : ℕ) (s rest : List ℕ) → IsVarint v s → s ++ rest ≡ [] → ⊥
 not_empty v s rest h e =
@@ -87,5 +86,4 @@ column_reads_back [] h = entries_none [] refl
 column_reads_back (n ∷ ns) h =
     let one = spelling_is_read (shortest n) (flat_map shortest ns) n (shortest_spells n h.0) in
     let f = varint_ok (shortest n ++ flat_map shortest ns) n (length (shortest n)) one in
-    entries_ok (shortest n ++ flat_map shortest ns) n (length (shortest n)) f.positive f.within one
-    ∙ ap (λ (w : List Entry). Ok n ∷ w) (ap entries (drop_at (shortest n) (flat_map shortest ns) (length (shortest n)) refl) ∙ column_reads_back ns h.1)
+    cc (entries_ok (shortest n ++ flat_map shortest ns) n (length (shortest n)) f.positive f.within one, drop_at (shortest n) (flat_map shortest ns) (length (shortest n)) refl, column_reads_back ns h.1)
