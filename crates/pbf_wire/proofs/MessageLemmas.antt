@@ -14,7 +14,8 @@ use Rattle.pbf_wire.specs.Reading.{values, last_number, each}
 use Rattle.pbf_wire.specs.Wire.{reason_in, kind_of, or_at, wire}
 use Rattle.pbf_wire.specs.Writing.{Part, Single, Whole, spelling, written, IsWritablePart, occurrence_of, occurrences_of}
 use Rattle.pbf_wire.specs.Message.{Slot, Scalar, Column, Each, parts_of, message, SlotFits, SlotIs, SlotBelow, numbers_at, scalars_at, messages_at}
-use Rattle.pbf_wire.proofs.Written.{reads_back, column_reads_back}
+use Rattle.pbf_wire.proofs.Cutting.{all_ok}
+use Rattle.pbf_wire.proofs.Written.{reads_back, column_reads_back, all_entries}
 use Rattle.pbf_wire.proofs.Columns.{placed_numbers}
 use Rattle.pbf_wire.proofs.PackedLemmas.{column_read}
 use Rattle.pbf_wire.proofs.AllLemmas.{all_append, all_each, all_left, all_map, all_right}
@@ -170,18 +171,12 @@ abbrev PartIs : List (ℕ × Kind) → Part → Type 0
 PartIs kinds (Single number value) = reason_in (kind_of kinds number) (Number value) ≡ None
 PartIs kinds (Whole number bytes) = (a : ℕ) → reason_in (kind_of kinds number) (Bytes bytes a) ≡ None
 
-abbrev all_items : List Occurrence → List Item
-all_items os = map Ok os
-
-wire_parts : (kinds : List (ℕ × Kind)) (at : ℕ) (ps : List Part) → AllByRecursion (PartIs kinds) ps → wire kinds (all_items (occurrences_of at ps)) ≡ None
+wire_parts : (kinds : List (ℕ × Kind)) (at : ℕ) (ps : List Part) → AllByRecursion (PartIs kinds) ps → wire kinds (all_ok (occurrences_of at ps)) ≡ None
 wire_parts kinds at [] h = refl
 wire_parts kinds at (Single number value ∷ ps) h = grind (arith, h.0, wire_parts kinds (at + length (spelling (Single number value))) ps h.1)
 wire_parts kinds at (Whole number bytes ∷ ps) h =
     let next = at + length (spelling (Whole number bytes)) in
     cc (h.0 (at + length (shortest (number * 8 + 2)) + length (shortest (length bytes))), wire_parts kinds next ps h.1)
-
-abbrev all_entries : List ℕ → List Entry
-all_entries ns = map Ok ns
 
 no_entry_fault : (ns : List ℕ) → entry_fault (all_entries ns) ≡ None
 no_entry_fault [] = refl

@@ -11,14 +11,11 @@ use Rattle.pbf_wire.specs.Columns.{Entry, read_entries, packed}
 use Rattle.pbf_wire.specs.Signed.{zigzag, unzigzag}
 use Rattle.pbf_wire.specs.Sums.{sums_from, differences, deltas}
 use Rattle.pbf_wire.specs.Packed.{IsPacked, numbers_of, last_from, HoldsDeltas, values_of}
-use Rattle.pbf_wire.proofs.Written.{column_reads_back}
+use Rattle.pbf_wire.proofs.Written.{column_reads_back, all_entries}
 use Rattle.pbf_wire.proofs.SumLemmas.{IsSmall, small_zero, deltas_fit, sums_undo_deltas}
 use Rattle.pbf_wire.proofs.AllLemmas.{all_push}
 
 -- ---- plain numbers
-
-abbrev all_entries : List ℕ → List Entry
-all_entries ns = map Ok ns
 
 all_read : (ns : List ℕ) → read_entries (all_entries ns) ≡ ns
 all_read [] = refl

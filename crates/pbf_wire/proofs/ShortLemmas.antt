@@ -163,13 +163,11 @@ short_few bytes window few is last here i lt =
 abbrev EachEnds : ℕ → List ℕ → Type 0
 EachEnds most bytes = (i : ℕ) → i < length bytes → EndsWithin most bytes i
 
-within_rest : (most : ℕ) (bytes : List ℕ) (n i : ℕ) → EndsWithin most bytes (n + i) → EndsWithin most (drop n bytes) i
-within_rest most bytes n i h =
-    let at : n + (i + h.0) ≡ n + i + h.0 = omega arith in
-    (h.0, h.1, omega (arith, h.2, length-drop n bytes), omega (arith, h.3, get_or-drop n bytes (i + h.0) 0, ap (λ k. get_or bytes k 0) at))
-
 each_of_rest : (most : ℕ) (bytes : List ℕ) (n : ℕ) → EachEnds most bytes → EachEnds most (drop n bytes)
-each_of_rest most bytes n h = λ i lt. within_rest most bytes n i (h (n + i) (omega (arith, lt, length-drop n bytes)))
+each_of_rest most bytes n h = λ i lt.
+    let e = h (n + i) (omega (arith, lt, length-drop n bytes)) in
+    let at : n + (i + e.0) ≡ n + i + e.0 = omega arith in
+    (e.0, e.1, omega (arith, e.2, length-drop n bytes), omega (arith, e.3, get_or-drop n bytes (i + e.0) 0, ap (λ k. get_or bytes k 0) at))
 
 -- the number at the start
 record Front (most : ℕ) (bytes : List ℕ) : Type 0 where

@@ -56,9 +56,6 @@ all_nil f (x ∷ xs) e = let both = both_nil (f x) (flat_map f xs) e in (both.0,
 pub not_wrong : (wrong : Bool) (place : ℕ) (reason : Reason) → fault_where wrong place reason ≡ [] → wrong ≡ false
 not_wrong wrong place reason e = grind arith
 
-is_true : (b : Bool) → not b ≡ false → b ≡ true
-is_true b e = grind arith
-
 -- a test without which there would be a fault holds
 pub is_right : (right : Bool) (place : ℕ) (reason : Reason) → fault_where (not right) place reason ≡ [] → right ≡ true
 is_right right place reason e = grind arith

@@ -90,15 +90,6 @@ pub same_map : {X : Type 0} (f g : ℕ → X) (a n : ℕ) → ((i : ℕ) → f i
 same_map f g a zero h = refl
 same_map {X = X} f g a (suc n) h = ap₂ (λ (x : X) (xs : List X). x ∷ xs) (h a) (same_map f g (a + 1) n h)
 
-regroup : (a b c : ℤ) → a +ℤ (b +ℤ c) ≡ (a +ℤ b) +ℤ c
-regroup a b c = omega (arith, ints)
-
-plus_nothing : (a b : ℤ) → a +ℤ (b +ℤ pos 0) ≡ a +ℤ b
-plus_nothing a b = omega (arith, ints)
-
-nothing_plus : (a : ℤ) → pos 0 +ℤ a ≡ a
-nothing_plus a = omega (arith, ints)
-
 sum_at-suc : (d : ℤ) (ds : List ℤ) (i : ℕ) → sum_at (d ∷ ds) (i + 1) ≡ d +ℤ sum_at ds i
 sum_at-suc d ds i = let e : i + 1 + 1 ≡ suc (i + 1) = omega arith in rw e refl
 

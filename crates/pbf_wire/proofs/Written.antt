@@ -78,7 +78,7 @@ joined_only ((v, s) ∷ pairs) ((w, t) ∷ others) h k e =
     let front : ◌≡◌ {A = ℕ × List ℕ} (v, s) (w, t) = ap₂ (λ (n : ℕ) (xs : List ℕ). (n, xs)) one.1 one.0 in
     ap₂ (λ (p : ℕ × List ℕ) (ps : List (ℕ × List ℕ)). p ∷ ps) front (joined_only pairs others h.1 k.1 one.2)
 
-abbrev all_entries : List ℕ → List Entry
+abbrev pub all_entries : List ℕ → List Entry
 all_entries ns = map Ok ns
 
 pub column_reads_back : (ns : List ℕ) → AllByRecursion (λ n. n < 2 ^ 64) ns → entries (flat_map shortest ns) ≡ all_entries ns
