@@ -1,5 +1,5 @@
 -- The mask of the bytes below 128, and how many there are.
-use Rattle.std.proofs.Common.{◌≡◌, ◌↔◌, ℕ, zero, suc, ◌+◌, ◌-◌, ◌/◌, ◌^◌, ◌<◌, List, [], ◌∷◌, ◌++◌, replicate, Bool, true, false, cond, ltb, length, get_or, map, refl, sym, ap, ◌∙◌, arith, take, drop, bit_and}
+use Rattle.std.proofs.Common.{◌≡◌, ◌↔◌, ℕ, zero, suc, ◌+◌, ◌-◌, ◌/◌, ◌^◌, ◌<◌, List, [], ◌∷◌, ◌++◌, replicate, Bool, false, cond, ltb, length, get_or, map, refl, sym, ap, ◌∙◌, arith, take, drop, bit_and}
 use Rattle.std.specs.Prelude.{nat_lt, count_by, IsBitSet, slice_index}
 use Rattle.std.specs.Simd.Lanes.{mask_l}
 use Rattle.std.proofs.lemmas.Simd.{bit_mask_l, mask_l-lt}

@@ -1,6 +1,6 @@
 -- Lists of faults, step by step.
-use Rattle.std.proofs.Common.{◌≡◌, ◌==◌, ℕ, zero, suc, ◌+◌, ◌-◌, ◌≤◌, Bool, true, false, List, [], ◌∷◌, length, map, drop, refl, ap, sym, ◌∙◌, arith}
-use Rattle.std.specs.Prelude.{Option, Some, None, Result, Ok, Err, filter, nat_lt, if◌then◌else◌}
+use Rattle.std.proofs.Common.{◌≡◌, ◌==◌, ℕ, zero, suc, ◌+◌, ◌≤◌, Bool, true, List, [], ◌∷◌, length, map, drop, refl, ap, ◌∙◌, arith}
+use Rattle.std.specs.Prelude.{Option, Some, None, Result, Ok, filter, nat_lt, if◌then◌else◌}
 use Rattle.std.specs.List.{flat_map, count_by, AllByRecursion}
 use Rattle.std.proofs.lemmas.List.{length-append, length-map}
 use Rattle.std.proofs.lemmas.List.Sums.{length-filter, count_by-le-length}
@@ -9,8 +9,8 @@ use Rattle.pbf_wire.specs.declared.fault.Reason.{Reason}
 use Rattle.pbf_wire.specs.declared.fault.Reason.TheVariants.{TwiceMessage}
 use Rattle.pbf_wire.specs.declared.kind.Kind.{Kind}
 use Rattle.pbf_wire.specs.Varint.{IsVarint, varint_at}
-use Rattle.pbf_wire.specs.Occurrence.{Content, Number, Bytes, Occurrence, Item, IsBody, IsSpelled, Joins}
-use Rattle.pbf_wire.specs.Columns.{Entry, entries_from, entries_past, read_entries, placed, numbers_in, column_of, joined}
+use Rattle.pbf_wire.specs.Occurrence.{Content, Occurrence, Item, IsBody, IsSpelled, Joins}
+use Rattle.pbf_wire.specs.Columns.{Entry, entries_from, entries_past, read_entries, numbers_in, column_of, joined}
 use Rattle.pbf_wire.specs.Wire.{kind_of, reason_in, or_at, wire}
 use Rattle.pbf_wire.specs.Reading.{bytes_held}
 use Rattle.pbf_wire.specs.Least.{lesser, least, rank}

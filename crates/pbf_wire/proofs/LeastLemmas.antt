@@ -25,7 +25,7 @@ pub lesser_none : {X : Type 0} (key : X → List ℕ) (f : Option X) → lesser_
 lesser_none key f = grind arith
 
 pub lesser_joined : {X : Type 0} (key : X → List ℕ) (f g h : Option X) → lesser_by key (lesser_by key f g) h ≡ lesser_by key f (lesser_by key g h)
-lesser_joined key f g h = grind (arith, lesser_none, less_less, not_less)
+lesser_joined key f g h = grind (arith, less_less, not_less)
 
 pub least_joined : {X : Type 0} (key : X → List ℕ) (xs ys : List X) → least_by key (xs ++ ys) ≡ lesser_by key (least_by key xs) (least_by key ys)
 least_joined key [] ys = refl

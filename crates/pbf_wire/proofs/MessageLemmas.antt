@@ -5,13 +5,12 @@ use Rattle.std.specs.List.{flat_map, last_or, AllByRecursion}
 use Rattle.std.specs.Option.{option_map}
 use Rattle.std.proofs.lemmas.List.{append-nil, map-append}
 use Rattle.std.proofs.lemmas.Grind.{flat_map-append}
-use Rattle.pbf_wire.specs.declared.fault.Reason.{Reason}
 use Rattle.pbf_wire.specs.declared.kind.Kind.{Kind}
 use Rattle.pbf_wire.specs.Varint.{shortest}
-use Rattle.pbf_wire.specs.Occurrence.{Number, Bytes, Occurrence, Item, items, found}
-use Rattle.pbf_wire.specs.Columns.{Entry, entries, read_entries, entry_fault, packed, placed, column_of, joined, column}
+use Rattle.pbf_wire.specs.Occurrence.{Number, Bytes, Occurrence, items, found}
+use Rattle.pbf_wire.specs.Columns.{entries, read_entries, entry_fault, packed, placed, column_of, column}
 use Rattle.pbf_wire.specs.Reading.{values, last_number, each}
-use Rattle.pbf_wire.specs.Wire.{reason_in, kind_of, or_at, wire}
+use Rattle.pbf_wire.specs.Wire.{reason_in, kind_of, wire}
 use Rattle.pbf_wire.specs.Writing.{Part, Single, Whole, spelling, written, IsWritablePart, occurrence_of, occurrences_of}
 use Rattle.pbf_wire.specs.Message.{Slot, Scalar, Column, Each, parts_of, message, SlotFits, SlotIs, SlotBelow, numbers_at, scalars_at, messages_at}
 use Rattle.pbf_wire.proofs.Cutting.{all_ok}
@@ -75,20 +74,14 @@ joined_parts : (k at : ℕ) (ps : List Part) → column k (occurrences_of at ps)
 joined_parts k at [] = refl
 joined_parts k at (p ∷ ps) = grind (arith, map-append, one_part, joined_parts k (at + length (spelling p)) ps)
 
-abbrev no_numbers : List ℕ
-no_numbers = []
-
 none_at : (number k : ℕ) (ms : List (List ℕ)) (b : Bool) → eqb number k ≡ b → flat_map (part_numbers k) (map (Whole number) ms) ≡ cond b (flat_map (λ m. read_entries (entries m)) ms) []
 none_at number k [] true e = refl
 none_at number k [] false e = refl
 none_at number k (m ∷ ms) true e = rw e (ap (λ (xs : List ℕ). read_entries (entries m) ++ xs) (none_at number k ms true e))
 none_at number k (m ∷ ms) false e = rw e (none_at number k ms false e)
 
-nothing : (b : Bool) → no_numbers ≡ cond b no_numbers no_numbers
-nothing b = grind arith
-
 one_slot : (k : ℕ) (s : Slot) → SlotFits s → flat_map (part_numbers k) (parts_of s) ≡ numbers_at k s
-one_slot k s h = grind (arith, append-nil, nothing, column_read, none_at)
+one_slot k s h = grind (arith, append-nil, column_read, none_at)
 
 slots_numbers : (k : ℕ) (slots : List Slot) → AllByRecursion SlotFits slots → flat_map (part_numbers k) (flat_map parts_of slots) ≡ flat_map (numbers_at k) slots
 slots_numbers k [] h = refl

@@ -1,14 +1,14 @@
 -- A written message gives no faults if its slots give none.
 use Rattle.pbf_wire.specs.Reading.{last_of, values}
 use Rattle.std.proofs.lemmas.Grind.{flat_map-append}
-use Rattle.std.proofs.Common.{◌≡◌, ℕ, ◌+◌, ◌*◌, ◌%◌, ◌^◌, ◌<◌, ℤ, pos, ◌+ℤ◌, Bool, true, List, [], ◌∷◌, ◌++◌, length, map, Option, Some, None, refl, sym, ap, ap₂, subst, ◌∙◌, ◌||◌, drop, ◌==◌, arith, ◌≤◌, false}
+use Rattle.std.proofs.Common.{◌≡◌, ℕ, ◌+◌, ◌*◌, ◌%◌, ◌^◌, ◌<◌, ℤ, pos, ◌+ℤ◌, Bool, true, List, [], ◌∷◌, ◌++◌, length, map, Option, Some, None, refl, sym, ap, ap₂, subst, ◌∙◌, drop, ◌==◌, arith, ◌≤◌, false}
 use Rattle.std.specs.Prelude.{Ok, Err, not, filter, if◌then◌else◌}
 use Rattle.std.specs.List.{flat_map, AllByRecursion, list_any, last_or}
 use Rattle.std.proofs.lemmas.Bool.{lt-ltb}
 use Rattle.std.proofs.lemmas.List.{length-map}
 use Rattle.pbf_wire.specs.declared.fault.Fault.{Fault}
 use Rattle.pbf_wire.specs.declared.fault.Reason.{Reason}
-use Rattle.pbf_wire.specs.declared.fault.Reason.TheVariants.{OutOfRange, StringIndex, Missing, TwiceMessage}
+use Rattle.pbf_wire.specs.declared.fault.Reason.TheVariants.{OutOfRange, StringIndex}
 use Rattle.pbf_wire.specs.declared.kind.Kind.{Kind}
 use Rattle.pbf_wire.specs.declared.kind.Kind.TheVariants as kind
 use Rattle.pbf_wire.specs.Varint.{shortest}
@@ -19,7 +19,7 @@ use Rattle.pbf_wire.specs.Writing.{Part, Single, Whole, spelling, occurrences_of
 use Rattle.pbf_wire.specs.Message.{Slot, Scalar, Column, Each, parts_of, message, SlotFits, SlotIs, numbers_at, unless_empty, messages_at, scalars_at}
 use Rattle.pbf_wire.specs.Signed.{delta_in, IsWithin, is_within}
 use Rattle.pbf_wire.specs.Sums.{sums, sums_from}
-use Rattle.pbf_wire.specs.Faults.{fault_where, or_more, message_faults, leaf_faults, fields_in, column_count, below_fault, index_faults, faults_of_sums, sum_faults, index_sum_faults, is_index, fault, fields_of, embedded, missing, twice, of_value, in_last}
+use Rattle.pbf_wire.specs.Faults.{fault_where, or_more, message_faults, leaf_faults, fields_in, column_count, below_fault, index_faults, faults_of_sums, sum_faults, index_sum_faults, is_index, fields_of, embedded, missing, twice, of_value, in_last}
 use Rattle.pbf_wire.proofs.MessageLemmas.{fields_written, column_written, no_wire_fault, part_scalars, part_messages, slots_scalars, slots_messages, numbers, values_written}
 use Rattle.pbf_wire.proofs.SumLemmas.{running_sums, within_true}
 use Rattle.pbf_wire.proofs.SoundLemmas.{both_nil, whole_count}

@@ -1,15 +1,14 @@
 -- Columns that are written hold the list that was pushed.
 use Rattle.std.proofs.Common.{◌≡◌, ℕ, ◌^◌, ◌<◌, List, [], ◌∷◌, ◌++◌, ℤ, pos, ◌-ℤ◌, map, refl, sym, ap, subst, ◌∙◌, arith, append_assoc, append-nil}
-use Rattle.std.specs.Prelude.{Ok}
 use Rattle.std.specs.List.{AllByRecursion}
 use Rattle.std.proofs.lemmas.Int.{ints}
 use Rattle.std.proofs.lemmas.List.{map-append}
 use mir.Syntax.{w64}
 use mir.Val.{of_z, to_z}
 use Rattle.pbf_wire.specs.Varint.{shortest}
-use Rattle.pbf_wire.specs.Columns.{Entry, read_entries, packed}
-use Rattle.pbf_wire.specs.Signed.{zigzag, unzigzag}
-use Rattle.pbf_wire.specs.Sums.{sums_from, differences, deltas}
+use Rattle.pbf_wire.specs.Columns.{read_entries, packed}
+use Rattle.pbf_wire.specs.Signed.{zigzag}
+use Rattle.pbf_wire.specs.Sums.{differences, deltas}
 use Rattle.pbf_wire.specs.Packed.{IsPacked, numbers_of, last_from, HoldsDeltas, values_of}
 use Rattle.pbf_wire.proofs.Written.{column_reads_back, all_entries}
 use Rattle.pbf_wire.proofs.SumLemmas.{IsSmall, small_zero, deltas_fit, sums_undo_deltas}

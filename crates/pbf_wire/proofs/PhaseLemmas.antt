@@ -3,7 +3,6 @@
 use Rattle.std.proofs.Common.{◌≡◌, ℕ, ◌+◌, ◌≤◌, List, [], ◌∷◌, ◌++◌, refl, ap, sym, subst, ◌∙◌, arith}
 use Rattle.std.specs.Prelude.{Option, Some, None, map}
 use Rattle.std.specs.Option.{option_map, option_or}
-use Rattle.std.proofs.lemmas.Bool.Decides.{nat_tests}
 use Rattle.pbf_wire.specs.declared.fault.Fault.{Fault}
 use Rattle.pbf_wire.specs.Least.{rank, lesser_by, least_by, least}
 use Rattle.pbf_wire.specs.Phases.{first_fault, in_phases, phase_rank}
@@ -34,14 +33,6 @@ module _ {X : Type 0} (r : X → List ℕ) where
 
   -- ---- a part and those after it
 
-  before_later : (n : ℕ) (x : X) (o : Option (ℕ × X)) → IsFrom (n + 1) o → lesser_by in_part (Some (n, x)) o ≡ Some (n, x)
-  before_later n x None from = refl
-  before_later n x (Some p) from = grind (arith, nat_tests)
-
-  with_later : (n : ℕ) (found : Option X) (later : Option (ℕ × X)) → IsFrom (n + 1) later → lesser_by in_part (option_map (λ x. (n, x)) found) later ≡ option_or (option_map (λ x. (n, x)) found) later
-  with_later n None later from = refl
-  with_later n (Some x) later from = before_later n x later from
-
   from_or : (n : ℕ) (found : Option X) (later : Option (ℕ × X)) → IsFrom (n + 1) later → IsFrom n (option_or (option_map (λ x. (n, x)) found) later)
   from_or n None later from = later_from n (n + 1) later (omega arith) from
   from_or n (Some x) later from = omega arith
@@ -50,7 +41,7 @@ module _ {X : Type 0} (r : X → List ℕ) where
   found_or n f later = grind arith
 
   parted : (n : ℕ) (xs : List X) (later : List (ℕ × X)) → IsFrom (n + 1) (least_by in_part later) → least_by in_part (map (λ x. (n, x)) xs ++ later) ≡ option_or (option_map (λ x. (n, x)) (least_by r xs)) (least_by in_part later)
-  parted n xs later from = grind (arith, least_joined, least_in_part, with_later)
+  parted n xs later from = grind (arith, least_joined, least_in_part)
 
   pub parted_from : (n : ℕ) (xs : List X) (later : List (ℕ × X)) → IsFrom (n + 1) (least_by in_part later) → IsFrom n (least_by in_part (map (λ x. (n, x)) xs ++ later))
   parted_from n xs later from = subst (IsFrom n) (sym (parted n xs later from)) (from_or n (least_by r xs) _ from)

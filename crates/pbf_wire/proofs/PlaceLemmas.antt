@@ -1,12 +1,12 @@
 -- What is read of a message doesn't depend on its place.
-use Rattle.std.proofs.Common.{◌≡◌, ℕ, zero, suc, ◌+◌, ◌-◌, ◌/◌, ◌%◌, ◌^◌, Bool, true, false, cond, eqb, ltb, List, [], ◌∷◌, ◌++◌, length, take, drop, map, refl, sym, ap, ap₂, ◌∙◌, arith}
+use Rattle.std.proofs.Common.{◌≡◌, ℕ, zero, suc, ◌+◌, ◌/◌, ◌%◌, ◌^◌, Bool, cond, eqb, ltb, List, [], ◌∷◌, length, take, drop, map, refl, sym, ap, ◌∙◌, arith}
 use Rattle.std.specs.Prelude.{Result, Ok, Err}
 use Rattle.std.specs.List.{flat_map}
 use Rattle.std.proofs.lemmas.List.Concat.{flat_map_single}
 use Rattle.pbf_wire.specs.declared.fault.Reason.{Reason}
 use Rattle.pbf_wire.specs.declared.fault.Reason.TheVariants.{LengthPast, NumberZero, TagLarge}
 use Rattle.pbf_wire.specs.Varint.{varint_at}
-use Rattle.pbf_wire.specs.Occurrence.{Content, Number, Bytes, Occurrence, Item, ◌>>=◌, body_at, occurrence_at, items_from, items_past, items, found, unplaced, without_places}
+use Rattle.pbf_wire.specs.Occurrence.{Content, Bytes, Occurrence, Item, ◌>>=◌, body_at, occurrence_at, items_from, items_past, items, found, unplaced, without_places}
 
 abbrev bare_body : Result (Content × ℕ) Reason → Result (Content × ℕ) Reason
 bare_body (Ok p) = Ok (unplaced p.0, p.1)

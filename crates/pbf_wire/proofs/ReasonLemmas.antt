@@ -1,6 +1,6 @@
 -- The numbers of reasons rise as the reasons are declared, so to compare reasons by their places is to compare them by their numbers.
-use Rattle.std.proofs.Common.{◌≡◌, ℕ, ◌+◌, [], ◌∷◌, Bool, refl, sym, ap₂, ◌∙◌, arith}
-use Rattle.std.specs.Prelude.{true, false, nat_lt, if◌then◌else◌}
+use Rattle.std.proofs.Common.{◌≡◌, ℕ, ◌+◌, [], ◌∷◌, refl, ap₂, ◌∙◌, arith}
+use Rattle.std.specs.Prelude.{nat_lt, if◌then◌else◌}
 use Rattle.std.proofs.lemmas.Bool.Decides.{nat_tests}
 use denote.Enum.Declared.{tag_of}
 use Rattle.pbf_wire.specs.contracts.fault.Reason.{the_type}

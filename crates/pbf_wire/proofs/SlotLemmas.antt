@@ -1,5 +1,5 @@
 -- What is read at one field of a list of slots.
-use Rattle.std.proofs.Common.{length, ◌≡◌, ◌≤◌, arith, ℕ, ◌^◌, ◌<◌, [], ◌++◌, Option, Some, None, refl, ap}
+use Rattle.std.proofs.Common.{length, ◌≡◌, ◌≤◌, arith, ℕ, ◌^◌, ◌<◌, [], ◌++◌, Option, Some, None}
 use Rattle.std.specs.List.{last_or}
 use Rattle.std.specs.Option.{option_map, option_to_list}
 use Rattle.pbf_wire.specs.Message.{Scalar, SlotFits}

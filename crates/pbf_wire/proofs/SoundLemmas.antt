@@ -10,8 +10,8 @@ use Rattle.pbf_wire.specs.declared.fault.Reason.{Reason}
 use Rattle.pbf_wire.specs.declared.kind.Kind.{Kind}
 use Rattle.pbf_wire.specs.declared.kind.Kind.TheVariants as kind
 use Rattle.pbf_wire.specs.Varint.{EndsOnce, varint_at}
-use Rattle.pbf_wire.specs.Occurrence.{Content, Number, Bytes, Occurrence, Item, items, found}
-use Rattle.pbf_wire.specs.Columns.{entries, read_entries, entry_fault, placed, numbers_in, column_of, joined}
+use Rattle.pbf_wire.specs.Occurrence.{Content, Occurrence, Item, items, found}
+use Rattle.pbf_wire.specs.Columns.{entries, read_entries, entry_fault, numbers_in, column_of, joined}
 use Rattle.pbf_wire.specs.Wire.{kind_of, reason_in, wire}
 use Rattle.pbf_wire.proofs.FaultLemmas.{leaf_is_wire, ends}
 use Rattle.pbf_wire.specs.Reading.{last_of}

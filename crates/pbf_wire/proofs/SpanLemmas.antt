@@ -1,11 +1,10 @@
 -- Values that are skipped one after another.
-use Rattle.std.proofs.Common.{◌≡◌, ◌<◌, ◌≤◌, ◌^◌, Bool, true, false, not, ℕ, zero, suc, ℤ, List, [], ◌∷◌, length, map, None, Some, ap, refl, rules, arith, ◌<ℤ◌, ◌≤ℤ◌}
+use Rattle.std.proofs.Common.{◌≡◌, ◌<◌, ◌≤◌, ◌^◌, Bool, true, false, not, ℕ, zero, suc, ℤ, List, [], ◌∷◌, length, None, Some, ap, rules, arith, ◌<ℤ◌, ◌≤ℤ◌}
 use Rattle.std.proofs.Math.Seq.{drop-nil}
 use Rattle.std.proofs.lemmas.Int.{ints}
 use Rattle.std.proofs.lemmas.List.{length-map}
 use Rattle.std.specs.Bool.{beq}
-use Rattle.pbf_wire.specs.Cursors.{column_left, numbers_left, sums_left}
-use Rattle.pbf_wire.specs.Signed.{delta_in}
+use Rattle.pbf_wire.specs.Cursors.{column_left, sums_left}
 use Rattle.pbf_wire.specs.Spans.{is_in, ArePassed}
 use Rattle.pbf_wire.specs.Sums.{added, sums_within}
 use Rattle.pbf_wire.specs.declared.span.Span.{Span}

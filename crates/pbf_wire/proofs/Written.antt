@@ -1,10 +1,10 @@
 -- What is written is read back.
-use Rattle.std.proofs.Common.{◌≡◌, ℕ, ◌+◌, ◌*◌, ◌^◌, ◌<◌, List, [], ◌∷◌, ◌++◌, length, refl, sym, ap, ap₂, subst, ◌∙◌, arith, add-zero}
+use Rattle.std.proofs.Common.{◌≡◌, ℕ, ◌+◌, ◌*◌, ◌^◌, ◌<◌, List, [], ◌∷◌, ◌++◌, length, refl, sym, ap, ap₂, subst, arith, add-zero}
 use Rattle.std.specs.Prelude.{Ok, map}
 use Rattle.std.specs.List.{flat_map, AllByRecursion}
 use Rattle.std.proofs.lemmas.List.{append-nil, drop_at}
 use Rattle.pbf_wire.specs.Varint.{IsVarint, shortest}
-use Rattle.pbf_wire.specs.Occurrence.{IsSpelled, Joins, Item, items}
+use Rattle.pbf_wire.specs.Occurrence.{IsSpelled, Joins, items}
 use Rattle.pbf_wire.specs.Columns.{Entry, entries}
 use Rattle.pbf_wire.specs.Writing.{Part, Single, Whole, spelling, written, IsWritablePart, occurrence_of, occurrences_of}
 use Rattle.pbf_wire.proofs.Shortest.{shortest_spells}
