@@ -1,21 +1,18 @@
 -- Frames without faults make up a file, with a limit of its length or without one; and a file of any length that keeps to a limit has the
 -- same frames with it.
-use Rattle.std.proofs.Common.{◌≡◌, ℕ, zero, suc, ◌+◌, ◌<◌, ◌≤◌, ◌||◌, ◌==◌, nat_lt, nat_le, Bool, true, false, cond, List, [], ◌∷◌, ◌++◌, length, take, drop, Option, Some, None, Result, Ok, Err, refl, sym, ap, ◌∙◌, subst, append_assoc, length-append, arith}
+use Rattle.std.proofs.Common.{◌≡◌, ℕ, zero, suc, ◌+◌, ◌<◌, ◌≤◌, ◌||◌, ◌==◌, nat_lt, Bool, true, false, cond, List, [], ◌∷◌, ◌++◌, length, take, drop, Option, Some, None, Result, Ok, Err, refl, sym, ap, ◌∙◌, subst, append_assoc, length-append, arith}
 use Rattle.std.specs.Prelude.{unwrap_or}
 use Rattle.std.proofs.lemmas.Bool.Decides.{nat_tests}
 use Rattle.std.proofs.lemmas.List.{take_at, drop_at, length-take, length-drop}
 use Rattle.byteorder.specs.Endian.{big_number}
 use Rattle.pbf_wire.specs.declared.fault.Fault.{Fault}
-use Rattle.pbf_wire.specs.declared.fault.Reason.{Reason}
 use Rattle.pbf_wire.specs.declared.fault.Reason.TheVariants.{NoHeader, BlobCut}
 use Rattle.pbf_wire.specs.Faults.{fault, fault_where, leaf_faults}
 use Rattle.pbf_wire.specs.Least.{least}
-use Rattle.pbf_wire.specs.Occurrence.{items}
 use Rattle.pbf_wire.specs.Phases.{first_fault}
 use Rattle.pbf_wire.proofs.FaultLemmas.{leaf_is_wire}
 use Rattle.pbf_frame.specs.declared.frame.FrameKind.{FrameKind}
-use Rattle.pbf_frame.specs.declared.frame.FrameKind.TheVariants as kind
-use Rattle.pbf_frame.specs.declared.header.TheConstants.{HEADER_KINDS, HEADER_LIMIT}
+use Rattle.pbf_frame.specs.declared.header.TheConstants.{HEADER_KINDS}
 use Rattle.pbf_frame.specs.Blob.{blob_fault}
 use Rattle.pbf_frame.specs.Header.{head_says, header_faults}
 use Rattle.pbf_frame.specs.Frames.{FrameSpec, is_header, header_at, blob_at, frame_at, frame_kind, frame_bytes, frame_end, cut_faults, order_faults, phases_of_blob, frame_phases, next_within}
@@ -25,10 +22,6 @@ use Rattle.pbf_frame.proofs.Stepping.{given_or}
 use Rattle.pbf_wire.proofs.SoundLemmas.{both_none}
 
 -- ---- a frame without a fault is the next
-
--- five phases have no fault, and none of the later ones has
-none_at_all : (a b c d e : List Fault) (late : List (List Fault)) → least a ≡ None → least b ≡ None → least c ≡ None → least d ≡ None → least e ≡ None → first_fault late ≡ None → first_fault (a ∷ b ∷ c ∷ d ∷ e ∷ late) ≡ None
-none_at_all a b c d e late is_a is_b is_c is_d is_e none = rw (is_a, is_b, is_c, is_d, is_e) none
 
 blob_none : (k : FrameKind) (at : ℕ) (blob : List ℕ) → IsSoundBlob k at blob → first_fault (phases_of_blob k at blob) ≡ None
 unfolding blob_fault
@@ -50,9 +43,6 @@ module _ (limit : Option ℕ) (h : Bool) (f : FrameSpec) (rest : List ℕ) (is :
   size_is : length f.blob ≡ (head_says (header_at f) f.header).size
   size_is = ap (λ (m : Option ℕ). unwrap_or m 0) (sym is.sized)
 
-  regrouped : frame_bytes f ++ rest ≡ spelling
-  regrouped = append_assoc (f.prefix ++ f.header) f.blob rest ∙ append_assoc f.prefix f.header (f.blob ++ rest)
-
   at_frame : frame_at f.offset spelling ≡ f
   at_frame =
       let after = f.header ++ (f.blob ++ rest) in
@@ -67,11 +57,11 @@ module _ (limit : Option ℕ) (h : Bool) (f : FrameSpec) (rest : List ℕ) (is :
   cut_none = grind (arith, nat_tests)
 
   no_fault : first_fault (frame_phases limit h f) ≡ None
-  no_fault = grind (arith, nat_tests, size_is, none_at_all, cut_none, leaf_is_wire, blob_none)
+  no_fault = grind (arith, nat_tests, size_is, cut_none, leaf_is_wire, blob_none)
 
   next_at : next_within limit h f.offset (frame_bytes f ++ rest) ≡ Ok (Some f, rest)
   unfolding next_within
-  next_at = grind (arith, nat_tests, regrouped, length-append, at_frame, given_or, no_fault, drop_at)
+  next_at = grind (arith, nat_tests, length-append, append_assoc, at_frame, given_or, no_fault, drop_at)
 
 pub frame_is_next_within : (limit : Option ℕ) (h : Bool) (p : ℕ) (f : FrameSpec) (rest : List ℕ) → IsFrameWithin limit h p f → next_within limit h p (frame_bytes f ++ rest) ≡ Ok (Some f, rest)
 frame_is_next_within limit h p f rest is = grind (arith, next_at)
@@ -108,12 +98,6 @@ err_ok e x is = cc
 ok_same : (x y : Found) → ◌≡◌ {A = Result Found Fault} (Ok x) (Ok y) → x ≡ y
 ok_same x y e = cc
 
-where_none : (b : Bool) (place : ℕ) (reason : Reason) → least (fault_where b place reason) ≡ None → b ≡ false
-where_none b place reason e = grind arith
-
-prefix_whole : (b : Bool) (x : Fault) (later : List Fault) → least (cond {A = List Fault} b (x ∷ []) later) ≡ None → b ≡ false
-prefix_whole b x later e = grind arith
-
 first_and_fifth : (a b c d e : List Fault) (late : List (List Fault)) → first_fault (a ∷ b ∷ c ∷ d ∷ e ∷ late) ≡ None → (least a ≡ None) × (least e ≡ None)
 first_and_fifth a b c d e late none =
     let one = both_none (least a) (first_fault (b ∷ c ∷ d ∷ e ∷ late)) none in
@@ -142,8 +126,8 @@ module _ (limit : ℕ) (h : Bool) (p : ℕ) (bytes : List ℕ) (low : p + length
   is_there none =
       let (cut, sized) = first_and_fifth (cut_faults f) (leaf_faults HEADER_KINDS f.offset (header_at f) f.header) (header_faults (header_at f) f.header) (order_faults None h f.offset (frame_kind f) (blob_at f + size))
       (fault_where (nat_lt (length f.blob) size) (blob_at f) BlobCut) (phases_of_blob (frame_kind f) (blob_at f) f.blob) none in
-      let long : nat_lt (length f.prefix) 4 ≡ false = prefix_whole (nat_lt (length f.prefix) 4) _ _ cut in
-      let enough : nat_lt (length f.blob) size ≡ false = where_none (nat_lt (length f.blob) size) (blob_at f) BlobCut sized in
+      let long : nat_lt (length f.prefix) 4 ≡ false = grind (arith, cut) in
+      let enough : nat_lt (length f.blob) size ≡ false = grind (arith, sized) in
       let wide : 4 ≤ length f.prefix = grind (arith, nat_tests, long) in
       let whole : size ≤ length f.blob = grind (arith, nat_tests, enough) in
       let prefix = length-take 4 bytes in

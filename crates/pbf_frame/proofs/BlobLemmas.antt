@@ -1,17 +1,15 @@
 -- What a blob without a fault holds.
-use Rattle.std.proofs.Common.{◌≡◌, ℕ, ◌<◌, Bool, true, false, nat_le, List, [], ◌++◌, Option, Some, None, length, refl, sym, ap₂, ◌∙◌, arith}
+use Rattle.std.proofs.Common.{◌≡◌, ℕ, ◌<◌, List, [], Option, None, length, sym, ap₂, ◌∙◌, arith}
 use Rattle.std.specs.Option.{option_or}
 use Rattle.std.proofs.lemmas.Bool.Decides.{nat_tests}
 use Rattle.pbf_wire.specs.declared.fault.Fault.{Fault}
-use Rattle.pbf_wire.specs.declared.fault.Reason.TheVariants.{RawLong}
 use Rattle.pbf_wire.specs.Least.{least}
 use Rattle.pbf_wire.specs.Occurrence.{Occurrence, items, found}
-use Rattle.pbf_wire.specs.Reading.{bytes_held, occurrence_text, last_of}
+use Rattle.pbf_wire.specs.Reading.{occurrence_text, last_of}
 use Rattle.pbf_wire.specs.Wire.{wire}
 use Rattle.pbf_wire.proofs.FaultLemmas.{leaf_is_wire}
 use Rattle.pbf_frame.specs.declared.blob.TheConstants.{RAW, BLOB_KINDS}
 use Rattle.pbf_wire.specs.declared.limits.TheConstants.{RAW_LIMIT}
-use Rattle.pbf_wire.specs.Faults.{fault_where}
 use Rattle.pbf_frame.specs.Blob.{compressed, raw_faults, blob_faults, blob_fault, raw_payload_of}
 use Rattle.pbf_wire.proofs.SoundLemmas.{no_least, both_none, option_last}
 

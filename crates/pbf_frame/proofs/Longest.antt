@@ -15,7 +15,7 @@ use Rattle.pbf_frame.specs.declared.header.TheConstants.{TYPE, DATASIZE, HEADER_
 use Rattle.pbf_frame.specs.Header.{header_faults, int32_held, size_within, size_of, size_faults}
 use Rattle.pbf_frame.specs.declared.frame.TheConstants.{FILE_LIMIT}
 use Rattle.pbf_frame.specs.Frames.{FrameSpec, is_header, header_at, blob_at, frame_kind, frame_bytes, frame_end, order_faults, next_of}
-use Rattle.pbf_frame.specs.Verdict.{Verdict, with_frame_first, with_all, judged_after, judged, joined_frames}
+use Rattle.pbf_frame.specs.Verdict.{Verdict, with_all, judged_after, judged, joined_frames}
 use Rattle.pbf_frame.specs.Sound.{IsSoundBlob, IsFrame, AreFrames, had_after, place_after, EndsAs, IsLongestFront}
 use Rattle.pbf_frame.specs.Steps.{prefix_at}
 use Rattle.pbf_frame.proofs.AnyLength.{frame_is_next_within}

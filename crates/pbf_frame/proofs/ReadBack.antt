@@ -1,15 +1,12 @@
 -- A frame in written form has no fault, and its kind and payload are those that were written.
-use Rattle.std.proofs.Common.{◌≡◌, ℕ, ◌+◌, ◌*◌, ◌%◌, ◌^◌, ◌<◌, ◌≤◌, nat_lt, nat_le, Bool, true, false, List, [], ◌∷◌, ◌++◌, length, Option, Some, None, refl, sym, ap, ◌∙◌, subst, length-append, arith}
-use Rattle.std.specs.Option.{option_or}
+use Rattle.std.proofs.Common.{◌≡◌, ℕ, ◌+◌, ◌^◌, ◌<◌, ◌≤◌, Bool, List, [], ◌∷◌, length, Option, Some, None, refl, sym, ap, ◌∙◌, length-append, arith}
 use Rattle.std.proofs.lemmas.Bool.Decides.{nat_tests}
 use Rattle.std.proofs.lemmas.List.{append-nil}
 use Rattle.std.specs.List.{flat_map, AllByRecursion}
-use Rattle.std.specs.Prelude.{is_none}
 use Rattle.byteorder.specs.Endian.{big_bytes, big_from}
 use Rattle.byteorder.specs.Numbers.{length-bytes_high_first, big_number-reads_back}
-use Rattle.pbf_wire.specs.declared.fault.Reason.TheVariants.{DataSize, Missing, RawLong}
 use Rattle.pbf_wire.specs.Least.{least}
-use Rattle.pbf_wire.specs.Message.{Slot, Scalar, Each, parts_of, message, slot_bytes, SlotFits}
+use Rattle.pbf_wire.specs.Message.{Slot, Scalar, Each, parts_of, message, SlotFits}
 use Rattle.pbf_wire.specs.Occurrence.{items, found}
 use Rattle.pbf_wire.specs.Reading.{occurrence_text, last_of}
 use Rattle.pbf_wire.specs.Signed.{low_i32}
@@ -24,10 +21,9 @@ use Rattle.pbf_wire.specs.declared.limits.TheConstants.{RAW_LIMIT}
 use Rattle.pbf_frame.specs.declared.frame.FrameKind.{FrameKind}
 use Rattle.pbf_frame.specs.declared.frame.FrameKind.TheVariants as kind
 use Rattle.pbf_frame.specs.declared.header.TheConstants.{TYPE, DATASIZE, HEADER_KINDS, LARGEST_SIZE}
-use Rattle.pbf_wire.specs.Faults.{fault_where}
-use Rattle.pbf_frame.specs.Header.{name_of, kind_named, size_within, size_of, size_faults, header_faults}
-use Rattle.pbf_frame.specs.Blob.{compressed, raw_faults, blob_faults, blob_fault, raw_payload_of}
-use Rattle.pbf_frame.specs.Frames.{order_faults, frame_kind, frame_end, frame_bytes, frame_payload, payload_in, blob_at}
+use Rattle.pbf_frame.specs.Header.{name_of, kind_named, size_within, size_of, header_faults}
+use Rattle.pbf_frame.specs.Blob.{blob_fault, raw_payload_of}
+use Rattle.pbf_frame.specs.Frames.{order_faults, frame_kind, frame_end, frame_bytes, frame_payload, blob_at}
 use Rattle.pbf_frame.specs.Sound.{IsSoundBlob, IsFrameWithin}
 use Rattle.pbf_frame.proofs.BlobLemmas.{blob_steps}
 use Rattle.pbf_frame.specs.Writing.{written_name, written_header, written_blob, written_at, written_frame}
@@ -59,11 +55,8 @@ blob_payload at payload small = ap (λ os. occurrence_text (last_of RAW os)) (bl
 blob_wired : (at : ℕ) (payload : List ℕ) → length payload < RAW_LIMIT → wire BLOB_KINDS (items at (written_blob payload)) ≡ None
 blob_wired at payload small = grind (arith, blob_is, no_wire_fault, blob_fits, blob_short)
 
-blob_whole : (at : ℕ) (payload : List ℕ) → length payload < RAW_LIMIT → least (blob_faults at (written_blob payload)) ≡ None
-blob_whole at payload small = grind (arith, nat_tests, blob_fields)
-
 blob_sound : (at : ℕ) (payload : List ℕ) → length payload < RAW_LIMIT → blob_fault at (written_blob payload) ≡ None
-blob_sound at payload small = grind (arith, blob_steps, blob_wired, blob_whole)
+blob_sound at payload small = grind (arith, blob_steps, blob_wired, blob_fields)
 
 -- ---- the header
 
@@ -107,9 +100,6 @@ sound_any : (k : FrameKind) (at : ℕ) (blob : List ℕ) → blob_fault at blob 
 sound_any kind.Other at blob sound = tt
 sound_any k at blob sound = sound
 
-payload_any : (k : FrameKind) (at : ℕ) (blob : List ℕ) → (k ≡ kind.Other → ⊥) → payload_in k at blob ≡ raw_payload_of at blob
-payload_any k at blob known = grind arith
-
 module _ (place : ℕ) (k : FrameKind) (payload : List ℕ) (known : k ≡ kind.Other → ⊥) (small : length payload < RAW_LIMIT) where
   size_small : length (written_blob payload) ≤ LARGEST_SIZE
   size_small = omega (arith, blob_short payload small, small)
@@ -118,7 +108,7 @@ module _ (place : ℕ) (k : FrameKind) (payload : List ℕ) (known : k ≡ kind.
   written_kind = ap kind_named (header_name (place + 4) k (length (written_blob payload)) (omega (arith, size_small))) ∙ name_kind k known
 
   pub written_payload : frame_payload (written_at place k payload) ≡ payload
-  written_payload = grind (arith, written_kind, payload_any, blob_payload)
+  written_payload = grind (arith, written_kind, blob_payload)
 
   pub written_is_frame : (limit : Option ℕ) (h : Bool) → least (order_faults limit h place k (frame_end (written_at place k payload))) ≡ None → IsFrameWithin limit h place (written_at place k payload)
   written_is_frame limit h ordered =

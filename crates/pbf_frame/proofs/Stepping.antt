@@ -12,7 +12,6 @@ use Rattle.pbf_wire.specs.Phases.{first_fault}
 use Rattle.pbf_wire.specs.Wire.{wire}
 use Rattle.pbf_wire.proofs.FaultLemmas.{leaf_is_wire}
 use Rattle.pbf_frame.specs.declared.frame.FrameKind.{FrameKind}
-use Rattle.pbf_frame.specs.declared.frame.FrameKind.TheVariants as kind
 use Rattle.pbf_frame.specs.declared.header.Head.{Head}
 use Rattle.pbf_frame.specs.declared.header.TheConstants.{HEADER_KINDS, HEADER_LIMIT}
 use Rattle.pbf_frame.specs.Header.{header_faults, head_says}
@@ -70,10 +69,6 @@ ended : (h : Bool) (p : ℕ) (bytes : List ℕ) → length bytes == 0 ≡ true �
 unfolding next_within steps_of prefix_at after_prefix
 ended h p bytes is = grind arith
 
--- the last step, and what it gives
-last_step : {A B C : Type 0} (l : Option Fault) (x : A) (g : A → B) (s : B → C) → unless l (Ok (s (g x))) ≡ ((unless l (Ok x) >>= λ v. Ok (g v)) >>= λ w. Ok (s w))
-last_step l x g s = grind arith
-
 -- a frame, and the bytes after it; or its fault
 abbrev pub given_or : Option Fault → FrameSpec → List ℕ → Result (Option FrameSpec × List ℕ) Fault
 given_or fault f bytes = option_map_or Err fault (Ok (Some f, drop (length (frame_bytes f)) bytes))
@@ -120,7 +115,7 @@ module _ (h : Bool) (p : ℕ) (bytes : List ℕ) (some : length bytes == 0 ≡ f
     by_options : (w a o : Option Fault) → wire HEADER_KINDS (items (p + 4) f.header) ≡ w → least (header_faults (p + 4) f.header) ≡ a → least (order_faults (Some FILE_LIMIT) h p head.kind (p + 4 + length f.header + head.size)) ≡ o
         → steps_of h p bytes ≡ unless (option_or w (option_or a (option_or o (first_fault (late head.kind head.size (blob_at f) f.blob))))) (Ok (Some f, drop (length (frame_bytes f)) bytes))
     unfolding steps_of prefix_at after_prefix frame_of header_after bytes_at head_of
-    by_options w a o ew ea eo = grind (arith, drop_front, blob_is, last_step, rest_is)
+    by_options w a o ew ea eo = grind (arith, drop_front, blob_is, rest_is)
 
     sound_cut : steps_of h p bytes ≡ given_or (first_fault after_cut) f bytes
     sound_cut =

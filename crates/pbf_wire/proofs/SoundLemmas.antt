@@ -167,9 +167,9 @@ later k o os = last_or o (filter (λ o. o.number == k) os)
 last_from : (P : Occurrence → Type 0) (k : ℕ) (os : List Occurrence) (before : Option Occurrence) → AllByRecursion P os → IfThere P k before → IfThere P k (later k before os)
 last_from P k [] before all h = h
 last_from P k (o ∷ os) before all h = chosen (o.number == k) refl (λ same. last_from P k os (Some o) all.1 (all.0, same)) (last_from P k os before all.1 h) where
-    chosen : (b : Bool) → (o.number == k) ≡ b → (o.number ≡ k → IfThere P k (later k (Some o) os)) → IfThere P k (later k before os) → IfThere P k (last_or before (if b then o ∷ filter (λ o. o.number == k) os else filter (λ o. o.number == k) os))
-    chosen true e taken skipped = taken (grind arith)
-    chosen false e taken skipped = skipped
+  chosen : (b : Bool) → (o.number == k) ≡ b → (o.number ≡ k → IfThere P k (later k (Some o) os)) → IfThere P k (later k before os) → IfThere P k (last_or before (if b then o ∷ filter (λ o. o.number == k) os else filter (λ o. o.number == k) os))
+  chosen true e taken skipped = taken (grind arith)
+  chosen false e taken skipped = skipped
 
 -- what holds of all occurrences holds of the last of the field k
 pub last_holds : (P : Occurrence → Type 0) (k : ℕ) (os : List Occurrence) (o : Occurrence) → AllByRecursion P os → last_of k os ≡ Some o → P o × (o.number ≡ k)
