@@ -1,21 +1,18 @@
 -- Frames without faults make up a file, with a limit of its length or without one; and a file of any length that keeps to a limit has the
 -- same frames with it.
-use Rattle.std.proofs.Common.{◌≡◌, ℕ, zero, suc, ◌+◌, ◌<◌, ◌≤◌, ◌||◌, ◌==◌, nat_lt, nat_le, Bool, true, false, cond, List, [], ◌∷◌, ◌++◌, length, take, drop, Option, Some, None, Result, Ok, Err, refl, sym, ap, ◌∙◌, subst, append_assoc, length-append, arith}
+use Rattle.std.proofs.Common.{◌≡◌, ℕ, zero, suc, ◌+◌, ◌<◌, ◌≤◌, ◌||◌, ◌==◌, nat_lt, Bool, true, false, cond, List, [], ◌∷◌, ◌++◌, length, take, drop, Option, Some, None, Result, Ok, Err, refl, sym, ap, ◌∙◌, subst, append_assoc, length-append, arith}
 use Rattle.std.specs.Prelude.{unwrap_or}
 use Rattle.std.proofs.lemmas.Bool.Decides.{nat_tests}
 use Rattle.std.proofs.lemmas.List.{take_at, drop_at, length-take, length-drop}
 use Rattle.byteorder.specs.Endian.{big_number}
 use Rattle.pbf_wire.specs.declared.fault.Fault.{Fault}
-use Rattle.pbf_wire.specs.declared.fault.Reason.{Reason}
 use Rattle.pbf_wire.specs.declared.fault.Reason.TheVariants.{NoHeader, BlobCut}
 use Rattle.pbf_wire.specs.Faults.{fault, fault_where, leaf_faults}
 use Rattle.pbf_wire.specs.Least.{least}
-use Rattle.pbf_wire.specs.Occurrence.{items}
 use Rattle.pbf_wire.specs.Phases.{first_fault}
 use Rattle.pbf_wire.proofs.FaultLemmas.{leaf_is_wire}
 use Rattle.pbf_frame.specs.declared.frame.FrameKind.{FrameKind}
-use Rattle.pbf_frame.specs.declared.frame.FrameKind.TheVariants as kind
-use Rattle.pbf_frame.specs.declared.header.TheConstants.{HEADER_KINDS, HEADER_LIMIT}
+use Rattle.pbf_frame.specs.declared.header.TheConstants.{HEADER_KINDS}
 use Rattle.pbf_frame.specs.Blob.{blob_fault}
 use Rattle.pbf_frame.specs.Header.{head_says, header_faults}
 use Rattle.pbf_frame.specs.Frames.{FrameSpec, is_header, header_at, blob_at, frame_at, frame_kind, frame_bytes, frame_end, cut_faults, order_faults, phases_of_blob, frame_phases, next_within}
@@ -26,14 +23,9 @@ use Rattle.pbf_wire.proofs.SoundLemmas.{both_none}
 
 -- ---- a frame without a fault is the next
 
--- five phases have no fault, and none of the later ones has
-none_at_all : (a b c d e : List Fault) (late : List (List Fault)) → least a ≡ None → least b ≡ None → least c ≡ None → least d ≡ None → least e ≡ None → first_fault late ≡ None → first_fault (a ∷ b ∷ c ∷ d ∷ e ∷ late) ≡ None
-none_at_all a b c d e late is_a is_b is_c is_d is_e none = rw (is_a, is_b, is_c, is_d, is_e) none
-
 blob_none : (k : FrameKind) (at : ℕ) (blob : List ℕ) → IsSoundBlob k at blob → first_fault (phases_of_blob k at blob) ≡ None
 unfolding blob_fault
-blob_none kind.Other at blob sound = refl
-blob_none k at blob sound = sound
+blob_none k at blob sound = grind arith
 
 -- after four bytes and a header, as these bytes begin
 abbrev from_prefix : ℕ → List ℕ → List ℕ → FrameSpec
@@ -51,9 +43,6 @@ module _ (limit : Option ℕ) (h : Bool) (f : FrameSpec) (rest : List ℕ) (is :
   size_is : length f.blob ≡ (head_says (header_at f) f.header).size
   size_is = ap (λ (m : Option ℕ). unwrap_or m 0) (sym is.sized)
 
-  regrouped : frame_bytes f ++ rest ≡ spelling
-  regrouped = append_assoc (f.prefix ++ f.header) f.blob rest ∙ append_assoc f.prefix f.header (f.blob ++ rest)
-
   at_frame : frame_at f.offset spelling ≡ f
   at_frame =
       let after = f.header ++ (f.blob ++ rest) in
@@ -65,36 +54,17 @@ module _ (limit : Option ℕ) (h : Bool) (f : FrameSpec) (rest : List ℕ) (is :
       ∙ ap (λ (b : List ℕ). record { offset = f.offset; prefix = f.prefix; header = f.header; blob = b }) (take_at f.blob rest (head_says (header_at f) f.header).size size_is)
 
   cut_none : cut_faults f ≡ []
-  cut_none =
-      let four : nat_lt (length f.prefix) 4 ≡ false = grind (arith, nat_tests, is.prefix_long) in
-      let small : nat_le HEADER_LIMIT (big_number 4 f.prefix) ≡ false = grind (arith, nat_tests, is.spelled, is.short) in
-      let whole : nat_lt (length f.header) (big_number 4 f.prefix) ≡ false = grind (arith, nat_tests, is.spelled) in
-      rw (four, small, whole) refl
+  cut_none = grind (arith, nat_tests)
 
   no_fault : first_fault (frame_phases limit h f) ≡ None
-  no_fault =
-      let size = (head_says (header_at f) f.header).size in
-      let whole : nat_lt (length f.blob) size ≡ false = grind (arith, nat_tests, size_is) in
-      none_at_all (cut_faults f) (leaf_faults HEADER_KINDS f.offset (header_at f) f.header) (header_faults (header_at f) f.header) (order_faults limit h f.offset (frame_kind f) (blob_at f + size))
-      (fault_where (nat_lt (length f.blob) size) (blob_at f) BlobCut) (phases_of_blob (frame_kind f) (blob_at f) f.blob)
-      (ap least cut_none) (leaf_is_wire HEADER_KINDS (items (header_at f) f.header) ∙ is.wired) is.whole
-      (ap (λ (n : ℕ). least (order_faults limit h f.offset (frame_kind f) (blob_at f + n))) (sym size_is) ∙ is.ordered)
-      (ap (λ (b : Bool). least (fault_where b (blob_at f) BlobCut)) whole) (blob_none (frame_kind f) (blob_at f) f.blob is.sound)
+  no_fault = grind (arith, nat_tests, size_is, cut_none, leaf_is_wire, blob_none)
 
   next_at : next_within limit h f.offset (frame_bytes f ++ rest) ≡ Ok (Some f, rest)
   unfolding next_within
-  next_at =
-      let all = frame_bytes f ++ rest in
-      let some : (length all == 0) ≡ false = grind (arith, nat_tests, ap length regrouped, length-append f.prefix (f.header ++ (f.blob ++ rest)), is.prefix_long) in
-      let at : frame_at f.offset all ≡ f = ap (frame_at f.offset) regrouped ∙ at_frame in
-      rw some (
-      ap (λ (g : FrameSpec). given_or (first_fault (frame_phases limit h g)) g all) at
-      ∙ ap (λ (o : Option Fault). given_or o f all) no_fault ∙ ap (λ (l : List ℕ). Ok (Some f, l)) (drop_at (frame_bytes f) rest (length (frame_bytes f)) refl)
-      )
+  next_at = grind (arith, nat_tests, length-append, append_assoc, at_frame, given_or, no_fault, drop_at)
 
 pub frame_is_next_within : (limit : Option ℕ) (h : Bool) (p : ℕ) (f : FrameSpec) (rest : List ℕ) → IsFrameWithin limit h p f → next_within limit h p (frame_bytes f ++ rest) ≡ Ok (Some f, rest)
-frame_is_next_within limit h p f rest is =
-    subst (λ (n : ℕ). next_within limit h n (frame_bytes f ++ rest) ≡ Ok (Some f, rest)) is.offset (next_at limit h f rest (subst (λ (n : ℕ). IsFrameWithin limit h n f) (sym is.offset) is))
+frame_is_next_within limit h p f rest is = grind (arith, next_at)
 
 -- ---- frames without faults, and nothing after them
 
@@ -106,15 +76,11 @@ judged_frames : (fs : List FrameSpec) (limit : Option ℕ) (n : ℕ) (h : Bool) 
 unfolding judged_fueled
 judged_frames fs limit zero h p low are had = absurd (omega (arith, low))
 judged_frames [] limit (suc n) h p low are had = ap (judged_after (judged_fueled limit n) h) (nothing_next limit h p had)
-judged_frames (f ∷ fs) limit (suc n) h p low are had =
-    ap (judged_after (judged_fueled limit n) h) (frame_is_next_within limit h p f (joined_frames fs) are.0)
-    ∙ ap (with_frame_first f) (judged_frames fs limit n (h || is_header (frame_kind f)) (frame_end f) (omega (arith, low)) are.1 had)
+judged_frames (f ∷ fs) limit (suc n) h p low are had = grind (arith, frame_is_next_within, judged_frames fs limit n (h || is_header (frame_kind f)) (frame_end f) (omega (arith, low)) are.1 had)
 
 few_frames : (fs : List FrameSpec) (limit : Option ℕ) (h : Bool) (p : ℕ) → AreFramesWithin limit h p fs → length fs ≤ length (joined_frames fs)
 few_frames [] limit h p are = omega arith
-few_frames (f ∷ fs) limit h p are =
-    let later = few_frames fs limit (h || is_header (frame_kind f)) (frame_end f) are.1 in
-    omega (arith, later, are.0.prefix_long, length-append (frame_bytes f) (joined_frames fs), length-append (f.prefix ++ f.header) f.blob, length-append f.prefix f.header)
+few_frames (f ∷ fs) limit h p are = grind (arith, length-append, few_frames fs limit (h || is_header (frame_kind f)) (frame_end f) are.1)
 
 -- they are all that there is
 pub whole_file : (limit : Option ℕ) (h : Bool) (p : ℕ) (fs : List FrameSpec) → AreFramesWithin limit h p fs → had_after h fs ≡ true → judged_within limit h p (joined_frames fs) ≡ (fs, None)
@@ -132,14 +98,6 @@ err_ok e x is = cc
 ok_same : (x y : Found) → ◌≡◌ {A = Result Found Fault} (Ok x) (Ok y) → x ≡ y
 ok_same x y e = cc
 
-where_none : (b : Bool) (place : ℕ) (reason : Reason) → least (fault_where b place reason) ≡ None → b ≡ false
-where_none false place reason e = refl
-where_none true place reason e = (let bad : ⊥ = cc in absurd bad)
-
-prefix_whole : (b : Bool) (x : Fault) (later : List Fault) → least (cond {A = List Fault} b (x ∷ []) later) ≡ None → b ≡ false
-prefix_whole false x later e = refl
-prefix_whole true x later e = (let bad : ⊥ = cc in absurd bad)
-
 first_and_fifth : (a b c d e : List Fault) (late : List (List Fault)) → first_fault (a ∷ b ∷ c ∷ d ∷ e ∷ late) ≡ None → (least a ≡ None) × (least e ≡ None)
 first_and_fifth a b c d e late none =
     let one = both_none (least a) (first_fault (b ∷ c ∷ d ∷ e ∷ late)) none in
@@ -149,9 +107,7 @@ first_and_fifth a b c d e late none =
     (one.0, (both_none (least e) (first_fault late) four.1).0)
 
 ordered_same : (limit : ℕ) (h : Bool) (p : ℕ) (k : FrameKind) (last : ℕ) → last ≤ limit → order_faults (Some limit) h p k last ≡ order_faults None h p k last
-ordered_same limit h p k last low =
-    let within : nat_lt limit last ≡ false = grind (arith, nat_tests, low) in
-    rw within refl
+ordered_same limit h p k last low = grind (arith, nat_tests)
 
 -- the next frame of bytes that keep to the limit, which has no fault without it
 module _ (limit : ℕ) (h : Bool) (p : ℕ) (bytes : List ℕ) (low : p + length bytes ≤ limit) where
@@ -170,8 +126,8 @@ module _ (limit : ℕ) (h : Bool) (p : ℕ) (bytes : List ℕ) (low : p + length
   is_there none =
       let (cut, sized) = first_and_fifth (cut_faults f) (leaf_faults HEADER_KINDS f.offset (header_at f) f.header) (header_faults (header_at f) f.header) (order_faults None h f.offset (frame_kind f) (blob_at f + size))
       (fault_where (nat_lt (length f.blob) size) (blob_at f) BlobCut) (phases_of_blob (frame_kind f) (blob_at f) f.blob) none in
-      let long : nat_lt (length f.prefix) 4 ≡ false = prefix_whole (nat_lt (length f.prefix) 4) _ _ cut in
-      let enough : nat_lt (length f.blob) size ≡ false = where_none (nat_lt (length f.blob) size) (blob_at f) BlobCut sized in
+      let long : nat_lt (length f.prefix) 4 ≡ false = grind (arith, cut) in
+      let enough : nat_lt (length f.blob) size ≡ false = grind (arith, sized) in
       let wide : 4 ≤ length f.prefix = grind (arith, nat_tests, long) in
       let whole : size ≤ length f.blob = grind (arith, nat_tests, enough) in
       let prefix = length-take 4 bytes in
@@ -183,11 +139,7 @@ module _ (limit : ℕ) (h : Bool) (p : ℕ) (bytes : List ℕ) (low : p + length
       record { room = room; whole = whole }
 
   phases_same : first_fault (frame_phases None h f) ≡ None → frame_phases (Some limit) h f ≡ frame_phases None h f
-  phases_same none =
-      let there = is_there none in
-      ap (λ (ordered : List Fault). cut_faults f ∷ leaf_faults HEADER_KINDS f.offset (header_at f) f.header ∷ header_faults (header_at f) f.header ∷ ordered
-      ∷ fault_where (nat_lt (length f.blob) size) (blob_at f) BlobCut ∷ phases_of_blob (frame_kind f) (blob_at f) f.blob)
-      (ordered_same limit h f.offset (frame_kind f) (blob_at f + size) (omega (arith, low, there.room, there.whole)))
+  phases_same none = grind (arith, is_there, ordered_same)
 
   -- the bytes after the next frame keep to the limit too
   abbrev Room : Found → Type 0

@@ -19,8 +19,7 @@ bytes_at_ok cut n read bytes is long = rw (← is) (grind (arith, nat_tests))
 
 -- if the bytes begin with these
 pub bytes_at_front : (cut : Fault) (n : ℕ) (read rest : List ℕ) → length read ≡ n → bytes_at cut n (read ++ rest) ≡ Ok (read, rest)
-bytes_at_front cut n read rest long =
-    bytes_at_ok cut n read (read ++ rest) (sym (take_at read rest n long)) (omega (arith, long)) ∙ ap (λ (l : List ℕ). Ok (read, l)) (drop_at read rest n long)
+bytes_at_front cut n read rest long = grind (arith, bytes_at_ok, take_at, drop_at)
 
 -- if there are fewer
 pub bytes_at_short : (cut : Fault) (n : ℕ) (bytes : List ℕ) → length bytes < n → bytes_at cut n bytes ≡ Err cut
@@ -41,8 +40,7 @@ known_parts None b bytes e = (let bad : ⊥ = cc in absurd bad)
 known_parts (Some rest) b bytes e = (rest, (let same : bytes ≡ b ++ rest = cc in same), refl)
 
 pub still_untold : (old new : Option (List ℕ)) (b : List ℕ) → old ≡ prepend b new → old ≡ None → new ≡ None
-still_untold old None b e none = refl
-still_untold old (Some rest) b e none = (let bad : ⊥ = cc in absurd bad)
+still_untold old new b e none = grind arith
 
 pub gave_skipped : (k : FrameKind) (size at : ℕ) (held : List ℕ) (p q : ℕ → List ℕ → Type 0) (old new : Option (List ℕ)) → k ≡ kind.Other → Skips p q old new size → held ≡ [] → GaveBlob k size at held p q old new
 gave_skipped k size at held p q old new other skips empty = subst (λ (x : FrameKind). GaveBlob x size at held p q old new) (sym other) record {

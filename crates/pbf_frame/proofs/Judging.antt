@@ -1,5 +1,5 @@
 -- The verdict on the bytes, frame by frame.
-use Rattle.std.proofs.Common.{◌≡◌, ℕ, zero, suc, ◌+◌, ◌<◌, ◌||◌, Bool, List, [], length, Option, Some, None, Result, Ok, Err, refl, sym, ap, ◌∙◌, subst, length-append, arith}
+use Rattle.std.proofs.Common.{◌≡◌, ℕ, zero, suc, ◌<◌, ◌||◌, Bool, List, [], length, Option, Some, None, Result, Ok, Err, refl, sym, ap, ◌∙◌, subst, length-append, arith}
 use Rattle.pbf_wire.specs.declared.fault.Fault.{Fault}
 use Rattle.pbf_frame.specs.Devices.{prepend}
 use Rattle.pbf_frame.specs.declared.frame.TheConstants.{FILE_LIMIT}
@@ -29,10 +29,7 @@ more_fuel (suc m) (suc n) h p bytes low high =
 -- the verdict, frame by frame
 pub judged_step : (h : Bool) (p : ℕ) (bytes : List ℕ) → judged h p bytes ≡ judged_after judged h (next_of h p bytes)
 unfolding judged_within judged_fueled
-judged_step h p bytes =
-    let fuel : length bytes + 1 ≡ suc (length bytes) = omega arith in
-    ap (λ n. judged_fueled (Some FILE_LIMIT) n h p bytes) fuel
-    ∙ same_after (judged_fueled (Some FILE_LIMIT) (length bytes)) judged h p bytes (λ h' p' rest shorter. more_fuel (length bytes) (length rest + 1) h' p' rest shorter (omega arith))
+judged_step h p bytes = grind (arith, same_after, more_fuel)
 
 pub judged_some : (h : Bool) (p : ℕ) (bytes : List ℕ) (f : FrameSpec) (rest : List ℕ) → next_of h p bytes ≡ Ok (Some f, rest) → judged h p bytes ≡ with_frame_first f (judged (h || is_header (frame_kind f)) (frame_end f) rest)
 judged_some h p bytes f rest e = judged_step h p bytes ∙ ap (judged_after judged h) e

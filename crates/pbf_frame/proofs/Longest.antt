@@ -15,7 +15,7 @@ use Rattle.pbf_frame.specs.declared.header.TheConstants.{TYPE, DATASIZE, HEADER_
 use Rattle.pbf_frame.specs.Header.{header_faults, int32_held, size_within, size_of, size_faults}
 use Rattle.pbf_frame.specs.declared.frame.TheConstants.{FILE_LIMIT}
 use Rattle.pbf_frame.specs.Frames.{FrameSpec, is_header, header_at, blob_at, frame_kind, frame_bytes, frame_end, order_faults, next_of}
-use Rattle.pbf_frame.specs.Verdict.{Verdict, with_frame_first, with_all, judged_after, judged, joined_frames}
+use Rattle.pbf_frame.specs.Verdict.{Verdict, with_all, judged_after, judged, joined_frames}
 use Rattle.pbf_frame.specs.Sound.{IsSoundBlob, IsFrame, AreFrames, had_after, place_after, EndsAs, IsLongestFront}
 use Rattle.pbf_frame.specs.Steps.{prefix_at}
 use Rattle.pbf_frame.proofs.AnyLength.{frame_is_next_within}
@@ -79,10 +79,7 @@ frame_is_next h p f rest is = frame_is_next_within (Some FILE_LIMIT) h p f rest 
 
 pub frames_then_rest : (h : Bool) (p : ℕ) (fs : List FrameSpec) (rest : List ℕ) → AreFrames h p fs → judged h p (joined_frames fs ++ rest) ≡ with_all fs (judged (had_after h fs) (place_after p fs) rest)
 frames_then_rest h p [] rest are = refl
-frames_then_rest h p (f ∷ fs) rest are =
-    ap (judged h p) (append_assoc (frame_bytes f) (joined_frames fs) rest)
-    ∙ judged_some h p (frame_bytes f ++ (joined_frames fs ++ rest)) f (joined_frames fs ++ rest) (frame_is_next h p f (joined_frames fs ++ rest) are.0)
-    ∙ ap (with_frame_first f) (frames_then_rest (h || is_header (frame_kind f)) (frame_end f) fs rest are.1)
+frames_then_rest h p (f ∷ fs) rest are = grind (arith, append_assoc, judged_some, frame_is_next, frames_then_rest (h || is_header (frame_kind f)) (frame_end f) fs rest are.1)
 
 -- everything except that no list is longer
 pub record IsFrontOf (h : Bool) (p : ℕ) (bytes : List ℕ) (verdict : Verdict) : Type 0 where

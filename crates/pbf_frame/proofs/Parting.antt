@@ -133,11 +133,7 @@ header_parts h p prefix bytes header rest head e =
 
 pub header_whole : (h : Bool) (p : ℕ) (prefix bytes header rest : List ℕ) (head : Head) → HeaderParts h p prefix bytes header rest head → header_after h p prefix bytes ≡ Ok ((header, head), rest)
 unfolding header_after
-header_whole h p prefix bytes header rest head parts =
-    ap (λ l. bytes_at (fault p HeaderCut) (big_number 4 prefix) l >>= after_bytes h p) parts.split
-    ∙ ap (λ r. r >>= after_bytes h p) (bytes_at_front (fault p HeaderCut) (big_number 4 prefix) header rest parts.long)
-    ∙ ap (λ r. r >>= after_head h p (header, rest)) parts.says
-    ∙ ap (λ o. unless o (Ok ((header, head), rest))) parts.ordered
+header_whole h p prefix bytes header rest head parts = grind (arith, bytes_at_front)
 
 -- ---- the blob
 

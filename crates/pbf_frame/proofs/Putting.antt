@@ -1,5 +1,5 @@
 -- What is put into the room is the frame in written form.
-use Rattle.std.proofs.Common.{◌≡◌, ℕ, ◌+◌, ◌*◌, List, [], ◌∷◌, ◌++◌, length, Some, refl, sym, ap, ◌∙◌, append_assoc, length-append}
+use Rattle.std.proofs.Common.{◌≡◌, ℕ, ◌+◌, ◌*◌, List, [], ◌∷◌, ◌++◌, length, Some, refl, sym, ap, ◌∙◌, append_assoc, length-append, arith}
 use Rattle.std.proofs.lemmas.List.{append-nil, length-take-le}
 use Rattle.byteorder.specs.Endian.{big_bytes}
 use Rattle.pbf_wire.specs.Message.{Scalar, Each, message, slot_bytes}
@@ -38,8 +38,6 @@ front_put k size header e1 e2 is_header p1 p2 = p2 ∙ ap (λ l. l ++ header) p1
 
 pub frame_put : (k : FrameKind) (payload blob e2 e3 : List ℕ) → blob ++ payload ≡ written_blob payload → e2 ≡ front_of k (length blob + length payload) → e3 ≡ e2 ++ blob → e3 ++ payload ≡ written_frame k payload
 unfolding written_frame
-frame_put k payload blob e2 e3 is_blob p2 p3 =
-    let size : length blob + length payload ≡ length (written_blob payload) = sym (length-append blob payload) ∙ ap length is_blob in
-    ap (λ l. l ++ payload) p3 ∙ append_assoc e2 blob payload ∙ ap (λ l. e2 ++ l) is_blob ∙ ap (λ l. l ++ written_blob payload) (p2 ∙ ap (front_of k) size)
+frame_put k payload blob e2 e3 is_blob p2 p3 = grind (arith, length-append, append_assoc)
 
 pub ruleset cuts = (length-take-le)

@@ -1,15 +1,12 @@
 -- A frame in written form has no fault, and its kind and payload are those that were written.
-use Rattle.std.proofs.Common.{◌≡◌, ℕ, ◌+◌, ◌*◌, ◌%◌, ◌^◌, ◌<◌, ◌≤◌, nat_lt, nat_le, Bool, true, false, List, [], ◌∷◌, ◌++◌, length, Option, Some, None, refl, sym, ap, ◌∙◌, subst, length-append, arith}
-use Rattle.std.specs.Option.{option_or}
+use Rattle.std.proofs.Common.{◌≡◌, ℕ, ◌+◌, ◌^◌, ◌<◌, ◌≤◌, Bool, List, [], ◌∷◌, length, Option, Some, None, refl, sym, ap, ◌∙◌, length-append, arith}
 use Rattle.std.proofs.lemmas.Bool.Decides.{nat_tests}
 use Rattle.std.proofs.lemmas.List.{append-nil}
 use Rattle.std.specs.List.{flat_map, AllByRecursion}
-use Rattle.std.specs.Prelude.{is_none}
 use Rattle.byteorder.specs.Endian.{big_bytes, big_from}
 use Rattle.byteorder.specs.Numbers.{length-bytes_high_first, big_number-reads_back}
-use Rattle.pbf_wire.specs.declared.fault.Reason.TheVariants.{DataSize, Missing, RawLong}
 use Rattle.pbf_wire.specs.Least.{least}
-use Rattle.pbf_wire.specs.Message.{Slot, Scalar, Each, parts_of, message, slot_bytes, SlotFits}
+use Rattle.pbf_wire.specs.Message.{Slot, Scalar, Each, parts_of, message, SlotFits}
 use Rattle.pbf_wire.specs.Occurrence.{items, found}
 use Rattle.pbf_wire.specs.Reading.{occurrence_text, last_of}
 use Rattle.pbf_wire.specs.Signed.{low_i32}
@@ -24,10 +21,9 @@ use Rattle.pbf_wire.specs.declared.limits.TheConstants.{RAW_LIMIT}
 use Rattle.pbf_frame.specs.declared.frame.FrameKind.{FrameKind}
 use Rattle.pbf_frame.specs.declared.frame.FrameKind.TheVariants as kind
 use Rattle.pbf_frame.specs.declared.header.TheConstants.{TYPE, DATASIZE, HEADER_KINDS, LARGEST_SIZE}
-use Rattle.pbf_wire.specs.Faults.{fault_where}
-use Rattle.pbf_frame.specs.Header.{name_of, kind_named, size_within, size_of, size_faults, header_faults}
-use Rattle.pbf_frame.specs.Blob.{compressed, raw_faults, blob_faults, blob_fault, raw_payload_of}
-use Rattle.pbf_frame.specs.Frames.{order_faults, frame_kind, frame_end, frame_bytes, frame_payload, payload_in, blob_at}
+use Rattle.pbf_frame.specs.Header.{name_of, kind_named, size_within, size_of, header_faults}
+use Rattle.pbf_frame.specs.Blob.{blob_fault, raw_payload_of}
+use Rattle.pbf_frame.specs.Frames.{order_faults, frame_kind, frame_end, frame_bytes, frame_payload, blob_at}
 use Rattle.pbf_frame.specs.Sound.{IsSoundBlob, IsFrameWithin}
 use Rattle.pbf_frame.proofs.BlobLemmas.{blob_steps}
 use Rattle.pbf_frame.specs.Writing.{written_name, written_header, written_blob, written_at, written_frame}
@@ -45,38 +41,22 @@ unfolding written_blob
 blob_is payload = refl
 
 blob_short : (payload : List ℕ) → length payload < RAW_LIMIT → length (written_blob payload) ≤ 20 + length payload
-blob_short payload small =
-    let parts : written_blob payload ≡ shortest (RAW * 8 + 2) ++ (shortest (length payload) ++ payload) = blob_is payload ∙ message_first (Each RAW (payload ∷ [])) [] ∙ ap (λ l. slot_bytes (Each RAW (payload ∷ [])) ++ l) message_none ∙ append-nil (slot_bytes (Each RAW (payload ∷ []))) ∙ each_bytes RAW payload in
-    let tag = spelling_short (RAW * 8 + 2) (omega arith) in
-    let size = spelling_short (length payload) (omega (arith, small)) in
-    omega (arith, tag, size, ap length parts, length-append (shortest (RAW * 8 + 2)) (shortest (length payload) ++ payload), length-append (shortest (length payload)) payload)
+blob_short payload small = grind (arith, blob_is, message_first, message_none, append-nil, each_bytes, spelling_short, length-append)
 
 blob_fits : (payload : List ℕ) → AllByRecursion SlotFits (blob_slots payload)
 blob_fits payload = ((omega arith, omega arith), tt)
 
 blob_fields : (at : ℕ) (payload : List ℕ) → length payload < RAW_LIMIT → found (items at (written_blob payload)) ≡ occurrences_of at (flat_map parts_of (blob_slots payload))
-blob_fields at payload small =
-    ap (λ l. found (items at l)) (blob_is payload)
-    ∙ fields_written at (blob_slots payload) (blob_fits payload) (subst (λ l. length l < 2 ^ 64) (blob_is payload) (omega (arith, blob_short payload small, small)))
+blob_fields at payload small = grind (arith, blob_is, fields_written, blob_fits, blob_short)
 
 blob_payload : (at : ℕ) (payload : List ℕ) → length payload < RAW_LIMIT → raw_payload_of at (written_blob payload) ≡ payload
 blob_payload at payload small = ap (λ os. occurrence_text (last_of RAW os)) (blob_fields at payload small)
 
 blob_wired : (at : ℕ) (payload : List ℕ) → length payload < RAW_LIMIT → wire BLOB_KINDS (items at (written_blob payload)) ≡ None
-blob_wired at payload small =
-    ap (λ l. wire BLOB_KINDS (items at l)) (blob_is payload)
-    ∙ no_wire_fault BLOB_KINDS at (blob_slots payload) (refl, tt) (blob_fits payload) (subst (λ l. length l < 2 ^ 64) (blob_is payload) (omega (arith, blob_short payload small, small)))
-
-blob_whole : (at : ℕ) (payload : List ℕ) → length payload < RAW_LIMIT → least (blob_faults at (written_blob payload)) ≡ None
-blob_whole at payload small =
-    let below : nat_le RAW_LIMIT (length payload) ≡ false = grind (arith, nat_tests, small) in
-    ap (λ os. least (raw_faults at (last_of RAW os) (compressed os))) (blob_fields at payload small)
-    ∙ ap (λ (b : Bool). least (fault_where b at RawLong ++ [])) below
+blob_wired at payload small = grind (arith, blob_is, no_wire_fault, blob_fits, blob_short)
 
 blob_sound : (at : ℕ) (payload : List ℕ) → length payload < RAW_LIMIT → blob_fault at (written_blob payload) ≡ None
-blob_sound at payload small =
-    blob_steps at (written_blob payload)
-    ∙ ap (λ o. option_or o (least (blob_faults at (written_blob payload)))) (blob_wired at payload small) ∙ blob_whole at payload small
+blob_sound at payload small = grind (arith, blob_steps, blob_wired, blob_fields)
 
 -- ---- the header
 
@@ -87,78 +67,38 @@ header_is : (k : FrameKind) (size : ℕ) → written_header k size ≡ message (
 unfolding written_header
 header_is k size = refl
 
-name_short : (k : FrameKind) → length (written_name k) ≤ 9
-name_short kind.Header = omega arith
-name_short k = omega arith
-
 header_short : (k : FrameKind) (size : ℕ) → size < 2 ^ 64 → length (written_header k size) ≤ 49
-header_short k size small =
-    let name = Each TYPE (written_name k ∷ []) in
-    let number = Scalar DATASIZE (Some size) in
-    let parts : written_header k size ≡ (shortest (TYPE * 8 + 2) ++ (shortest (length (written_name k)) ++ written_name k)) ++ (shortest (DATASIZE * 8) ++ shortest size) =
-    header_is k size ∙ message_first name (number ∷ []) ∙ ap (λ l. slot_bytes name ++ l) (message_first number [] ∙ ap (λ l. slot_bytes number ++ l) message_none ∙ append-nil (slot_bytes number) ∙ scalar_bytes DATASIZE size) ∙ ap (λ l. l ++ (shortest (DATASIZE * 8) ++ shortest size)) (each_bytes TYPE (written_name k)) in
-    let tag = spelling_short (TYPE * 8 + 2) (omega arith) in
-    let length_ = spelling_short (length (written_name k)) (omega (arith, name_short k)) in
-    let second = spelling_short (DATASIZE * 8) (omega arith) in
-    let value = spelling_short size small in
-    omega (
-      arith,
-      tag,
-      length_,
-      second,
-      value,
-      name_short k,
-      ap length parts,
-      length-append (shortest (TYPE * 8 + 2) ++ (shortest (length (written_name k)) ++ written_name k)) (shortest (DATASIZE * 8) ++ shortest size),
-      length-append (shortest (TYPE * 8 + 2)) (shortest (length (written_name k)) ++ written_name k),
-      length-append (shortest (length (written_name k))) (written_name k),
-      length-append (shortest (DATASIZE * 8)) (shortest size),
-    )
+header_short k size small = grind (arith, header_is, message_first, message_none, append-nil, scalar_bytes, each_bytes, spelling_short, length-append)
 
 header_fits : (k : FrameKind) (size : ℕ) → size < 2 ^ 64 → AllByRecursion SlotFits (header_slots k size)
 header_fits k size small = ((omega arith, omega arith), ((omega arith, omega arith, small), tt))
 
 header_fields : (at : ℕ) (k : FrameKind) (size : ℕ) → size < 2 ^ 64 → found (items at (written_header k size)) ≡ occurrences_of at (flat_map parts_of (header_slots k size))
-header_fields at k size small =
-    ap (λ l. found (items at l)) (header_is k size)
-    ∙ fields_written at (header_slots k size) (header_fits k size small) (subst (λ l. length l < 2 ^ 64) (header_is k size) (omega (arith, header_short k size small)))
+header_fields at k size small = grind (arith, header_is, fields_written, header_fits, header_short)
 
 header_name : (at : ℕ) (k : FrameKind) (size : ℕ) → size < 2 ^ 64 → name_of at (written_header k size) ≡ written_name k
 header_name at k size small = ap (λ os. occurrence_text (last_of TYPE os)) (header_fields at k size small)
 
 name_kind : (k : FrameKind) → (k ≡ kind.Other → ⊥) → kind_named (written_name k) ≡ k
-name_kind kind.Other known = absurd (known refl)
-name_kind k known = refl
+name_kind k known = grind arith
 
 header_wired : (at : ℕ) (k : FrameKind) (size : ℕ) → size < 2 ^ 64 → wire HEADER_KINDS (items at (written_header k size)) ≡ None
-header_wired at k size small =
-    ap (λ l. wire HEADER_KINDS (items at l)) (header_is k size)
-    ∙ no_wire_fault HEADER_KINDS at (header_slots k size) (refl, (refl, tt)) (header_fits k size small) (subst (λ l. length l < 2 ^ 64) (header_is k size) (omega (arith, header_short k size small)))
+header_wired at k size small = grind (arith, header_is, no_wire_fault, header_fits, header_short)
 
 size_read : (size : ℕ) → size ≤ LARGEST_SIZE → size_within (low_i32 size) ≡ Some size
-size_read size small =
-    let same : size % 2 ^ 32 ≡ size = omega (arith, small) in
-    let below : nat_lt size (2 ^ 31) ≡ true = grind (arith, nat_tests, small) in
-    let within : nat_le size LARGEST_SIZE ≡ true = grind (arith, nat_tests, small) in
-    rw (same, below, within) refl
+size_read size small = grind (arith, nat_tests)
 
 header_sized : (at : ℕ) (k : FrameKind) (size : ℕ) → size ≤ LARGEST_SIZE → size_of (last_of DATASIZE (found (items at (written_header k size)))) ≡ Some size
 header_sized at k size small = ap (λ os. size_of (last_of DATASIZE os)) (header_fields at k size (omega (arith, small))) ∙ size_read size small
 
 header_whole : (at : ℕ) (k : FrameKind) (size : ℕ) → size ≤ LARGEST_SIZE → least (header_faults at (written_header k size)) ≡ None
-header_whole at k size small =
-    ap (λ os. least (fault_where (is_none (last_of TYPE os)) at (Missing TYPE) ++ fault_where (is_none (last_of DATASIZE os)) at (Missing DATASIZE) ++ size_faults (last_of DATASIZE os))) (header_fields at k size (omega (arith, small)))
-    ∙ ap (λ (o : Option ℕ). least (fault_where (is_none o) (at + length (shortest (TYPE * 8 + 2) ++ (shortest (length (written_name k)) ++ written_name k))) DataSize)) (size_read size small)
+header_whole at k size small = grind (arith, header_fields, size_read)
 
 -- ---- the frame
 
 sound_any : (k : FrameKind) (at : ℕ) (blob : List ℕ) → blob_fault at blob ≡ None → IsSoundBlob k at blob
 sound_any kind.Other at blob sound = tt
 sound_any k at blob sound = sound
-
-payload_any : (k : FrameKind) (at : ℕ) (blob : List ℕ) → (k ≡ kind.Other → ⊥) → payload_in k at blob ≡ raw_payload_of at blob
-payload_any kind.Other at blob known = absurd (known refl)
-payload_any k at blob known = refl
 
 module _ (place : ℕ) (k : FrameKind) (payload : List ℕ) (known : k ≡ kind.Other → ⊥) (small : length payload < RAW_LIMIT) where
   size_small : length (written_blob payload) ≤ LARGEST_SIZE
@@ -168,9 +108,7 @@ module _ (place : ℕ) (k : FrameKind) (payload : List ℕ) (known : k ≡ kind.
   written_kind = ap kind_named (header_name (place + 4) k (length (written_blob payload)) (omega (arith, size_small))) ∙ name_kind k known
 
   pub written_payload : frame_payload (written_at place k payload) ≡ payload
-  written_payload =
-      let f = written_at place k payload in
-      ap (λ (x : FrameKind). payload_in x (blob_at f) f.blob) written_kind ∙ payload_any k (blob_at f) f.blob known ∙ blob_payload (blob_at f) payload small
+  written_payload = grind (arith, written_kind, blob_payload)
 
   pub written_is_frame : (limit : Option ℕ) (h : Bool) → least (order_faults limit h place k (frame_end (written_at place k payload))) ≡ None → IsFrameWithin limit h place (written_at place k payload)
   written_is_frame limit h ordered =

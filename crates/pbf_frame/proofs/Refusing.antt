@@ -66,9 +66,7 @@ refused_told at_fault before now old new bytes refuses is = told new refuses.fau
 
 pub prefix_short : (h : Bool) (p : ℕ) (bytes : List ℕ) → 0 < length bytes → length bytes < 4 → prefix_at h p bytes ≡ Err (fault p PrefixCut)
 unfolding prefix_at
-prefix_short h p bytes some short =
-    let not_none : (length bytes == 0) ≡ false = grind (arith, nat_tests, some) in
-    rw (not_none, take_all 4 bytes (omega (arith, short))) (grind (arith, nat_tests, short))
+prefix_short h p bytes some short = grind (arith, nat_tests, take_all)
 
 pub prefix_large : (h : Bool) (p : ℕ) (prefix rest : List ℕ) → length prefix ≡ 4 → HEADER_LIMIT ≤ big_number 4 prefix → prefix_at h p (prefix ++ rest) ≡ Err (fault p HeaderLong)
 unfolding prefix_at

@@ -9,7 +9,6 @@ use Rattle.pbf_wire.specs.declared.fault.Reason.TheVariants.{PrefixCut, HeaderLo
 use Rattle.pbf_wire.specs.Faults.{fault}
 use Rattle.pbf_wire.specs.Least.{least}
 use Rattle.pbf_frame.specs.declared.frame.FrameKind.{FrameKind}
-use Rattle.pbf_frame.specs.declared.frame.FrameKind.TheVariants as kind
 use Rattle.pbf_frame.specs.declared.header.Head.{Head}
 use Rattle.pbf_frame.specs.declared.header.TheConstants.{HEADER_LIMIT}
 use Rattle.pbf_frame.specs.Blob.{blob_fault}
@@ -85,16 +84,12 @@ prefix_stays h p bytes rest e is stays = of (prefix_fault h p bytes e is) where
 
 bytes_cut : (cut : Fault) (n : ℕ) (bytes : List ℕ) (e : Fault) → bytes_at cut n bytes ≡ Err e → cut ≡ e
 unfolding bytes_at
-bytes_cut cut n bytes e is = cases (nat_lt (length (take n bytes)) n) is where
-  cases : (b : Bool) → cond {A = Blobbed} b (Err cut) (Ok (take n bytes, drop n bytes)) ≡ Err e → cut ≡ e
-  cases true is = err_same _ _ is
-  cases false is = absurd (err_ok e _ (sym is))
+bytes_cut cut n bytes e is = grind (arith, err_same, err_ok)
 
 -- ---- a header
 
 unless_stays : {A : Type 0} (o : Option Fault) (x y : A) (e : Fault) → unless o (Ok x) ≡ Err e → unless o (Ok y) ≡ Err e
-unless_stays None x y e is = absurd (err_ok e x (sym is))
-unless_stays (Some f) x y e is = ap (λ (g : Fault). Err g) (err_same _ _ is)
+unless_stays o x y e is = grind (arith, err_ok, err_same)
 
 module _ (h : Bool) (p : ℕ) (prefix : List ℕ) where
   abbrev after_head : List ℕ × List ℕ → Head → Headed
@@ -138,15 +133,10 @@ known_fault size at bytes e is stays = cases (bytes_at (fault at BlobCut) size b
   cases (Ok (blob, left)) is_at is = (let split = bytes_split (fault at BlobCut) size bytes blob left is_at in (blob, left, split.0, split.1))
 
 known_stays : (size at : ℕ) (bytes rest : List ℕ) (e : Fault) → known_blob_of size at bytes ≡ Err e → comes_of_end e.reason ≡ false → known_blob_of size at (bytes ++ rest) ≡ Err e
-known_stays size at bytes rest e is stays =
-    let (blob, left, split, long) = known_fault size at bytes e is stays in
-    let said : unless (blob_fault at blob) (Ok (blob, left)) ≡ Err e = sym (known_at_front size at blob left long) ∙ ap (known_blob_of size at) (sym split) ∙ is in
-    ap (λ (l : List ℕ). known_blob_of size at (l ++ rest)) split ∙ ap (known_blob_of size at) (append_assoc blob left rest) ∙ known_at_front size at blob (left ++ rest) long
-    ∙ unless_stays (blob_fault at blob) _ _ e said
+known_stays size at bytes rest e is stays = grind (arith, known_fault, known_at_front, append_assoc, unless_stays)
 
 blob_stays : (k : FrameKind) (size at : ℕ) (bytes rest : List ℕ) (e : Fault) → blob_of k size at bytes ≡ Err e → comes_of_end e.reason ≡ false → blob_of k size at (bytes ++ rest) ≡ Err e
-blob_stays kind.Other size at bytes rest e is stays = absurd (other_fault (fault at BlobCut) e refl stays (bytes_cut (fault at BlobCut) size bytes e is))
-blob_stays k size at bytes rest e is stays = known_stays size at bytes rest e is stays
+blob_stays k size at bytes rest e is stays = grind (arith, other_fault, bytes_cut, known_stays)
 
 -- ---- the next frame
 

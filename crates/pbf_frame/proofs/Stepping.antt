@@ -1,5 +1,5 @@
 -- The steps of a reader come to the next frame: the fault of a step is the least of the first phase that has one.
-use Rattle.std.proofs.Common.{◌≡◌, ℕ, ◌+◌, ◌==◌, nat_lt, nat_le, Bool, true, false, List, [], ◌∷◌, ◌++◌, length, take, drop, Option, Some, None, Result, Ok, Err, refl, sym, ap, ◌∙◌, length-append}
+use Rattle.std.proofs.Common.{◌≡◌, ℕ, ◌+◌, ◌==◌, nat_lt, nat_le, Bool, true, false, List, [], ◌∷◌, ◌++◌, length, take, drop, Option, Some, None, Result, Ok, Err, refl, sym, ap, ◌∙◌, length-append, arith}
 use Rattle.std.specs.Option.{option_or, option_map_or}
 use Rattle.std.proofs.lemmas.List.{length-take, drop-drop, drop_min}
 use Rattle.byteorder.specs.Endian.{big_number}
@@ -12,7 +12,6 @@ use Rattle.pbf_wire.specs.Phases.{first_fault}
 use Rattle.pbf_wire.specs.Wire.{wire}
 use Rattle.pbf_wire.proofs.FaultLemmas.{leaf_is_wire}
 use Rattle.pbf_frame.specs.declared.frame.FrameKind.{FrameKind}
-use Rattle.pbf_frame.specs.declared.frame.FrameKind.TheVariants as kind
 use Rattle.pbf_frame.specs.declared.header.Head.{Head}
 use Rattle.pbf_frame.specs.declared.header.TheConstants.{HEADER_KINDS, HEADER_LIMIT}
 use Rattle.pbf_frame.specs.Header.{header_faults, head_says}
@@ -58,38 +57,24 @@ late k size at blob = fault_where (nat_lt (length blob) size) at BlobCut ∷ pha
 
 known_is : (size at : ℕ) (bytes : List ℕ) → known_blob_of size at bytes ≡ unless (option_or (least (fault_where (nat_lt (length (take size bytes)) size) at BlobCut)) (blob_fault at (take size bytes))) (Ok (take size bytes, drop size bytes))
 unfolding known_blob_of bytes_at
-known_is size at bytes = cases (nat_lt (length (take size bytes)) size) refl where
-  cases : (b : Bool) → nat_lt (length (take size bytes)) size ≡ b → known_blob_of size at bytes ≡ unless (option_or (least (fault_where (nat_lt (length (take size bytes)) size) at BlobCut)) (blob_fault at (take size bytes))) (Ok (take size bytes, drop size bytes))
-  cases true is = rw is refl
-  cases false is = rw is refl
+known_is size at bytes = grind arith
 
 blob_is : (k : FrameKind) (size at : ℕ) (bytes : List ℕ) → blob_of k size at bytes ≡ unless (first_fault (late k size at (take size bytes))) (Ok (take size bytes, drop size bytes))
 unfolding blob_fault bytes_at
-blob_is kind.Other size at bytes = cases (nat_lt (length (take size bytes)) size) refl where
-  cases : (b : Bool) → nat_lt (length (take size bytes)) size ≡ b → blob_of kind.Other size at bytes ≡ unless (first_fault (late kind.Other size at (take size bytes))) (Ok (take size bytes, drop size bytes))
-  cases true is = rw is refl
-  cases false is = rw is refl
-blob_is k size at bytes = known_is size at bytes
+blob_is k size at bytes = grind (arith, known_is)
 
 -- ---- the next frame
 
 ended : (h : Bool) (p : ℕ) (bytes : List ℕ) → length bytes == 0 ≡ true → next_of h p bytes ≡ steps_of h p bytes
 unfolding next_within steps_of prefix_at after_prefix
-ended true p bytes is = rw is refl
-ended false p bytes is = rw is refl
-
--- the last step, and what it gives
-last_step : {A B C : Type 0} (l : Option Fault) (x : A) (g : A → B) (s : B → C) → unless l (Ok (s (g x))) ≡ ((unless l (Ok x) >>= λ v. Ok (g v)) >>= λ w. Ok (s w))
-last_step None x g s = refl
-last_step (Some e) x g s = refl
+ended h p bytes is = grind arith
 
 -- a frame, and the bytes after it; or its fault
 abbrev pub given_or : Option Fault → FrameSpec → List ℕ → Result (Option FrameSpec × List ℕ) Fault
 given_or fault f bytes = option_map_or Err fault (Ok (Some f, drop (length (frame_bytes f)) bytes))
 
 given_is : (o : Option Fault) (f : FrameSpec) (bytes : List ℕ) → given_or o f bytes ≡ unless o (Ok (Some f, drop (length (frame_bytes f)) bytes))
-given_is None f bytes = refl
-given_is (Some e) f bytes = refl
+given_is o f bytes = grind arith
 
 drop_front : (n : ℕ) (xs : List ℕ) → drop (length (take n xs)) xs ≡ drop n xs
 drop_front n xs = ap (λ m. drop m xs) (length-take n xs) ∙ drop_min n xs
@@ -117,11 +102,7 @@ module _ (h : Bool) (p : ℕ) (bytes : List ℕ) (some : length bytes == 0 ≡ f
 
   -- what follows the frame
   rest_is : drop (length (frame_bytes f)) bytes ≡ drop head.size (drop (length f.header) (drop 4 bytes))
-  rest_is =
-      ap (λ m. drop m bytes) (length-append (f.prefix ++ f.header) f.blob ∙ ap (λ m. m + length f.blob) (length-append f.prefix f.header))
-      ∙ sym (drop-drop (length f.blob) (length f.prefix + length f.header) bytes)
-      ∙ ap (λ l. drop (length f.blob) l) (sym (drop-drop (length f.header) (length f.prefix) bytes) ∙ ap (λ l. drop (length f.header) l) (drop_front 4 bytes))
-      ∙ drop_front head.size (drop (length f.header) (drop 4 bytes))
+  rest_is = cc (length-append (f.prefix ++ f.header) f.blob, length-append f.prefix f.header, drop-drop (length f.blob) (length f.prefix + length f.header) bytes, drop-drop (length f.header) (length f.prefix) bytes, drop_front 4 bytes, drop_front head.size (drop (length f.header) (drop 4 bytes)))
 
   -- the header has all of its bytes
   module _ (long : nat_lt (length (take 4 bytes)) 4 ≡ false) (small : nat_le HEADER_LIMIT n ≡ false) (whole : nat_lt (length f.header) n ≡ false) where
@@ -134,16 +115,7 @@ module _ (h : Bool) (p : ℕ) (bytes : List ℕ) (some : length bytes == 0 ≡ f
     by_options : (w a o : Option Fault) → wire HEADER_KINDS (items (p + 4) f.header) ≡ w → least (header_faults (p + 4) f.header) ≡ a → least (order_faults (Some FILE_LIMIT) h p head.kind (p + 4 + length f.header + head.size)) ≡ o
         → steps_of h p bytes ≡ unless (option_or w (option_or a (option_or o (first_fault (late head.kind head.size (blob_at f) f.blob))))) (Ok (Some f, drop (length (frame_bytes f)) bytes))
     unfolding steps_of prefix_at after_prefix frame_of header_after bytes_at head_of
-    by_options (Some e) a o ew ea eo = rw (some, long, small, whole, ew) refl
-    by_options None (Some e) o ew ea eo = rw (some, long, small, whole, ew, ea) refl
-    by_options None None (Some e) ew ea eo = rw (some, long, small, whole, ew, ea, eo) refl
-    by_options None None None ew ea eo = rw (some, long, small, whole, ew, ea, eo) (
-        ap (λ (l : List ℕ). blob_of head.kind head.size (blob_at f) l >>= read_blob >>= as_some) (sym (drop_front n (drop 4 bytes)))
-        ∙ ap (λ (r : Blobbed). r >>= read_blob >>= as_some) (blob_is head.kind head.size (blob_at f) left)
-        ∙ sym (last_step (first_fault (late head.kind head.size (blob_at f) f.blob)) (f.blob, drop head.size left)
-        (λ (blob : List ℕ × List ℕ). (record { offset = p; prefix = f.prefix; header = f.header; blob = blob.0 }, blob.1)) (λ (read : FrameSpec × List ℕ). (Some read.0, read.1)))
-        ∙ ap (λ (r : List ℕ). unless (first_fault (late head.kind head.size (blob_at f) f.blob)) (Ok (Some f, r))) (sym rest_is)
-        )
+    by_options w a o ew ea eo = grind (arith, drop_front, blob_is, rest_is)
 
     sound_cut : steps_of h p bytes ≡ given_or (first_fault after_cut) f bytes
     sound_cut =
@@ -164,21 +136,7 @@ module _ (h : Bool) (p : ℕ) (bytes : List ℕ) (some : length bytes == 0 ≡ f
   steps_cut long small is = rw (some, long, small, is) refl
 
   going_on : next_of h p bytes ≡ steps_of h p bytes
-  going_on = short (nat_lt (length (take 4 bytes)) 4) refl where
-    cut : (b : Bool) → nat_lt (length (take 4 bytes)) 4 ≡ false → nat_le HEADER_LIMIT n ≡ false → nat_lt (length f.header) n ≡ b → next_of h p bytes ≡ steps_of h p bytes
-    cut true long small is = cut_first (fault p HeaderCut) (rw (long, small, is) refl) ∙ sym (steps_cut long small is)
-    cut false long small is = after_it (rw (long, small, is) refl) ∙ sym (sound_cut long small is)
-
-    large : (b : Bool) → nat_lt (length (take 4 bytes)) 4 ≡ false → nat_le HEADER_LIMIT n ≡ b → next_of h p bytes ≡ steps_of h p bytes
-    large true long is = cut_first (fault p HeaderLong) (rw (long, is) refl) ∙ sym (steps_large long is)
-    large false long is = cut (nat_lt (length f.header) n) long is refl
-
-    short : (b : Bool) → nat_lt (length (take 4 bytes)) 4 ≡ b → next_of h p bytes ≡ steps_of h p bytes
-    short true is = cut_first (fault p PrefixCut) (rw is refl) ∙ sym (steps_short is)
-    short false is = large (nat_le HEADER_LIMIT n) is refl
+  going_on = grind (arith, cut_first, steps_cut, after_it, sound_cut, steps_large, steps_short)
 
 pub next_is_steps : (h : Bool) (p : ℕ) (bytes : List ℕ) → next_of h p bytes ≡ steps_of h p bytes
-next_is_steps h p bytes = by (length bytes == 0) refl where
-  by : (b : Bool) → length bytes == 0 ≡ b → next_of h p bytes ≡ steps_of h p bytes
-  by true is = ended h p bytes is
-  by false is = going_on h p bytes is
+next_is_steps h p bytes = grind (arith, ended, going_on)

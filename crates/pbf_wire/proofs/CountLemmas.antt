@@ -1,5 +1,5 @@
 -- The mask of the bytes below 128, and how many there are.
-use Rattle.std.proofs.Common.{◌≡◌, ◌↔◌, ℕ, zero, suc, ◌+◌, ◌-◌, ◌/◌, ◌^◌, ◌<◌, List, [], ◌∷◌, ◌++◌, replicate, Bool, true, false, cond, ltb, length, get_or, map, refl, sym, ap, ◌∙◌, arith, take, drop, bit_and}
+use Rattle.std.proofs.Common.{◌≡◌, ◌↔◌, ℕ, zero, suc, ◌+◌, ◌-◌, ◌/◌, ◌^◌, ◌<◌, List, [], ◌∷◌, ◌++◌, replicate, Bool, false, cond, ltb, length, get_or, map, refl, sym, ap, ◌∙◌, arith, take, drop, bit_and}
 use Rattle.std.specs.Prelude.{nat_lt, count_by, IsBitSet, slice_index}
 use Rattle.std.specs.Simd.Lanes.{mask_l}
 use Rattle.std.proofs.lemmas.Simd.{bit_mask_l, mask_l-lt}
@@ -31,8 +31,7 @@ mask_small lanes long = omega (arith, mask_l-lt (map is_end lanes), ap (λ n. 2 
 -- ---- one bit
 
 tells : (x : ℕ) (b : Bool) → ltb x 128 ≡ b → (cond {A = ℕ} b 1 0 ≡ 1) ↔ (x < 128)
-tells x true e = (λ h. ltb-true x 128 e, λ h. refl)
-tells x false e = (λ h. absurd (omega arith), λ h. absurd (omega (arith, ltb-false x 128 e)))
+tells x b e = grind (arith, ltb-true, ltb-false)
 
 lane_test : (v : List ℕ) (i : ℕ) → i < length v → get_or (map is_end v) i false ≡ ltb (slice_index v i) 128
 lane_test [] i lt = absurd (omega arith)

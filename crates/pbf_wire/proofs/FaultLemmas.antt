@@ -1,6 +1,6 @@
 -- Lists of faults, step by step.
-use Rattle.std.proofs.Common.{◌≡◌, ◌==◌, ℕ, zero, suc, ◌+◌, ◌-◌, ◌≤◌, Bool, true, false, List, [], ◌∷◌, length, map, drop, refl, ap, sym, ◌∙◌, arith}
-use Rattle.std.specs.Prelude.{Option, Some, None, Result, Ok, Err, filter, nat_lt, if◌then◌else◌}
+use Rattle.std.proofs.Common.{◌≡◌, ◌==◌, ℕ, zero, suc, ◌+◌, ◌≤◌, Bool, true, List, [], ◌∷◌, length, map, drop, refl, ap, ◌∙◌, arith}
+use Rattle.std.specs.Prelude.{Option, Some, None, Result, Ok, filter, nat_lt, if◌then◌else◌}
 use Rattle.std.specs.List.{flat_map, count_by, AllByRecursion}
 use Rattle.std.proofs.lemmas.List.{length-append, length-map}
 use Rattle.std.proofs.lemmas.List.Sums.{length-filter, count_by-le-length}
@@ -9,8 +9,8 @@ use Rattle.pbf_wire.specs.declared.fault.Reason.{Reason}
 use Rattle.pbf_wire.specs.declared.fault.Reason.TheVariants.{TwiceMessage}
 use Rattle.pbf_wire.specs.declared.kind.Kind.{Kind}
 use Rattle.pbf_wire.specs.Varint.{IsVarint, varint_at}
-use Rattle.pbf_wire.specs.Occurrence.{Content, Number, Bytes, Occurrence, Item, IsBody, IsSpelled, Joins}
-use Rattle.pbf_wire.specs.Columns.{Entry, entries_from, entries_past, read_entries, placed, numbers_in, column_of, joined}
+use Rattle.pbf_wire.specs.Occurrence.{Content, Occurrence, Item, IsBody, IsSpelled, Joins}
+use Rattle.pbf_wire.specs.Columns.{Entry, entries_from, entries_past, read_entries, numbers_in, column_of, joined}
 use Rattle.pbf_wire.specs.Wire.{kind_of, reason_in, or_at, wire}
 use Rattle.pbf_wire.specs.Reading.{bytes_held}
 use Rattle.pbf_wire.specs.Least.{lesser, least, rank}
@@ -40,13 +40,7 @@ all_next k o os same = grind arith
 pub occurs_later : (seen : Bool) (so_far : Option Fault) (k : ℕ) (os t : List Occurrence) (o : Occurrence) (all : Option Fault) → seen ≡ true → os ≡ o ∷ t → o.number ≡ k
     → lesser so_far (least (map (λ o. fault o.place TwiceMessage) (if seen then all_of k os else drop 1 (all_of k os)))) ≡ all
     → lesser (lesser so_far (Some (fault o.place TwiceMessage))) (least (map (λ o. fault o.place TwiceMessage) (all_of k t))) ≡ all
-occurs_later seen so_far k os t o all e next same h =
-    let left : Bool → List Occurrence → List Occurrence = λ b w. if b then all_of k w else drop 1 (all_of k w) in
-    let whole : List Occurrence → Option Fault = λ w. lesser so_far (least (map (λ o. fault o.place TwiceMessage) w)) in
-    least_next so_far (fault o.place TwiceMessage) (map (λ o. fault o.place TwiceMessage) (all_of k t))
-    ∙ ap whole (sym (all_next k o t same))
-    ∙ sym (ap (λ w. whole (left seen w)) next ∙ ap (λ b. whole (left b (o ∷ t))) e)
-    ∙ h
+occurs_later seen so_far k os t o all e next same h = grind (arith, least_next, all_next)
 
 -- ---- how many numbers a column has
 
@@ -62,21 +56,13 @@ spelled_long v [] h = absurd h.ended
 spelled_long v (b ∷ bs) h = omega arith
 
 ends_short : (c : Content) (kind end : ℕ) (s : List ℕ) → IsBody c kind end s → length (ends_in c) ≤ length s
-ends_short (Number v) kind end s h = spelled_long v s h.1
-ends_short (Bytes bytes at) kind end s h =
-    omega (arith, ends_counted bytes, count_by-le-length (λ b. nat_lt b 128) bytes, ap length h.1.3, length-append h.1.0 bytes)
-ends_short c kind end s h = omega arith
+ends_short c kind end s h = grind (arith, spelled_long, ends_counted, count_by-le-length, length-append)
 
 one_short : (k : ℕ) (o : Occurrence) (s : List ℕ) → IsSpelled o s → length (ends_of k o) ≤ length s
-one_short k o s h =
-    elim (o.number == k) as (λ b. length (if b then ends_in o.content else []) ≤ length s) [
-      | true ↦ omega (arith, ends_short o.content h.kind (o.place + length h.tag) h.body h.holds, ap length h.whole, length-append h.tag h.body)
-      | false ↦ omega arith
-    ]
+one_short k o s h = grind (arith, ends_short, length-append)
 
 front_within : (r : Result (ℕ × ℕ) Reason) (more : ℕ → List Entry) (n : ℕ) → ((skip : ℕ) → length (read_entries (more skip)) ≤ n) → length (read_entries (entries_from r more)) ≤ suc n
-front_within (Ok front) more n h = omega (arith, h (front.1 - 1))
-front_within (Err e) more n h = omega arith
+front_within r more n h = grind arith
 
 pub numbers_within : (skip : ℕ) (bytes : List ℕ) → length (read_entries (entries_past skip bytes)) ≤ length bytes
 unfolding entries_past
@@ -85,16 +71,10 @@ numbers_within (suc skip) (b ∷ bs) = omega (arith, numbers_within skip bs)
 numbers_within zero (b ∷ bs) = front_within (varint_at (b ∷ bs)) (λ skip. entries_past skip bs) (length bs) (λ skip. numbers_within skip bs)
 
 numbers_short : (c : Content) (kind end : ℕ) (s : List ℕ) → IsBody c kind end s → length (numbers_in c) ≤ length s
-numbers_short (Number v) kind end s h = spelled_long v s h.1
-numbers_short (Bytes bytes at) kind end s h = omega (arith, numbers_within 0 bytes, ap length h.1.3, length-append h.1.0 bytes)
-numbers_short c kind end s h = omega arith
+numbers_short c kind end s h = grind (arith, spelled_long, numbers_within, length-append)
 
 one_column_short : (k : ℕ) (o : Occurrence) (s : List ℕ) → IsSpelled o s → length (column_of k o) ≤ length s
-one_column_short k o s h =
-    elim (o.number == k) as (λ b. length (if b then placed o.place (numbers_in o.content) else []) ≤ length s) [
-      | true ↦ omega (arith, length-map {B = ℕ × ℕ} (numbers_in o.content) (λ v. (v, o.place)), numbers_short o.content h.kind (o.place + length h.tag) h.body h.holds, ap length h.whole, length-append h.tag h.body)
-      | false ↦ omega arith
-    ]
+one_column_short k o s h = grind (arith, length-map, numbers_short, length-append)
 
 module _ {X : Type 0} (f : Occurrence → List X) (one : (o : Occurrence) (s : List ℕ) → IsSpelled o s → length (f o) ≤ length s) where
   joined_short : (at : ℕ) (m : List ℕ) (os : List Occurrence) → Joins at m os → length (flat_map f os) ≤ length m
@@ -118,8 +98,7 @@ column_short k at m = all_within (column_of k) (one_column_short k) at m
 -- ---- how long the bytes in a message are
 
 body_short : (c : Content) (kind end : ℕ) (s : List ℕ) → IsBody c kind end s → length (bytes_held c) ≤ length s
-body_short (Bytes bytes at) kind end s h = omega (arith, ap length h.1.3, length-append h.1.0 bytes)
-body_short c kind end s h = omega arith
+body_short c kind end s h = grind (arith, length-append)
 
 abbrev ShorterThan : ℕ → Occurrence → Type 0
 ShorterThan n o = length (bytes_held o.content) ≤ n

@@ -22,13 +22,10 @@ not_less (x ∷ xs) (y ∷ ys) [] p q = absurd (cc)
 not_less (x ∷ xs) (y ∷ ys) (z ∷ zs) p q = grind (arith, not_less xs ys zs)
 
 pub lesser_none : {X : Type 0} (key : X → List ℕ) (f : Option X) → lesser_by key f None ≡ f
-lesser_none key None = refl
-lesser_none key (Some f) = refl
+lesser_none key f = grind arith
 
 pub lesser_joined : {X : Type 0} (key : X → List ℕ) (f g h : Option X) → lesser_by key (lesser_by key f g) h ≡ lesser_by key f (lesser_by key g h)
-lesser_joined key (Some f) (Some g) None = lesser_none key (if is_less (key g) (key f) then Some g else Some f)
-lesser_joined key (Some f) (Some g) (Some h) = grind (arith, less_less (key f) (key g) (key h), not_less (key f) (key g) (key h))
-lesser_joined key f g h = refl
+lesser_joined key f g h = grind (arith, less_less, not_less)
 
 pub least_joined : {X : Type 0} (key : X → List ℕ) (xs ys : List X) → least_by key (xs ++ ys) ≡ lesser_by key (least_by key xs) (least_by key ys)
 least_joined key [] ys = refl

@@ -1,5 +1,5 @@
 -- How long a written message is at most.
-use Rattle.std.proofs.Common.{◌≡◌, ℕ, zero, suc, ◌+◌, ◌*◌, ◌/◌, ◌%◌, ◌≤◌, true, false, cond, ltb, List, [], ◌∷◌, ◌++◌, length, map, Some, ap, arith, length-append}
+use Rattle.std.proofs.Common.{◌≡◌, ℕ, zero, suc, ◌+◌, ◌*◌, ◌/◌, ◌≤◌, List, [], ◌∷◌, ◌++◌, length, map, arith, length-append}
 use Rattle.std.specs.List.{flat_map}
 use Rattle.std.proofs.lemmas.List.{append-nil}
 use Rattle.pbf_wire.specs.Columns.{packed}
@@ -12,9 +12,7 @@ use Rattle.pbf_wire.specs.Message.{Slot, Scalar, Column, Each, parts_of, message
 spelled_short : (n v : ℕ) → length (spelled_within n v) ≤ n + 1
 unfolding spelled_within
 spelled_short zero v = omega arith
-spelled_short (suc n) v =
-    elim (ltb v 128) as (λ b. length (cond b (v ∷ []) ((v % 128 + 128) ∷ spelled_within n (v / 128))) ≤ suc n + 1)
-    [ true ↦ omega arith | false ↦ omega (arith, spelled_short n (v / 128)) ]
+spelled_short (suc n) v = grind (arith, spelled_short n (v / 128))
 
 pub varint_short : (v : ℕ) → length (shortest v) ≤ 10
 unfolding shortest
@@ -28,8 +26,7 @@ number_short : (number value : ℕ) → length (spelling (Single number value)) 
 number_short number value = omega (arith, length-append (shortest (number * 8)) (shortest value), varint_short (number * 8), varint_short value)
 
 whole_short : (number : ℕ) (bytes : List ℕ) → length (spelling (Whole number bytes)) ≤ 20 + length bytes
-whole_short number bytes =
-    omega (arith, length-append (shortest (number * 8 + 2)) (shortest (length bytes) ++ bytes), length-append (shortest (length bytes)) bytes, varint_short (number * 8 + 2), varint_short (length bytes))
+whole_short number bytes = grind (arith, length-append, varint_short)
 
 -- ---- messages
 
@@ -51,10 +48,7 @@ each_short number [] = omega arith
 each_short number (m ∷ ms) = omega (arith, length-append (spelling (Whole number m)) (written (map (Whole number) ms)), whole_short number m, each_short number ms)
 
 slot_short : (s : Slot) → length (written (parts_of s)) ≤ slot_room s
-slot_short (Scalar number (Some value)) = omega (arith, ap (λ (xs : List ℕ). length xs) (append-nil (spelling (Single number value))), number_short number value)
-slot_short (Column number (v ∷ vs)) = omega (arith, ap (λ (xs : List ℕ). length xs) (append-nil (spelling (Whole number (packed (v ∷ vs))))), whole_short number (packed (v ∷ vs)))
-slot_short (Each number ms) = each_short number ms
-slot_short s = omega arith
+slot_short s = grind (arith, append-nil, number_short, whole_short, each_short)
 
 written_append : (ps qs : List Part) → length (written (ps ++ qs)) ≡ length (written ps) + length (written qs)
 written_append [] qs = omega arith

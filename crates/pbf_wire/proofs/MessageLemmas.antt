@@ -5,16 +5,16 @@ use Rattle.std.specs.List.{flat_map, last_or, AllByRecursion}
 use Rattle.std.specs.Option.{option_map}
 use Rattle.std.proofs.lemmas.List.{append-nil, map-append}
 use Rattle.std.proofs.lemmas.Grind.{flat_map-append}
-use Rattle.pbf_wire.specs.declared.fault.Reason.{Reason}
 use Rattle.pbf_wire.specs.declared.kind.Kind.{Kind}
 use Rattle.pbf_wire.specs.Varint.{shortest}
-use Rattle.pbf_wire.specs.Occurrence.{Number, Bytes, Occurrence, Item, items, found}
-use Rattle.pbf_wire.specs.Columns.{Entry, entries, read_entries, entry_fault, packed, placed, column_of, joined, column}
+use Rattle.pbf_wire.specs.Occurrence.{Number, Bytes, Occurrence, items, found}
+use Rattle.pbf_wire.specs.Columns.{entries, read_entries, entry_fault, packed, placed, column_of, column}
 use Rattle.pbf_wire.specs.Reading.{values, last_number, each}
-use Rattle.pbf_wire.specs.Wire.{reason_in, kind_of, or_at, wire}
+use Rattle.pbf_wire.specs.Wire.{reason_in, kind_of, wire}
 use Rattle.pbf_wire.specs.Writing.{Part, Single, Whole, spelling, written, IsWritablePart, occurrence_of, occurrences_of}
 use Rattle.pbf_wire.specs.Message.{Slot, Scalar, Column, Each, parts_of, message, SlotFits, SlotIs, SlotBelow, numbers_at, scalars_at, messages_at}
-use Rattle.pbf_wire.proofs.Written.{reads_back, column_reads_back}
+use Rattle.pbf_wire.proofs.Cutting.{all_ok}
+use Rattle.pbf_wire.proofs.Written.{reads_back, column_reads_back, all_entries}
 use Rattle.pbf_wire.proofs.Columns.{placed_numbers}
 use Rattle.pbf_wire.proofs.PackedLemmas.{column_read}
 use Rattle.pbf_wire.proofs.AllLemmas.{all_append, all_each, all_left, all_map, all_right}
@@ -72,13 +72,7 @@ one_part k at (Whole number bytes) =
 
 joined_parts : (k at : ℕ) (ps : List Part) → column k (occurrences_of at ps) ≡ flat_map (part_numbers k) ps
 joined_parts k at [] = refl
-joined_parts k at (p ∷ ps) =
-    map-append (λ (p : ℕ × ℕ). p.0) (column_of k (occurrence_of at p)) (joined k (occurrences_of (at + length (spelling p)) ps))
-    ∙ ap (λ (xs : List ℕ). xs ++ map (λ (p : ℕ × ℕ). p.0) (joined k (occurrences_of (at + length (spelling p)) ps))) (one_part k at p)
-    ∙ ap (λ (xs : List ℕ). part_numbers k p ++ xs) (joined_parts k (at + length (spelling p)) ps)
-
-abbrev no_numbers : List ℕ
-no_numbers = []
+joined_parts k at (p ∷ ps) = grind (arith, map-append, one_part, joined_parts k (at + length (spelling p)) ps)
 
 none_at : (number k : ℕ) (ms : List (List ℕ)) (b : Bool) → eqb number k ≡ b → flat_map (part_numbers k) (map (Whole number) ms) ≡ cond b (flat_map (λ m. read_entries (entries m)) ms) []
 none_at number k [] true e = refl
@@ -86,27 +80,15 @@ none_at number k [] false e = refl
 none_at number k (m ∷ ms) true e = rw e (ap (λ (xs : List ℕ). read_entries (entries m) ++ xs) (none_at number k ms true e))
 none_at number k (m ∷ ms) false e = rw e (none_at number k ms false e)
 
-nothing : (b : Bool) → no_numbers ≡ cond b no_numbers no_numbers
-nothing true = refl
-nothing false = refl
-
 one_slot : (k : ℕ) (s : Slot) → SlotFits s → flat_map (part_numbers k) (parts_of s) ≡ numbers_at k s
-one_slot k (Scalar number None) h = refl
-one_slot k (Scalar number (Some value)) h = append-nil _
-one_slot k (Column number []) h = nothing (eqb number k)
-one_slot k (Column number (v ∷ vs)) h = append-nil _ ∙ ap (λ (xs : List ℕ). cond (eqb number k) xs []) (column_read (v ∷ vs) h.2)
-one_slot k (Each number messages) h = none_at number k messages (eqb number k) refl
+one_slot k s h = grind (arith, append-nil, column_read, none_at)
 
 slots_numbers : (k : ℕ) (slots : List Slot) → AllByRecursion SlotFits slots → flat_map (part_numbers k) (flat_map parts_of slots) ≡ flat_map (numbers_at k) slots
 slots_numbers k [] h = refl
-slots_numbers k (s ∷ slots) h =
-    flat_map-append (part_numbers k) (parts_of s) (flat_map parts_of slots)
-    ∙ ap (λ (xs : List ℕ). xs ++ flat_map (part_numbers k) (flat_map parts_of slots)) (one_slot k s h.0)
-    ∙ ap (λ (xs : List ℕ). numbers_at k s ++ xs) (slots_numbers k slots h.1)
+slots_numbers k (s ∷ slots) h = grind (arith, flat_map-append, one_slot, slots_numbers k slots h.1)
 
 pub column_written : (k at : ℕ) (slots : List Slot) → AllByRecursion SlotFits slots → length (message slots) < 2 ^ 64 → column k (found (items at (message slots))) ≡ flat_map (numbers_at k) slots
-column_written k at slots h lt =
-    ap (column k) (fields_written at slots h lt) ∙ joined_parts k at (flat_map parts_of slots) ∙ slots_numbers k slots h
+column_written k at slots h lt = cc (fields_written at slots h lt, joined_parts k at (flat_map parts_of slots), slots_numbers k slots h)
 
 -- ---- single numbers
 
@@ -134,10 +116,7 @@ slot_scalars k s = refl
 
 pub slots_scalars : (k : ℕ) (slots : List Slot) → flat_map (part_scalars k) (flat_map parts_of slots) ≡ flat_map (scalars_at k) slots
 slots_scalars k [] = refl
-slots_scalars k (s ∷ slots) =
-    flat_map-append (part_scalars k) (parts_of s) (flat_map parts_of slots)
-    ∙ ap (λ (xs : List ℕ). xs ++ flat_map (part_scalars k) (flat_map parts_of slots)) (slot_scalars k s)
-    ∙ ap (λ (xs : List ℕ). scalars_at k s ++ xs) (slots_scalars k slots)
+slots_scalars k (s ∷ slots) = grind (arith, flat_map-append, slot_scalars, slots_scalars k slots)
 
 pub values_written : (k at : ℕ) (slots : List Slot) → numbers (values k (occurrences_of at (flat_map parts_of slots))) ≡ flat_map (scalars_at k) slots
 values_written k at slots = scalar_parts k at (flat_map parts_of slots) ∙ slots_scalars k slots
@@ -169,21 +148,15 @@ whole_messages k number (m ∷ ms) true e = rw e (ap (λ (xs : List (List ℕ)).
 whole_messages k number (m ∷ ms) false e = rw e (whole_messages k number ms false e)
 
 slot_messages : (k : ℕ) (s : Slot) → flat_map (part_messages k) (parts_of s) ≡ messages_at k s
-slot_messages k (Scalar number (Some value)) = refl
-slot_messages k (Column number (v ∷ vs)) = append-nil _
-slot_messages k (Each number messages) = whole_messages k number messages (eqb number k) refl
-slot_messages k s = refl
+slot_messages k s = grind (arith, append-nil, whole_messages)
 
 pub slots_messages : (k : ℕ) (slots : List Slot) → flat_map (part_messages k) (flat_map parts_of slots) ≡ flat_map (messages_at k) slots
 slots_messages k [] = refl
-slots_messages k (s ∷ slots) =
-    flat_map-append (part_messages k) (parts_of s) (flat_map parts_of slots)
-    ∙ ap (λ (xs : List (List ℕ)). xs ++ flat_map (part_messages k) (flat_map parts_of slots)) (slot_messages k s)
-    ∙ ap (λ (xs : List (List ℕ)). messages_at k s ++ xs) (slots_messages k slots)
+slots_messages k (s ∷ slots) = grind (arith, flat_map-append, slot_messages, slots_messages k slots)
 
 pub each_written : (k at : ℕ) (slots : List Slot) → AllByRecursion SlotFits slots → length (message slots) < 2 ^ 64 → each k (found (items at (message slots))) ≡ flat_map (messages_at k) slots
 each_written k at slots h lt =
-    ap (each k) (fields_written at slots h lt) ∙ message_parts k at (flat_map parts_of slots) ∙ slots_messages k slots
+    simp (fields_written at slots h lt, message_parts, slots_messages)
 
 -- ---- each field has its type
 
@@ -191,20 +164,12 @@ abbrev PartIs : List (ℕ × Kind) → Part → Type 0
 PartIs kinds (Single number value) = reason_in (kind_of kinds number) (Number value) ≡ None
 PartIs kinds (Whole number bytes) = (a : ℕ) → reason_in (kind_of kinds number) (Bytes bytes a) ≡ None
 
-abbrev all_items : List Occurrence → List Item
-all_items os = map Ok os
-
-wire_parts : (kinds : List (ℕ × Kind)) (at : ℕ) (ps : List Part) → AllByRecursion (PartIs kinds) ps → wire kinds (all_items (occurrences_of at ps)) ≡ None
+wire_parts : (kinds : List (ℕ × Kind)) (at : ℕ) (ps : List Part) → AllByRecursion (PartIs kinds) ps → wire kinds (all_ok (occurrences_of at ps)) ≡ None
 wire_parts kinds at [] h = refl
-wire_parts kinds at (Single number value ∷ ps) h =
-    let next = at + length (spelling (Single number value)) in
-    ap (λ (r : Option Reason). or_at at r (wire kinds (all_items (occurrences_of next ps)))) h.0 ∙ wire_parts kinds next ps h.1
+wire_parts kinds at (Single number value ∷ ps) h = grind (arith, h.0, wire_parts kinds (at + length (spelling (Single number value))) ps h.1)
 wire_parts kinds at (Whole number bytes ∷ ps) h =
     let next = at + length (spelling (Whole number bytes)) in
-    ap (λ (r : Option Reason). or_at at r (wire kinds (all_items (occurrences_of next ps)))) (h.0 (at + length (shortest (number * 8 + 2)) + length (shortest (length bytes)))) ∙ wire_parts kinds next ps h.1
-
-abbrev all_entries : List ℕ → List Entry
-all_entries ns = map Ok ns
+    cc (h.0 (at + length (shortest (number * 8 + 2)) + length (shortest (length bytes))), wire_parts kinds next ps h.1)
 
 no_entry_fault : (ns : List ℕ) → entry_fault (all_entries ns) ≡ None
 no_entry_fault [] = refl
@@ -223,8 +188,7 @@ parts_are kinds (s ∷ slots) h fits = all_append (PartIs kinds) (parts_of s) (f
 
 -- a written message whose slots have their types has no wire fault
 pub no_wire_fault : (kinds : List (ℕ × Kind)) (at : ℕ) (slots : List Slot) → AllByRecursion (SlotIs kinds) slots → AllByRecursion SlotFits slots → length (message slots) < 2 ^ 64 → wire kinds (items at (message slots)) ≡ None
-no_wire_fault kinds at slots h fits lt =
-    ap (wire kinds) (items_written at slots fits lt) ∙ wire_parts kinds at (flat_map parts_of slots) (parts_are kinds slots h fits)
+no_wire_fault kinds at slots h fits lt = cc (items_written at slots fits lt, wire_parts kinds at (flat_map parts_of slots) (parts_are kinds slots h fits))
 
 -- ---- an embedded message is shorter than the whole
 

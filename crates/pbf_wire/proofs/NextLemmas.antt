@@ -21,9 +21,7 @@ far_near true number wide small = absurd (true≢false wide)
 
 -- all bits of a near number count
 pub delta_near : (narrow near : Bool) (number : ℕ) → (IsTrue narrow → IsTrue near) → IsNear near number → delta_in narrow number ≡ unzigzag number
-delta_near false near number only small = refl
-delta_near true true number only small = ap unzigzag (omega (arith, small))
-delta_near true false number only small = absurd (true≢false (sym (only refl)))
+delta_near narrow near number only small = grind arith
 
 -- ---- as they are stored
 
@@ -31,21 +29,14 @@ delta_near true false number only small = absurd (true≢false (sym (only refl))
 
 pub value_after : (limit total : ℤ) (narrow : Bool) (number : ℕ) (more : List ℕ) → IsNear true number → IsWithin limit (total +ℤ unzigzag number)
     → sums_within limit total (map (delta_in narrow) (number ∷ more)) ≡ (total +ℤ unzigzag number) ∷ sums_within limit (total +ℤ unzigzag number) (map (delta_in narrow) more)
-value_after limit total narrow number more small within =
-    let ds = map (delta_in narrow) more in
-    ap (λ (d : ℤ). sums_within limit total (d ∷ ds)) (delta_near narrow true number (λ _. refl) small) ∙ ap (then_more limit ds) (added_within limit total (unzigzag number) within)
+value_after limit total narrow number more small within = grind (arith, delta_near, then_more, added_within)
 
 -- ---- of cursors
 
 -- an entry gives the sum
 entry_gives : (sums : Sums) (entries : Column) (near : Bool) (number : ℕ) (total : ℤ) → (IsTrue sums.narrow → IsTrue near) → IsNear near number → numbers_left sums.entries ≡ number ∷ numbers_left entries → total ≡ sums.total +ℤ unzigzag number → IsWithin sums.limit total
     → sums_left sums ≡ total ∷ sums_within sums.limit total (map (delta_in sums.narrow) (numbers_left entries))
-entry_gives sums entries near number total only small numbers is within =
-    let ds = map (delta_in sums.narrow) (numbers_left entries) in
-    ap (λ (ns : List ℕ). sums_within sums.limit sums.total (map (delta_in sums.narrow) ns)) numbers
-    ∙ ap (λ (d : ℤ). sums_within sums.limit sums.total (d ∷ ds)) (delta_near sums.narrow near number only small)
-    ∙ ap (then_more sums.limit ds) (added_within sums.limit sums.total (unzigzag number) (subst (IsWithin sums.limit) is within))
-    ∙ ap (λ (z : ℤ). z ∷ sums_within sums.limit z ds) (sym is)
+entry_gives sums entries near number total only small numbers is within = grind (arith, delta_near, then_more, added_within)
 
 pub next_is : (old new : Sums) (entries : Column) (near : Bool) (number : ℕ) → (IsTrue old.narrow → IsTrue near) → IsNear near number → numbers_left old.entries ≡ number ∷ numbers_left entries
     → new.total ≡ old.total +ℤ unzigzag number → new.entries ≡ entries → new.limit ≡ old.limit → new.narrow ≡ old.narrow → sums_left old ≡ new.total ∷ sums_left new

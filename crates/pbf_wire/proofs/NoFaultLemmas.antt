@@ -1,14 +1,14 @@
 -- A written message gives no faults if its slots give none.
 use Rattle.pbf_wire.specs.Reading.{last_of, values}
 use Rattle.std.proofs.lemmas.Grind.{flat_map-append}
-use Rattle.std.proofs.Common.{◌≡◌, ℕ, ◌+◌, ◌*◌, ◌%◌, ◌^◌, ◌<◌, ℤ, pos, ◌+ℤ◌, Bool, true, List, [], ◌∷◌, ◌++◌, length, map, Option, Some, None, refl, sym, ap, ap₂, subst, ◌∙◌, ◌||◌, drop, ◌==◌, arith, ◌≤◌, false}
+use Rattle.std.proofs.Common.{◌≡◌, ℕ, ◌+◌, ◌*◌, ◌%◌, ◌^◌, ◌<◌, ℤ, pos, ◌+ℤ◌, Bool, true, List, [], ◌∷◌, ◌++◌, length, map, Option, Some, None, refl, sym, ap, ap₂, subst, ◌∙◌, drop, ◌==◌, arith, ◌≤◌, false}
 use Rattle.std.specs.Prelude.{Ok, Err, not, filter, if◌then◌else◌}
 use Rattle.std.specs.List.{flat_map, AllByRecursion, list_any, last_or}
 use Rattle.std.proofs.lemmas.Bool.{lt-ltb}
 use Rattle.std.proofs.lemmas.List.{length-map}
 use Rattle.pbf_wire.specs.declared.fault.Fault.{Fault}
 use Rattle.pbf_wire.specs.declared.fault.Reason.{Reason}
-use Rattle.pbf_wire.specs.declared.fault.Reason.TheVariants.{OutOfRange, StringIndex, Missing, TwiceMessage}
+use Rattle.pbf_wire.specs.declared.fault.Reason.TheVariants.{OutOfRange, StringIndex}
 use Rattle.pbf_wire.specs.declared.kind.Kind.{Kind}
 use Rattle.pbf_wire.specs.declared.kind.Kind.TheVariants as kind
 use Rattle.pbf_wire.specs.Varint.{shortest}
@@ -19,7 +19,7 @@ use Rattle.pbf_wire.specs.Writing.{Part, Single, Whole, spelling, occurrences_of
 use Rattle.pbf_wire.specs.Message.{Slot, Scalar, Column, Each, parts_of, message, SlotFits, SlotIs, numbers_at, unless_empty, messages_at, scalars_at}
 use Rattle.pbf_wire.specs.Signed.{delta_in, IsWithin, is_within}
 use Rattle.pbf_wire.specs.Sums.{sums, sums_from}
-use Rattle.pbf_wire.specs.Faults.{fault_where, or_more, message_faults, leaf_faults, fields_in, column_count, below_fault, index_faults, faults_of_sums, sum_faults, index_sum_faults, is_index, fault, fields_of, embedded, missing, twice, of_value, in_last}
+use Rattle.pbf_wire.specs.Faults.{fault_where, or_more, message_faults, leaf_faults, fields_in, column_count, below_fault, index_faults, faults_of_sums, sum_faults, index_sum_faults, is_index, fields_of, embedded, missing, twice, of_value, in_last}
 use Rattle.pbf_wire.proofs.MessageLemmas.{fields_written, column_written, no_wire_fault, part_scalars, part_messages, slots_scalars, slots_messages, numbers, values_written}
 use Rattle.pbf_wire.proofs.SumLemmas.{running_sums, within_true}
 use Rattle.pbf_wire.proofs.SoundLemmas.{both_nil, whole_count}
@@ -58,10 +58,8 @@ module _ {X : Type 0} (f : Occurrence → List X) where
 
   parts_quiet : (at : ℕ) (ps : List Part) → AllByRecursion PartQuiet ps → flat_map f (occurrences_of at ps) ≡ []
   parts_quiet at [] h = refl
-  parts_quiet at (Single number value ∷ ps) h =
-      ap₂ (λ (xs ys : List X). xs ++ ys) (h.0 at) (parts_quiet (at + length (spelling (Single number value))) ps h.1)
-  parts_quiet at (Whole number bytes ∷ ps) h =
-      ap₂ (λ (xs ys : List X). xs ++ ys) (h.0 at (at + length (shortest (number * 8 + 2)) + length (shortest (length bytes)))) (parts_quiet (at + length (spelling (Whole number bytes))) ps h.1)
+  parts_quiet at (Single number value ∷ ps) h = grind (arith, parts_quiet (at + length (spelling (Single number value))) ps h.1)
+  parts_quiet at (Whole number bytes ∷ ps) h = grind (arith, parts_quiet (at + length (spelling (Whole number bytes))) ps h.1)
 
   slot_quiet : (s : Slot) → SlotQuiet s → AllByRecursion PartQuiet (parts_of s)
   slot_quiet (Scalar number (Some value)) h = (h, tt)
@@ -100,10 +98,8 @@ module _ {X : Type 0} (f : Occurrence → List X) where
   slots_give : (at : ℕ) (given : List (Slot × List X)) → AllByRecursion (λ g. SlotGives g.0 g.1) given → flat_map f (occurrences_of at (flat_map parts_of (map (λ g. g.0) given))) ≡ flat_map (λ g. g.1) given
   slots_give at [] h = refl
   slots_give at (g ∷ given) h =
-      let slots = map (λ (g : Slot × List X). g.0) given in
-      let parts = split at (parts_of g.0) (flat_map parts_of slots) in
-      ap (flat_map f) parts.1 ∙ flat_map-append f (occurrences_of at (parts_of g.0)) (occurrences_of parts.0 (flat_map parts_of slots))
-      ∙ ap₂ (λ (xs ys : List X). xs ++ ys) (h.0 at) (slots_give parts.0 given h.1)
+      let parts = split at (parts_of g.0) (flat_map parts_of (map (λ g. g.0) given)) in
+      cc (parts.1, flat_map-append f (occurrences_of at (parts_of g.0)) (occurrences_of parts.0 (flat_map parts_of (map (λ g. g.0) given))), h.0 at, slots_give parts.0 given h.1)
 
   -- what the fields give is what the slots give, in order
   pub fields_give : (at : ℕ) (given : List (Slot × List X)) → AllByRecursion (λ g. SlotGives g.0 g.1) given → AllByRecursion SlotFits (map (λ g. g.0) given) → length (message (map (λ g. g.0) given)) < 2 ^ 64
@@ -115,10 +111,7 @@ module _ {X : Type 0} (f : Occurrence → List X) where
 module _ (kinds : List (ℕ × Kind)) (inner : Occurrence → List Fault) where
   field_faultless : (o : Occurrence) (rest : List Item) (r : Option Reason) → or_at o.place r (wire kinds rest) ≡ None → inner o ++ flat_map inner (found rest) ≡ []
       → (wire kinds rest ≡ None → flat_map inner (found rest) ≡ [] → message_faults kinds inner rest ≡ []) → or_more o.place r (inner o ++ message_faults kinds inner rest) ≡ []
-  field_faultless o rest (Some reason) e h more = absurd (cc)
-  field_faultless o rest None e h more =
-      let both = both_nil (inner o) (flat_map inner (found rest)) h in
-      ap₂ (λ (xs ys : List Fault). xs ++ ys) both.0 (more e both.1)
+  field_faultless o rest r e h more = grind (arith, both_nil)
 
   -- a message without a fault of its own has none if its fields give none
   faultless : (its : List Item) → wire kinds its ≡ None → flat_map inner (found its) ≡ [] → message_faults kinds inner its ≡ []
@@ -129,8 +122,7 @@ module _ (kinds : List (ℕ × Kind)) (inner : Occurrence → List Fault) where
 -- a written message has no wire fault if its slots have their types and what is in them has none
 pub no_fault_within : (kinds : List (ℕ × Kind)) (inner : Occurrence → List Fault) (at : ℕ) (slots : List Slot) → AllByRecursion (SlotIs kinds) slots → AllByRecursion (SlotQuiet inner) slots → AllByRecursion SlotFits slots → length (message slots) < 2 ^ 64
     → message_faults kinds inner (items at (message slots)) ≡ []
-no_fault_within kinds inner at slots h quiet fits lt =
-    faultless kinds inner (items at (message slots)) (no_wire_fault kinds at slots h fits lt) (fields_quiet inner at slots quiet fits lt)
+no_fault_within kinds inner at slots h quiet fits lt = grind (arith, faultless, no_wire_fault, fields_quiet)
 
 abbrev no_faults : Occurrence → List Fault
 no_faults o = []
@@ -140,18 +132,14 @@ nothing_given [] = refl
 nothing_given (o ∷ os) = nothing_given os
 
 pub leaf_quiet : (kinds : List (ℕ × Kind)) (place at : ℕ) (slots : List Slot) → AllByRecursion (SlotIs kinds) slots → AllByRecursion SlotFits slots → length (message slots) < 2 ^ 64 → leaf_faults kinds place at (message slots) ≡ []
-leaf_quiet kinds place at slots h fits lt =
-    faultless kinds no_faults (items at (message slots)) (no_wire_fault kinds at slots h fits lt) (nothing_given (fields_in at (message slots)))
+leaf_quiet kinds place at slots h fits lt = grind (arith, faultless, no_wire_fault, nothing_given)
 
 -- ---- counts
 
 -- a column counts as many numbers as were written
 pub counted_written : (kinds : List (ℕ × Kind)) (k at : ℕ) (slots : List Slot) → kind_of kinds k ≡ Some kind.Column → AllByRecursion (SlotIs kinds) slots → AllByRecursion SlotFits slots → length (message slots) < 2 ^ 64
     → column_count k (fields_in at (message slots)) ≡ length (flat_map (numbers_at k) slots)
-counted_written kinds k at slots known h fits lt =
-    whole_count kinds k at (message slots) known (no_wire_fault kinds at slots h fits lt)
-    ∙ sym (length-map (joined k (fields_in at (message slots))) (λ p. p.0))
-    ∙ ap (λ (ns : List ℕ). length ns) (column_written k at slots fits lt)
+counted_written kinds k at slots known h fits lt = cc (whole_count kinds k at (message slots) known (no_wire_fault kinds at slots h fits lt), length-map (joined k (fields_in at (message slots))) (λ p. p.0), column_written k at slots fits lt)
 
 -- ---- values
 
@@ -195,23 +183,15 @@ abbrev pub field_count : ℕ → List Slot → ℕ
 field_count k slots = length (flat_map (messages_at k) slots) + length (flat_map (scalars_at k) slots)
 
 fields_counted : (k at : ℕ) (slots : List Slot) → AllByRecursion SlotFits slots → length (message slots) < 2 ^ 64 → length (all_of k (fields_in at (message slots))) ≡ field_count k slots
-fields_counted k at slots fits lt =
-    ap (λ (os : List Occurrence). length (all_of k os)) (fields_written at slots fits lt)
-    ∙ parts_counted k at (flat_map parts_of slots)
-    ∙ ap₂ (λ (ms : List (List ℕ)) (vs : List ℕ). length ms + length vs) (slots_messages k slots) (slots_scalars k slots)
+fields_counted k at slots fits lt = cc (fields_written at slots fits lt, parts_counted k at (flat_map parts_of slots), slots_messages k slots, slots_scalars k slots)
 
 any_kept : (k : ℕ) (os : List Occurrence) → 0 < length (all_of k os) → list_any (λ o. o.number == k) os ≡ true
 any_kept k [] lt = absurd (omega arith)
-any_kept k (o ∷ os) lt = by (o.number == k) lt (any_kept k os)
-  where
-    by : (b : Bool) → 0 < length (if b then o ∷ all_of k os else all_of k os) → (0 < length (all_of k os) → list_any (λ o. o.number == k) os ≡ true) → (b || list_any (λ o. o.number == k) os) ≡ true
-    by true lt more = refl
-    by false lt more = more lt
+any_kept k (o ∷ os) lt = grind (arith, any_kept k os)
 
 -- a field that is written isn't missing
 pub present_written : (k place at : ℕ) (slots : List Slot) → AllByRecursion SlotFits slots → length (message slots) < 2 ^ 64 → 0 < field_count k slots → missing k place (fields_in at (message slots)) ≡ []
-present_written k place at slots fits lt some =
-    ap (λ b. fault_where (not b) place (Missing k)) (any_kept k (fields_in at (message slots)) (omega (arith, fields_counted k at slots fits lt, some)))
+present_written k place at slots fits lt some = grind (arith, any_kept, fields_counted)
 
 none_behind : (os : List Occurrence) → length os ≤ 1 → drop 1 os ≡ []
 none_behind (o ∷ p ∷ os) le = absurd (omega arith)
@@ -219,8 +199,7 @@ none_behind os le = refl
 
 -- a field that is written once doesn't occur twice
 pub once_written : (k at : ℕ) (slots : List Slot) → AllByRecursion SlotFits slots → length (message slots) < 2 ^ 64 → field_count k slots ≤ 1 → twice k (fields_in at (message slots)) ≡ []
-once_written k at slots fits lt few =
-    ap (λ (os : List Occurrence). map (λ o. fault o.place TwiceMessage) os) (none_behind (all_of k (fields_in at (message slots))) (omega (arith, fields_counted k at slots fits lt, few)))
+once_written k at slots fits lt few = grind (arith, none_behind, fields_counted)
 
 -- ---- the last message that a field holds
 
@@ -280,9 +259,7 @@ embedded_written k at slots m fits lt e h = let held = last_held k at slots m fi
 
 -- and nothing if there is none
 pub embedded_none : (k at : ℕ) (slots : List Slot) → AllByRecursion SlotFits slots → length (message slots) < 2 ^ 64 → flat_map (messages_at k) slots ≡ [] → flat_map (scalars_at k) slots ≡ [] → embedded k (fields_in at (message slots)) ≡ []
-embedded_none k at slots fits lt e h =
-    ap (embedded k) (fields_written at slots fits lt)
-    ∙ ap (λ (os : List Occurrence). fields_of (last_or None os)) (no_fields k at (flat_map parts_of slots) (slots_messages k slots ∙ e) (slots_scalars k slots ∙ h))
+embedded_none k at slots fits lt e h = cc (fields_written at slots fits lt, no_fields k at (flat_map parts_of slots) (slots_messages k slots ∙ e) (slots_scalars k slots ∙ h))
 
 pub no_items : fields_in 0 [] ≡ []
 unfolding items_past
@@ -299,17 +276,14 @@ unless_all P [] p = tt
 unless_all P (b ∷ bs) p = (p, tt)
 
 pub unless_below : (n : ℕ) (m : List ℕ) → 0 < n → AllByRecursion (λ m. length m < n) (unless_empty m) → length m < n
-unless_below n [] positive h = positive
-unless_below n (b ∷ bs) positive h = h.0
+unless_below n m positive h = grind arith
 
 pub unless_few : (m : List ℕ) → length (unless_empty m) ≤ 1
-unless_few [] = omega arith
-unless_few (b ∷ bs) = omega arith
+unless_few m = grind arith
 
 -- a column of another field gives no message
 pub column_passed : (k number : ℕ) (values : List ℕ) (rest : List (List ℕ)) → (number == k) ≡ false → messages_at k (Column number values) ++ rest ≡ rest
-column_passed k number [] rest e = refl
-column_passed k number (v ∷ vs) rest e = rw e refl
+column_passed k number values rest e = grind arith
 
 -- ---- the last number of a field
 

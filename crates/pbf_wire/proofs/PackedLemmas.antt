@@ -1,24 +1,20 @@
 -- Columns that are written hold the list that was pushed.
 use Rattle.std.proofs.Common.{◌≡◌, ℕ, ◌^◌, ◌<◌, List, [], ◌∷◌, ◌++◌, ℤ, pos, ◌-ℤ◌, map, refl, sym, ap, subst, ◌∙◌, arith, append_assoc, append-nil}
-use Rattle.std.specs.Prelude.{Ok}
 use Rattle.std.specs.List.{AllByRecursion}
 use Rattle.std.proofs.lemmas.Int.{ints}
 use Rattle.std.proofs.lemmas.List.{map-append}
 use mir.Syntax.{w64}
 use mir.Val.{of_z, to_z}
 use Rattle.pbf_wire.specs.Varint.{shortest}
-use Rattle.pbf_wire.specs.Columns.{Entry, read_entries, packed}
-use Rattle.pbf_wire.specs.Signed.{zigzag, unzigzag}
-use Rattle.pbf_wire.specs.Sums.{sums_from, differences, deltas}
+use Rattle.pbf_wire.specs.Columns.{read_entries, packed}
+use Rattle.pbf_wire.specs.Signed.{zigzag}
+use Rattle.pbf_wire.specs.Sums.{differences, deltas}
 use Rattle.pbf_wire.specs.Packed.{IsPacked, numbers_of, last_from, HoldsDeltas, values_of}
-use Rattle.pbf_wire.proofs.Written.{column_reads_back}
+use Rattle.pbf_wire.proofs.Written.{column_reads_back, all_entries}
 use Rattle.pbf_wire.proofs.SumLemmas.{IsSmall, small_zero, deltas_fit, sums_undo_deltas}
 use Rattle.pbf_wire.proofs.AllLemmas.{all_push}
 
 -- ---- plain numbers
-
-abbrev all_entries : List ℕ → List Entry
-all_entries ns = map Ok ns
 
 all_read : (ns : List ℕ) → read_entries (all_entries ns) ≡ ns
 all_read [] = refl
@@ -76,8 +72,7 @@ holds_push bytes last values value h p = record {
 }
 
 pub values_held : (bytes : List ℕ) (last : ℤ) (values : List ℤ) → HoldsDeltas bytes last values → values_of bytes ≡ values
-values_held bytes last values h =
-    ap values_of h.bytes_are ∙ ap (λ (ns : List ℕ). sums_from (pos 0) (map unzigzag ns)) (column_read (deltas values) (deltas_fit values h.within)) ∙ sums_undo_deltas values
+values_held bytes last values h = grind (arith, column_read, deltas_fit, sums_undo_deltas)
 
 -- what `push` leaves, if the values are read from the bytes
 pub pushed_values : (bytes : List ℕ) (last value : ℤ) → HoldsDeltas bytes last (values_of bytes) → IsSmall value → values_of (bytes ++ shortest (zigzag (value -ℤ last))) ≡ values_of bytes ++ value ∷ []

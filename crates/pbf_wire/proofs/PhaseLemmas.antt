@@ -3,7 +3,6 @@
 use Rattle.std.proofs.Common.{◌≡◌, ℕ, ◌+◌, ◌≤◌, List, [], ◌∷◌, ◌++◌, refl, ap, sym, subst, ◌∙◌, arith}
 use Rattle.std.specs.Prelude.{Option, Some, None, map}
 use Rattle.std.specs.Option.{option_map, option_or}
-use Rattle.std.proofs.lemmas.Bool.Decides.{nat_tests}
 use Rattle.pbf_wire.specs.declared.fault.Fault.{Fault}
 use Rattle.pbf_wire.specs.Least.{rank, lesser_by, least_by, least}
 use Rattle.pbf_wire.specs.Phases.{first_fault, in_phases, phase_rank}
@@ -26,8 +25,7 @@ module _ {X : Type 0} (r : X → List ℕ) where
   -- ---- one part
 
   lesser_in_part : (n : ℕ) (f g : Option X) → lesser_by in_part (option_map (λ x. (n, x)) f) (option_map (λ x. (n, x)) g) ≡ option_map (λ x. (n, x)) (lesser_by r f g)
-  lesser_in_part n (Some f) (Some g) = grind arith
-  lesser_in_part n f g = refl
+  lesser_in_part n f g = grind arith
 
   least_in_part : (n : ℕ) (xs : List X) → least_by in_part (map (λ x. (n, x)) xs) ≡ option_map (λ x. (n, x)) (least_by r xs)
   least_in_part n [] = refl
@@ -35,27 +33,15 @@ module _ {X : Type 0} (r : X → List ℕ) where
 
   -- ---- a part and those after it
 
-  before_later : (n : ℕ) (x : X) (o : Option (ℕ × X)) → IsFrom (n + 1) o → lesser_by in_part (Some (n, x)) o ≡ Some (n, x)
-  before_later n x None from = refl
-  before_later n x (Some p) from = grind (arith, nat_tests)
-
-  with_later : (n : ℕ) (found : Option X) (later : Option (ℕ × X)) → IsFrom (n + 1) later → lesser_by in_part (option_map (λ x. (n, x)) found) later ≡ option_or (option_map (λ x. (n, x)) found) later
-  with_later n None later from = refl
-  with_later n (Some x) later from = before_later n x later from
-
   from_or : (n : ℕ) (found : Option X) (later : Option (ℕ × X)) → IsFrom (n + 1) later → IsFrom n (option_or (option_map (λ x. (n, x)) found) later)
   from_or n None later from = later_from n (n + 1) later (omega arith) from
   from_or n (Some x) later from = omega arith
 
   found_or : (n : ℕ) (found : Option X) (later : Option (ℕ × X)) → option_map (λ p. p.1) (option_or (option_map (λ x. (n, x)) found) later) ≡ option_or found (option_map (λ p. p.1) later)
-  found_or n None later = refl
-  found_or n (Some x) later = refl
+  found_or n f later = grind arith
 
   parted : (n : ℕ) (xs : List X) (later : List (ℕ × X)) → IsFrom (n + 1) (least_by in_part later) → least_by in_part (map (λ x. (n, x)) xs ++ later) ≡ option_or (option_map (λ x. (n, x)) (least_by r xs)) (least_by in_part later)
-  parted n xs later from =
-      least_joined in_part (map (λ x. (n, x)) xs) later
-      ∙ ap (λ w. lesser_by in_part w (least_by in_part later)) (least_in_part n xs)
-      ∙ with_later n (least_by r xs) _ from
+  parted n xs later from = grind (arith, least_joined, least_in_part)
 
   pub parted_from : (n : ℕ) (xs : List X) (later : List (ℕ × X)) → IsFrom (n + 1) (least_by in_part later) → IsFrom n (least_by in_part (map (λ x. (n, x)) xs ++ later))
   parted_from n xs later from = subst (IsFrom n) (sym (parted n xs later from)) (from_or n (least_by r xs) _ from)
@@ -66,18 +52,15 @@ module _ {X : Type 0} (r : X → List ℕ) where
 -- ---- phases
 
 all_from : (n : ℕ) (phases : List (List Fault)) → IsFrom n (least_by phase_rank (in_phases n phases))
-all_from n [] = tt
+all_from n [] = grind arith
 all_from n (faults ∷ later) = parted_from rank n faults (in_phases (n + 1) later) (all_from (n + 1) later)
 
 pub phases_joined : (n : ℕ) (phases : List (List Fault)) → option_map (λ p. p.1) (least_by phase_rank (in_phases n phases)) ≡ first_fault phases
 phases_joined n [] = refl
-phases_joined n (faults ∷ later) =
-    parted_found rank n faults (in_phases (n + 1) later) (all_from (n + 1) later)
-    ∙ ap (option_or (least faults)) (phases_joined (n + 1) later)
+phases_joined n (faults ∷ later) = cc (parted_found rank n faults (in_phases (n + 1) later) (all_from (n + 1) later), phases_joined (n + 1) later)
 
 pub or_first : (f g h : Option Fault) → option_or f (option_or g h) ≡ option_or (option_or f g) h
-or_first None g h = refl
-or_first (Some f) g h = refl
+or_first f g h = grind arith
 
 -- the first phase that has one is of the first phases, or of those after them
 pub first_of_joined : (phases later : List (List Fault)) → first_fault (phases ++ later) ≡ option_or (first_fault phases) (first_fault later)

@@ -1,12 +1,12 @@
 -- What is read of a message doesn't depend on its place.
-use Rattle.std.proofs.Common.{◌≡◌, ℕ, zero, suc, ◌+◌, ◌-◌, ◌/◌, ◌%◌, ◌^◌, Bool, true, false, cond, eqb, ltb, List, [], ◌∷◌, ◌++◌, length, take, drop, map, refl, sym, ap, ap₂, ◌∙◌}
+use Rattle.std.proofs.Common.{◌≡◌, ℕ, zero, suc, ◌+◌, ◌/◌, ◌%◌, ◌^◌, Bool, cond, eqb, ltb, List, [], ◌∷◌, length, take, drop, map, refl, sym, ap, ◌∙◌, arith}
 use Rattle.std.specs.Prelude.{Result, Ok, Err}
 use Rattle.std.specs.List.{flat_map}
 use Rattle.std.proofs.lemmas.List.Concat.{flat_map_single}
 use Rattle.pbf_wire.specs.declared.fault.Reason.{Reason}
 use Rattle.pbf_wire.specs.declared.fault.Reason.TheVariants.{LengthPast, NumberZero, TagLarge}
 use Rattle.pbf_wire.specs.Varint.{varint_at}
-use Rattle.pbf_wire.specs.Occurrence.{Content, Number, Bytes, Occurrence, Item, ◌>>=◌, body_at, occurrence_at, items_from, items_past, items, found, unplaced, without_places}
+use Rattle.pbf_wire.specs.Occurrence.{Content, Bytes, Occurrence, Item, ◌>>=◌, body_at, occurrence_at, items_from, items_past, items, found, unplaced, without_places}
 
 abbrev bare_body : Result (Content × ℕ) Reason → Result (Content × ℕ) Reason
 bare_body (Ok p) = Ok (unplaced p.0, p.1)
@@ -20,12 +20,10 @@ abbrev sized : List ℕ → ℕ → ℕ × ℕ → Result (Content × ℕ) Reaso
 sized bytes at n = cond (ltb (length (drop n.1 bytes)) n.0) (Err LengthPast) (Ok (Bytes (take n.0 (drop n.1 bytes)) (at + n.1), n.1 + n.0))
 
 sized_same : (bytes : List ℕ) (at bt : ℕ) (r : Result (ℕ × ℕ) Reason) → bare_body (r >>= sized bytes at) ≡ bare_body (r >>= sized bytes bt)
-sized_same bytes at bt (Err e) = refl
-sized_same bytes at bt (Ok n) = elim (ltb (length (drop n.1 bytes)) n.0) as (λ b. bare_body (cond b (Err LengthPast) (Ok (Bytes (take n.0 (drop n.1 bytes)) (at + n.1), n.1 + n.0))) ≡ bare_body (cond b (Err LengthPast) (Ok (Bytes (take n.0 (drop n.1 bytes)) (bt + n.1), n.1 + n.0)))) [ true ↦ refl | false ↦ refl ]
+sized_same bytes at bt r = grind arith
 
 body_cases : (a b c : Bool) (x y z : Result (Content × ℕ) Reason) (s t : Result (Content × ℕ) Reason) → bare_body s ≡ bare_body t → bare_body (cond a x (cond b y (cond c s z))) ≡ bare_body (cond a x (cond b y (cond c t z)))
-body_cases false false true x y z s t h = h
-body_cases a b c x y z s t h = refl
+body_cases a b c x y z s t h = grind arith
 
 body_same : (kind at bt : ℕ) (bytes : List ℕ) → bare_body (body_at kind at bytes) ≡ bare_body (body_at kind bt bytes)
 unfolding body_at
@@ -35,16 +33,10 @@ abbrev framed : ℕ → ℕ × ℕ → Content × ℕ → Result (Occurrence × 
 framed at tag body = Ok (record { place = at; number = tag.0 / 8; content = body.0 }, tag.1 + body.1)
 
 framed_same : (at bt : ℕ) (tag : ℕ × ℕ) (r s : Result (Content × ℕ) Reason) → bare_body r ≡ bare_body s → bare_front (r >>= framed at tag) ≡ bare_front (s >>= framed bt tag)
-framed_same at bt tag (Ok p) (Ok q) h =
-    let one : bare_body (Ok p) ≡ bare_body (Ok q) = h in
-    let both : (unplaced p.0, p.1) ≡ (unplaced q.0, q.1) = cc in
-    ap (framed 0 tag) both
-framed_same at bt tag (Err e) (Err f) h = let same : e ≡ f = cc in ap (λ (r : Reason). bare_front (Err r)) same
-framed_same at bt tag r s h = absurd (cc)
+framed_same at bt tag r s h = grind arith
 
 front_cases : (a b : Bool) (x y : Result (Occurrence × ℕ) Reason) (s t : Result (Occurrence × ℕ) Reason) → bare_front s ≡ bare_front t → bare_front (cond a (cond b x s) y) ≡ bare_front (cond a (cond b x t) y)
-front_cases true false x y s t h = h
-front_cases a b x y s t h = refl
+front_cases a b x y s t h = grind arith
 
 front_same : (at bt : ℕ) (bytes : List ℕ) → bare_front (occurrence_at at bytes) ≡ bare_front (occurrence_at bt bytes)
 unfolding occurrence_at
@@ -60,13 +52,7 @@ module _ {X : Type 0} (f : Occurrence → List X) (blind : (o : Occurrence) → 
   got xs = flat_map f (found xs)
 
   fronts : (at bt : ℕ) (r s : Result (Occurrence × ℕ) Reason) (more others : ℕ → List Item) → bare_front r ≡ bare_front s → ((k : ℕ) → got (more k) ≡ got (others k)) → got (items_from at r more) ≡ got (items_from bt s others)
-  fronts at bt (Ok p) (Ok q) more others h same =
-      let both : (without_places p.0, p.1) ≡ (without_places q.0, q.1) = cc in
-      let here : f p.0 ≡ f q.0 = blind p.0 ∙ ap (λ (w : Occurrence × ℕ). f w.0) both ∙ sym (blind q.0) in
-      let len : p.1 ≡ q.1 = ap (λ (w : Occurrence × ℕ). w.1) both in
-      ap₂ (λ (xs ys : List X). xs ++ ys) here (same (p.1 - 1) ∙ ap (λ k. got (others (k - 1))) len)
-  fronts at bt (Err e) (Err g) more others h same = refl
-  fronts at bt r s more others h same = absurd (cc)
+  fronts at bt r s more others h same = grind (arith, blind)
 
   past_same : (skip at bt : ℕ) (m : List ℕ) → got (items_past skip at m) ≡ got (items_past skip bt m)
   unfolding items_past
@@ -79,8 +65,7 @@ module _ {X : Type 0} (f : Occurrence → List X) (blind : (o : Occurrence) → 
   same_at at bt m = past_same 0 at bt m
 
 same_unplaced : (c : Content) → unplaced c ≡ unplaced (unplaced c)
-same_unplaced (Number v) = refl
-same_unplaced c = refl
+same_unplaced c = grind arith
 
 blind : (o : Occurrence) → (without_places o ∷ []) ≡ (without_places (without_places o) ∷ [])
 blind o = ap (λ (c : Content). record { place = 0; number = o.number; content = c } ∷ []) (same_unplaced o.content)

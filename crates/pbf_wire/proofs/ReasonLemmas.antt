@@ -1,6 +1,6 @@
 -- The numbers of reasons rise as the reasons are declared, so to compare reasons by their places is to compare them by their numbers.
-use Rattle.std.proofs.Common.{◌≡◌, ℕ, ◌+◌, [], ◌∷◌, Bool, refl, sym, ap₂, ◌∙◌, arith}
-use Rattle.std.specs.Prelude.{true, false, nat_lt, if◌then◌else◌}
+use Rattle.std.proofs.Common.{◌≡◌, ℕ, ◌+◌, [], ◌∷◌, refl, ap₂, ◌∙◌, arith}
+use Rattle.std.specs.Prelude.{nat_lt, if◌then◌else◌}
 use Rattle.std.proofs.lemmas.Bool.Decides.{nat_tests}
 use denote.Enum.Declared.{tag_of}
 use Rattle.pbf_wire.specs.contracts.fault.Reason.{the_type}
@@ -31,6 +31,4 @@ numbers_rise : (r s : Reason) → nat_lt (reason_number r) (reason_number s) ≡
 numbers_rise r s = ap₂ nat_lt (numbered r) (numbered s) ∙ rising (tag_of the_type r) (tag_of the_type s)
 
 pub by_number : (f g : Fault) → is_less (rank f) (rank g) ≡ is_less (f.offset ∷ reason_number f.reason ∷ missing_field f.reason ∷ []) (g.offset ∷ reason_number g.reason ∷ missing_field g.reason ∷ [])
-by_number f g =
-    ap₂ (λ (before after : Bool). if nat_lt f.offset g.offset then true else (if nat_lt g.offset f.offset then false else (if before then true else (if after then false else is_less (missing_field f.reason ∷ []) (missing_field g.reason ∷ [])))))
-    (sym (numbers_rise f.reason g.reason)) (sym (numbers_rise g.reason f.reason))
+by_number f g = grind (arith, numbers_rise)

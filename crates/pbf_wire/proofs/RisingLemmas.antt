@@ -95,17 +95,12 @@ module _ (is_good : ℤ → Bool) (reason : Reason) (narrow : Bool) where
   one_more : (b : Bool) (p q : ℕ) (fs : List Fault) → p ≤ q → lesser (Some (fault p reason)) (least fs) ≡ Some (fault p reason)
       → lesser (Some (fault p reason)) (least (fault_where b q reason ++ fs)) ≡ Some (fault p reason)
   one_more false p q fs le h = h
-  one_more true p q fs le h =
-      sym (lesser_joined rank (Some (fault p reason)) (Some (fault q reason)) (least fs))
-      ∙ ap (λ w. lesser w (least fs)) (no_sooner p q le) ∙ h
+  one_more true p q fs le h = cc (lesser_joined rank (Some (fault p reason)) (Some (fault q reason)) (least fs), no_sooner p q le, h)
 
   first_is_least : (p : ℕ) (start : ℤ) (xs : List (ℕ × ℕ)) → RisingFrom p xs → lesser (Some (fault p reason)) (least (running start xs)) ≡ Some (fault p reason)
   first_is_least p start [] h = refl
-  first_is_least p start (x ∷ xs) h =
-      one_more (not (is_good (start +ℤ delta_in narrow x.0))) p x.1 (running (start +ℤ delta_in narrow x.0) xs) h.0
-      (first_is_least p (start +ℤ delta_in narrow x.0) xs (rises_before p x.1 xs h.0 h.1))
+  first_is_least p start (x ∷ xs) h = grind (arith, one_more, rises_before, first_is_least p (start +ℤ delta_in narrow x.0) xs (rises_before p x.1 xs h.0 h.1))
 
   -- a value that isn't good, before any others
   pub not_good : (start : ℤ) (v p : ℕ) (xs : List (ℕ × ℕ)) → RisingFrom p xs → is_good (start +ℤ delta_in narrow v) ≡ false → least (running start ((v, p) ∷ xs)) ≡ Some (fault p reason)
-  not_good start v p xs h e =
-      ap (λ b. least (fault_where (not b) p reason ++ running (start +ℤ delta_in narrow v) xs)) e ∙ first_is_least p (start +ℤ delta_in narrow v) xs h
+  not_good start v p xs h e = grind (arith, first_is_least)

@@ -80,9 +80,7 @@ zeros_halved zero = tt
 zeros_halved (suc n) = ((omega arith, refl), zeros_halved n)
 
 pub run_read : (bytes front : List ℕ) (rise : ℕ) → front ≡ take 16 bytes → AreRising front rise → read_entries (entries bytes) ≡ front ++ read_entries (entries (drop 16 bytes))
-run_read bytes front rise is h =
-    ap (λ (w : List ℕ). read_entries (entries w)) (sym (take-append-drop 16 bytes) ∙ ap (λ (w : List ℕ). w ++ drop 16 bytes) (sym is))
-    ∙ all_read front (drop 16 bytes) (single front h.each)
+run_read bytes front rise is h = cc (take-append-drop 16 bytes, is, all_read front (drop 16 bytes) (single front h.each))
 
 -- before those that follow in the occurrence, and after it
 pub placed_run : (front ns : List ℕ) (place : ℕ) (more : List (ℕ × ℕ)) → map {B = ℕ} (λ p. p.0) (placed place (front ++ ns) ++ more) ≡ front ++ map (λ p. p.0) (placed place ns ++ more)
@@ -139,12 +137,8 @@ run_is old new entries rise span vs n h numbers above below is entries_are limit
 
 zeros_first : (xs : List ℕ) → take (prefix_len (λ b. not (leb 1 b)) xs) xs ≡ replicate (prefix_len (λ b. not (leb 1 b)) xs) 0
 zeros_first [] = refl
-zeros_first (zero ∷ xs) =
-    let one : suc (prefix_len (λ b. not (leb 1 b)) xs) ≡ 1 + prefix_len (λ b. not (leb 1 b)) xs = omega arith in
-    subst (λ n. take n (0 ∷ xs) ≡ replicate n 0) one (ap (λ (w : List ℕ). 0 ∷ w) (zeros_first xs))
-zeros_first (suc b ∷ xs) =
-    let n = 1 + prefix_len (λ b. not (leb 1 b)) xs in
-    subst (λ (t : Bool). take (cond (not t) n 0) (suc b ∷ xs) ≡ replicate (cond (not t) n 0) 0) (sym (le-leb 1 (suc b) (omega arith))) refl
+zeros_first (zero ∷ xs) = grind (arith, zeros_first xs)
+zeros_first (suc b ∷ xs) = grind (arith, le-leb)
 
 module _ (xs : List ℕ) (long : length xs ≡ 16) (some : mask_l (map (top (hbits w8)) (zip2 (λ a b. cond (leb a b) (2 ^ bits w8 - 1) 0) (replicate 16 1) xs)) % 2 ^ 64 ≢ 0) where
   zeros_counted : count_trailing_zeros 64 (mask_l (map (top (hbits w8)) (zip2 (λ a b. cond (leb a b) (2 ^ bits w8 - 1) 0) (replicate 16 1) xs)) % 2 ^ 64) ≡ prefix_len (λ b. not (leb 1 b)) xs

@@ -1,5 +1,5 @@
 -- Columns whose numbers take at most five bytes each have no wire fault, and their numbers and sums are small.
-use Rattle.std.proofs.Common.{◌≡◌, ℕ, zero, suc, ◌+◌, ◌-◌, ◌*◌, ◌/◌, ◌%◌, ◌^◌, ◌<◌, ◌≤◌, bit_and, bit_or, leb, eqb, ◌==◌, Bool, true, false, ℤ, pos, negsuc, ◌+ℤ◌, List, [], ◌∷◌, length, map, get_or, take, drop, refl, sym, ap, subst, ◌∙◌, arith, eq-eqb, inl, inr, ◌⊎◌}
+use Rattle.std.proofs.Common.{◌≡◌, ℕ, zero, suc, ◌+◌, ◌-◌, ◌*◌, ◌/◌, ◌%◌, ◌^◌, ◌<◌, ◌≤◌, bit_and, bit_or, leb, ◌==◌, Bool, true, false, ℤ, pos, ◌+ℤ◌, List, [], ◌∷◌, length, map, get_or, take, drop, refl, sym, ap, subst, ◌∙◌, arith, inl, inr, ◌⊎◌}
 use Rattle.std.specs.Prelude.{unsigned_abs, Ok, Option, None, Some, MatchOption, ⊤, count_by, nat_lt, IsBitSet, slice_index, ◌≤ℤ◌, neg_ℤ, if◌then◌else◌}
 use Rattle.std.specs.List.{prefix_len, AllByRecursion}
 use Rattle.std.specs.Int.{bit_at}
@@ -51,11 +51,7 @@ moved mask k i = let e : k + i ≡ i + k = omega arith in ap (λ n. n % 2) (shr-
 
 -- a bit of a mask joined with a shifted one is in the one, or so many places on in the other
 either : (a b k i : ℕ) → bit_at (bit_or a (b / 2 ^ k)) i ≡ 1 → (bit_at a i ≡ 1) ⊎ (bit_at b (i + k) ≡ 1)
-either a b k i e =
-    elim (cases_lt (bit_at a i) 1) [
-      | inl lt ↦ inr (omega (arith, e, bit_at_or a (b / 2 ^ k) i, moved b k i))
-      | inr ge ↦ inl (omega (arith, bit_at-lt a i))
-    ]
+either a b k i e = grind (arith, cases_lt, bit_at_or, moved, bit_at-lt)
 
 -- one of so many places from i on
 abbrev Near : ℕ → ℕ → ℕ → Type 0
@@ -167,13 +163,11 @@ short_few bytes window few is last here i lt =
 abbrev EachEnds : ℕ → List ℕ → Type 0
 EachEnds most bytes = (i : ℕ) → i < length bytes → EndsWithin most bytes i
 
-within_rest : (most : ℕ) (bytes : List ℕ) (n i : ℕ) → EndsWithin most bytes (n + i) → EndsWithin most (drop n bytes) i
-within_rest most bytes n i h =
-    let at : n + (i + h.0) ≡ n + i + h.0 = omega arith in
-    (h.0, h.1, omega (arith, h.2, length-drop n bytes), omega (arith, h.3, get_or-drop n bytes (i + h.0) 0, ap (λ k. get_or bytes k 0) at))
-
 each_of_rest : (most : ℕ) (bytes : List ℕ) (n : ℕ) → EachEnds most bytes → EachEnds most (drop n bytes)
-each_of_rest most bytes n h = λ i lt. within_rest most bytes n i (h (n + i) (omega (arith, lt, length-drop n bytes)))
+each_of_rest most bytes n h = λ i lt.
+    let e = h (n + i) (omega (arith, lt, length-drop n bytes)) in
+    let at : n + (i + e.0) ≡ n + i + e.0 = omega arith in
+    (e.0, e.1, omega (arith, e.2, length-drop n bytes), omega (arith, e.3, get_or-drop n bytes (i + e.0) 0, ap (λ k. get_or bytes k 0) at))
 
 -- the number at the start
 record Front (most : ℕ) (bytes : List ℕ) : Type 0 where
@@ -234,8 +228,7 @@ short_counted None bytes h n = tt
 short_counted (Some count) bytes h n = n ∙ sym (ends_counted bytes) ∙ ends_are_numbers bytes (short_column bytes h)
 
 pub short_below : (r : Option ℕ) (bytes : List ℕ) → MatchOption r ⊤ (λ _. IsShort bytes) → MatchOption r ⊤ (λ _. AllByRecursion (λ v. v < 2 ^ 35) (read_entries (entries bytes)))
-short_below None bytes h = tt
-short_below (Some count) bytes h = short_numbers bytes h
+short_below r bytes h = grind (arith, short_numbers)
 
 -- ---- columns of such numbers
 
@@ -252,11 +245,7 @@ column_more k os rest o is here later = subst (λ (w : List Occurrence). AllSmal
 
 -- and as many more as it has
 pub count_more : (k : ℕ) (os rest : List Occurrence) (o : Occurrence) → os ≡ o ∷ rest → o.number ≡ k → length (joined k os) ≡ length (numbers_in o.content) + length (joined k rest)
-count_more k os rest o is same =
-    ap (λ (w : List Occurrence). length (joined k w)) is
-    ∙ length-append (column_of k o) (joined k rest)
-    ∙ ap (λ (b : Bool). length (if b then placed o.place (numbers_in o.content) else []) + length (joined k rest)) (eq-eqb _ _ same)
-    ∙ ap (λ n. n + length (joined k rest)) (length-map {B = ℕ × ℕ} (numbers_in o.content) (λ v. (v, o.place)))
+count_more k os rest o is same = grind (arith, length-append, length-map)
 
 -- the numbers of the occurrence that was begun, and those of the fields after it
 pub begun_counted : (column : Column) (begun left : ℕ) → begun ≡ count_by (λ b. nat_lt b 128) column.packed.now → IsShort column.packed.now → left ≡ length (joined column.number (found_left column.fields)) → begun + left ≡ length (column_left column)
@@ -277,9 +266,7 @@ left_short k fields = column_short k fields.at fields.rest.now
 
 pub numbers_fit : (column : Column) → length (column_left column) ≤ length column.packed.now + length column.fields.0.rest.now
 unfolding column_left
-numbers_fit column =
-    let ns = read_entries (entries column.packed.now) in
-    omega (arith, numbers_within 0 column.packed.now, left_short column.number column.fields.0, length-append (placed column.packed_place ns) (joined column.number (found_left column.fields)), length-map {B = ℕ × ℕ} ns (λ v. (v, column.packed_place)))
+numbers_fit column = grind (arith, numbers_within, left_short, length-append, length-map)
 
 -- ---- their sums
 
@@ -289,10 +276,7 @@ pub record IsNear (distance : ℕ) (n : ℤ) : Type 0 where
   pub below : n ≤ℤ pos distance
 
 small_number : (v : ℕ) → v < 2 ^ 35 → IsNear (2 ^ 35) (unzigzag v)
-small_number v lt = by (eqb (v % 2) 0) where
-  by : (b : Bool) → IsNear (2 ^ 35) (if b then pos (v / 2) else negsuc (v / 2))
-  by true = record { above = omega (arith, ints); below = omega (arith, ints) }
-  by false = record { above = omega (arith, ints); below = omega (arith, ints) }
+small_number v lt = record { above = grind (arith, ints); below = grind (arith, ints) }
 
 -- of 32 bits no entry is further
 small_delta : (narrow : Bool) (v : ℕ) → v < 2 ^ 35 → IsNear (2 ^ 35) (delta_in narrow v)

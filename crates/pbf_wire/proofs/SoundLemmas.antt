@@ -10,8 +10,8 @@ use Rattle.pbf_wire.specs.declared.fault.Reason.{Reason}
 use Rattle.pbf_wire.specs.declared.kind.Kind.{Kind}
 use Rattle.pbf_wire.specs.declared.kind.Kind.TheVariants as kind
 use Rattle.pbf_wire.specs.Varint.{EndsOnce, varint_at}
-use Rattle.pbf_wire.specs.Occurrence.{Content, Number, Bytes, Occurrence, Item, items, found}
-use Rattle.pbf_wire.specs.Columns.{entries, read_entries, entry_fault, placed, numbers_in, column_of, joined}
+use Rattle.pbf_wire.specs.Occurrence.{Content, Occurrence, Item, items, found}
+use Rattle.pbf_wire.specs.Columns.{entries, read_entries, entry_fault, numbers_in, column_of, joined}
 use Rattle.pbf_wire.specs.Wire.{kind_of, reason_in, wire}
 use Rattle.pbf_wire.proofs.FaultLemmas.{leaf_is_wire, ends}
 use Rattle.pbf_wire.specs.Reading.{last_of}
@@ -42,8 +42,7 @@ both_none None other e = (refl, e)
 both_none (Some x) other e = absurd (cc)
 
 pub option_last : {X : Type 0} (o : Option X) → option_or o None ≡ o
-option_last None = refl
-option_last (Some x) = refl
+option_last o = grind arith
 
 pub both_nil : {X : Type 0} (xs ys : List X) → xs ++ ys ≡ [] → (xs ≡ []) × (ys ≡ [])
 both_nil [] ys e = (refl, e)
@@ -55,16 +54,11 @@ all_nil f (x ∷ xs) e = let both = both_nil (f x) (flat_map f xs) e in (both.0,
 
 -- a test that would be a fault doesn't hold
 pub not_wrong : (wrong : Bool) (place : ℕ) (reason : Reason) → fault_where wrong place reason ≡ [] → wrong ≡ false
-not_wrong true place reason e = absurd (cc)
-not_wrong false place reason e = refl
-
-is_true : (b : Bool) → not b ≡ false → b ≡ true
-is_true true e = refl
-is_true false e = absurd (cc)
+not_wrong wrong place reason e = grind arith
 
 -- a test without which there would be a fault holds
 pub is_right : (right : Bool) (place : ℕ) (reason : Reason) → fault_where (not right) place reason ≡ [] → right ≡ true
-is_right right place reason e = is_true right (not_wrong (not right) place reason e)
+is_right right place reason e = grind arith
 
 -- ---- the values of a column of differences
 
@@ -88,13 +82,10 @@ sums_within_limit limit reason narrow xs e = all_weaker (λ z. is_within limit z
 
 end_once : (s : List ℕ) → EndsOnce s → length (ends s) ≡ 1
 end_once [] h = absurd h
-end_once (b ∷ []) h = grind arith
-end_once (b ∷ c ∷ bs) h = grind (arith, end_once (c ∷ bs) h.1)
+end_once (b ∷ bs) h = grind (arith, end_once bs)
 
 ends_parted : (n : ℕ) (bytes : List ℕ) → length (ends bytes) ≡ length (ends (take n bytes)) + length (ends (drop n bytes))
-ends_parted n bytes =
-    ap (λ (w : List ℕ). length (ends w)) (sym (take-append-drop n bytes))
-    ∙ ap (λ (w : List ℕ). length w) (filter-append (λ b. nat_lt b 128) (take n bytes) (drop n bytes)) ∙ length-append (ends (take n bytes)) (ends (drop n bytes))
+ends_parted n bytes = cc (take-append-drop n bytes, filter-append (λ b. nat_lt b 128) (take n bytes) (drop n bytes), length-append (ends (take n bytes)) (ends (drop n bytes)))
 
 ends_next : (m : List ℕ) (r : Result (ℕ × ℕ) Reason) → 0 < length m → varint_at m ≡ r → entry_fault (entries m) ≡ None
     → ((n : ℕ) → 0 < n → entry_fault (entries (drop n m)) ≡ None → length (ends (drop n m)) ≡ length (read_entries (entries (drop n m)))) → length (ends m) ≡ length (read_entries (entries m))
@@ -127,14 +118,10 @@ entries_ended zero (b ∷ bs) le = absurd (omega arith)
 entries_ended (suc fuel) (b ∷ bs) le = entries_next (b ∷ bs) (varint_at (b ∷ bs)) (omega arith) refl (λ n positive. entries_ended fuel (drop n (b ∷ bs)) (omega (arith, length-drop n (b ∷ bs), positive)))
 
 ended_in : (c : Content) → length (numbers_in c) ≤ length (ends_in c)
-ended_in (Bytes bytes at) = entries_ended (length bytes) bytes (omega arith)
-ended_in c = omega arith
+ended_in c = grind (arith, entries_ended)
 
 one_ended : (k : ℕ) (o : Occurrence) → length (column_of k o) ≤ length (ends_of k o)
-one_ended k o = elim (o.number == k) as (λ b. length (if b then placed o.place (numbers_in o.content) else []) ≤ length (if b then ends_in o.content else [])) [
-  | true ↦ omega (arith, length-map {B = ℕ × ℕ} (numbers_in o.content) (λ v. (v, o.place)), ended_in o.content)
-  | false ↦ omega arith
-]
+one_ended k o = grind (arith, length-map, ended_in)
 
 -- a column has no more numbers than are counted, whatever is wrong with it
 pub length_counted : (k : ℕ) (os : List Occurrence) → length (joined k os) ≤ column_count k os
@@ -142,9 +129,7 @@ length_counted k [] = omega arith
 length_counted k (o ∷ os) = omega (arith, length-append (column_of k o) (joined k os), length-append (ends_of k o) (flat_map (ends_of k) os), one_ended k o, length_counted k os)
 
 count_in : (c : Content) → reason_in (Some kind.Column) c ≡ None → length (ends_in c) ≡ length (numbers_in c)
-count_in (Number v) e = refl
-count_in (Bytes bytes at) e = ends_are_numbers bytes e
-count_in c e = absurd (cc)
+count_in c e = grind (arith, ends_are_numbers)
 
 module _ (kinds : List (ℕ × Kind)) (inner : Occurrence → List Fault) where
   abbrev pub IsSound : Occurrence → Type 0
@@ -162,18 +147,13 @@ module _ (kinds : List (ℕ × Kind)) (inner : Occurrence → List Fault) where
   fields_sound (Err e ∷ rest) h = absurd (cc)
 
 one_counted : (k : ℕ) (o : Occurrence) → (o.number ≡ k → reason_in (Some kind.Column) o.content ≡ None) → length (ends_of k o) ≡ length (column_of k o)
-one_counted k o h = by (o.number == k) refl where
-  by : (b : Bool) → (o.number == k) ≡ b → length (if b then ends_in o.content else []) ≡ length (if b then placed o.place (numbers_in o.content) else [])
-  by true is = count_in o.content (h (grind arith)) ∙ sym (length-map {B = ℕ × ℕ} (numbers_in o.content) (λ v. (v, o.place)))
-  by false is = refl
+one_counted k o h = grind (arith, count_in, length-map)
 
 -- the count of a column whose fields have its type is the number of its entries
 pub count_is_length : (kinds : List (ℕ × Kind)) (inner : Occurrence → List Fault) (k : ℕ) (os : List Occurrence) → kind_of kinds k ≡ Some kind.Column
     → AllByRecursion (IsSound kinds inner) os → column_count k os ≡ length (joined k os)
 count_is_length kinds inner k [] known h = refl
-count_is_length kinds inner k (o ∷ os) known h =
-    let one = one_counted k o (λ same. ap (λ (t : Option Kind). reason_in t o.content) (sym known ∙ ap (kind_of kinds) (sym same)) ∙ h.0.0) in
-    omega (arith, length-append (ends_of k o) (flat_map (ends_of k) os), length-append (column_of k o) (joined k os), one, count_is_length kinds inner k os known h.1)
+count_is_length kinds inner k (o ∷ os) known h = grind (arith, one_counted, length-append, count_is_length kinds inner k os known h.1)
 
 -- ---- the last occurrence of a field
 
@@ -186,12 +166,10 @@ later k o os = last_or o (filter (λ o. o.number == k) os)
 
 last_from : (P : Occurrence → Type 0) (k : ℕ) (os : List Occurrence) (before : Option Occurrence) → AllByRecursion P os → IfThere P k before → IfThere P k (later k before os)
 last_from P k [] before all h = h
-last_from P k (o ∷ os) before all h = chosen (o.number == k) refl
-    (λ same. last_from P k os (Some o) all.1 (all.0, same)) (last_from P k os before all.1 h)
-  where
-    chosen : (b : Bool) → (o.number == k) ≡ b → (o.number ≡ k → IfThere P k (later k (Some o) os)) → IfThere P k (later k before os) → IfThere P k (last_or before (if b then o ∷ filter (λ o. o.number == k) os else filter (λ o. o.number == k) os))
-    chosen true e taken skipped = taken (grind arith)
-    chosen false e taken skipped = skipped
+last_from P k (o ∷ os) before all h = chosen (o.number == k) refl (λ same. last_from P k os (Some o) all.1 (all.0, same)) (last_from P k os before all.1 h) where
+  chosen : (b : Bool) → (o.number == k) ≡ b → (o.number ≡ k → IfThere P k (later k (Some o) os)) → IfThere P k (later k before os) → IfThere P k (last_or before (if b then o ∷ filter (λ o. o.number == k) os else filter (λ o. o.number == k) os))
+  chosen true e taken skipped = taken (grind arith)
+  chosen false e taken skipped = skipped
 
 -- what holds of all occurrences holds of the last of the field k
 pub last_holds : (P : Occurrence → Type 0) (k : ℕ) (os : List Occurrence) (o : Occurrence) → AllByRecursion P os → last_of k os ≡ Some o → P o × (o.number ≡ k)

@@ -1,11 +1,10 @@
 -- Values that are skipped one after another.
-use Rattle.std.proofs.Common.{◌≡◌, ◌<◌, ◌≤◌, ◌^◌, Bool, true, false, not, ℕ, zero, suc, ℤ, List, [], ◌∷◌, length, map, None, Some, ap, refl, rules, arith, ◌<ℤ◌, ◌≤ℤ◌}
+use Rattle.std.proofs.Common.{◌≡◌, ◌<◌, ◌≤◌, ◌^◌, Bool, true, false, not, ℕ, zero, suc, ℤ, List, [], ◌∷◌, length, None, Some, ap, rules, arith, ◌<ℤ◌, ◌≤ℤ◌}
 use Rattle.std.proofs.Math.Seq.{drop-nil}
 use Rattle.std.proofs.lemmas.Int.{ints}
 use Rattle.std.proofs.lemmas.List.{length-map}
 use Rattle.std.specs.Bool.{beq}
-use Rattle.pbf_wire.specs.Cursors.{column_left, numbers_left, sums_left}
-use Rattle.pbf_wire.specs.Signed.{delta_in}
+use Rattle.pbf_wire.specs.Cursors.{column_left, sums_left}
 use Rattle.pbf_wire.specs.Spans.{is_in, ArePassed}
 use Rattle.pbf_wire.specs.Sums.{added, sums_within}
 use Rattle.pbf_wire.specs.declared.span.Span.{Span}
@@ -21,9 +20,7 @@ one_past span is_there (v ∷ vs) left value (suc n) past there =
     record { passed = more.passed; alike = (past.alike.0, more.alike); there = omega (arith, more.there); few = past.few }
 
 pub same_test : (a b : Bool) → not (beq a b) ≡ false → a ≡ b
-same_test true false e = search rules
-same_test false true e = search rules
-same_test a b e = refl
+same_test a b e = grind arith
 
 pub in_span : (span : Span) (n : ℤ) → is_in span n ≡ true → (span.above <ℤ n) × (n <ℤ span.below)
 in_span span n h = (search rules, search rules)
@@ -33,9 +30,7 @@ span_has span n above below = search (rules, above, below)
 
 -- what a span has, one that reaches further has too
 pub wider_has : (span wider : Span) (n : ℤ) → wider.above ≤ℤ span.above → span.below ≤ℤ wider.below → is_in span n ≡ true → is_in wider n ≡ true
-wider_has span wider n above below h =
-    let inside = in_span span n h in
-    span_has wider n (omega (arith, ints, above, inside.0)) (omega (arith, ints, below, inside.1))
+wider_has span wider n above below h = grind (arith, in_span, span_has, ints)
 
 -- ---- how many there are
 
@@ -49,5 +44,4 @@ sums_fit limit start (d ∷ ds) =
 
 -- no more than the column has numbers
 pub values_fit : (values : Sums) → length (column_left values.entries) < 2 ^ 64 → length (sums_left values) < 2 ^ 64
-values_fit values h =
-    omega (arith, h, sums_fit values.limit values.total (map (delta_in values.narrow) (numbers_left values.entries)), length-map (numbers_left values.entries) (delta_in values.narrow), length-map {B = ℕ} (column_left values.entries) (λ p. p.0))
+values_fit values h = grind (arith, sums_fit, length-map)

@@ -1,5 +1,5 @@
 -- Signed numbers, differences and sums undo each other.
-use Rattle.std.proofs.Common.{◌≡◌, Bool, cond, Option, Some, None, ℕ, zero, suc, ◌+◌, ◌-◌, ◌*◌, ◌/◌, ◌%◌, ◌^◌, ◌<◌, ◌≤◌, true, false, ltb, eqb, ℤ, pos, negsuc, ◌+ℤ◌, ◌-ℤ◌, List, [], ◌∷◌, length, map, refl, sym, ap, ap₂, subst, ◌∙◌, arith, rules}
+use Rattle.std.proofs.Common.{◌≡◌, Option, Some, None, ℕ, zero, suc, ◌+◌, ◌/◌, ◌^◌, ◌<◌, ◌≤◌, true, ℤ, pos, negsuc, ◌+ℤ◌, ◌-ℤ◌, List, [], ◌∷◌, length, map, refl, sym, ap, ap₂, ◌∙◌, arith, rules}
 use Rattle.std.specs.Prelude.{◌<ℤ◌, ◌≤ℤ◌, neg_ℤ}
 use Rattle.std.specs.List.{range_with_len, AllByRecursion}
 use Rattle.std.proofs.Math.Nat.{pow-suc}
@@ -13,12 +13,10 @@ use Rattle.pbf_wire.specs.Sums.{sum_at, sums, sums_from, sums_within, added, dif
 -- ---- one number
 
 pub unzigzag_zigzag : (z : ℤ) → unzigzag (zigzag z) ≡ z
-unzigzag_zigzag (pos n) = let e : eqb ((2 * n) % 2) 0 ≡ true = grind (arith, nat_tests) in rw e (ap pos (omega arith))
-unzigzag_zigzag (negsuc n) = let e : eqb ((2 * n + 1) % 2) 0 ≡ false = grind (arith, nat_tests) in rw e (ap negsuc (omega arith))
+unzigzag_zigzag z = grind (arith, nat_tests)
 
 zigzag_fits : (z : ℤ) → neg_ℤ (pos (2 ^ 63)) <ℤ z → z <ℤ pos (2 ^ 63) → zigzag z < 2 ^ 64
-zigzag_fits (pos n) below above = omega (arith, ints)
-zigzag_fits (negsuc n) below above = omega (arith, ints)
+zigzag_fits z below above = grind (arith, ints)
 
 -- strictly between -2^62 and 2^62
 abbrev pub IsSmall : ℤ → Type 0
@@ -32,31 +30,14 @@ difference_fits a b p q = zigzag_fits (a -ℤ b) (omega (arith, ints)) (omega (a
 
 -- all 64 bits are read back
 pub signs_read : (z : ℤ) → neg_ℤ (pos (2 ^ 63)) ≤ℤ z → z <ℤ pos (2 ^ 63) → low_i64 (sign_extended z) ≡ z
-signs_read (pos n) above below =
-    let lt : n < 2 ^ 63 = omega (arith, ints) in
-    let e : ltb n (2 ^ 63) ≡ true = grind (arith, nat_tests) in
-    rw e refl
-signs_read (negsuc n) above below =
-    let small : n < 2 ^ 63 = omega (arith, ints) in
-    let e : ltb (2 ^ 64 - 1 - n) (2 ^ 63) ≡ false = grind (arith, nat_tests) in
-    rw e (ap negsuc (omega arith))
+signs_read z above below = grind (arith, ints, nat_tests)
 
 pub signs_fit : (z : ℤ) → neg_ℤ (pos (2 ^ 63)) ≤ℤ z → z <ℤ pos (2 ^ 63) → sign_extended z < 2 ^ 64
-signs_fit (pos n) above below = omega (arith, ints)
-signs_fit (negsuc n) above below = omega (arith, ints)
+signs_fit z above below = grind (arith, ints)
 
 -- and the low 32
 pub low_signs_read : (z : ℤ) → neg_ℤ (pos (2 ^ 31)) ≤ℤ z → z <ℤ pos (2 ^ 31) → low_i32 (sign_extended z) ≡ z
-low_signs_read (pos n) above below =
-    let lt : n < 2 ^ 31 = omega (arith, ints) in
-    let m : n % 2 ^ 32 ≡ n = omega arith in
-    let e : ltb n (2 ^ 31) ≡ true = grind (arith, nat_tests) in
-    rw (m, e) refl
-low_signs_read (negsuc n) above below =
-    let small : n < 2 ^ 31 = omega (arith, ints) in
-    let m : (2 ^ 64 - 1 - n) % 2 ^ 32 ≡ 2 ^ 32 - 1 - n = omega arith in
-    let e : ltb (2 ^ 32 - 1 - n) (2 ^ 31) ≡ false = grind (arith, nat_tests) in
-    rw (m, e) (ap negsuc (omega arith))
+low_signs_read z above below = grind (arith, ints, nat_tests)
 
 -- ---- a negative number takes ten bytes
 
@@ -67,11 +48,7 @@ power_positive (suc n) = omega (arith, pow-suc 128 n, power_positive n)
 long : (n v : ℕ) → 128 ^ n ≤ v → length (spelled_within n v) ≡ n + 1
 unfolding spelled_within
 long zero v le = omega arith
-long (suc n) v le =
-    let power : 128 ^ suc n ≡ 128 ^ n * 128 = pow-suc 128 n in
-    let one = power_positive n in
-    let t : ltb v 128 ≡ false = le-ltb _ _ (omega arith) in
-    rw t (omega (arith, long n (v / 128) (omega arith)))
+long (suc n) v le = grind (arith, pow-suc, power_positive, le-ltb, long n (v / 128) (omega arith))
 
 pub ten_bytes : (n : ℕ) → n < 2 ^ 63 → length (shortest (sign_extended (negsuc n))) ≡ 10
 unfolding shortest
@@ -91,9 +68,7 @@ deltas_fit values h = differences_fit (pos 0) values small_zero h
 
 pub sums_undo_differences : (start : ℤ) (values : List ℤ) → sums_from start (differences start values) ≡ values
 sums_undo_differences start [] = refl
-sums_undo_differences start (v ∷ vs) =
-    let e : start +ℤ (v -ℤ start) ≡ v = omega (arith, ints) in
-    rw e (ap (λ (ws : List ℤ). v ∷ ws) (sums_undo_differences v vs))
+sums_undo_differences start (v ∷ vs) = grind (arith, ints, sums_undo_differences v vs)
 
 all_unzigzag : (ds : List ℤ) → map unzigzag (map zigzag ds) ≡ ds
 all_unzigzag [] = refl
@@ -115,31 +90,21 @@ pub same_map : {X : Type 0} (f g : ℕ → X) (a n : ℕ) → ((i : ℕ) → f i
 same_map f g a zero h = refl
 same_map {X = X} f g a (suc n) h = ap₂ (λ (x : X) (xs : List X). x ∷ xs) (h a) (same_map f g (a + 1) n h)
 
-regroup : (a b c : ℤ) → a +ℤ (b +ℤ c) ≡ (a +ℤ b) +ℤ c
-regroup a b c = omega (arith, ints)
-
-plus_nothing : (a b : ℤ) → a +ℤ (b +ℤ pos 0) ≡ a +ℤ b
-plus_nothing a b = omega (arith, ints)
-
-nothing_plus : (a : ℤ) → pos 0 +ℤ a ≡ a
-nothing_plus a = omega (arith, ints)
-
 sum_at-suc : (d : ℤ) (ds : List ℤ) (i : ℕ) → sum_at (d ∷ ds) (i + 1) ≡ d +ℤ sum_at ds i
 sum_at-suc d ds i = let e : i + 1 + 1 ≡ suc (i + 1) = omega arith in rw e refl
 
 later_sum : (start d : ℤ) (ds : List ℤ) (i : ℕ) → start +ℤ sum_at (d ∷ ds) (i + 1) ≡ (start +ℤ d) +ℤ sum_at ds i
-later_sum start d ds i = ap (λ (z : ℤ). start +ℤ z) (sum_at-suc d ds i) ∙ regroup start d (sum_at ds i)
+later_sum start d ds i = rw (sum_at-suc d ds i) (omega (arith, ints))
 
 by_index : (start : ℤ) (ds : List ℤ) → sums_from start ds ≡ map (λ i. start +ℤ sum_at ds i) (range_with_len 0 (length ds))
 by_index start [] = refl
 by_index start (d ∷ ds) =
     let sum = start +ℤ d in
-    let f : ℕ → ℤ = λ i. start +ℤ sum_at (d ∷ ds) i in
-    let others = by_index sum ds ∙ sym (same_map (λ i. f (i + 1)) (λ i. sum +ℤ sum_at ds i) 0 (length ds) (later_sum start d ds)) in
-    ap₂ (λ (z : ℤ) (zs : List ℤ). z ∷ zs) (sym (plus_nothing start d)) others ∙ sym (from_index f (length ds))
+    let first : start +ℤ sum_at (d ∷ ds) 0 ≡ sum = omega (arith, ints) in
+    cc (first, by_index sum ds, same_map (λ i. start +ℤ sum_at (d ∷ ds) (i + 1)) (λ i. sum +ℤ sum_at ds i) 0 (length ds) (later_sum start d ds), from_index (λ i. start +ℤ sum_at (d ∷ ds) i) (length ds))
 
 pub running_sums : (ds : List ℤ) → sums_from (pos 0) ds ≡ sums ds
-running_sums ds = by_index (pos 0) ds ∙ same_map (λ i. pos 0 +ℤ sum_at ds i) (sum_at ds) 0 (length ds) (λ i. nothing_plus (sum_at ds i))
+running_sums ds = by_index (pos 0) ds ∙ same_map (λ i. pos 0 +ℤ sum_at ds i) (sum_at ds) 0 (length ds) (λ i. omega (arith, ints))
 
 pub sums_of_deltas : (values : List ℤ) → sums (map unzigzag (deltas values)) ≡ values
 sums_of_deltas values = sym (running_sums (map unzigzag (deltas values))) ∙ sums_undo_deltas values
@@ -158,20 +123,14 @@ within_is limit n h = record { above = search rules; below = search rules }
 
 pub added_out : (limit total number : ℤ) → ¬ IsWithin limit (total +ℤ number) → added limit total number ≡ None
 unfolding added
-added_out limit total number h = by (is_within limit (total +ℤ number)) refl
-  where
-    by : (b : Bool) → is_within limit (total +ℤ number) ≡ b → cond b (Some (total +ℤ number)) None ≡ None
-    by true e = absurd (h (within_is limit (total +ℤ number) e))
-    by false e = refl
+added_out limit total number h = grind (arith, within_is)
 
 abbrev pub then_more : ℤ → List ℤ → Option ℤ → List ℤ
 then_more limit ds sum = elim sum [ None ↦ [] | Some sum ↦ sum ∷ sums_within limit sum ds ]
 
 pub all_within : (limit start : ℤ) (ds : List ℤ) → AllByRecursion (IsWithin limit) (sums_from start ds) → sums_within limit start ds ≡ sums_from start ds
 all_within limit start [] h = refl
-all_within limit start (d ∷ ds) h =
-    ap (then_more limit ds) (added_within limit start d h.0) ∙ ap (λ (zs : List ℤ). (start +ℤ d) ∷ zs) (all_within limit (start +ℤ d) ds h.1)
+all_within limit start (d ∷ ds) h = grind (arith, added_within, all_within limit (start +ℤ d) ds h.1)
 
 pub sums_in_range : (limit : ℤ) (ds : List ℤ) → AllByRecursion (IsWithin limit) (sums ds) → sums_within limit (pos 0) ds ≡ sums ds
-sums_in_range limit ds h =
-    all_within limit (pos 0) ds (subst (λ (zs : List ℤ). AllByRecursion (IsWithin limit) zs) (sym (running_sums ds)) h) ∙ running_sums ds
+sums_in_range limit ds h = grind (arith, all_within, running_sums)

@@ -1,5 +1,5 @@
 -- Values that are taken over as they are spelled.
-use Rattle.std.proofs.Common.{◌≡◌, ◌+◌, ◌-◌, ◌*◌, ◌/◌, ◌%◌, ◌<◌, ◌≤◌, ℕ, zero, suc, Bool, true, false, cond, eqb, ℤ, pos, negsuc, ◌+ℤ◌, ◌-ℤ◌, List, [], ◌∷◌, ◌++◌, length, map, replicate, take, drop, refl, sym, ap, ap₂, subst, ◌∙◌, arith, append_assoc, append-nil, length-append, take-append-drop}
+use Rattle.std.proofs.Common.{◌≡◌, ◌+◌, ◌-◌, ◌*◌, ◌/◌, ◌<◌, ◌≤◌, ℕ, zero, suc, Bool, ℤ, pos, ◌+ℤ◌, ◌-ℤ◌, List, [], ◌∷◌, ◌++◌, length, replicate, take, drop, refl, sym, ap, ap₂, subst, ◌∙◌, arith, append_assoc, append-nil, length-append, take-append-drop}
 use Rattle.std.specs.List.{AllByRecursion, sum}
 use Rattle.std.proofs.lemmas.Bool.Decides.{nat_tests}
 use Rattle.std.proofs.lemmas.Int.{ints}
@@ -7,7 +7,6 @@ use Rattle.std.proofs.lemmas.Grind.{flat_map-append}
 use Rattle.std.proofs.Math.Seq.{take-add, take-nil, drop-nil}
 use Rattle.std.proofs.lemmas.List.{map-append, length-replicate, take_at, drop_at, drop-drop}
 use Rattle.pbf_wire.specs.Varint.{shortest, AreNeeded, Spells}
-use Rattle.pbf_wire.specs.Columns.{packed}
 use Rattle.pbf_wire.specs.Cursors.{numbers_left, sums_left}
 use Rattle.pbf_wire.specs.Packed.{HoldsDeltas, last_from, values_of}
 use Rattle.pbf_wire.specs.Passing.{PassesSome}
@@ -35,10 +34,7 @@ last_append start [] ys = refl
 last_append start (x ∷ xs) ys = last_append x xs ys
 
 written_append : (start : ℤ) (xs ys : List ℤ) → written_after start (xs ++ ys) ≡ written_after start xs ++ written_after (last_from start xs) ys
-written_append start xs ys =
-    ap (λ (ds : List ℤ). packed (map zigzag ds)) (differences_append start xs ys)
-    ∙ ap packed (map-append zigzag (differences start xs) (differences (last_from start xs) ys))
-    ∙ flat_map-append shortest (map zigzag (differences start xs)) (map zigzag (differences (last_from start xs) ys))
+written_append start xs ys = grind (arith, differences_append, map-append, flat_map-append)
 
 pub none_taken : (left : Left) → PassesSpelled left left 0
 none_taken left = record { taken = []; counted = refl; given = refl; last = refl; front = []; bytes = refl; spelled = λ _. refl }
@@ -64,10 +60,7 @@ then_taken a b c m n h k = record {
 -- ---- one value
 
 pub zigzag_unzigzag : (n : ℕ) → zigzag (unzigzag n) ≡ n
-zigzag_unzigzag n = by (eqb (n % 2) 0) refl where
-  by : (b : Bool) → eqb (n % 2) 0 ≡ b → zigzag (cond b (pos (n / 2)) (negsuc (n / 2))) ≡ n
-  by true e = let even : n % 2 ≡ 0 = grind (arith, nat_tests) in omega (arith, even)
-  by false e = let odd : n % 2 ≡ 1 = grind (arith, nat_tests) in omega (arith, odd)
+zigzag_unzigzag n = grind (arith, nat_tests)
 
 difference_is : (a d : ℤ) → (a +ℤ d) -ℤ a ≡ d
 difference_is a d = omega (arith, ints)
@@ -183,10 +176,7 @@ module _ (a b : Left) (n : ℕ) (h : PassesSpelled a b n) where
   last_is = h.last ∙ ap (last_from a.last) taken_are
 
   pub front_is : (front : List ℕ) → front ≡ take (length a.bytes - length b.bytes) a.bytes → AreNeeded 0 front → front ≡ written_after a.last (take n a.values)
-  front_is front is needed =
-      let long : length h.front ≡ length a.bytes - length b.bytes = omega (arith, ap length h.bytes, length-append h.front b.bytes) in
-      let same : front ≡ h.front = is ∙ ap (take (length a.bytes - length b.bytes)) h.bytes ∙ take_at h.front b.bytes (length a.bytes - length b.bytes) long in
-      same ∙ h.spelled (subst (AreNeeded 0) same needed) ∙ ap (written_after a.last) taken_are
+  front_is front is needed = grind (arith, length-append, take_at, taken_are)
 
 -- what is left to be skipped then
 pub some_passed : (old new : Sums) (count left : ℕ) → PassesSpelled (left_of old) (left_of new) (count - left) → left ≤ count → PassesSome old new count left
@@ -233,8 +223,7 @@ more_moved all old new rest later left_over count left after h enough taken drop
 pub one_moved : (all old new rest later left_over : List ℤ) (value : ℤ) (count left : ℕ) → HaveMoved all old new rest count left → 0 < left → rest ≡ value ∷ left_over → later ≡ new ++ value ∷ [] → HaveMoved all old later left_over count (left - 1)
 one_moved all old new rest later left_over value count left h some first taken =
     let one : left - (left - 1) ≡ 1 = omega (arith, some) in
-    more_moved all old new rest later left_over count left (left - 1) h (omega arith)
-    (rw (one, first) taken) (rw (one, first) refl)
+    more_moved all old new rest later left_over count left (left - 1) h (omega arith) (rw (one, first) taken) (rw (one, first) refl)
 
 -- there are no more
 pub all_moved : (all old new rest : List ℤ) (count left : ℕ) → HaveMoved all old new rest count left → rest ≡ [] → (new ≡ old ++ take count all) × (rest ≡ drop count all)

@@ -1,18 +1,16 @@
 -- A message is written slot by slot.
-use Rattle.std.proofs.Common.{◌≡◌, ℕ, zero, suc, ◌+◌, ◌*◌, ◌/◌, ◌%◌, ◌<◌, true, false, cond, ltb, List, [], ◌∷◌, ◌++◌, length, map, Some, None, refl, sym, ap, ◌∙◌, arith, length-append, append_assoc}
+use Rattle.std.proofs.Common.{◌≡◌, ℕ, ◌+◌, ◌*◌, ◌<◌, List, [], ◌∷◌, ◌++◌, length, Some, None, refl, sym, ap, ◌∙◌, arith, length-append, append_assoc}
 use Rattle.std.specs.List.{flat_map}
 use Rattle.std.proofs.lemmas.List.{append-nil, map-append}
 use Rattle.std.proofs.lemmas.Grind.{flat_map-append}
 use Rattle.pbf_wire.specs.Varint.{shortest, spelled_within}
 use Rattle.pbf_wire.specs.Columns.{packed}
-use Rattle.pbf_wire.specs.Writing.{Part, Whole, spelling}
+use Rattle.pbf_wire.specs.Writing.{spelling}
 use Rattle.pbf_wire.specs.Message.{Slot, Scalar, Column, Each, parts_of, slot_bytes, message, unless_empty}
 
 spelled_positive : (n v : ℕ) → 0 < length (spelled_within n v)
 unfolding spelled_within
-spelled_positive zero v = omega arith
-spelled_positive (suc n) v =
-    elim (ltb v 128) as (λ b. 0 < length (cond b (v ∷ []) ((v % 128 + 128) ∷ spelled_within n (v / 128)))) [ true ↦ omega arith | false ↦ omega arith ]
+spelled_positive n v = grind arith
 
 -- each spelling takes a byte
 pub shortest_positive : (v : ℕ) → 0 < length (shortest v)
@@ -36,18 +34,15 @@ bytes_put number bytes old tagged sized new e f g = rw (each_bytes number bytes,
 -- a column that is empty has no bytes
 pub column_empty : (number : ℕ) (values : List ℕ) → length (packed values) ≡ 0 → slot_bytes (Column number values) ≡ []
 unfolding slot_bytes
-column_empty number [] e = refl
-column_empty number (v ∷ vs) e = absurd (omega (arith, length-append (shortest v) (packed vs), shortest_positive v))
+column_empty number values e = grind (arith, length-append, shortest_positive)
 
 whole : (bytes : List ℕ) → 0 < length bytes → unless_empty bytes ≡ bytes ∷ []
-whole [] h = absurd (omega arith)
-whole (b ∷ bs) h = refl
+whole bytes h = grind arith
 
 -- a column is written as a message that is left out if it is empty
 pub column_put : (number : ℕ) (values : List ℕ) → slot_bytes (Each number (unless_empty (packed values))) ≡ slot_bytes (Column number values)
 unfolding slot_bytes
-column_put number [] = refl
-column_put number (v ∷ vs) = rw (whole (packed (v ∷ vs)) (omega (arith, length-append (shortest v) (packed vs), shortest_positive v))) refl
+column_put number values = grind (arith, whole, length-append, shortest_positive)
 
 -- ---- for those who write a whole message
 
@@ -64,8 +59,7 @@ message_one s = message_first s [] ∙ ap (λ (w : List ℕ). slot_bytes s ++ w)
 
 -- one more slot is written
 pub one_more : (s : Slot) (slots : List Slot) (old new all : List ℕ) → new ≡ old ++ slot_bytes s → all ≡ new ++ message slots → all ≡ old ++ message (s ∷ slots)
-one_more s slots old new all e h =
-    h ∙ ap (λ (w : List ℕ). w ++ message slots) e ∙ append_assoc old (slot_bytes s) (message slots) ∙ ap (λ (w : List ℕ). old ++ w) (sym (message_first s slots))
+one_more s slots old new all e h = grind (arith, append_assoc, message_first)
 
 pub all_written : (all : List ℕ) → all ≡ all ++ message []
 all_written all = sym (ap (λ (w : List ℕ). all ++ w) message_none ∙ append-nil all)
@@ -77,9 +71,7 @@ last_slot s old new e = one_more s [] old new new e (all_written new)
 -- a slot is written after a message
 pub slot_put : (slots : List Slot) (s : Slot) (old new : List ℕ) → old ≡ message slots → new ≡ old ++ slot_bytes s → new ≡ message (slots ++ s ∷ [])
 slot_put [] s old new e h = h ∙ ap (λ (w : List ℕ). w ++ slot_bytes s) (e ∙ message_none) ∙ sym (message_one s)
-slot_put (t ∷ slots) s old new e h =
-    h ∙ ap (λ (w : List ℕ). w ++ slot_bytes s) (e ∙ message_first t slots) ∙ append_assoc (slot_bytes t) (message slots) (slot_bytes s)
-    ∙ ap (λ (w : List ℕ). slot_bytes t ++ w) (slot_put slots s (message slots) (message slots ++ slot_bytes s) refl refl) ∙ sym (message_first t (slots ++ s ∷ []))
+slot_put (t ∷ slots) s old new e h = grind (arith, message_first, append_assoc, slot_put slots s (message slots) (message slots ++ slot_bytes s) refl refl)
 
 -- nothing is written for an absent number
 pub scalar_none : (number : ℕ) → slot_bytes (Scalar number None) ≡ []
@@ -97,16 +89,12 @@ each_none number = refl
 
 pub each_joined : (number : ℕ) (ms others : List (List ℕ)) → slot_bytes (Each number (ms ++ others)) ≡ slot_bytes (Each number ms) ++ slot_bytes (Each number others)
 unfolding slot_bytes
-each_joined number ms others =
-    ap (λ (ps : List Part). flat_map spelling ps) (map-append (Whole number) ms others) ∙ flat_map-append spelling (map (Whole number) ms) (map (Whole number) others)
+each_joined number ms others = grind (arith, map-append, flat_map-append)
 
 -- more is written under the same number
 pub each_after : (number : ℕ) (ms others : List (List ℕ)) (old new all : List ℕ) → new ≡ old ++ slot_bytes (Each number ms) → all ≡ new ++ slot_bytes (Each number others) → all ≡ old ++ slot_bytes (Each number (ms ++ others))
-each_after number ms others old new all e h =
-    h ∙ ap (λ (w : List ℕ). w ++ slot_bytes (Each number others)) e ∙ append_assoc old (slot_bytes (Each number ms)) (slot_bytes (Each number others))
-    ∙ ap (λ (w : List ℕ). old ++ w) (sym (each_joined number ms others))
+each_after number ms others old new all e h = grind (arith, append_assoc, each_joined)
 
 -- a message without fields isn't written
 pub empty_left : (number : ℕ) (m old : List ℕ) → length m ≡ 0 → old ≡ old ++ slot_bytes (Each number (unless_empty m))
-empty_left number [] old e = nothing_put (Each number []) old (each_none number)
-empty_left number (b ∷ bs) old e = absurd (omega arith)
+empty_left number m old e = grind (arith, nothing_put, each_none)

@@ -1,10 +1,10 @@
 -- What is written is read back.
-use Rattle.std.proofs.Common.{◌≡◌, ℕ, ◌+◌, ◌*◌, ◌^◌, ◌<◌, List, [], ◌∷◌, ◌++◌, length, refl, sym, ap, ap₂, subst, ◌∙◌, arith, add-zero}
+use Rattle.std.proofs.Common.{◌≡◌, ℕ, ◌+◌, ◌*◌, ◌^◌, ◌<◌, List, [], ◌∷◌, ◌++◌, length, refl, sym, ap, ap₂, subst, arith, add-zero}
 use Rattle.std.specs.Prelude.{Ok, map}
 use Rattle.std.specs.List.{flat_map, AllByRecursion}
 use Rattle.std.proofs.lemmas.List.{append-nil, drop_at}
 use Rattle.pbf_wire.specs.Varint.{IsVarint, shortest}
-use Rattle.pbf_wire.specs.Occurrence.{IsSpelled, Joins, Item, items}
+use Rattle.pbf_wire.specs.Occurrence.{IsSpelled, Joins, items}
 use Rattle.pbf_wire.specs.Columns.{Entry, entries}
 use Rattle.pbf_wire.specs.Writing.{Part, Single, Whole, spelling, written, IsWritablePart, occurrence_of, occurrences_of}
 use Rattle.pbf_wire.proofs.Shortest.{shortest_spells}
@@ -39,17 +39,14 @@ spelled at (Whole number bytes) h =
     }
 
 place_is : (at : ℕ) (p : Part) → (occurrence_of at p).place ≡ at
-place_is at (Single number value) = refl
-place_is at (Whole number bytes) = refl
+place_is at p = grind arith
 
 pub joins : (at : ℕ) (ps : List Part) → AllByRecursion IsWritablePart ps → Joins at (written ps) (occurrences_of at ps)
 joins at [] h = refl
 joins at (p ∷ ps) h = (spelling p, written ps, refl, place_is at p, spelled at p h.0, joins (at + length (spelling p)) ps h.1)
 
 pub reads_back : (at : ℕ) (ps : List Part) → AllByRecursion IsWritablePart ps → items at (written ps) ≡ map Ok (occurrences_of at ps)
-reads_back at ps h =
-    ap (items at) (sym (append-nil (written ps))) ∙ walks at (written ps) [] (occurrences_of at ps) (joins at ps h)
-    ∙ ap (λ (w : List Item). all_ok (occurrences_of at ps) ++ w) (items_none (at + length (written ps)) [] refl) ∙ append-nil (all_ok (occurrences_of at ps))
+reads_back at ps h = cc (append-nil (written ps), walks at (written ps) [] (occurrences_of at ps) (joins at ps h), items_none (at + length (written ps)) [] refl, append-nil (all_ok (occurrences_of at ps)))
 
 -- ---- spellings, joined
 
@@ -65,8 +62,7 @@ joined_read ((v, s) ∷ pairs) h =
     let rest = bytes_of_all pairs in
     let one = spelling_is_read s rest v h.0 in
     let f = varint_ok (s ++ rest) v (length s) one in
-    entries_ok (s ++ rest) v (length s) f.positive f.within one
-    ∙ ap (λ (w : List Entry). Ok v ∷ w) (ap entries (drop_at s rest (length s) refl) ∙ joined_read pairs h.1)
+    cc (entries_ok (s ++ rest) v (length s) f.positive f.within one, drop_at s rest (length s) refl, joined_read pairs h.1)
 
 not_empty : (v : ℕ) (s rest : List ℕ) → IsVarint v s → s ++ rest ≡ [] → ⊥
 not_empty v s rest h e =
@@ -82,7 +78,7 @@ joined_only ((v, s) ∷ pairs) ((w, t) ∷ others) h k e =
     let front : ◌≡◌ {A = ℕ × List ℕ} (v, s) (w, t) = ap₂ (λ (n : ℕ) (xs : List ℕ). (n, xs)) one.1 one.0 in
     ap₂ (λ (p : ℕ × List ℕ) (ps : List (ℕ × List ℕ)). p ∷ ps) front (joined_only pairs others h.1 k.1 one.2)
 
-abbrev all_entries : List ℕ → List Entry
+abbrev pub all_entries : List ℕ → List Entry
 all_entries ns = map Ok ns
 
 pub column_reads_back : (ns : List ℕ) → AllByRecursion (λ n. n < 2 ^ 64) ns → entries (flat_map shortest ns) ≡ all_entries ns
@@ -90,5 +86,4 @@ column_reads_back [] h = entries_none [] refl
 column_reads_back (n ∷ ns) h =
     let one = spelling_is_read (shortest n) (flat_map shortest ns) n (shortest_spells n h.0) in
     let f = varint_ok (shortest n ++ flat_map shortest ns) n (length (shortest n)) one in
-    entries_ok (shortest n ++ flat_map shortest ns) n (length (shortest n)) f.positive f.within one
-    ∙ ap (λ (w : List Entry). Ok n ∷ w) (ap entries (drop_at (shortest n) (flat_map shortest ns) (length (shortest n)) refl) ∙ column_reads_back ns h.1)
+    cc (entries_ok (shortest n ++ flat_map shortest ns) n (length (shortest n)) f.positive f.within one, drop_at (shortest n) (flat_map shortest ns) (length (shortest n)) refl, column_reads_back ns h.1)
