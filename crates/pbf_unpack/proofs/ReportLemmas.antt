@@ -5,11 +5,10 @@ use Rattle.std.proofs.lemmas.List.{append-nil}
 use Rattle.std.proofs.lemmas.Option.{same_Some}
 use Rattle.pbf_frame.specs.Frames.{blob_at, frame_end, frame_kind, frame_bytes, frame_at}
 use Rattle.pbf_unpack.specs.declared.feed.State.{State}
-use Rattle.pbf_unpack.specs.declared.feed.State.TheVariants.{Reading, PassingOn, Ended}
 use Rattle.pbf_unpack.specs.declared.feed.UnpackedFeed.{UnpackedFeed}
 use Rattle.pbf_unpack.specs.Reports.{stop_in, has_all, GavePacked}
 use Rattle.pbf_unpack.specs.Supplying.{more, unless_failed, IsEndBelow, CanFollow, left_in, remaining_in, HasSupplied}
-use Rattle.pbf_unpack.specs.Unpacked.{Unpacked, then_unpacked, as_they_stand, is_whole, unpacked_frame, unpacked_from}
+use Rattle.pbf_unpack.specs.Unpacked.{Unpacked, as_they_stand, is_whole, unpacked_frame, unpacked_from}
 use Rattle.pbf_unpack.proofs.SupplyLemmas.{frame_some}
 use Rattle.pbf_unpack.proofs.UnpackedLemmas.{joined_end, nothing_more, unfit, whole_long, whole_then}
 
@@ -19,10 +18,7 @@ nothing_left (x ∷ xs) is = (let bad : ⊥ = (let zero : length (x ∷ xs) ≡ 
 
 -- nothing may follow, and means nothing
 at_end : (s : State) (place : ℕ) → stop_in s ≡ None → CanFollow s [] × (more s place [] ≡ as_they_stand [])
-at_end Reading place none = (tt, nothing_more place)
-at_end PassingOn place none = (tt, refl)
-at_end Ended place none = (refl, refl)
-at_end s place none = (let bad : ⊥ = cc in absurd bad)
+at_end s place h1 = grind (arith, nothing_more)
 
 -- bytes that mean none are none
 pub means_none : (place : ℕ) (rest : List ℕ) → (unpacked_from place rest).0 ≡ [] → rest ≡ []
@@ -43,37 +39,18 @@ joined_none (x ∷ xs) ys is = (let bad : ⊥ = (let none : length (x ∷ (xs ++
 
 -- if nothing is reported to be left, the feed below is at its end
 ended_below : (s : State) (place : ℕ) (left : List ℕ) (known : Option (List ℕ)) → IsEndBelow s known → unless_failed s (option_map (λ bytes. left ++ (more s place bytes).0) known) ≡ Some [] → known ≡ Some []
-ended_below Reading place left (Some rest) ended is = ap (λ (l : List ℕ). Some l) (means_none place rest (joined_none left (unpacked_from place rest).0 (same_Some _ _ is)))
-ended_below PassingOn place left (Some rest) ended is = ap (λ (l : List ℕ). Some l) (joined_none left rest (same_Some _ _ is))
-ended_below Ended place left (Some rest) ended is = ap (λ (l : List ℕ). Some l) ended
-ended_below s place left known ended is = (let bad : ⊥ = cc in absurd bad)
+ended_below s place left known h1 h2 = grind (arith, means_none, joined_none, same_Some)
 
 none_joined : (xs ys : List ℕ) → xs ++ ys ≡ [] → (length xs == 0) ≡ true
 none_joined [] ys is = refl
 none_joined (x ∷ xs) ys is = (let bad : ⊥ = (let none : length (x ∷ (xs ++ ys)) ≡ 0 = ap length is in omega (arith, none)) in absurd bad)
 
 all_by : (s : State) (place : ℕ) (left : List ℕ) (known : Option (List ℕ)) → unless_failed s (option_map (λ bytes. left ++ (more s place bytes).0) known) ≡ Some [] → (is_none (stop_in s) && length left == 0) ≡ true
-all_by Reading place left (Some rest) is = none_joined left (unpacked_from place rest).0 (same_Some _ _ is)
-all_by PassingOn place left (Some rest) is = none_joined left rest (same_Some _ _ is)
-all_by Ended place left (Some rest) is = none_joined left [] (same_Some _ _ is)
-all_by s place left known is = (let bad : ⊥ = cc in absurd bad)
+all_by s place left known h1 = grind (arith, none_joined, same_Some)
 
 -- if nothing is reported to be left, all was supplied
 pub all_supplied : {F : Type 0} (remaining : F → Option (List ℕ)) (u : UnpackedFeed F) → remaining_in remaining u ≡ Some [] → has_all u ≡ true
 all_supplied remaining u is = all_by u.state u.place (left_in u) (remaining u.feed) is
 
 pub gave_packed : {F : Type 0} (remaining : F → Option (List ℕ)) (has_passed : F → ℕ → List ℕ → Type 0) (u : UnpackedFeed F) (log : ℕ) (raw : List ℕ) → stop_in u.state ≡ None → left_in u ≡ [] → HasSupplied remaining has_passed u log raw → GavePacked remaining has_passed u log raw
-gave_packed remaining has_passed u log raw none spent has =
-    let end = at_end u.state u.place none in
-    let supplied : Unpacked = (raw ++ left_in u, u.fault) in
-    record {
-      packed = has.packed;
-      passed = has.passed;
-      means =
-          ap (unpacked_from 0) (sym (append-nil has.packed))
-          ∙ has.carries [] end.0
-          ∙ ap (then_unpacked supplied) end.1
-          ∙ joined_end supplied
-          ∙ ap (λ (l : List ℕ). (l, u.fault)) (ap (λ (l : List ℕ). raw ++ l) spent ∙ append-nil raw);
-      end = λ nothing. ended_below u.state u.place (left_in u) (remaining u.feed) has.ended nothing;
-    }
+gave_packed remaining has_passed u log raw none spent has = grind (arith, at_end u.state u.place none, append-nil has.packed, joined_end ((raw ++ left_in u, u.fault)), append-nil raw, ended_below u.state u.place (left_in u) (remaining u.feed) has.ended)
