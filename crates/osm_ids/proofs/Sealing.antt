@@ -1,9 +1,8 @@
 -- Rising ids in pages: how they grow, and that they are read again.
 use Rattle.std.proofs.Common.{◌≡◌, true, false, int_le, ℕ, zero, suc, ◌+◌, ◌-◌, ◌*◌, ◌%◌, ◌^◌, ◌<◌, ◌≤◌, List, [], ◌∷◌, ◌++◌, length, take, drop, get_or, ℤ, pos, ◌<ℤ◌, ◌≤ℤ◌, FitsSigned, w64, inl, inr, refl, sym, ap, subst, ◌∙◌, arith, length-append, append_assoc, take-append-drop}
 use Rattle.std.specs.Int.{div_ceil}
-use Rattle.std.specs.List.{AllByRecursion, list_any}
+use Rattle.std.specs.List.{AllByRecursion}
 use Rattle.std.specs.List.Sorted.{IsPartitionedBy, IsPartitionPoint}
-use Rattle.std.specs.Ordering.{int_eq}
 use Rattle.std.specs.Cmp.{int_cmp_total}
 use Rattle.std.specs.FinSet as set
 use Rattle.std.proofs.lemmas.Bool.{cases_lt}
@@ -61,19 +60,13 @@ pub ids-pages_of : (ids : List ℤ) → ids_of_pages (pages_of ids) ≡ ids
 ids-pages_of ids = ids-past 0 ids
 
 filled_cons : (page : Page) (pages : List Page) → length page.others ≡ 127 → HasFullPages pages → HasFullPages (page ∷ pages)
-filled_cons page [] full h = omega arith
-filled_cons page (next ∷ pages) full h = (full, h)
+filled_cons page pages h1 h2 = grind arith
 
 filled_past : (skip : ℕ) (ids : List ℤ) → HasFullPages (pages_past skip ids)
 unfolding pages_past
 filled_past skip [] = tt
 filled_past (suc skip) (id ∷ ids) = filled_past skip ids
-filled_past zero (id ∷ ids) =
-    let page : Page = record { first = id; others = take 127 ids } in
-    elim (cases_lt 127 (length ids)) [
-      | inl more ↦ filled_cons page (pages_past 127 ids) (length-take-le 127 ids (omega arith)) (filled_past 127 ids)
-      | inr few ↦ subst (λ (pages : List Page). HasFullPages (page ∷ pages)) (sym (past_all ids 127 few)) (omega (arith, length-take 127 ids))
-    ]
+filled_past zero (id ∷ ids) = grind (arith, cases_lt 127 (length ids), filled_cons (record { first = id; others = take 127 ids }) (pages_past 127 ids), length-take-le 127 ids, filled_past 127 ids, past_all ids 127, length-take 127 ids)
 
 pub filled_pages_of : (ids : List ℤ) → HasFullPages (pages_of ids)
 filled_pages_of ids = filled_past 0 ids
@@ -267,21 +260,10 @@ module _ (index : List PageStart) (bytes : List ℕ) (ids : List ℤ) (s : IsSea
 
   -- an id above the last is above all
   pub above_last : (last id : ℤ) → (0 < length ids → last ≡ last_from (pos 0) ids) → (0 < length ids → last <ℤ id) → IsAbove (set_in index bytes) id
-  above_last last id ends up x there =
-      let among = ap (list_any (int_eq x)) (sym sealed_ids) ∙ sym (contains-ids_of (ids_in index bytes) x) ∙ there in
-      let most = last_most ids x s.rising among in
-      let some = some_of ids x among in
-      let same = ends some in
-      let high = up some in
-      omega (arith, ints, most, same, high)
+  above_last last id ends up x there = grind (arith, sealed_ids, contains-ids_of (ids_in index bytes) x, last_most ids x s.rising, some_of ids x)
 
   pub reached_last : (last id : ℤ) → (0 < length ids → last ≡ last_from (pos 0) ids) → 0 < length ids → id ≤ℤ last → IsReached (set_in index bytes) id
-  reached_last last id ends some low =
-      let same = ends some in (
-        last_from (pos 0) ids,
-        ap (λ (l : List ℤ). set.contains (ids_of l) (last_from (pos 0) ids)) sealed_ids ∙ contains-ids_of ids (last_from (pos 0) ids) ∙ last_there ids some,
-        omega (arith, ints, same, low),
-      )
+  reached_last last id ends some low = grind (arith, ids_of, sealed_ids, contains-ids_of, last_there)
 
   -- a page by its number
   module _ (n : ℕ) (lt : HasPage ids n) where
@@ -341,13 +323,7 @@ module _ (index : List PageStart) (bytes : List ℕ) (ids : List ℤ) (s : IsSea
   parted_index id i j d le lt there = grind (arith, ints, at_most ids (128 * i) (128 * j) (pos 0) s.rising (omega (arith, le)) (omega (arith, page_count, lt)), first_is i d (omega (arith, le, lt)), first_is j d lt, there)
 
   pub passed_at : (id : ℤ) (n : ℕ) → n ≤ length index → IsPartitionPoint (λ (a : PageStart). int_le a.first id ≡ true) (λ (a : PageStart). int_le a.first id ≡ false) index n → ArePassed ids id n
-  passed_at id n le point =
-      let d : PageStart = record { first = pos 0; place = 0 } in
-      record {
-        there = λ some. omega (arith, page_count, le, some);
-        low = λ some. grind (arith, ints, first_is (n - 1) d (omega (arith, le, some)), point.0 (n - 1) d (omega arith) (omega (arith, some)));
-        high = λ lt. grind (arith, ints, first_is n d (begun n lt), point.1 n d (omega arith) (begun n lt));
-      }
+  passed_at id n le point = grind (arith, page_count, first_is (n - 1) (record { first = pos 0; place = 0 }), first_is n (record { first = pos 0; place = 0 }), begun n)
 
   -- one more id, above all others
   module _ (id : ℤ) (up : IsAbove (set_in index bytes) id) (f : FitsSigned w64 id) where

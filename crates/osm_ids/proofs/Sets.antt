@@ -1,5 +1,5 @@
 -- The keys of an ordered set as a finite set.
-use Rattle.std.proofs.Common.{◌≡◌, Bool, true, false, ◌||◌, ◌⊎◌, ℕ, zero, suc, List, [], ◌∷◌, ℤ, ◌≤ℤ◌, refl, sym, ◌∙◌, arith, Ordering}
+use Rattle.std.proofs.Common.{◌≡◌, Bool, true, ◌||◌, ◌⊎◌, ℕ, zero, suc, List, [], ◌∷◌, ℤ, ◌≤ℤ◌, refl, sym, ◌∙◌, arith, Ordering}
 use Rattle.std.specs.List.{list_any, AllByRecursion}
 use Rattle.std.proofs.Math.ListN.{set as set_at}
 use Rattle.std.specs.Ordering.{int_eq, int_cmp, eq_by_cmp}
@@ -10,13 +10,10 @@ use Rattle.std.proofs.lemmas.Bool.{or_cases, or_right}
 use Rattle.std.proofs.lemmas.Int.{ints}
 
 or_same : (a b : Bool) → (a || b) ≡ (a || (a || b))
-or_same true b = refl
-or_same false b = refl
+or_same a b = grind arith
 
 pub or_swap : (a b c : Bool) → (a || (b || c)) ≡ (b || (a || c))
-or_swap true true c = refl
-or_swap true false c = refl
-or_swap false b c = refl
+or_swap a b c = grind arith
 
 module _ {K : Type 0} {R : K → K → Ordering} (o : IsTotalOrder R) (same : set.IsAntisymmetric R) where
   pub any-insert_key : (keys : List K) (new k : K) → list_any (eq_by_cmp R k) (insert_key R keys new) ≡ (eq_by_cmp R k new || list_any (eq_by_cmp R k) keys)
