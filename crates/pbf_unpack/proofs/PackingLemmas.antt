@@ -53,10 +53,7 @@ pub whole_more : (place : ℕ) (taken raw frame : List ℕ) → HasWhole Taking 
 whole_more place taken raw frame has means =
     let exact : length taken ≡ place = has.exact refl in
     let all : take place taken ≡ taken = take_all place taken (omega (arith, exact)) in
-    let before : IsPackedAs (unpacked taken) taken = subst (λ (l : List ℕ). IsPackedAs (unpacked l) l) all has.whole in
-    let start : place ≡ 0 + length taken = omega (arith, exact) in
-    let after : IsPackedAt (0 + length taken) raw frame = subst (λ (n : ℕ). IsPackedAt n raw frame) start means in
-    let joined : IsPackedAs (unpacked taken ++ raw) (taken ++ frame) = packed_then 0 (unpacked taken) raw taken frame before after in
+    let joined : IsPackedAs (unpacked taken ++ raw) (taken ++ frame) = packed_then 0 (unpacked taken) raw taken frame (subst (λ (l : List ℕ). IsPackedAs (unpacked l) l) all has.whole) (subst (λ (n : ℕ). IsPackedAt n raw frame) (omega (arith, exact)) means) in
     let is : unpacked (taken ++ frame) ≡ unpacked taken ++ raw = ap (λ u. u.0) (packed_means (unpacked taken ++ raw) (taken ++ frame) joined) in
     let long : length (taken ++ frame) ≡ place + length frame = omega (arith, length-append taken frame, exact) in
     let whole : take (place + length frame) (taken ++ frame) ≡ taken ++ frame = take_all (place + length frame) (taken ++ frame) (omega (arith, long)) in (
@@ -73,17 +70,13 @@ whole_more place taken raw frame has means =
 pub whole_begun : (place count : ℕ) (taken raw frame : List ℕ) → HasWhole Taking place taken → IsPackedAt place raw frame → HasWhole Failed place (taken ++ take count frame)
 whole_begun place count taken raw frame has means =
     let exact : length taken ≡ place = has.exact refl in
-    let front : take place (taken ++ take count frame) ≡ take place taken = take_at taken (take count frame) place exact ∙ sym (take_all place taken (omega (arith, exact))) in
+    let front : take place (taken ++ take count frame) ≡ take place taken = grind (arith, take_at taken (take count frame) place, take_all place taken) in
     let after : drop place (taken ++ take count frame) ≡ take count frame = drop_at taken (take count frame) place exact in
     record {
       whole = subst (λ (l : List ℕ). IsPackedAs (unpacked l) l) (sym front) has.whole;
       within = omega (arith, length-append taken (take count frame), exact);
-      begun = ∣ record {
-        rest = drop count frame;
-        raw = raw;
-        means = subst (λ (l : List ℕ). IsPackedAt place raw (l ++ drop count frame)) (sym after) (subst (λ (l : List ℕ). IsPackedAt place raw l) (sym (take-append-drop count frame)) means);
-      } ∣₁;
-      exact = λ taking. let bad : ⊥ = cc in absurd bad;
+      begun = ∣ record { rest = drop count frame; raw = raw; means = rw (after, take-append-drop) means } ∣₁;
+      exact = λ taking. absurd (cc);
     }
 
 -- what was taken before
@@ -153,25 +146,13 @@ module _ (old new : Option (List ℕ)) (place : ℕ) (raw frame : List ℕ) (has
   -- the same, if the frame that is held went on
   pub raw_sent : IsPackedAt place raw frame → (end : ℕ) (held : List ℕ) → end ≡ place + length frame → held ≡ [] → new ≡ append old frame → raw_in end held new ≡ raw_in place raw old
   raw_sent means end held ends empty added = cases old refl where
-    cases : (o : Option (List ℕ)) → old ≡ o → raw_in end held new ≡ raw_in place raw old
-    cases None is = rw (added, is) refl
-    cases (Some l) is =
-        let whole = has l is in
-        let more = whole_more place l raw frame whole means in
-        let exact : length l ≡ place = whole.exact refl in
-        let all : take end (l ++ frame) ≡ l ++ frame = take_all end (l ++ frame) (omega (arith, ends, exact, length-append l frame)) in
-        let is_raw : unpacked (take end (l ++ frame)) ++ held ≡ unpacked (take place l) ++ raw =
-        ap (λ (xs : List ℕ). unpacked (take end (l ++ frame)) ++ xs) empty ∙ append-nil (unpacked (take end (l ++ frame))) ∙ ap unpacked all ∙ more.1 in
-        rw (added, is) (ap Some is_raw)
+      cases : (o : Option (List ℕ)) → old ≡ o → raw_in end held new ≡ raw_in place raw old
+      cases None is = rw (added, is) refl
+      cases (Some l) is = grind (arith, has l is, whole_more place l raw frame (has l is) means, take_all end (l ++ frame), length-append l frame, append-nil (unpacked (take end (l ++ frame))))
 
   -- the same, if a part of the frame did
   pub raw_stuck : (held : List ℕ) → IsFront old new frame → raw_in place held new ≡ raw_in place held old
-  raw_stuck held front = cases old refl where
-    cases : (o : Option (List ℕ)) → old ≡ o → raw_in place held new ≡ raw_in place held old
-    cases None is = rw (front.taken, is) refl
-    cases (Some l) is =
-        let same : take place (l ++ take front.count frame) ≡ take place l = take-append-le place l (take front.count frame) (has l is).within in
-        rw (front.taken, is) (ap (λ (xs : List ℕ). Some (unpacked xs ++ held)) same)
+  raw_stuck held front = grind (arith, take-append-le)
 
 -- ---- the same by a log
 

@@ -1,5 +1,5 @@
 -- What was supplied, once nothing is left.
-use Rattle.std.proofs.Common.{◌≡◌, ◌==◌, ◌&&◌, true, false, ℕ, List, [], ◌∷◌, ◌++◌, length, drop, Option, Some, None, refl, sym, ap, ◌∙◌, length-append, arith}
+use Rattle.std.proofs.Common.{◌≡◌, ◌==◌, ◌&&◌, true, ℕ, List, [], ◌∷◌, ◌++◌, length, drop, Option, Some, None, refl, ap, length-append, arith}
 use Rattle.std.specs.Option.{is_none, option_map}
 use Rattle.std.proofs.lemmas.List.{append-nil}
 use Rattle.std.proofs.lemmas.Option.{same_Some}
@@ -7,8 +7,8 @@ use Rattle.pbf_frame.specs.Frames.{blob_at, frame_end, frame_kind, frame_bytes, 
 use Rattle.pbf_unpack.specs.declared.feed.State.{State}
 use Rattle.pbf_unpack.specs.declared.feed.UnpackedFeed.{UnpackedFeed}
 use Rattle.pbf_unpack.specs.Reports.{stop_in, has_all, GavePacked}
-use Rattle.pbf_unpack.specs.Supplying.{more, unless_failed, IsEndBelow, CanFollow, left_in, remaining_in, HasSupplied}
-use Rattle.pbf_unpack.specs.Unpacked.{Unpacked, as_they_stand, is_whole, unpacked_frame, unpacked_from}
+use Rattle.pbf_unpack.specs.Supplying.{more, unless_failed, IsEndBelow, left_in, remaining_in, HasSupplied}
+use Rattle.pbf_unpack.specs.Unpacked.{unpacked_frame, unpacked_from}
 use Rattle.pbf_unpack.proofs.SupplyLemmas.{frame_some}
 use Rattle.pbf_unpack.proofs.UnpackedLemmas.{joined_end, nothing_more, unfit, whole_long, whole_then}
 
@@ -16,22 +16,14 @@ pub nothing_left : (xs : List ℕ) → (length xs == 0) ≡ true → xs ≡ []
 nothing_left [] is = refl
 nothing_left (x ∷ xs) is = (let bad : ⊥ = (let zero : length (x ∷ xs) ≡ 0 = grind (arith, is) in omega (arith, zero)) in absurd bad)
 
--- nothing may follow, and means nothing
-at_end : (s : State) (place : ℕ) → stop_in s ≡ None → CanFollow s [] × (more s place [] ≡ as_they_stand [])
-at_end s place h1 = grind (arith, nothing_more)
-
 -- bytes that mean none are none
 pub means_none : (place : ℕ) (rest : List ℕ) → (unpacked_from place rest).0 ≡ [] → rest ≡ []
 means_none place [] is = refl
-means_none place (b ∷ bs) is = elim (is_whole (frame_at place (b ∷ bs))) as (λ w. is_whole (frame_at place (b ∷ bs)) ≡ w → (b ∷ bs) ≡ []) [
-  | true ↦ λ whole.
-      let f = frame_at place (b ∷ bs) in
-      let some = frame_some (frame_kind f) (blob_at f) (frame_bytes f) f.blob (omega (arith, whole_long f whole)) in
-      let after = unpacked_from (frame_end f) (drop (length (frame_bytes f)) (b ∷ bs)) in
-      let all : length ((unpacked_frame (frame_kind f) (blob_at f) (frame_bytes f) f.blob).0 ++ after.0) ≡ 0 = ap (λ (u : Unpacked). length u.0) (sym (whole_then place (b ∷ bs) whole)) ∙ ap length is in
-      absurd (omega (arith, some, all, length-append (unpacked_frame (frame_kind f) (blob_at f) (frame_bytes f) f.blob).0 after.0))
-  | false ↦ λ cut. ap (λ (u : Unpacked). u.0) (sym (unfit place (b ∷ bs) cut)) ∙ is
-] refl
+means_none place (b ∷ bs) is =
+    let f = frame_at place (b ∷ bs) in
+    let all = unpacked_frame (frame_kind f) (blob_at f) (frame_bytes f) f.blob in
+    let after = unpacked_from (frame_end f) (drop (length (frame_bytes f)) (b ∷ bs)) in
+    grind (arith, frame_some (frame_kind f) (blob_at f) (frame_bytes f) f.blob, whole_long f, whole_then place (b ∷ bs), unfit place (b ∷ bs), length-append all.0 after.0)
 
 joined_none : (xs ys : List ℕ) → xs ++ ys ≡ [] → ys ≡ []
 joined_none [] ys is = is
@@ -53,4 +45,4 @@ pub all_supplied : {F : Type 0} (remaining : F → Option (List ℕ)) (u : Unpac
 all_supplied remaining u is = all_by u.state u.place (left_in u) (remaining u.feed) is
 
 pub gave_packed : {F : Type 0} (remaining : F → Option (List ℕ)) (has_passed : F → ℕ → List ℕ → Type 0) (u : UnpackedFeed F) (log : ℕ) (raw : List ℕ) → stop_in u.state ≡ None → left_in u ≡ [] → HasSupplied remaining has_passed u log raw → GavePacked remaining has_passed u log raw
-gave_packed remaining has_passed u log raw none spent has = grind (arith, at_end u.state u.place none, append-nil has.packed, joined_end ((raw ++ left_in u, u.fault)), append-nil raw, ended_below u.state u.place (left_in u) (remaining u.feed) has.ended)
+gave_packed remaining has_passed u log raw none spent has = grind (arith, append-nil has.packed, joined_end ((raw ++ left_in u, u.fault)), append-nil raw, ended_below u.state u.place (left_in u) (remaining u.feed) has.ended, nothing_more)

@@ -1,13 +1,11 @@
 -- What is supplied, and what is left.
-use Rattle.std.proofs.Common.{◌≡◌, ℕ, ◌+◌, ◌-◌, ◌<◌, ◌≤◌, List, ◌++◌, length, take, drop, Option, Result, length-append, take-append-drop, arith}
+use Rattle.std.proofs.Common.{◌≡◌, ℕ, ◌+◌, ◌-◌, ◌<◌, ◌≤◌, List, ◌++◌, length, take, drop, length-append, take-append-drop, arith}
 use Rattle.std.proofs.Math.Seq.{drop-append-add}
 use Rattle.std.proofs.lemmas.List.{drop-drop}
-use Rattle.pbf_wire.specs.Occurrence.{Occurrence}
 use Rattle.pbf_frame.specs.declared.frame.FrameKind.{FrameKind}
 use Rattle.pbf_frame.specs.declared.frame.FrameKind.TheVariants as kind
 use Rattle.pbf_frame.specs.Writing.{written_at, written_frame}
-use Rattle.pbf_unpack.specs.declared.fault.UnpackFault.{UnpackFault}
-use Rattle.pbf_unpack.specs.Unpacked.{rewritten, with_data, unpacked_frame}
+use Rattle.pbf_unpack.specs.Unpacked.{unpacked_frame}
 
 -- two joined lists without more than the first: the second without the rest
 pub drop_past : (n : ℕ) (xs ys : List ℕ) → length xs ≤ n → drop n (xs ++ ys) ≡ drop (n - length xs) ys
@@ -19,14 +17,8 @@ written_some : (k : FrameKind) (payload : List ℕ) → 0 < length (written_fram
 unfolding written_frame
 written_some k payload = grind (arith, length-append ((written_at 0 k payload).prefix ++ (written_at 0 k payload).header) (written_at 0 k payload).blob, length-append (written_at 0 k payload).prefix (written_at 0 k payload).header)
 
-rewritten_some : (k : FrameKind) (frame : List ℕ) (payload : Result (List ℕ) UnpackFault) → 0 < length frame → 0 < length (rewritten k frame payload).0
-rewritten_some k frame payload h1 = grind (arith, written_some)
-
-data_some : (k : FrameKind) (frame : List ℕ) (stream raw_size : Option Occurrence) → 0 < length frame → 0 < length (with_data k frame stream raw_size).0
-data_some k frame stream raw_size h1 = grind (arith, rewritten_some)
-
 pub frame_some : (k : FrameKind) (at : ℕ) (frame blob : List ℕ) → 0 < length frame → 0 < length (unpacked_frame k at frame blob).0
-frame_some k at frame blob h1 = grind (arith, data_some)
+frame_some k at frame blob some = grind (arith, written_some)
 
 -- ---- bytes that are given
 

@@ -1,5 +1,5 @@
 -- The raw file that a file means, frame by frame.
-use Rattle.std.proofs.Common.{◌≡◌, ℕ, zero, suc, ◌+◌, ◌<◌, ◌≤◌, ◌^◌, ◌==◌, ◌&&◌, nat_lt, nat_le, Bool, true, false, List, [], ◌∷◌, ◌++◌, length, drop, refl, sym, ap, ◌∙◌, append_assoc, length-append, arith}
+use Rattle.std.proofs.Common.{◌≡◌, ℕ, zero, suc, ◌+◌, ◌<◌, ◌≤◌, ◌^◌, ◌==◌, nat_lt, nat_le, Bool, true, false, List, [], ◌∷◌, ◌++◌, length, drop, refl, sym, ap, ◌∙◌, append_assoc, length-append, arith}
 use Rattle.std.specs.Prelude.{is_ok}
 use Rattle.std.proofs.lemmas.List.{append-nil, length-drop}
 use Rattle.std.proofs.lemmas.Bool.Decides.{nat_tests}
@@ -28,21 +28,6 @@ nothing_more place = refl
 
 -- ---- what makes a frame none
 
-first_test : (a b c d : Bool) → a ≡ false → (a && b && c && d) ≡ false
-first_test a b c d e = rw e refl
-
-second_test : (a b c d : Bool) → b ≡ false → (a && b && c && d) ≡ false
-second_test a b c d h1 = grind arith
-
-third_test : (a b c d : Bool) → c ≡ false → (a && b && c && d) ≡ false
-third_test a b c d h1 = grind arith
-
-fourth_test : (a b c d : Bool) → d ≡ false → (a && b && c && d) ≡ false
-fourth_test a b c d h1 = grind arith
-
-all_tests : (a b c d : Bool) → a ≡ true → b ≡ true → c ≡ true → d ≡ true → (a && b && c && d) ≡ true
-all_tests a b c d ea eb ec ed = rw (ea, eb, ec, ed) refl
-
 module _ (f : FrameSpec) where
   abbrev size : ℕ
   size = (head_says (header_at f) f.header).size
@@ -54,35 +39,30 @@ module _ (f : FrameSpec) where
   said = is_ok (head_of (header_at f) f.header)
 
   pub without_prefix : nat_lt (length f.prefix) 4 ≡ true → is_whole f ≡ false
-  without_prefix is = first_test uncut said (nat_le (blob_at f + size) (2 ^ 62)) (length f.blob == size) (rw is refl)
+  without_prefix is = rw is refl
 
   pub with_long_header : nat_lt (length f.prefix) 4 ≡ false → nat_le HEADER_LIMIT (big_number 4 f.prefix) ≡ true → is_whole f ≡ false
-  with_long_header four is = first_test uncut said (nat_le (blob_at f + size) (2 ^ 62)) (length f.blob == size) (rw (four, is) refl)
+  with_long_header four is = rw (four, is) refl
 
   pub without_header : nat_lt (length f.prefix) 4 ≡ false → nat_le HEADER_LIMIT (big_number 4 f.prefix) ≡ false → nat_lt (length f.header) (big_number 4 f.prefix) ≡ true → is_whole f ≡ false
-  without_header four small is = first_test uncut said (nat_le (blob_at f + size) (2 ^ 62)) (length f.blob == size) (rw (four, small, is) refl)
+  without_header four small is = rw (four, small, is) refl
 
   pub without_head : said ≡ false → is_whole f ≡ false
-  without_head is = second_test uncut said (nat_le (blob_at f + size) (2 ^ 62)) (length f.blob == size) is
+  without_head is = grind arith
 
   pub too_far : nat_le (blob_at f + size) (2 ^ 62) ≡ false → is_whole f ≡ false
-  too_far is = third_test uncut said (nat_le (blob_at f + size) (2 ^ 62)) (length f.blob == size) is
+  too_far is = grind arith
 
   pub without_blob : (length f.blob == size) ≡ false → is_whole f ≡ false
-  without_blob is = fourth_test uncut said (nat_le (blob_at f + size) (2 ^ 62)) (length f.blob == size) is
+  without_blob is = grind arith
 
   -- a frame of which all is there is whole
   pub whole_parts : length f.prefix ≡ 4 → big_number 4 f.prefix < HEADER_LIMIT → length f.header ≡ big_number 4 f.prefix → said ≡ true → blob_at f + size ≤ 2 ^ 62 → length f.blob ≡ size → is_whole f ≡ true
-  whole_parts four small counted says fits sized = grind (arith, nat_tests, all_tests uncut said (nat_le (blob_at f + size) (2 ^ 62)) (length f.blob == size))
+  whole_parts four small counted says fits sized = grind (arith, nat_tests)
 
   -- a whole frame has four bytes at least
   pub whole_long : is_whole f ≡ true → 4 ≤ length (frame_bytes f)
-  whole_long whole = cases (nat_lt (length f.prefix) 4) refl where
-    cases : (b : Bool) → nat_lt (length f.prefix) 4 ≡ b → 4 ≤ length (frame_bytes f)
-    cases true is = (let bad : ⊥ = (let e = without_prefix is in cc) in absurd bad)
-    cases false is =
-        let long : 4 ≤ length f.prefix = grind (arith, nat_tests, is) in
-        omega (arith, long, length-append (f.prefix ++ f.header) f.blob, length-append f.prefix f.header)
+  whole_long whole = grind (arith, nat_tests, without_prefix, length-append (f.prefix ++ f.header) f.blob, length-append f.prefix f.header)
 
 -- ---- bytes that begin no whole frame
 

@@ -1,15 +1,14 @@
 -- Frames put together from the parts that were read.
-use Rattle.std.proofs.Common.{◌≡◌, ℕ, ◌+◌, ◌<◌, ◌≤◌, ◌^◌, true, List, [], ◌++◌, length, take, drop, Option, Result, Err, refl, sym, ap, ◌∙◌, append_assoc, length-append, arith}
+use Rattle.std.proofs.Common.{◌≡◌, ℕ, ◌+◌, ◌<◌, ◌≤◌, ◌^◌, true, List, [], ◌++◌, length, take, drop, Option, Result, Err, refl, ap, ◌∙◌, append_assoc, length-append, arith}
 use Rattle.std.specs.Prelude.{is_ok}
 use Rattle.std.proofs.lemmas.List.{append-nil, take_at, drop_at, take_all}
 use Rattle.std.proofs.lemmas.Bool.Decides.{nat_tests}
 use Rattle.byteorder.specs.Endian.{big_number}
 use Rattle.pbf_wire.specs.declared.fault.Fault.{Fault}
-use Rattle.pbf_frame.specs.declared.frame.FrameKind.{FrameKind}
 use Rattle.pbf_frame.specs.declared.header.Head.{Head}
 use Rattle.pbf_frame.specs.declared.header.TheConstants.{HEADER_LIMIT}
 use Rattle.pbf_frame.specs.Devices.{prepend, Passes, IsAtEnd}
-use Rattle.pbf_frame.specs.Frames.{FrameSpec, blob_at, frame_end, frame_kind, frame_bytes, frame_at}
+use Rattle.pbf_frame.specs.Frames.{FrameSpec, frame_at}
 use Rattle.pbf_frame.specs.Header.{head_says}
 use Rattle.pbf_frame.specs.Steps.{head_of}
 use Rattle.pbf_frame.proofs.FrameLemmas.{head_parts}
@@ -87,22 +86,8 @@ module _ (place : ℕ) (read header : List ℕ) (head : Head) (has : HasHead pla
       → unpacked_from place ((read ++ blob) ++ rest) ≡ then_unpacked (unpacked_frame head.kind (place + length read) (read ++ blob) blob) (unpacked_from (place + length read + head.size) rest)
   whole_frame blob sized fits rest =
       let f : FrameSpec = record { offset = place; prefix = has.prefix; header = header; blob = blob } in
-      let front : take (head_says (place + 4) header).size (blob ++ rest) ≡ blob = take_at blob rest (head_says (place + 4) header).size (sized ∙ size_is) in
-      let at : frame_at place (read ++ (blob ++ rest)) ≡ f = begins (blob ++ rest) ∙ ap (λ (l : List ℕ). record { offset = place; prefix = has.prefix; header = header; blob = l }) front in
       let whole : is_whole f ≡ true = whole_parts f has.four has.small has.counted (ap (λ (r : Result Head Fault). is_ok r) has.says) (omega (arith, fits, long, size_is)) (sized ∙ size_is) in
-      let bytes_are : frame_bytes f ≡ read ++ blob = ap (λ (l : List ℕ). l ++ blob) (sym has.split) in
-      let blob_place : blob_at f ≡ place + length read = omega (arith, long) in
-      let end_is : frame_end f ≡ place + length read + head.size = omega (arith, long, sized) in
-      let after : drop (length (frame_bytes f)) (read ++ (blob ++ rest)) ≡ rest =
-      ap (λ (l : List ℕ). drop (length l) (read ++ (blob ++ rest))) bytes_are ∙ ap (drop (length (read ++ blob))) (sym (append_assoc read blob rest)) ∙ drop_at (read ++ blob) rest (length (read ++ blob)) refl in
-      ap (unpacked_from place) (append_assoc read blob rest)
-      ∙ whole_then place (read ++ (blob ++ rest)) (ap is_whole at ∙ whole)
-      ∙ ap (λ (g : FrameSpec). then_unpacked (unpacked_frame (frame_kind g) (blob_at g) (frame_bytes g) g.blob) (unpacked_from (frame_end g) (drop (length (frame_bytes g)) (read ++ (blob ++ rest))))) at
-      ∙ ap (λ (l : List ℕ). then_unpacked (unpacked_frame (frame_kind f) (blob_at f) (frame_bytes f) blob) (unpacked_from (frame_end f) l)) after
-      ∙ ap (λ (n : ℕ). then_unpacked (unpacked_frame (frame_kind f) (blob_at f) (frame_bytes f) blob) (unpacked_from n rest)) end_is
-      ∙ ap (λ (n : ℕ). then_unpacked (unpacked_frame (frame_kind f) n (frame_bytes f) blob) (unpacked_from (place + length read + head.size) rest)) blob_place
-      ∙ ap (λ (l : List ℕ). then_unpacked (unpacked_frame (frame_kind f) (place + length read) l blob) (unpacked_from (place + length read + head.size) rest)) bytes_are
-      ∙ ap (λ (k : FrameKind). then_unpacked (unpacked_frame k (place + length read) (read ++ blob) blob) (unpacked_from (place + length read + head.size) rest)) (sym kind_is)
+      grind (arith, append_assoc read blob rest, take_at blob rest (head_says (place + 4) header).size, begins (blob ++ rest), whole_then place (read ++ (blob ++ rest)), drop_at (read ++ blob) rest (length (read ++ blob)), size_is, kind_is, long)
 
   -- the same, as the code has the numbers
   pub whole_means : (blob : List ℕ) → length blob ≡ head.size → (at end : ℕ) → at ≡ place + length read → end ≡ place + length read + head.size → end ≤ 2 ^ 62
