@@ -146,9 +146,9 @@ module _ (old new : Option (List ℕ)) (place : ℕ) (raw frame : List ℕ) (has
   -- the same, if the frame that is held went on
   pub raw_sent : IsPackedAt place raw frame → (end : ℕ) (held : List ℕ) → end ≡ place + length frame → held ≡ [] → new ≡ append old frame → raw_in end held new ≡ raw_in place raw old
   raw_sent means end held ends empty added = cases old refl where
-      cases : (o : Option (List ℕ)) → old ≡ o → raw_in end held new ≡ raw_in place raw old
-      cases None is = rw (added, is) refl
-      cases (Some l) is = grind (arith, has l is, whole_more place l raw frame (has l is) means, take_all end (l ++ frame), length-append l frame, append-nil (unpacked (take end (l ++ frame))))
+    cases : (o : Option (List ℕ)) → old ≡ o → raw_in end held new ≡ raw_in place raw old
+    cases None is = rw (added, is) refl
+    cases (Some l) is = grind (arith, has l is, whole_more place l raw frame (has l is) means, take_all end (l ++ frame), length-append l frame, append-nil (unpacked (take end (l ++ frame))))
 
   -- the same, if a part of the frame did
   pub raw_stuck : (held : List ℕ) → IsFront old new frame → raw_in place held new ≡ raw_in place held old
