@@ -3,7 +3,7 @@ use Rattle.std.proofs.lemmas.Int.{ints}
 use Rattle.std.proofs.Common.{◌≡◌, ◌+◌, ◌≤◌, ◌⊎◌, ℤ, Bool, true, false, not, cond, List, [], ◌∷◌, ◌++◌, refl, arith, length-append}
 use Rattle.std.specs.List.{filter}
 use Rattle.std.specs.Ordering.{int_eq, eq_by_cmp}
-use Rattle.std.specs.Cmp.{int_cmp_total, both_ways as same_answers}
+use Rattle.std.specs.Cmp.{int_cmp_total}
 use Rattle.std.specs.FinSet as set
 use Rattle.std.proofs.lemmas.Bool.{and_parts, or_cases, or_left, or_right, both_ways}
 use Rattle.std.proofs.lemmas.Bool.Decides.{Decides-int_eq}
@@ -84,6 +84,4 @@ closing_end links start ids work c none = grind arith
 -- ---- the least set
 
 pub least_only : (is_link : Link → Bool) (start ids others : Ids) → IsLeast is_link start ids → IsLeast is_link start others → ids ≡ others
-least_only is_link start ids others h k =
-    set.same_set int_cmp_total set.int_cmp-IsAntisymmetric ids others
-    (λ id. same_answers (set.contains ids id) (set.contains others id) (h.least (set.contains others) k.holds k.closed id) (k.least (set.contains ids) h.holds h.closed id))
+least_only is_link start ids others h k = grind (arith, set.same_set int_cmp_total set.int_cmp-IsAntisymmetric ids others, h.least (set.contains others), k.least (set.contains ids))

@@ -1,5 +1,5 @@
 -- A page of rising ids that was read, and what it says of a set.
-use Rattle.std.proofs.Common.{◌≡◌, ℕ, ◌+◌, ◌-◌, ◌*◌, ◌<◌, List, length, take, drop, get_or, false, true, ℤ, pos, nat_abs, ◌+ℤ◌, ◌-ℤ◌, ◌<ℤ◌, ◌≤ℤ◌, inl, inr, sym, ap, subst, ◌∙◌, arith}
+use Rattle.std.proofs.Common.{◌≡◌, ℕ, ◌+◌, ◌-◌, ◌*◌, ◌<◌, List, length, take, drop, get_or, false, true, ℤ, pos, nat_abs, ◌-ℤ◌, ◌<ℤ◌, ◌≤ℤ◌, inl, inr, sym, ap, subst, ◌∙◌, arith}
 use Rattle.std.specs.List.{list_any}
 use Rattle.std.specs.Ordering.{int_eq}
 use Rattle.std.specs.FinSet as set
@@ -90,12 +90,7 @@ module _ (s : Ids) (n : ℕ) (lt : HasPage (rising s) n) (p : PageIds) (r : IsRe
   pub is_page_of : (id : ℤ) → ArePassed all id (n + 1) → IsPageOf s id p
   is_page_of id passed =
       let same : (n + 1) - 1 ≡ n = omega arith in
-      let low : first_of all n ≤ℤ id = subst (λ k. first_of all k ≤ℤ id) same (passed.low (omega arith)) in
-      record {
-        kept = is_kept;
-        begun = record { rising = rises; some = counted; within = r.within; low = omega (arith, ints, first, low) };
-        answer = answered id low passed.high;
-      }
+      grind (arith, is_kept, rises, some, counted, within, first, answered)
 
 -- ---- without a page being read
 
@@ -105,9 +100,4 @@ absent_first s id below = grind (arith, has_rising s id, any_between (rising s) 
 
 -- and those up to the next page's are, if it begins 128 above, as the code takes the difference
 pub whole_page : (s : Ids) (n : ℕ) (first next : ℤ) (room : ℕ) (id : ℤ) → HasPage (rising s) (n + 1) → first ≡ first_of (rising s) n → next ≡ first_of (rising s) (n + 1) → room ≡ nat_abs (next -ℤ first) → room ≡ 128 → first_of (rising s) n ≤ℤ id → id ≤ℤ first_of (rising s) (n + 1) → set.contains s id ≡ true
-whole_page s n first next room id lt e f apart near low high =
-    let all = rising s in
-    let away : nat_abs (first_of all (n + 1) -ℤ first_of all n) ≡ 128 = ap (λ z. nat_abs (z -ℤ first_of all n)) (sym f) ∙ ap (λ z. nat_abs (next -ℤ z)) (sym e) ∙ sym apart ∙ near in
-    let size : 128 ≡ 128 * (n + 1) - 128 * n = omega arith in
-    let up : first_of all (n + 1) ≤ℤ (first_of all n +ℤ pos 128) = omega (arith, ints, away) in
-    has_rising s id ∙ all_between all (128 * n) (128 * (n + 1)) id (pos 0) (rising_rises s) (omega arith) lt (subst (λ k. first_of all (n + 1) ≤ℤ (first_of all n +ℤ pos k)) size up) low high
+whole_page s n first next room id lt e f apart near low high = grind (arith, nat_abs, has_rising s id, all_between (rising s) (128 * n) (128 * (n + 1)) id (pos 0) (rising_rises s) (omega arith) lt, rising_rises s)

@@ -1,12 +1,11 @@
 -- Late ids among those of a set.
-use Rattle.std.proofs.Common.{◌≡◌, Bool, true, false, ◌||◌, inl, inr, List, [], ◌∷◌, Option, IfNone, Bor, Some, None, ℤ, ◌<ℤ◌, ◌≤ℤ◌, sym, subst, ◌∙◌, arith, true≢false}
+use Rattle.std.proofs.Common.{◌≡◌, Bool, true, false, ◌||◌, List, [], ◌∷◌, Option, IfNone, Bor, Some, None, ℤ, ◌<ℤ◌, ◌≤ℤ◌, sym, subst, arith}
 use Rattle.std.specs.List.{list_any, cons_option}
 use Rattle.std.specs.Option.{option_copied}
 use Rattle.std.specs.Map.Iter.{TakesFirst, deref}
 use Rattle.std.specs.Ordering.{int_eq, int_cmp}
 use Rattle.std.specs.FinSet as set
-use Rattle.std.proofs.lemmas.Bool.{or_cases, or_right}
-use Rattle.std.proofs.lemmas.Bool.Decides.{Decides-int_eq}
+use Rattle.std.proofs.lemmas.Bool.{or_right}
 use Rattle.std.proofs.lemmas.Int.{ints}
 use Rattle.osm_ids.specs.Pages.{Rises, IsRising, rising}
 use Rattle.osm_ids.specs.Order.{AreLate}
@@ -30,30 +29,7 @@ or_later a b h2 = grind arith
 
 -- the first of the others is below the late ones
 pub merging_id : (all done : Ids) (late ids : List ℤ) (id : ℤ) → Merging all done late (id ∷ ids) → Rises id late → Merging all (set.insert done id) late ids
-merging_id all done late ids id m up = record {
-  same = λ x. grind (arith, set.members, m.same x);
-  below = λ x e. elim (insert_cases done id x e) [
-    | inl is ↦ subst (λ z. Rises z late × Rises z ids) (sym is) (up, m.rises.1)
-    | inr old ↦ let b = m.below x old in (b.0, rises_from x id ids b.1.0 b.1.1)
-  ];
-  rises = (m.rises.0, rising_tail id ids m.rises.1);
-  reached = λ x there.
-      let r = m.reached x there in
-      let y = r.1.0 in
-      let low = r.1.2 in (
-        contains-ids_of ids x ∙ or_later (int_eq x id) (list_any (int_eq x) ids) (sym (contains-ids_of (id ∷ ids) x) ∙ r.0),
-        (
-          y,
-          contains-ids_of ids y ∙ elim (or_cases (int_eq y id) (list_any (int_eq y) ids) (sym (contains-ids_of (id ∷ ids) y) ∙ r.1.1)) [
-            | inl e ↦
-                let is : y ≡ id = (Decides-int_eq y id).0 e in
-                absurd (true≢false (sym there ∙ none_above id late x up (omega (arith, ints, is, low))))
-            | inr e ↦ e
-          ],
-          low,
-        ),
-      );
-}
+merging_id all done late ids id m up = grind (arith, ints, set.members, insert_cases done id, rises_from, rising_tail id ids m.rises.1, contains-ids_of ids, contains-ids_of (id ∷ ids), none_above id late)
 
 -- or it isn't
 pub merging_late : (all done : Ids) (late ids : List ℤ) (other id : ℤ) → Merging all done (other ∷ late) (id ∷ ids) → other ≤ℤ id → Merging all (set.insert done other) late (id ∷ ids)

@@ -35,8 +35,7 @@ parted ids id h = λ i j d le lt yes. grind (arith, ints, at_most ids i j d h le
 -- an id that lies between places can only be an id between them
 pub any_between : (ids : List ℤ) (at n : ℕ) (x : ℤ) → ((i : ℕ) → i < at → i < length ids → get_or ids i (pos 0) <ℤ x) → ((i : ℕ) → at + n ≤ i → i < length ids → x <ℤ get_or ids i (pos 0)) → list_any (int_eq x) ids ≡ list_any (int_eq x) (take n (drop at ids))
 any_between [] at n x low high = ap (list_any (int_eq x)) (sym (ap (take n) (drop-nil at) ∙ take-nil n))
-any_between (y ∷ ids) (suc at) n x low high =
-    rw (other_below x y (low 0 (omega arith) (omega arith))) (any_between ids at n x (λ i lt le. low (suc i) (omega arith) (omega arith)) (λ i ge lt. high (suc i) (omega arith) (omega arith)))
+any_between (y ∷ ids) (suc at) n x low high = grind (arith, other_below x y (low 0 (omega arith) (omega arith)), any_between ids at n x (λ i lt le. low (suc i) (omega arith) (omega arith)) (λ i ge lt. high (suc i) (omega arith) (omega arith)))
 any_between (y ∷ ids) zero zero x low high = grind (arith, other_above x y (high 0 (omega arith) (omega arith)), high 0 (omega arith) (omega arith), any_between ids 0 0 x (λ i lt le. absurd (omega (arith, lt))) (λ i ge lt. high (suc i) (omega arith) (omega arith)))
 any_between (y ∷ ids) zero (suc n) x low high = grind (arith, any_between ids 0 n x (λ i lt le. absurd (omega (arith, lt))) (λ i ge lt. high (suc i) (omega arith) (omega arith)))
 
@@ -44,9 +43,7 @@ any_between (y ∷ ids) zero (suc n) x low high = grind (arith, any_between ids 
 pub all_between : (ids : List ℤ) (i j : ℕ) (x d : ℤ) → IsRising ids → i ≤ j → j < length ids → get_or ids j d ≤ℤ (get_or ids i d +ℤ pos (j - i)) → get_or ids i d ≤ℤ x → x ≤ℤ get_or ids j d → list_any (int_eq x) ids ≡ true
 all_between [] i j x d h le lt near low high = absurd (omega arith)
 all_between (y ∷ ids) (suc i) zero x d h le lt near low high = absurd (omega arith)
-all_between (y ∷ ids) (suc i) (suc j) x d h le lt near low high =
-    let same : suc j - suc i ≡ j - i = omega arith in
-    or_right (int_eq x y) (list_any (int_eq x) ids) (all_between ids i j x d (rising_tail y ids h) (omega arith) (omega arith) (rw same at near) low high)
+all_between (y ∷ ids) (suc i) (suc j) x d h le lt near low high = grind (arith, or_right (int_eq x y) (list_any (int_eq x) ids), all_between ids i j x d (rising_tail y ids h), rising_tail y ids h)
 all_between (y ∷ ids) zero zero x d h le lt near low high = grind (arith, first_among x ids)
 all_between (y ∷ ids) zero (suc j) x d h le lt near low high =
     let first = far_after y ids 0 d h (omega arith) in
@@ -99,9 +96,7 @@ last_by d (x ∷ ids) (suc n) lt = last_by x ids n (omega arith)
 
 -- the last of the first ids, by its place
 pub last_at : (ids : List ℤ) (n : ℕ) → 0 < n → n ≤ length ids → last_from (pos 0) (take n ids) ≡ get_or ids (n - 1) (pos 0)
-last_at ids n some le =
-    let same : n ≡ suc (n - 1) = omega (arith, some) in
-    ap (λ k. last_from (pos 0) (take k ids)) same ∙ last_by (pos 0) ids (n - 1) (omega (arith, some, le))
+last_at ids n some le = grind (arith, last_by)
 
 pub last_is : (ids : List ℤ) → 0 < length ids → last_from (pos 0) ids ≡ get_or ids (length ids - 1) (pos 0)
 last_is ids some = ap (last_from (pos 0)) (sym (take_all (length ids) ids (omega arith))) ∙ last_at ids (length ids) some (omega arith)

@@ -10,11 +10,8 @@ use Rattle.osm_ids.proofs.Places.{last_push}
 
 -- ---- a sum that fits isn't wrapped
 
-wrapped : (last : ℤ) (d : ℕ) → FitsSigned w64 last → FitsSigned w64 (last +ℤ pos d) → to_z w64 ((of_z w64 last + d) % 2 ^ 64) ≡ last +ℤ pos d
-wrapped last d h2 h3 = grind (arith, to_z_pos, cases_lt, to_z-of_z)
-
 pub wrapped_sum : (last low : ℤ) (d : ℕ) (r : ℤ) → last ≡ low → FitsSigned w64 last → r ≡ to_z w64 ((of_z w64 last + d) % 2 ^ 64) → FitsSigned w64 (low +ℤ pos d) → to_z w64 (of_z w64 r) ≡ low +ℤ pos d
-wrapped_sum last low d r e f is g = grind (arith, wrapped last d f (subst (λ z. FitsSigned w64 (z +ℤ pos d)) (sym e) g), to_z-of_z w64 (last +ℤ pos d) (subst (λ z. FitsSigned w64 (z +ℤ pos d)) (sym e) g))
+wrapped_sum last low d r e f is g = grind (arith, to_z-of_z w64 (last +ℤ pos d) (subst (λ z. FitsSigned w64 (z +ℤ pos d)) (sym e) g), to_z_pos, cases_lt)
 
 -- ---- ids that are read one by one
 

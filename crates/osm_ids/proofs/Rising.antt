@@ -19,8 +19,7 @@ pub other_below : (a b : ℤ) → b <ℤ a → int_eq a b ≡ false
 other_below a b h = grind (arith, ints)
 
 pub rising_tail : (low : ℤ) (ids : List ℤ) → Rises low ids → IsRising ids
-rising_tail low [] h = tt
-rising_tail low (id ∷ ids) h = h.1
+rising_tail low ids h1 = grind arith
 
 -- no id at or below low comes after low
 pub none_above : (low : ℤ) (ids : List ℤ) (id : ℤ) → Rises low ids → id ≤ℤ low → list_any (int_eq id) ids ≡ false
@@ -33,8 +32,7 @@ rises_from_sorted low (id ∷ ids) h = grind (arith, sorted_head int_cmp low (id
 
 -- a tree's keys rise
 pub rising_from_sorted : (ids : List ℤ) → IsStrictlySortedBy int_cmp ids → IsRising ids
-rising_from_sorted [] h = tt
-rising_from_sorted (id ∷ ids) h = rises_from_sorted id ids h
+rising_from_sorted ids h1 = grind (arith, rises_from_sorted)
 
 pub len-rising : (ids : List ℤ) → IsRising ids → set.len (ids_of ids) ≡ length ids
 len-rising [] h = set.len-empty int_cmp
@@ -61,8 +59,7 @@ pub same_rising : (xs ys : List ℤ) → IsRising xs → IsRising ys → ((id : 
 same_rising [] [] h k alike = refl
 same_rising [] (y ∷ ys) h k alike = absurd (true≢false (sym (first_among y ys) ∙ sym (alike y)))
 same_rising (x ∷ xs) [] h k alike = absurd (true≢false (sym (first_among x xs) ∙ alike x))
-same_rising (x ∷ xs) (y ∷ ys) h k alike =
-    grind (arith, ints, not_below x xs y ys alike k, not_below y ys x xs (λ id. sym (alike id)) h, same_rising xs ys (rising_tail x xs h) (rising_tail y ys k), tails_alike x xs y ys alike)
+same_rising (x ∷ xs) (y ∷ ys) h k alike = grind (arith, not_below x xs y ys alike k, not_below y ys x xs (λ id. sym (alike id)) h, same_rising xs ys (rising_tail x xs h) (rising_tail y ys k), rising_tail x xs h, rising_tail y ys k, tails_alike x xs y ys alike)
 
 -- the rising list of a set is the only one
 pub rising_of_set : (xs ys : List ℤ) → IsRising xs → IsRising ys → ids_of xs ≡ ids_of ys → xs ≡ ys
@@ -75,8 +72,7 @@ insert_rises low [] new above h = (above, tt)
 insert_rises low (x ∷ ids) new above h = grind (arith, int_ranked new x Less, insert_rises x ids new, int_ranked new x Greater)
 
 pub insert_rising : (ids : List ℤ) (new : ℤ) → IsRising ids → IsRising (insert_key int_cmp ids new)
-insert_rising [] new h = tt
-insert_rising (x ∷ ids) new h = grind (arith, int_ranked new x Less, insert_rises x ids new, int_ranked new x Greater)
+insert_rising ids new h1 = grind (arith, insert_rises)
 
 in_order_rises : (ids : List ℤ) → IsRising (in_order ids)
 unfolding in_order

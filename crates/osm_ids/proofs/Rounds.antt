@@ -1,5 +1,5 @@
 -- The ids of a page round one that is looked up.
-use Rattle.std.proofs.Common.{◌≡◌, ℕ, ◌-◌, ◌<◌, ◌≤◌, Bool, true, false, List, length, get_or, ℤ, pos, ◌<ℤ◌, ◌≤ℤ◌, inl, inr, subst, arith}
+use Rattle.std.proofs.Common.{◌≡◌, ℕ, ◌-◌, ◌<◌, ◌≤◌, Bool, true, false, List, length, get_or, ℤ, pos, ◌<ℤ◌, ◌≤ℤ◌, subst, arith}
 use Rattle.std.specs.FinSet as set
 use Rattle.std.specs.List.{list_any}
 use Rattle.std.specs.Ordering.{int_eq}
@@ -50,16 +50,7 @@ module _ (page : PageIds) (id seen : ℤ) (at : ℕ) (e : seen ≡ id) (b : IsBe
 
   -- if another is there, one is before it
   pub some_before : 0 < length (held page) → 0 < at
-  some_before some =
-      elim (cases_lt 0 at) [
-        | inl lt ↦ lt
-        | inr none ↦
-            let zero_is : at ≡ 0 = omega (arith, none) in
-            let above : id <ℤ get_or (held page) 0 (pos 0) = subst (λ k. id <ℤ get_or (held page) k (pos 0)) zero_is (apart (omega (arith, zero_is, some))) in
-            let first = first_is page some in
-            let low = b.low in
-            absurd (omega (arith, ints, above, first, low))
-      ]
+  some_before some = grind (arith, cases_lt, apart, first_is)
 
   -- and the id isn't there
   pub not_there : list_any (int_eq id) (held page) ≡ false

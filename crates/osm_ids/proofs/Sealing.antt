@@ -1,9 +1,8 @@
 -- Rising ids in pages: how they grow, and that they are read again.
-use Rattle.std.proofs.Common.{◌≡◌, true, false, int_le, ℕ, zero, suc, ◌+◌, ◌-◌, ◌*◌, ◌%◌, ◌^◌, ◌<◌, ◌≤◌, List, [], ◌∷◌, ◌++◌, length, take, drop, get_or, ℤ, pos, ◌<ℤ◌, ◌≤ℤ◌, FitsSigned, w64, inl, inr, refl, sym, ap, subst, ◌∙◌, arith, length-append, append_assoc, take-append-drop}
+use Rattle.std.proofs.Common.{◌≡◌, true, false, int_le, ℕ, zero, suc, ◌+◌, ◌-◌, ◌*◌, ◌%◌, ◌^◌, ◌<◌, ◌≤◌, List, [], ◌∷◌, ◌++◌, length, take, drop, get_or, ℤ, pos, ◌<ℤ◌, ◌≤ℤ◌, FitsSigned, w64, refl, sym, ap, subst, ◌∙◌, arith, length-append, append_assoc, take-append-drop}
 use Rattle.std.specs.Int.{div_ceil}
-use Rattle.std.specs.List.{AllByRecursion, list_any}
+use Rattle.std.specs.List.{AllByRecursion}
 use Rattle.std.specs.List.Sorted.{IsPartitionedBy, IsPartitionPoint}
-use Rattle.std.specs.Ordering.{int_eq}
 use Rattle.std.specs.Cmp.{int_cmp_total}
 use Rattle.std.specs.FinSet as set
 use Rattle.std.proofs.lemmas.Bool.{cases_lt}
@@ -60,20 +59,11 @@ ids-past zero (id ∷ ids) = ap (λ (rest : List ℤ). id ∷ (take 127 ids ++ r
 pub ids-pages_of : (ids : List ℤ) → ids_of_pages (pages_of ids) ≡ ids
 ids-pages_of ids = ids-past 0 ids
 
-filled_cons : (page : Page) (pages : List Page) → length page.others ≡ 127 → HasFullPages pages → HasFullPages (page ∷ pages)
-filled_cons page [] full h = omega arith
-filled_cons page (next ∷ pages) full h = (full, h)
-
 filled_past : (skip : ℕ) (ids : List ℤ) → HasFullPages (pages_past skip ids)
 unfolding pages_past
 filled_past skip [] = tt
 filled_past (suc skip) (id ∷ ids) = filled_past skip ids
-filled_past zero (id ∷ ids) =
-    let page : Page = record { first = id; others = take 127 ids } in
-    elim (cases_lt 127 (length ids)) [
-      | inl more ↦ filled_cons page (pages_past 127 ids) (length-take-le 127 ids (omega arith)) (filled_past 127 ids)
-      | inr few ↦ subst (λ (pages : List Page). HasFullPages (page ∷ pages)) (sym (past_all ids 127 few)) (omega (arith, length-take 127 ids))
-    ]
+filled_past zero (id ∷ ids) = grind (arith, cases_lt 127 (length ids), length-take-le 127 ids, filled_past 127 ids, past_all ids 127, length-take 127 ids)
 
 pub filled_pages_of : (ids : List ℤ) → HasFullPages (pages_of ids)
 filled_pages_of ids = filled_past 0 ids
@@ -146,11 +136,7 @@ gaps_read : (ns more : List ℕ) → AllByRecursion (λ n. n < 2 ^ 64) ns → nu
 gaps_read [] more h = refl
 gaps_read (n ∷ ns) more h =
     let rest = packed ns ++ more in
-    let one = spelling_is_read (shortest n) rest n (shortest_spells n h.0) in
-    ap numbers_of (append_assoc (shortest n) (packed ns) more)
-    ∙ ap read_entries (entries_ok (shortest n ++ rest) n (length (shortest n)) (shortest_positive n) (omega (arith, length-append (shortest n) rest)) one)
-    ∙ ap (λ (b : List ℕ). n ∷ numbers_of b) (drop-append_seam (shortest n) rest)
-    ∙ ap (λ (l : List ℕ). n ∷ l) (gaps_read ns more h.1)
+    grind (arith, append_assoc (shortest n) (packed ns) more, entries_ok (shortest n ++ rest) n (length (shortest n)) (shortest_positive n), spelling_is_read (shortest n) rest n (shortest_spells n h.0), drop-append_seam (shortest n) rest, length-append (shortest n) rest, gaps_read ns more h.1)
 
 page_ids_read : (page : Page) → IsGood page → raised page.first (numbers_of (page_bytes page)) ≡ page.others
 page_ids_read page good = ap (raised page.first) (column_read (gaps page.first page.others) good.1) ∙ raised-gaps page.first page.others good.0
@@ -221,13 +207,7 @@ past_more [] skip low id some = absurd (omega (arith, some))
 past_more (x ∷ ids) (suc skip) low id some = past_more ids skip x id (omega (arith, some))
 past_more (x ∷ ids) zero low id some =
     let page : Page = record { first = x; others = take 127 ids } in
-    elim (cases_lt (length ids) 127) [
-      | inl few ↦
-          let one = last_page x ids (omega (arith, few)) in
-          let long = last_page x (ids ++ id ∷ []) (omega (arith, few, length-append ids (id ∷ []))) in
-          rw (one, long) (longer_last x ids id)
-      | inr many ↦ rw (full_page x ids (id ∷ []) many) (longer_cons page (pages_past 127 ids) (pages_past 127 (ids ++ id ∷ [])) (last_from x ids) id (past_more ids 127 x id (omega (arith, some, many))))
-    ]
+    grind (arith, cases_lt (length ids) 127, last_page x ids, last_page x (ids ++ id ∷ []), length-append ids (id ∷ []), longer_last x ids id, full_page x ids (id ∷ []), longer_cons page (pages_past 127 ids) (pages_past 127 (ids ++ id ∷ [])) (last_from x ids) id, past_more ids 127 x id)
 
 rises_push : (low : ℤ) (ids : List ℤ) (id : ℤ) → Rises low ids → last_from low ids <ℤ id → Rises low (ids ++ id ∷ [])
 rises_push low [] id h up = (up, tt)
@@ -267,21 +247,10 @@ module _ (index : List PageStart) (bytes : List ℕ) (ids : List ℤ) (s : IsSea
 
   -- an id above the last is above all
   pub above_last : (last id : ℤ) → (0 < length ids → last ≡ last_from (pos 0) ids) → (0 < length ids → last <ℤ id) → IsAbove (set_in index bytes) id
-  above_last last id ends up x there =
-      let among = ap (list_any (int_eq x)) (sym sealed_ids) ∙ sym (contains-ids_of (ids_in index bytes) x) ∙ there in
-      let most = last_most ids x s.rising among in
-      let some = some_of ids x among in
-      let same = ends some in
-      let high = up some in
-      omega (arith, ints, most, same, high)
+  above_last last id ends up x there = grind (arith, sealed_ids, contains-ids_of (ids_in index bytes) x, last_most ids x s.rising, some_of ids x)
 
   pub reached_last : (last id : ℤ) → (0 < length ids → last ≡ last_from (pos 0) ids) → 0 < length ids → id ≤ℤ last → IsReached (set_in index bytes) id
-  reached_last last id ends some low =
-      let same = ends some in (
-        last_from (pos 0) ids,
-        ap (λ (l : List ℤ). set.contains (ids_of l) (last_from (pos 0) ids)) sealed_ids ∙ contains-ids_of ids (last_from (pos 0) ids) ∙ last_there ids some,
-        omega (arith, ints, same, low),
-      )
+  reached_last last id ends some low = grind (arith, ids_of, sealed_ids, contains-ids_of, last_there)
 
   -- a page by its number
   module _ (n : ℕ) (lt : HasPage ids n) where
@@ -297,16 +266,9 @@ module _ (index : List PageStart) (bytes : List ℕ) (ids : List ℤ) (s : IsSea
     -- its gaps are the last, or 127
     last_gaps : take 127 (gaps (first_of ids n) (page_at ids (128 * n)).others ++ numbers_of (bytes_of_pages (drop (n + 1) pages))) ≡ gaps (first_of ids n) (page_at ids (128 * n)).others
     last_gaps =
-        let own = gaps (first_of ids n) (page_at ids (128 * n)).others in
-        let size = length-gaps (first_of ids n) (page_at ids (128 * n)).others in
-        let most = length-take 127 (drop (suc (128 * n)) ids) in
-        let left = length-drop (suc (128 * n)) ids in
-        elim (cases_lt (128 * (n + 1)) (length ids)) [
-          | inl more ↦ take_at own _ 127 (omega (arith, size, most, left, more))
-          | inr end ↦
-              let none = drop_all (n + 1) pages (omega (arith, past_count 0 ids, end)) in
-              grind (arith, none, none_left, append-nil own, take_all 127 own (omega (arith, size, most)))
-        ]
+        let this = page_at ids (128 * n) in
+        let own = gaps (first_of ids n) this.others in
+        grind (arith, cases_lt (128 * (n + 1)) (length ids), length-gaps (first_of ids n) this.others, length-take 127 (drop (suc (128 * n)) ids), length-drop (suc (128 * n)) ids, take_at own (numbers_of (bytes_of_pages (drop (n + 1) pages))) 127, drop_all (n + 1) pages, past_count 0 ids, none_left, append-nil own, take_all 127 own)
 
     pub start_is : (d : PageStart) → get_or index n d ≡ record { first = first_of ids n; place = length (bytes_of_pages (take n pages)) }
     start_is d = grind (arith, s.starts, start_at 0 pages n d (page_at ids 0) within, page_is)
@@ -341,13 +303,7 @@ module _ (index : List PageStart) (bytes : List ℕ) (ids : List ℤ) (s : IsSea
   parted_index id i j d le lt there = grind (arith, ints, at_most ids (128 * i) (128 * j) (pos 0) s.rising (omega (arith, le)) (omega (arith, page_count, lt)), first_is i d (omega (arith, le, lt)), first_is j d lt, there)
 
   pub passed_at : (id : ℤ) (n : ℕ) → n ≤ length index → IsPartitionPoint (λ (a : PageStart). int_le a.first id ≡ true) (λ (a : PageStart). int_le a.first id ≡ false) index n → ArePassed ids id n
-  passed_at id n le point =
-      let d : PageStart = record { first = pos 0; place = 0 } in
-      record {
-        there = λ some. omega (arith, page_count, le, some);
-        low = λ some. grind (arith, ints, first_is (n - 1) d (omega (arith, le, some)), point.0 (n - 1) d (omega arith) (omega (arith, some)));
-        high = λ lt. grind (arith, ints, first_is n d (begun n lt), point.1 n d (omega arith) (begun n lt));
-      }
+  passed_at id n le point = grind (arith, page_count, first_is (n - 1) (record { first = pos 0; place = 0 }), first_is n (record { first = pos 0; place = 0 }), begun n)
 
   -- one more id, above all others
   module _ (id : ℤ) (up : IsAbove (set_in index bytes) id) (f : FitsSigned w64 id) where
@@ -361,7 +317,4 @@ module _ (index : List PageStart) (bytes : List ℕ) (ids : List ℤ) (s : IsSea
     longer_page last ends part = grind (arith, past_more ids 0 (pos 0) id (omega (arith, part)), grown, ends (omega (arith, part)))
 
     pub inserted : (index' : List PageStart) (bytes' : List ℕ) → ids_in index' bytes' ≡ ids ++ id ∷ [] → set_in index' bytes' ≡ set.insert (set_in index bytes) id
-    inserted index' bytes' e =
-        ap ids_of e
-        ∙ set.from_list_push int_cmp_total set.int_cmp-IsAntisymmetric ids id
-        ∙ ap (λ l. set.insert (ids_of l) id) (sym sealed_ids)
+    inserted index' bytes' e = grind (arith, set.from_list_push int_cmp_total set.int_cmp-IsAntisymmetric ids id, sealed_ids)

@@ -1,5 +1,5 @@
 -- The keys of an ordered set as a finite set.
-use Rattle.std.proofs.Common.{◌≡◌, Bool, true, false, ◌||◌, ◌⊎◌, ℕ, zero, suc, List, [], ◌∷◌, ℤ, ◌≤ℤ◌, refl, sym, ◌∙◌, arith, Ordering}
+use Rattle.std.proofs.Common.{◌≡◌, true, ◌||◌, ◌⊎◌, ℕ, zero, suc, List, [], ◌∷◌, ℤ, ◌≤ℤ◌, refl, sym, ◌∙◌, arith, Ordering}
 use Rattle.std.specs.List.{list_any, AllByRecursion}
 use Rattle.std.proofs.Math.ListN.{set as set_at}
 use Rattle.std.specs.Ordering.{int_eq, int_cmp, eq_by_cmp}
@@ -9,19 +9,10 @@ use Rattle.std.specs.FinSet as set
 use Rattle.std.proofs.lemmas.Bool.{or_cases, or_right}
 use Rattle.std.proofs.lemmas.Int.{ints}
 
-or_same : (a b : Bool) → (a || b) ≡ (a || (a || b))
-or_same true b = refl
-or_same false b = refl
-
-pub or_swap : (a b c : Bool) → (a || (b || c)) ≡ (b || (a || c))
-or_swap true true c = refl
-or_swap true false c = refl
-or_swap false b c = refl
-
 module _ {K : Type 0} {R : K → K → Ordering} (o : IsTotalOrder R) (same : set.IsAntisymmetric R) where
   pub any-insert_key : (keys : List K) (new k : K) → list_any (eq_by_cmp R k) (insert_key R keys new) ≡ (eq_by_cmp R k new || list_any (eq_by_cmp R k) keys)
   any-insert_key [] new k = refl
-  any-insert_key (x ∷ keys) new k = grind (arith, R new x, same new x, or_same (eq_by_cmp R k x) (list_any (eq_by_cmp R k) keys), any-insert_key keys new k, or_swap (eq_by_cmp R k x) (eq_by_cmp R k new))
+  any-insert_key (x ∷ keys) new k = grind (arith, R new x, same new x, any-insert_key keys new k)
 
   -- to insert a key is to insert it into the set
   pub from_list-insert_key : (keys : List K) (new : K) → set.from_list {R = R} (insert_key R keys new) ≡ set.insert (set.from_list keys) new

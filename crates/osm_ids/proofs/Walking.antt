@@ -17,10 +17,4 @@ walked ids page came lt e =
     let front = drop (128 * (came / 128)) ids in
     let within : came % 128 < page.count = omega (arith, lt, ap length e, length-take 128 front, length-drop (128 * (came / 128)) ids, length-take page.count page.ids) in
     let at : 128 * (came / 128) + came % 128 ≡ came = omega arith in
-    drop_more ids came (pos 0) lt
-    ∙ ap (λ z. z ∷ drop (came + 1) ids)
-    (ap (λ k. get_or ids k (pos 0)) (sym at)
-    ∙ sym (get_or-drop (128 * (came / 128)) ids (came % 128) (pos 0))
-    ∙ sym (get_or-take 128 front (came % 128) (pos 0) (omega arith))
-    ∙ ap (λ (l : List ℤ). get_or l (came % 128) (pos 0)) (sym e)
-    ∙ get_or-take page.count page.ids (came % 128) (pos 0) within)
+    grind (arith, drop_more ids came (pos 0) lt, get_or-drop (128 * (came / 128)) ids (came % 128) (pos 0), get_or-take 128 front (came % 128) (pos 0), get_or-take page.count page.ids (came % 128) (pos 0) within)

@@ -23,9 +23,7 @@ gave_told (Some packed) place held raw has empty is =
 
 module _ {D : Type 0} {d : drain.Ghosts D} (old new : PackedDrain D d) where
   gave_logged : frame_held new.frame ≡ [] → (log : ℕ) (raw : List ℕ) → HasPacked new log raw → PacksTo (d.has_taken new.below.drain log) raw
-  gave_logged empty log raw has =
-      let is_raw : has.done ≡ raw = sym (append-nil has.done) ∙ ap (λ (l : List ℕ). has.done ++ l) (sym empty) ∙ sym has.split in
-      record { packed = has.packed; has_them = has.took; means = packed_means has.done has.packed has.means ∙ ap as_they_stand is_raw }
+  gave_logged empty log raw has = grind (arith, append-nil has.done, packed_means has.done has.packed has.means)
 
   pub gave_all : taken_raw new ≡ taken_raw old → TookSame old new → frame_held new.frame ≡ [] → new.below.course ≡ Taking → GaveAll old new
   gave_all same logged empty taking = record {

@@ -17,7 +17,7 @@ use Rattle.pbf_unpack.specs.declared.below.Course.TheVariants.{Taking, Failed}
 use Rattle.pbf_unpack.specs.Course.{IsPackedAt, IsPackedAs, IsBegun, HasWhole}
 use Rattle.pbf_unpack.specs.declared.whole.WholeFrame.{WholeFrame}
 use Rattle.pbf_unpack.specs.Packed.{packed_in, fits_size}
-use Rattle.pbf_unpack.specs.Unpacked.{Unpacked, then_unpacked, as_they_stand, unpacked_frame, unpacked_from, unpacked}
+use Rattle.pbf_unpack.specs.Unpacked.{as_they_stand, unpacked_frame, unpacked_from, unpacked}
 use Rattle.pbf_unpack.specs.Whole.{MeansWhole}
 use Rattle.pbf_unpack.proofs.UnpackedLemmas.{joined_assoc, joined_nothing, joined_end, nothing_more}
 
@@ -29,21 +29,11 @@ packed_nothing place rest = ap (λ (n : ℕ). unpacked_from n rest) (omega arith
 
 -- some, and then others
 pub packed_then : (place : ℕ) (a b x y : List ℕ) → IsPackedAt place a x → IsPackedAt (place + length x) b y → IsPackedAt place (a ++ b) (x ++ y)
-packed_then place a b x y first then rest =
-    let end : place + length x + length y ≡ place + length (x ++ y) = omega (arith, length-append x y) in
-    ap (unpacked_from place) (append_assoc x y rest)
-    ∙ first (y ++ rest)
-    ∙ ap (then_unpacked (as_they_stand a)) (then rest)
-    ∙ sym (joined_assoc (as_they_stand a) (as_they_stand b) (unpacked_from (place + length x + length y) rest))
-    ∙ ap (λ (n : ℕ). then_unpacked (as_they_stand (a ++ b)) (unpacked_from n rest)) end
+packed_then place a b x y first then rest = grind (arith, length-append x y, append_assoc x y rest, joined_assoc (as_they_stand a) (as_they_stand b) (unpacked_from (place + length x + length y) rest))
 
 -- what they mean by themselves
 pub packed_means : (raw packed : List ℕ) → IsPackedAs raw packed → unpacked_from 0 packed ≡ as_they_stand raw
-packed_means raw packed is =
-    ap (unpacked_from 0) (sym (append-nil packed))
-    ∙ is []
-    ∙ ap (then_unpacked (as_they_stand raw)) (nothing_more (0 + length packed))
-    ∙ joined_end (as_they_stand raw)
+packed_means raw packed is = grind (arith, append-nil packed, nothing_more (0 + length packed), joined_end (as_they_stand raw))
 
 -- ---- what the drain below took, as far as it is known
 
@@ -55,12 +45,7 @@ not_begun place taken exact =
 
 -- at first it is nothing
 pub whole_nothing : HasWhole Taking 0 []
-whole_nothing = record {
-  whole = subst (λ (l : List ℕ). IsPackedAs l []) (sym (ap (λ u. u.0) (nothing_more 0))) (packed_nothing 0);
-  within = omega arith;
-  begun = not_begun 0 [] refl;
-  exact = λ _. refl;
-}
+whole_nothing = grind (arith, nothing_more 0, packed_nothing 0, not_begun 0 [] refl)
 
 -- whole frames, and one more
 pub whole_more : (place : ℕ) (taken raw frame : List ℕ) → HasWhole Taking place taken → IsPackedAt place raw frame
@@ -68,10 +53,7 @@ pub whole_more : (place : ℕ) (taken raw frame : List ℕ) → HasWhole Taking 
 whole_more place taken raw frame has means =
     let exact : length taken ≡ place = has.exact refl in
     let all : take place taken ≡ taken = take_all place taken (omega (arith, exact)) in
-    let before : IsPackedAs (unpacked taken) taken = subst (λ (l : List ℕ). IsPackedAs (unpacked l) l) all has.whole in
-    let start : place ≡ 0 + length taken = omega (arith, exact) in
-    let after : IsPackedAt (0 + length taken) raw frame = subst (λ (n : ℕ). IsPackedAt n raw frame) start means in
-    let joined : IsPackedAs (unpacked taken ++ raw) (taken ++ frame) = packed_then 0 (unpacked taken) raw taken frame before after in
+    let joined : IsPackedAs (unpacked taken ++ raw) (taken ++ frame) = packed_then 0 (unpacked taken) raw taken frame (subst (λ (l : List ℕ). IsPackedAs (unpacked l) l) all has.whole) (subst (λ (n : ℕ). IsPackedAt n raw frame) (omega (arith, exact)) means) in
     let is : unpacked (taken ++ frame) ≡ unpacked taken ++ raw = ap (λ u. u.0) (packed_means (unpacked taken ++ raw) (taken ++ frame) joined) in
     let long : length (taken ++ frame) ≡ place + length frame = omega (arith, length-append taken frame, exact) in
     let whole : take (place + length frame) (taken ++ frame) ≡ taken ++ frame = take_all (place + length frame) (taken ++ frame) (omega (arith, long)) in (
@@ -88,17 +70,13 @@ whole_more place taken raw frame has means =
 pub whole_begun : (place count : ℕ) (taken raw frame : List ℕ) → HasWhole Taking place taken → IsPackedAt place raw frame → HasWhole Failed place (taken ++ take count frame)
 whole_begun place count taken raw frame has means =
     let exact : length taken ≡ place = has.exact refl in
-    let front : take place (taken ++ take count frame) ≡ take place taken = take_at taken (take count frame) place exact ∙ sym (take_all place taken (omega (arith, exact))) in
+    let front : take place (taken ++ take count frame) ≡ take place taken = grind (arith, take_at taken (take count frame) place, take_all place taken) in
     let after : drop place (taken ++ take count frame) ≡ take count frame = drop_at taken (take count frame) place exact in
     record {
       whole = subst (λ (l : List ℕ). IsPackedAs (unpacked l) l) (sym front) has.whole;
       within = omega (arith, length-append taken (take count frame), exact);
-      begun = ∣ record {
-        rest = drop count frame;
-        raw = raw;
-        means = subst (λ (l : List ℕ). IsPackedAt place raw (l ++ drop count frame)) (sym after) (subst (λ (l : List ℕ). IsPackedAt place raw l) (sym (take-append-drop count frame)) means);
-      } ∣₁;
-      exact = λ taking. let bad : ⊥ = cc in absurd bad;
+      begun = ∣ record { rest = drop count frame; raw = raw; means = rw (after, take-append-drop) means } ∣₁;
+      exact = λ taking. absurd (cc);
     }
 
 -- what was taken before
@@ -108,17 +86,11 @@ pub record Before (old : Option (List ℕ)) (xs taken : List ℕ) : Type 0 where
   pub is : taken ≡ first ++ xs
 
 pub taken_before : (old new : Option (List ℕ)) (xs taken : List ℕ) → new ≡ append old xs → new ≡ Some taken → Before old xs taken
-taken_before None new xs taken added is = let bad : ⊥ = (let e : Some taken ≡ append None xs = sym is ∙ added in cc) in absurd bad
-taken_before (Some first) new xs taken added is = record {
-  first = first;
-  was = refl;
-  is = (let e : Some taken ≡ Some (first ++ xs) = sym is ∙ added in cc);
-}
+taken_before old new xs taken h1 h2 = grind arith
 
 -- a drain that took nothing
 pub at_start : (known : Option (List ℕ)) (taken : List ℕ) → IfSome known (λ l. l ≡ []) → known ≡ Some taken → taken ≡ []
-at_start None taken nothing is = let bad : ⊥ = cc in absurd bad
-at_start (Some l) taken nothing is = let same : l ≡ taken = cc in sym same ∙ nothing
+at_start known taken h1 h2 = grind arith
 
 -- what the drain below took of one more frame: all of it, or a part
 module _ (old new : Option (List ℕ)) (place : ℕ) (raw frame : List ℕ) (has : (taken : List ℕ) → old ≡ Some taken → HasWhole Taking place taken) (means : IsPackedAt place raw frame) where
@@ -137,47 +109,28 @@ module _ (old new : Option (List ℕ)) (place : ℕ) (raw frame : List ℕ) (has
 
 -- the parts of a frame are what is put before a payload, and the payload
 pub written_parts : (n m end : ℕ) (head front blob fields rest payload written : List ℕ) → end ≡ n + m → take n head ≡ front → take m (drop n head) ≡ fields → fields ++ rest ≡ blob → rest ≡ payload → take end head ++ payload ≡ written → front ++ blob ≡ written
-written_parts n m end head front blob fields rest payload written counted is_front is_fields split is_rest is =
-    let all : take end head ≡ front ++ fields = ap (λ (k : ℕ). take k head) counted ∙ take-add n m head ∙ ap (λ (l : List ℕ). l ++ take m (drop n head)) is_front ∙ ap (λ (l : List ℕ). front ++ l) is_fields in
-    ap (λ (l : List ℕ). front ++ l) (sym split)
-    ∙ sym (append_assoc front fields rest)
-    ∙ ap (λ (l : List ℕ). l ++ rest) (sym all)
-    ∙ ap (λ (l : List ℕ). take end head ++ l) is_rest
-    ∙ is
+written_parts n m end head front blob fields rest payload written counted is_front is_fields split is_rest is = grind (arith, take-add n m head, append_assoc front fields rest)
 
 -- ---- the end of a blob
 
 -- what comes after a place, if it is the same from there on
 pub ends_same : (n end : ℕ) (xs ys : List ℕ) → n ≤ end → drop n xs ≡ drop n ys → drop n (take end xs) ≡ drop n (take end ys)
-ends_same n end xs ys within same =
-    let counted : end ≡ n + (end - n) = omega (arith, within) in
-    ap (λ (k : ℕ). drop n (take k xs)) counted
-    ∙ drop-take n (end - n) xs
-    ∙ ap (take (end - n)) same
-    ∙ sym (drop-take n (end - n) ys)
-    ∙ ap (λ (k : ℕ). drop n (take k ys)) (sym counted)
+ends_same n end xs ys within same = grind (arith, drop-take n (end - n) xs, drop-take n (end - n) ys)
 
 -- what was put there
 pub put_after : (n count : ℕ) (xs ys rest : List ℕ) → n ≤ length xs → count ≤ length ys → drop n (take (n + count) (take n xs ++ (ys ++ rest))) ≡ take count ys
-put_after n count xs ys rest within enough =
-    drop-take n count (take n xs ++ (ys ++ rest))
-    ∙ ap (take count) (drop_at (take n xs) (ys ++ rest) n (omega (arith, length-take n xs, within)))
-    ∙ take-append-le count ys rest enough
+put_after n count xs ys rest within enough = grind (arith, drop-take n count (take n xs ++ (ys ++ rest)), drop_at (take n xs) (ys ++ rest) n, length-take n xs, take-append-le count ys rest enough)
 
 -- ---- a packed frame means its raw one
 
 -- a whole frame means what its blob stands for
 pub whole_packs : (place : ℕ) (raw frame blob : List ℕ) (w : WholeFrame) → MeansWhole place frame blob w → w.end ≡ place + length frame → unpacked_frame w.kind w.blob_at frame blob ≡ as_they_stand raw → IsPackedAt place raw frame
-whole_packs place raw frame blob w means ends is rest =
-    means.1 rest
-    ∙ ap (λ (u : Unpacked). then_unpacked u (unpacked_from w.end rest)) is
-    ∙ ap (λ (n : ℕ). then_unpacked (as_they_stand raw) (unpacked_from n rest)) ends
+whole_packs place raw frame blob w means ends is rest = grind arith
 
 -- so does one whose data means a payload of the stated length
 pub data_stands : (k : FrameKind) (at : ℕ) (frame blob payload : List ℕ) (stream : Occurrence) → (k ≡ kind.Other → ⊥) → packed_in at blob ≡ Some stream → inflated (RAW_LIMIT - 1) (bytes_held stream.content) ≡ Ok payload
     → fits_size (last_of RAW_SIZE (found (items at blob))) (length payload) ≡ true → unpacked_frame k at frame blob ≡ as_they_stand (written_frame k payload)
-data_stands kind.Other at frame blob payload stream known is means fits = absurd (known refl)
-data_stands k at frame blob payload stream known is means fits = rw (is, means, fits) refl
+data_stands k at frame blob payload stream h1 h2 h3 h4 = grind arith
 
 -- ---- the raw bytes that were taken
 
@@ -187,8 +140,7 @@ raw_in place held known = option_map (λ packed. unpacked (take place packed) ++
 
 -- none, at first
 pub raw_start : (known : Option (List ℕ)) → IfSome known (λ l. l ≡ []) → raw_in 0 [] known ≡ known
-raw_start None nothing = refl
-raw_start (Some l) nothing = ap (λ (xs : List ℕ). Some (xs ++ [])) (ap (λ u. u.0) (nothing_more 0)) ∙ ap Some (sym nothing)
+raw_start known h1 = grind (arith, nothing_more)
 
 module _ (old new : Option (List ℕ)) (place : ℕ) (raw frame : List ℕ) (has : (taken : List ℕ) → old ≡ Some taken → HasWhole Taking place taken) where
   -- the same, if the frame that is held went on
@@ -196,28 +148,14 @@ module _ (old new : Option (List ℕ)) (place : ℕ) (raw frame : List ℕ) (has
   raw_sent means end held ends empty added = cases old refl where
     cases : (o : Option (List ℕ)) → old ≡ o → raw_in end held new ≡ raw_in place raw old
     cases None is = rw (added, is) refl
-    cases (Some l) is =
-        let whole = has l is in
-        let more = whole_more place l raw frame whole means in
-        let exact : length l ≡ place = whole.exact refl in
-        let all : take end (l ++ frame) ≡ l ++ frame = take_all end (l ++ frame) (omega (arith, ends, exact, length-append l frame)) in
-        let is_raw : unpacked (take end (l ++ frame)) ++ held ≡ unpacked (take place l) ++ raw =
-        ap (λ (xs : List ℕ). unpacked (take end (l ++ frame)) ++ xs) empty ∙ append-nil (unpacked (take end (l ++ frame))) ∙ ap unpacked all ∙ more.1 in
-        rw (added, is) (ap Some is_raw)
+    cases (Some l) is = grind (arith, has l is, whole_more place l raw frame (has l is) means, take_all end (l ++ frame), length-append l frame, append-nil (unpacked (take end (l ++ frame))))
 
   -- the same, if a part of the frame did
   pub raw_stuck : (held : List ℕ) → IsFront old new frame → raw_in place held new ≡ raw_in place held old
-  raw_stuck held front = cases old refl where
-    cases : (o : Option (List ℕ)) → old ≡ o → raw_in place held new ≡ raw_in place held old
-    cases None is = rw (front.taken, is) refl
-    cases (Some l) is =
-        let same : take place (l ++ take front.count frame) ≡ take place l = take-append-le place l (take front.count frame) (has l is).within in
-        rw (front.taken, is) (ap (λ (xs : List ℕ). Some (unpacked xs ++ held)) same)
+  raw_stuck held front = grind (arith, take-append-le)
 
 -- ---- the same by a log
 
 -- what is packed by a log, and one more frame
 pub packed_more : (place : ℕ) (done raw packed frame : List ℕ) → length packed ≡ place → IsPackedAs done packed → IsPackedAt place raw frame → IsPackedAs (done ++ raw) (packed ++ frame)
-packed_more place done raw packed frame counted means then =
-    let start : place ≡ 0 + length packed = omega (arith, counted) in
-    packed_then 0 done raw packed frame means (subst (λ (n : ℕ). IsPackedAt n raw frame) start then)
+packed_more place done raw packed frame counted means then = grind (arith, packed_then 0 done raw packed frame means)

@@ -1,15 +1,14 @@
 -- What was supplied, once nothing is left.
-use Rattle.std.proofs.Common.{◌≡◌, ◌==◌, ◌&&◌, true, false, ℕ, List, [], ◌∷◌, ◌++◌, length, drop, Option, Some, None, refl, sym, ap, ◌∙◌, length-append, arith}
+use Rattle.std.proofs.Common.{◌≡◌, ◌==◌, ◌&&◌, true, ℕ, List, [], ◌∷◌, ◌++◌, length, drop, Option, Some, None, refl, ap, length-append, arith}
 use Rattle.std.specs.Option.{is_none, option_map}
 use Rattle.std.proofs.lemmas.List.{append-nil}
 use Rattle.std.proofs.lemmas.Option.{same_Some}
 use Rattle.pbf_frame.specs.Frames.{blob_at, frame_end, frame_kind, frame_bytes, frame_at}
 use Rattle.pbf_unpack.specs.declared.feed.State.{State}
-use Rattle.pbf_unpack.specs.declared.feed.State.TheVariants.{Reading, PassingOn, Ended}
 use Rattle.pbf_unpack.specs.declared.feed.UnpackedFeed.{UnpackedFeed}
 use Rattle.pbf_unpack.specs.Reports.{stop_in, has_all, GavePacked}
-use Rattle.pbf_unpack.specs.Supplying.{more, unless_failed, IsEndBelow, CanFollow, left_in, remaining_in, HasSupplied}
-use Rattle.pbf_unpack.specs.Unpacked.{Unpacked, then_unpacked, as_they_stand, is_whole, unpacked_frame, unpacked_from}
+use Rattle.pbf_unpack.specs.Supplying.{more, unless_failed, IsEndBelow, left_in, remaining_in, HasSupplied}
+use Rattle.pbf_unpack.specs.Unpacked.{unpacked_frame, unpacked_from}
 use Rattle.pbf_unpack.proofs.SupplyLemmas.{frame_some}
 use Rattle.pbf_unpack.proofs.UnpackedLemmas.{joined_end, nothing_more, unfit, whole_long, whole_then}
 
@@ -17,25 +16,14 @@ pub nothing_left : (xs : List ℕ) → (length xs == 0) ≡ true → xs ≡ []
 nothing_left [] is = refl
 nothing_left (x ∷ xs) is = (let bad : ⊥ = (let zero : length (x ∷ xs) ≡ 0 = grind (arith, is) in omega (arith, zero)) in absurd bad)
 
--- nothing may follow, and means nothing
-at_end : (s : State) (place : ℕ) → stop_in s ≡ None → CanFollow s [] × (more s place [] ≡ as_they_stand [])
-at_end Reading place none = (tt, nothing_more place)
-at_end PassingOn place none = (tt, refl)
-at_end Ended place none = (refl, refl)
-at_end s place none = (let bad : ⊥ = cc in absurd bad)
-
 -- bytes that mean none are none
 pub means_none : (place : ℕ) (rest : List ℕ) → (unpacked_from place rest).0 ≡ [] → rest ≡ []
 means_none place [] is = refl
-means_none place (b ∷ bs) is = elim (is_whole (frame_at place (b ∷ bs))) as (λ w. is_whole (frame_at place (b ∷ bs)) ≡ w → (b ∷ bs) ≡ []) [
-  | true ↦ λ whole.
-      let f = frame_at place (b ∷ bs) in
-      let some = frame_some (frame_kind f) (blob_at f) (frame_bytes f) f.blob (omega (arith, whole_long f whole)) in
-      let after = unpacked_from (frame_end f) (drop (length (frame_bytes f)) (b ∷ bs)) in
-      let all : length ((unpacked_frame (frame_kind f) (blob_at f) (frame_bytes f) f.blob).0 ++ after.0) ≡ 0 = ap (λ (u : Unpacked). length u.0) (sym (whole_then place (b ∷ bs) whole)) ∙ ap length is in
-      absurd (omega (arith, some, all, length-append (unpacked_frame (frame_kind f) (blob_at f) (frame_bytes f) f.blob).0 after.0))
-  | false ↦ λ cut. ap (λ (u : Unpacked). u.0) (sym (unfit place (b ∷ bs) cut)) ∙ is
-] refl
+means_none place (b ∷ bs) is =
+    let f = frame_at place (b ∷ bs) in
+    let all = unpacked_frame (frame_kind f) (blob_at f) (frame_bytes f) f.blob in
+    let after = unpacked_from (frame_end f) (drop (length (frame_bytes f)) (b ∷ bs)) in
+    grind (arith, frame_some (frame_kind f) (blob_at f) (frame_bytes f) f.blob, whole_long f, whole_then place (b ∷ bs), unfit place (b ∷ bs), length-append all.0 after.0)
 
 joined_none : (xs ys : List ℕ) → xs ++ ys ≡ [] → ys ≡ []
 joined_none [] ys is = is
@@ -43,37 +31,18 @@ joined_none (x ∷ xs) ys is = (let bad : ⊥ = (let none : length (x ∷ (xs ++
 
 -- if nothing is reported to be left, the feed below is at its end
 ended_below : (s : State) (place : ℕ) (left : List ℕ) (known : Option (List ℕ)) → IsEndBelow s known → unless_failed s (option_map (λ bytes. left ++ (more s place bytes).0) known) ≡ Some [] → known ≡ Some []
-ended_below Reading place left (Some rest) ended is = ap (λ (l : List ℕ). Some l) (means_none place rest (joined_none left (unpacked_from place rest).0 (same_Some _ _ is)))
-ended_below PassingOn place left (Some rest) ended is = ap (λ (l : List ℕ). Some l) (joined_none left rest (same_Some _ _ is))
-ended_below Ended place left (Some rest) ended is = ap (λ (l : List ℕ). Some l) ended
-ended_below s place left known ended is = (let bad : ⊥ = cc in absurd bad)
+ended_below s place left known h1 h2 = grind (arith, means_none, joined_none, same_Some)
 
 none_joined : (xs ys : List ℕ) → xs ++ ys ≡ [] → (length xs == 0) ≡ true
 none_joined [] ys is = refl
 none_joined (x ∷ xs) ys is = (let bad : ⊥ = (let none : length (x ∷ (xs ++ ys)) ≡ 0 = ap length is in omega (arith, none)) in absurd bad)
 
 all_by : (s : State) (place : ℕ) (left : List ℕ) (known : Option (List ℕ)) → unless_failed s (option_map (λ bytes. left ++ (more s place bytes).0) known) ≡ Some [] → (is_none (stop_in s) && length left == 0) ≡ true
-all_by Reading place left (Some rest) is = none_joined left (unpacked_from place rest).0 (same_Some _ _ is)
-all_by PassingOn place left (Some rest) is = none_joined left rest (same_Some _ _ is)
-all_by Ended place left (Some rest) is = none_joined left [] (same_Some _ _ is)
-all_by s place left known is = (let bad : ⊥ = cc in absurd bad)
+all_by s place left known h1 = grind (arith, none_joined, same_Some)
 
 -- if nothing is reported to be left, all was supplied
 pub all_supplied : {F : Type 0} (remaining : F → Option (List ℕ)) (u : UnpackedFeed F) → remaining_in remaining u ≡ Some [] → has_all u ≡ true
 all_supplied remaining u is = all_by u.state u.place (left_in u) (remaining u.feed) is
 
 pub gave_packed : {F : Type 0} (remaining : F → Option (List ℕ)) (has_passed : F → ℕ → List ℕ → Type 0) (u : UnpackedFeed F) (log : ℕ) (raw : List ℕ) → stop_in u.state ≡ None → left_in u ≡ [] → HasSupplied remaining has_passed u log raw → GavePacked remaining has_passed u log raw
-gave_packed remaining has_passed u log raw none spent has =
-    let end = at_end u.state u.place none in
-    let supplied : Unpacked = (raw ++ left_in u, u.fault) in
-    record {
-      packed = has.packed;
-      passed = has.passed;
-      means =
-          ap (unpacked_from 0) (sym (append-nil has.packed))
-          ∙ has.carries [] end.0
-          ∙ ap (then_unpacked supplied) end.1
-          ∙ joined_end supplied
-          ∙ ap (λ (l : List ℕ). (l, u.fault)) (ap (λ (l : List ℕ). raw ++ l) spent ∙ append-nil raw);
-      end = λ nothing. ended_below u.state u.place (left_in u) (remaining u.feed) has.ended nothing;
-    }
+gave_packed remaining has_passed u log raw none spent has = grind (arith, append-nil has.packed, joined_end ((raw ++ left_in u, u.fault)), append-nil raw, ended_below u.state u.place (left_in u) (remaining u.feed) has.ended, nothing_more)

@@ -1,7 +1,6 @@
 -- The raw file that a file means, frame by frame.
-use Rattle.std.proofs.Common.{◌≡◌, ℕ, zero, suc, ◌+◌, ◌<◌, ◌≤◌, ◌^◌, ◌==◌, ◌&&◌, nat_lt, nat_le, Bool, true, false, List, [], ◌∷◌, ◌++◌, length, drop, Some, None, refl, sym, ap, ◌∙◌, append_assoc, length-append, arith}
+use Rattle.std.proofs.Common.{◌≡◌, ℕ, zero, suc, ◌+◌, ◌<◌, ◌≤◌, ◌^◌, ◌==◌, nat_lt, nat_le, Bool, true, false, List, [], ◌∷◌, ◌++◌, length, drop, refl, sym, ap, ◌∙◌, append_assoc, length-append, arith}
 use Rattle.std.specs.Prelude.{is_ok}
-use Rattle.std.specs.Option.{option_or}
 use Rattle.std.proofs.lemmas.List.{append-nil, length-drop}
 use Rattle.std.proofs.lemmas.Bool.Decides.{nat_tests}
 use Rattle.byteorder.specs.Endian.{big_number}
@@ -14,15 +13,13 @@ use Rattle.pbf_unpack.specs.Unpacked.{Unpacked, then_unpacked, as_they_stand, un
 -- ---- joining
 
 pub joined_assoc : (a b c : Unpacked) → then_unpacked (then_unpacked a b) c ≡ then_unpacked a (then_unpacked b c)
-joined_assoc (xs, None) (ys, e) (zs, f) = ap (λ (l : List ℕ). (l, option_or e f)) (append_assoc xs ys zs)
-joined_assoc (xs, Some d) (ys, e) (zs, f) = ap (λ (l : List ℕ). (l, Some d)) (append_assoc xs ys zs)
+joined_assoc a b c = grind (arith, append_assoc)
 
 pub joined_nothing : (a : Unpacked) → then_unpacked (as_they_stand []) a ≡ a
 joined_nothing (xs, e) = refl
 
 pub joined_end : (a : Unpacked) → then_unpacked a (as_they_stand []) ≡ a
-joined_end (xs, None) = ap (λ (l : List ℕ). (l, None)) (append-nil xs)
-joined_end (xs, Some e) = ap (λ (l : List ℕ). (l, Some e)) (append-nil xs)
+joined_end a = grind (arith, append-nil)
 
 -- no bytes mean none
 pub nothing_more : (place : ℕ) → unpacked_from place [] ≡ as_they_stand []
@@ -30,24 +27,6 @@ unfolding unpacked_from unpacked_within
 nothing_more place = refl
 
 -- ---- what makes a frame none
-
-first_test : (a b c d : Bool) → a ≡ false → (a && b && c && d) ≡ false
-first_test a b c d e = rw e refl
-
-second_test : (a b c d : Bool) → b ≡ false → (a && b && c && d) ≡ false
-second_test true b c d e = rw e refl
-second_test false b c d e = refl
-
-third_test : (a b c d : Bool) → c ≡ false → (a && b && c && d) ≡ false
-third_test true true c d e = rw e refl
-third_test a b c d e = refl
-
-fourth_test : (a b c d : Bool) → d ≡ false → (a && b && c && d) ≡ false
-fourth_test true true true d e = rw e refl
-fourth_test a b c d e = refl
-
-all_tests : (a b c d : Bool) → a ≡ true → b ≡ true → c ≡ true → d ≡ true → (a && b && c && d) ≡ true
-all_tests a b c d ea eb ec ed = rw (ea, eb, ec, ed) refl
 
 module _ (f : FrameSpec) where
   abbrev size : ℕ
@@ -60,48 +39,36 @@ module _ (f : FrameSpec) where
   said = is_ok (head_of (header_at f) f.header)
 
   pub without_prefix : nat_lt (length f.prefix) 4 ≡ true → is_whole f ≡ false
-  without_prefix is = first_test uncut said (nat_le (blob_at f + size) (2 ^ 62)) (length f.blob == size) (rw is refl)
+  without_prefix is = rw is refl
 
   pub with_long_header : nat_lt (length f.prefix) 4 ≡ false → nat_le HEADER_LIMIT (big_number 4 f.prefix) ≡ true → is_whole f ≡ false
-  with_long_header four is = first_test uncut said (nat_le (blob_at f + size) (2 ^ 62)) (length f.blob == size) (rw (four, is) refl)
+  with_long_header four is = rw (four, is) refl
 
   pub without_header : nat_lt (length f.prefix) 4 ≡ false → nat_le HEADER_LIMIT (big_number 4 f.prefix) ≡ false → nat_lt (length f.header) (big_number 4 f.prefix) ≡ true → is_whole f ≡ false
-  without_header four small is = first_test uncut said (nat_le (blob_at f + size) (2 ^ 62)) (length f.blob == size) (rw (four, small, is) refl)
+  without_header four small is = rw (four, small, is) refl
 
   pub without_head : said ≡ false → is_whole f ≡ false
-  without_head is = second_test uncut said (nat_le (blob_at f + size) (2 ^ 62)) (length f.blob == size) is
+  without_head is = grind arith
 
   pub too_far : nat_le (blob_at f + size) (2 ^ 62) ≡ false → is_whole f ≡ false
-  too_far is = third_test uncut said (nat_le (blob_at f + size) (2 ^ 62)) (length f.blob == size) is
+  too_far is = grind arith
 
   pub without_blob : (length f.blob == size) ≡ false → is_whole f ≡ false
-  without_blob is = fourth_test uncut said (nat_le (blob_at f + size) (2 ^ 62)) (length f.blob == size) is
+  without_blob is = grind arith
 
   -- a frame of which all is there is whole
   pub whole_parts : length f.prefix ≡ 4 → big_number 4 f.prefix < HEADER_LIMIT → length f.header ≡ big_number 4 f.prefix → said ≡ true → blob_at f + size ≤ 2 ^ 62 → length f.blob ≡ size → is_whole f ≡ true
-  whole_parts four small counted says fits sized =
-      let e1 : nat_lt (length f.prefix) 4 ≡ false = grind (arith, nat_tests, four) in
-      let e2 : nat_le HEADER_LIMIT (big_number 4 f.prefix) ≡ false = grind (arith, nat_tests, small) in
-      let e3 : nat_lt (length f.header) (big_number 4 f.prefix) ≡ false = grind (arith, nat_tests, counted) in
-      let e4 : nat_le (blob_at f + size) (2 ^ 62) ≡ true = grind (arith, nat_tests, fits) in
-      let e5 : (length f.blob == size) ≡ true = grind (arith, nat_tests, sized) in
-      all_tests uncut said (nat_le (blob_at f + size) (2 ^ 62)) (length f.blob == size) (rw (e1, e2, e3) refl) says e4 e5
+  whole_parts four small counted says fits sized = grind (arith, nat_tests)
 
   -- a whole frame has four bytes at least
   pub whole_long : is_whole f ≡ true → 4 ≤ length (frame_bytes f)
-  whole_long whole = cases (nat_lt (length f.prefix) 4) refl where
-    cases : (b : Bool) → nat_lt (length f.prefix) 4 ≡ b → 4 ≤ length (frame_bytes f)
-    cases true is = (let bad : ⊥ = (let e = without_prefix is in cc) in absurd bad)
-    cases false is =
-        let long : 4 ≤ length f.prefix = grind (arith, nat_tests, is) in
-        omega (arith, long, length-append (f.prefix ++ f.header) f.blob, length-append f.prefix f.header)
+  whole_long whole = grind (arith, nat_tests, without_prefix, length-append (f.prefix ++ f.header) f.blob, length-append f.prefix f.header)
 
 -- ---- bytes that begin no whole frame
 
 unfit_within : (n place : ℕ) (bytes : List ℕ) → is_whole (frame_at place bytes) ≡ false → unpacked_within n place bytes ≡ as_they_stand bytes
 unfolding unpacked_within
-unfit_within zero place bytes is = refl
-unfit_within (suc n) place bytes is = rw is refl
+unfit_within n place bytes h1 = grind arith
 
 pub unfit : (place : ℕ) (bytes : List ℕ) → is_whole (frame_at place bytes) ≡ false → unpacked_from place bytes ≡ as_they_stand bytes
 unfolding unpacked_from
@@ -135,10 +102,4 @@ same_fuel (suc m) (suc n) place (b ∷ bs) low high = elim (is_whole (frame_at p
 
 pub whole_then : (place : ℕ) (bytes : List ℕ) → is_whole (frame_at place bytes) ≡ true → unpacked_from place bytes ≡ then_others unpacked_from (frame_at place bytes) bytes
 unfolding unpacked_from
-whole_then place bytes is =
-    let f = frame_at place bytes in
-    let long = whole_long f is in
-    let rest = drop (length (frame_bytes f)) bytes in
-    same_fuel (length bytes) (suc (length bytes)) place bytes (omega arith) (omega arith)
-    ∙ whole_within (length bytes) place bytes is
-    ∙ ap (then_unpacked (unpacked_frame (frame_kind f) (blob_at f) (frame_bytes f) f.blob)) (same_fuel (length bytes) (length rest) (frame_end f) rest (omega (arith, length-drop (length (frame_bytes f)) bytes)) (omega arith))
+whole_then place bytes is = grind (arith, whole_long (frame_at place bytes) is, same_fuel (length bytes) (suc (length bytes)) place bytes, whole_within (length bytes) place bytes is, same_fuel (length bytes), length-drop (length (frame_bytes (frame_at place bytes))) bytes)

@@ -1,30 +1,26 @@
 -- Frames put together from the parts that were read.
-use Rattle.std.proofs.Common.{◌≡◌, ℕ, ◌+◌, ◌<◌, ◌≤◌, ◌^◌, ◌==◌, nat_lt, true, false, List, [], ◌++◌, length, take, drop, Option, Result, Err, refl, sym, ap, ◌∙◌, subst, append_assoc, length-append, arith}
+use Rattle.std.proofs.Common.{◌≡◌, ℕ, ◌+◌, ◌<◌, ◌≤◌, ◌^◌, true, List, [], ◌++◌, length, take, drop, Option, Result, Err, refl, ap, ◌∙◌, append_assoc, length-append, arith}
 use Rattle.std.specs.Prelude.{is_ok}
 use Rattle.std.proofs.lemmas.List.{append-nil, take_at, drop_at, take_all}
 use Rattle.std.proofs.lemmas.Bool.Decides.{nat_tests}
 use Rattle.byteorder.specs.Endian.{big_number}
 use Rattle.pbf_wire.specs.declared.fault.Fault.{Fault}
-use Rattle.pbf_frame.specs.declared.frame.FrameKind.{FrameKind}
 use Rattle.pbf_frame.specs.declared.header.Head.{Head}
 use Rattle.pbf_frame.specs.declared.header.TheConstants.{HEADER_LIMIT}
 use Rattle.pbf_frame.specs.Devices.{prepend, Passes, IsAtEnd}
-use Rattle.pbf_frame.specs.Frames.{FrameSpec, blob_at, frame_end, frame_kind, frame_bytes, frame_at}
+use Rattle.pbf_frame.specs.Frames.{FrameSpec, frame_at}
 use Rattle.pbf_frame.specs.Header.{head_says}
 use Rattle.pbf_frame.specs.Steps.{head_of}
 use Rattle.pbf_frame.proofs.FrameLemmas.{head_parts}
 use Rattle.pbf_frame.proofs.KnownBytes.{prepend_more}
 use Rattle.pbf_frame.proofs.Passed.{passes_more}
-use Rattle.pbf_unpack.specs.Unpacked.{then_unpacked, as_they_stand, unpacked_frame, is_whole, unpacked_from}
+use Rattle.pbf_unpack.specs.Unpacked.{then_unpacked, unpacked_frame, is_whole, unpacked_from}
 use Rattle.pbf_unpack.specs.Whole.{TookBytes, IsUnfit, IsCut, HasHead}
 use Rattle.pbf_unpack.proofs.UnpackedLemmas.{without_prefix, with_long_header, without_header, without_head, too_far, without_blob, whole_parts, unfit, whole_then}
 
 -- these bytes were read in two parts
 pub took_two : (before mid now : ℕ → List ℕ → Type 0) (old between new : Option (List ℕ)) (xs ys read : List ℕ) → read ≡ xs ++ ys → old ≡ prepend xs between → Passes before xs mid → between ≡ prepend ys new → Passes mid ys now → TookBytes read before now old new
-took_two before mid now old between new xs ys read e first first_logged then then_logged = subst (λ (l : List ℕ). TookBytes l before now old new) (sym e) record {
-  told = prepend_more old between new xs ys first then;
-  logged = passes_more before mid now xs ys first_logged then_logged;
-}
+took_two before mid now old between new xs ys read e first first_logged then then_logged = grind (arith, prepend_more old between new xs ys first then, passes_more before mid now xs ys first_logged then_logged)
 
 -- ---- the frame that begins with these parts
 
@@ -35,15 +31,11 @@ abbrev from_prefix : ℕ → (prefix after : List ℕ) → FrameSpec
 from_prefix place prefix after = from_header place prefix (take (big_number 4 prefix) after) after
 
 at_prefix : (place : ℕ) (prefix after : List ℕ) → length prefix ≡ 4 → frame_at place (prefix ++ after) ≡ from_prefix place prefix after
-at_prefix place prefix after four =
-    ap (λ (p : List ℕ). from_prefix place p (drop 4 (prefix ++ after))) (take_at prefix after 4 four) ∙ ap (from_prefix place prefix) (drop_at prefix after 4 four)
+at_prefix place prefix after four = grind (arith, take_at prefix after 4 four, drop_at prefix after 4 four)
 
 pub at_header : (place : ℕ) (prefix header after : List ℕ) → length prefix ≡ 4 → length header ≡ big_number 4 prefix
     → frame_at place (prefix ++ (header ++ after)) ≡ record { offset = place; prefix = prefix; header = header; blob = take (head_says (place + 4) header).size after }
-at_header place prefix header after four counted =
-    at_prefix place prefix (header ++ after) four
-    ∙ ap (λ (h : List ℕ). from_header place prefix h (header ++ after)) (take_at header after (big_number 4 prefix) counted)
-    ∙ ap (λ (a : List ℕ). record { offset = place; prefix = prefix; header = header; blob = take (head_says (place + 4) header).size a }) (drop_at header after (length header) refl)
+at_header place prefix header after four counted = grind (arith, at_prefix place prefix (header ++ after) four, take_at header after (big_number 4 prefix) counted, drop_at header after (length header) refl)
 
 -- ---- bytes that begin no whole frame
 
@@ -52,38 +44,16 @@ module _ (place : ℕ) (read : List ℕ) (left : Option (List ℕ)) where
   f = frame_at place read
 
   pub cut_prefix : length read < 4 → IsAtEnd left → IsCut place read left
-  cut_prefix short ended =
-      let all : take 4 read ≡ read = take_all 4 read (omega (arith, short)) in
-      let is : nat_lt (length f.prefix) 4 ≡ true = rw all (grind (arith, nat_tests, short)) in
-      (unfit place read (without_prefix f is), ended)
+  cut_prefix short ended = grind (arith, nat_tests, take_all 4 read, unfit place read, without_prefix f)
 
 pub long_header : (place : ℕ) (read : List ℕ) → length read ≡ 4 → HEADER_LIMIT ≤ big_number 4 read → IsUnfit place read
-long_header place read four long = (
-  omega (arith, four),
-  λ rest.
-      let f = from_prefix place read rest in
-      let is : is_whole f ≡ false = with_long_header f (grind (arith, nat_tests, four)) (grind (arith, nat_tests, long)) in
-      unfit place (read ++ rest) (ap is_whole (at_prefix place read rest four) ∙ is),
-)
+long_header place read four long = grind (arith, nat_tests, with_long_header, long, unfit place, at_prefix place read)
 
 pub cut_header : (place : ℕ) (prefix header : List ℕ) (left : Option (List ℕ)) → length prefix ≡ 4 → big_number 4 prefix < HEADER_LIMIT → length header < big_number 4 prefix → IsAtEnd left → IsCut place (prefix ++ header) left
-cut_header place prefix header left four small short ended =
-    let all : take (big_number 4 prefix) header ≡ header = take_all (big_number 4 prefix) header (omega (arith, short)) in
-    let f = from_prefix place prefix header in
-    let cut : nat_lt (length f.header) (big_number 4 prefix) ≡ true = rw all (grind (arith, nat_tests, short)) in
-    let is : is_whole f ≡ false = without_header f (grind (arith, nat_tests, four)) (grind (arith, nat_tests, small)) cut in
-    (unfit place (prefix ++ header) (ap is_whole (at_prefix place prefix header four) ∙ is), ended)
+cut_header place prefix header left four small short ended = grind (arith, nat_tests, take_all (big_number 4 prefix) header, without_header (from_prefix place prefix header), unfit place (prefix ++ header), at_prefix place prefix header four)
 
 pub no_head : (place : ℕ) (prefix header : List ℕ) (e : Fault) → length prefix ≡ 4 → length header ≡ big_number 4 prefix → head_of (place + 4) header ≡ Err e → IsUnfit place (prefix ++ header)
-no_head place prefix header e four counted says = (
-  omega (arith, four, length-append prefix header),
-  λ rest.
-      let f : FrameSpec = record { offset = place; prefix = prefix; header = header; blob = take (head_says (place + 4) header).size rest } in
-      let is : is_whole f ≡ false = without_head f (ap (λ (r : Result Head Fault). is_ok r) says) in
-      ap (unpacked_from place) (append_assoc prefix header rest)
-      ∙ unfit place (prefix ++ (header ++ rest)) (ap is_whole (at_header place prefix header rest four counted) ∙ is)
-      ∙ ap as_they_stand (sym (append_assoc prefix header rest)),
-)
+no_head place prefix header e four counted says = grind (arith, length-append prefix header, without_head, append_assoc prefix header, unfit place, at_header place prefix header)
 
 -- ---- a header that says where its frame ends
 
@@ -107,51 +77,19 @@ module _ (place : ℕ) (read header : List ℕ) (head : Head) (has : HasHead pla
   long = ap (λ (l : List ℕ). length l) has.split ∙ length-append has.prefix header ∙ ap (λ (n : ℕ). n + length header) has.four
 
   pub ends_too_far : 2 ^ 62 < place + length read + head.size → IsUnfit place (read ++ [])
-  ends_too_far far = (
-    omega (arith, long, length-append read []),
-    λ rest.
-        let f = parts rest in
-        let is : is_whole f ≡ false = too_far f (grind (arith, nat_tests, far, long, size_is)) in
-        ap (λ (l : List ℕ). unpacked_from place (l ++ rest)) (append-nil read)
-        ∙ unfit place (read ++ rest) (ap is_whole (begins rest) ∙ is)
-        ∙ ap (λ (l : List ℕ). as_they_stand (l ++ rest)) (sym (append-nil read)),
-  )
+  ends_too_far far = grind (arith, nat_tests, long, length-append read [], too_far, size_is, append-nil read, unfit place, begins)
 
   pub cut_blob : (blob : List ℕ) (left : Option (List ℕ)) → length blob < head.size → IsAtEnd left → IsCut place (read ++ blob) left
-  cut_blob blob left short ended =
-      let f = parts blob in
-      let all : take (head_says (place + 4) header).size blob ≡ blob = take_all (head_says (place + 4) header).size blob (omega (arith, short, size_is)) in
-      let is : (length f.blob == (head_says (place + 4) header).size) ≡ false = rw all (grind (arith, nat_tests, short, size_is)) in
-      (unfit place (read ++ blob) (ap is_whole (begins blob) ∙ without_blob f is), ended)
+  cut_blob blob left short ended = grind (arith, nat_tests, take_all (head_says (place + 4) header).size blob, size_is, unfit place (read ++ blob), begins blob, without_blob (parts blob))
 
   whole_frame : (blob : List ℕ) → length blob ≡ head.size → place + length read + head.size ≤ 2 ^ 62 → (rest : List ℕ)
       → unpacked_from place ((read ++ blob) ++ rest) ≡ then_unpacked (unpacked_frame head.kind (place + length read) (read ++ blob) blob) (unpacked_from (place + length read + head.size) rest)
   whole_frame blob sized fits rest =
       let f : FrameSpec = record { offset = place; prefix = has.prefix; header = header; blob = blob } in
-      let front : take (head_says (place + 4) header).size (blob ++ rest) ≡ blob = take_at blob rest (head_says (place + 4) header).size (sized ∙ size_is) in
-      let at : frame_at place (read ++ (blob ++ rest)) ≡ f = begins (blob ++ rest) ∙ ap (λ (l : List ℕ). record { offset = place; prefix = has.prefix; header = header; blob = l }) front in
       let whole : is_whole f ≡ true = whole_parts f has.four has.small has.counted (ap (λ (r : Result Head Fault). is_ok r) has.says) (omega (arith, fits, long, size_is)) (sized ∙ size_is) in
-      let bytes_are : frame_bytes f ≡ read ++ blob = ap (λ (l : List ℕ). l ++ blob) (sym has.split) in
-      let blob_place : blob_at f ≡ place + length read = omega (arith, long) in
-      let end_is : frame_end f ≡ place + length read + head.size = omega (arith, long, sized) in
-      let after : drop (length (frame_bytes f)) (read ++ (blob ++ rest)) ≡ rest =
-      ap (λ (l : List ℕ). drop (length l) (read ++ (blob ++ rest))) bytes_are ∙ ap (drop (length (read ++ blob))) (sym (append_assoc read blob rest)) ∙ drop_at (read ++ blob) rest (length (read ++ blob)) refl in
-      ap (unpacked_from place) (append_assoc read blob rest)
-      ∙ whole_then place (read ++ (blob ++ rest)) (ap is_whole at ∙ whole)
-      ∙ ap (λ (g : FrameSpec). then_unpacked (unpacked_frame (frame_kind g) (blob_at g) (frame_bytes g) g.blob) (unpacked_from (frame_end g) (drop (length (frame_bytes g)) (read ++ (blob ++ rest))))) at
-      ∙ ap (λ (l : List ℕ). then_unpacked (unpacked_frame (frame_kind f) (blob_at f) (frame_bytes f) blob) (unpacked_from (frame_end f) l)) after
-      ∙ ap (λ (n : ℕ). then_unpacked (unpacked_frame (frame_kind f) (blob_at f) (frame_bytes f) blob) (unpacked_from n rest)) end_is
-      ∙ ap (λ (n : ℕ). then_unpacked (unpacked_frame (frame_kind f) n (frame_bytes f) blob) (unpacked_from (place + length read + head.size) rest)) blob_place
-      ∙ ap (λ (l : List ℕ). then_unpacked (unpacked_frame (frame_kind f) (place + length read) l blob) (unpacked_from (place + length read + head.size) rest)) bytes_are
-      ∙ ap (λ (k : FrameKind). then_unpacked (unpacked_frame k (place + length read) (read ++ blob) blob) (unpacked_from (place + length read + head.size) rest)) (sym kind_is)
+      grind (arith, append_assoc read blob rest, take_at blob rest (head_says (place + 4) header).size, begins (blob ++ rest), whole_then place (read ++ (blob ++ rest)), drop_at (read ++ blob) rest (length (read ++ blob)), size_is, kind_is, long)
 
   -- the same, as the code has the numbers
   pub whole_means : (blob : List ℕ) → length blob ≡ head.size → (at end : ℕ) → at ≡ place + length read → end ≡ place + length read + head.size → end ≤ 2 ^ 62
       → (0 < length (read ++ blob)) × ((rest : List ℕ) → unpacked_from place ((read ++ blob) ++ rest) ≡ then_unpacked (unpacked_frame head.kind at (read ++ blob) blob) (unpacked_from end rest))
-  whole_means blob sized at end at_is end_is fits = (
-    omega (arith, long, length-append read blob),
-    λ rest.
-        whole_frame blob sized (omega (arith, end_is, fits)) rest
-        ∙ ap (λ (n : ℕ). then_unpacked (unpacked_frame head.kind n (read ++ blob) blob) (unpacked_from (place + length read + head.size) rest)) (sym at_is)
-        ∙ ap (λ (n : ℕ). then_unpacked (unpacked_frame head.kind at (read ++ blob) blob) (unpacked_from n rest)) (sym end_is),
-  )
+  whole_means blob sized at end at_is end_is fits = grind (arith, long, length-append read blob, whole_frame blob sized)

@@ -1,27 +1,17 @@
-use Rattle.std.proofs.Common.{◌≡◌, ℕ, ◌+◌, ◌++◌, List, length, refl, sym, subst, arith}
+use Rattle.std.proofs.Common.{◌≡◌, ◌+◌, length, refl, subst, arith}
 use Rattle.pbf_unpack.specs.declared.whole.Front.{Front}
-use Rattle.pbf_unpack.specs.Whole.{BeginsWith, IsUnfit}
+use Rattle.pbf_unpack.specs.Whole.{BeginsWith}
 use Rattle.pbf_unpack.proofs.WholeLemmas.{took_two, ends_too_far, cut_blob, whole_means}
 use Rattle.pbf_unpack.proofs.whole.read_whole.Goals as goal
 
 pub returns-then-end-gt-FILE_LIMIT-clause-means : goal.returns-then-end-gt-FILE_LIMIT-clause-means
-returns-then-end-gt-FILE_LIMIT-clause-means g c =
-    let read = c.read_front.new.front in
-    let has = subst (λ (x : Front). BeginsWith c.args.place read.items c.read_front.new.header.items (g.F.Feed.remaining c.read_front.new.feed) x) c.in-Says.is c.in_ok-head.ensures.means in
-    subst (λ (l : List ℕ). IsUnfit c.args.place (read.items ++ l)) (sym c.clear.ensures.items)
-    (ends_too_far c.args.place read.items c.read_front.new.header.items c.in-Says.head has (omega (arith, c.if-end-gt-FILE_LIMIT.true, c.len.ensures, c.from.ensures, read.ok.0)))
+returns-then-end-gt-FILE_LIMIT-clause-means g c = grind (arith, ends_too_far)
 
 pub returns-then-len-head-clause-took : goal.returns-then-len-head-clause-took
-returns-then-len-head-clause-took g c =
-    let first = c.in_ok-head.ensures.took in
-    took_two (g.F.Feed.has_passed c.args.feed.now) (g.F.Feed.has_passed c.read_front.new.feed) (g.F.Feed.has_passed c.fill_vec.new.feed) (g.F.Feed.remaining c.args.feed.now) (g.F.Feed.remaining c.read_front.new.feed) (g.F.Feed.remaining c.fill_vec.new.feed) c.read_front.new.front.items c.fill_vec.new.buf.items (c.read_front.new.front.items ++ c.fill_vec.new.buf.items)
-    refl first.told first.logged c.in_ok-fill_vec.ensures.supplied.told c.in_ok-fill_vec.ensures.supplied.logged
+returns-then-len-head-clause-took g c = took_two _ _ _ _ _ _ _ _ _ refl c.in_ok-head.ensures.took.told c.in_ok-head.ensures.took.logged c.in_ok-fill_vec.ensures.supplied.told c.in_ok-fill_vec.ensures.supplied.logged
 
 pub returns-clause-took : goal.returns-clause-took
-returns-clause-took g c =
-    let first = c.in_ok-head.ensures.took in
-    took_two (g.F.Feed.has_passed c.args.feed.now) (g.F.Feed.has_passed c.read_front.new.feed) (g.F.Feed.has_passed c.fill_vec.new.feed) (g.F.Feed.remaining c.args.feed.now) (g.F.Feed.remaining c.read_front.new.feed) (g.F.Feed.remaining c.fill_vec.new.feed) c.read_front.new.front.items c.fill_vec.new.buf.items (c.read_front.new.front.items ++ c.fill_vec.new.buf.items)
-    refl first.told first.logged c.in_ok-fill_vec.ensures.supplied.told c.in_ok-fill_vec.ensures.supplied.logged
+returns-clause-took g c = took_two _ _ _ _ _ _ _ _ _ refl c.in_ok-head.ensures.took.told c.in_ok-head.ensures.took.logged c.in_ok-fill_vec.ensures.supplied.told c.in_ok-fill_vec.ensures.supplied.logged
 
 pub returns-then-len-head-clause-means : goal.returns-then-len-head-clause-means
 returns-then-len-head-clause-means g c =

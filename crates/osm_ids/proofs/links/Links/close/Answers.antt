@@ -1,10 +1,9 @@
-use Rattle.std.proofs.Common.{◌≡◌, Bool, ◌≤◌, ◌∷◌, [], length, length-append, arith, ap, sym, subst, ◌∙◌, rules, w64}
+use Rattle.std.proofs.Common.{◌≤◌, ◌∷◌, [], length, length-append, arith, ap, subst, rules, w64}
 use mir.Val.{SFits}
 use Rattle.std.specs.List.{filter}
 use Rattle.std.specs.FinSet as set
 use Rattle.std.proofs.lemmas.Int.{to_z-of_z}
-use Rattle.osm_ids.specs.declared.links.Link.{Link}
-use Rattle.osm_ids.specs.Links.{Follows, IsClosing, IsLeast, is_of, to_follow}
+use Rattle.osm_ids.specs.Links.{Follows, IsClosing, is_of, to_follow}
 use Rattle.osm_ids.proofs.LinkOrder.{contains-links}
 use Rattle.osm_ids.proofs.Closing.{closing_start, closing_pop, closing_end}
 use Rattle.osm_ids.proofs.links.Links.close.Goals as goal
@@ -30,9 +29,4 @@ pub loop-id-smaller : goal.loop-id-smaller
 loop-id-smaller c = omega (arith, (followed c).1, ap length c.in-Some.ensures.items, length-append c.pop.new.self.items (c.in-Some.id ∷ []))
 
 pub returns : goal.returns
-returns c =
-    let links = c.self.inside.links.keys in
-    let l = c.loop-id in
-    let none : l.work.items ≡ [] = search rules in
-    let test = sym (contains-links links) ∙ ap set.contains c.self.view_is in
-    subst (λ (is_link : Link → Bool). IsLeast is_link c.args.start l.ids) test (closing_end links c.args.start l.ids l.work.items l.invariant none)
+returns c = grind (arith, contains-links c.self.inside.links.keys, closing_end c.self.inside.links.keys c.args.start c.loop-id.ids c.loop-id.work.items c.loop-id.invariant)

@@ -1,11 +1,11 @@
-use Rattle.std.proofs.Common.{◌≡◌, ◌-◌, ◌∷◌, [], ℤ, length, take, set, pos, get_or, sym, ap, subst, ◌∙◌, arith, rules, to_z, of_z, w64}
+use Rattle.std.proofs.Common.{◌≡◌, ◌-◌, ◌∷◌, [], ℤ, length, take, pos, get_or, sym, ap, subst, ◌∙◌, arith, rules, to_z, of_z, w64}
 use mir.Val.{SFits}
 use Rattle.std.proofs.lemmas.Int.{to_z-of_z}
 use Rattle.std.proofs.lemmas.List.{take_more_set}
 use Rattle.pbf_wire.specs.Cursors.{numbers_left}
 use Rattle.pbf_wire.specs.Packed.{numbers_of}
 use Rattle.osm_ids.specs.Pages.{AllFit, Reads, raised}
-use Rattle.osm_ids.specs.Windows.{IsNext, held}
+use Rattle.osm_ids.specs.Windows.{held}
 use Rattle.osm_ids.proofs.Places.{last_at}
 use Rattle.std.proofs.Math.Seq.{take-nil}
 use Rattle.osm_ids.proofs.Reading.{wrapped_sum, reads_start, front_left, reads_next, reads_none}
@@ -13,21 +13,7 @@ use Rattle.osm_ids.proofs.page.PageIds.read.Goals as goal
 use Rattle.osm_ids.proofs.page.PageIds.read.Goals.{else-ids-test, then-ids-test+in_default}
 
 pub ids-init : goal.ids-init
-ids-init c =
-    let page = c.args.self.now in
-    let first = to_z w64 (of_z w64 c.args.first) in
-    let numbers = take 127 (numbers_of c.args.bytes.now) in
-    let long : length page.ids ≡ 128 = search rules in
-    let singles = c.pass_singles.ensures in
-    let left = front_left 127 (128 - c.rise.new.self.count) c.pass_singles.result.now (numbers_left c.pass_singles.new.self) (omega (arith, c.rise.ensures.count, singles.few)) in
-    record {
-      some = omega (arith, c.rise.ensures.count);
-      few = omega (arith, c.rise.ensures.count, singles.few);
-      reading = λ fits.
-          c.rise.ensures.ids _ _
-          (subst (Reads (first ∷ raised first numbers) (take 1 (set page.ids 0 first))) (ap (take 127) (sym c.packed-gaps.ensures ∙ singles.passed) ∙ left)
-          (reads_start first numbers _ fits (take_more_set page.ids 0 first (omega (arith, long)))));
-    }
+ids-init c = grind (arith, front_left 127 (128 - c.rise.new.self.count) c.pass_singles.result.now (numbers_left c.pass_singles.new.self) (omega (arith, c.rise.ensures.count, c.pass_singles.ensures.few)), reads_start, take_more_set c.args.self.now.ids 0)
 
 pub ids-preserved : goal.ids-preserved
 ids-preserved c =
@@ -66,11 +52,4 @@ returns-clause-ids c = λ fits.
     subst (λ z. held page ≡ z ∷ raised z numbers) same (reads_none _ (held page) _ (c.ids.invariant.reading (subst (λ z. AllFit (raised z numbers)) (sym same) fits)) none)
 
 pub returns-clause-below : goal.returns-clause-below
-returns-clause-below c =
-    let page = c.ids.self in
-    let long : length page.ids ≡ 128 = search rules in
-    let low : ℤ = get_or page.ids (page.count - 1) (pos 0) in
-    let low_fits : SFits w64 low = search rules in
-    let up : SFits w64 c.after-self.result = search rules in
-    subst (λ z. IsNext z (to_z w64 (of_z w64 c.after-self.result))) (to_z-of_z w64 low low_fits ∙ sym (last_at page.ids page.count c.ids.invariant.some (omega (arith, long, c.ids.invariant.few))))
-    (subst (λ z. IsNext (to_z w64 (of_z w64 low)) z) (sym (to_z-of_z w64 c.after-self.result up)) c.after-self.ensures)
+returns-clause-below c = grind (arith, to_z-of_z, last_at)

@@ -1,4 +1,4 @@
-use Rattle.std.proofs.Common.{◌≡◌, ◌<◌, ◌+◌, ◌-◌, ◌∷◌, ◌++◌, ℕ, List, length, take, drop, pos, get_or, sym, ap, subst, ◌∙◌, arith, rules, to_z, w64}
+use Rattle.std.proofs.Common.{◌≡◌, ◌<◌, ◌+◌, ◌∷◌, ◌++◌, ℕ, List, length, take, drop, pos, sym, ap, subst, ◌∙◌, arith, rules, to_z, w64}
 use mir.Val.{SFits}
 use Rattle.std.proofs.lemmas.Int.{to_z-of_z}
 use Rattle.std.proofs.lemmas.List.{drop_all, drop_more, length-set, take_more_set}
@@ -9,17 +9,7 @@ use Rattle.osm_ids.proofs.Reading.{reads_next, wrapped_sum}
 use Rattle.osm_ids.proofs.page.PageIds.rise.Goals as goal
 
 pub loop-gap-init : goal.loop-gap-init
-loop-gap-init c =
-    let page = c.args.self.now in
-    let long : length page.ids ≡ 128 = search rules in
-    let fits : SFits w64 (get_or page.ids (page.count - 1) (pos 0)) = search rules in
-    record {
-      some = c.requires.some;
-      sum = omega arith;
-      long = long;
-      last_is = to_z-of_z w64 _ fits ∙ sym (last_at page.ids page.count c.requires.some (omega (arith, c.requires.within, long)));
-      reading = λ all more r. r;
-    }
+loop-gap-init c = grind (arith, to_z-of_z, last_at)
 
 pub loop-gap-preserved : goal.loop-gap-preserved
 loop-gap-preserved c =
@@ -44,6 +34,4 @@ loop-gap-preserved c =
     }
 
 pub returns-clause-ids : goal.returns-clause-ids
-returns-clause-ids c = λ all more r.
-    let l = c.loop-gap in
-    subst (λ (ns : List ℕ). Reads all (take l.count l.self.ids) (ns ++ more)) (drop_all l.gap-index c.args.gaps.now (omega (arith, c.loop-gap-test.false))) (l.invariant.reading all more r)
+returns-clause-ids c = grind (arith, drop_all c.loop-gap.gap-index c.args.gaps.now (omega (arith, c.loop-gap-test.false)))

@@ -1,17 +1,14 @@
-use Rattle.std.proofs.Common.{◌≡◌, ◌-◌, pos, length, get_or, sym, ap, ◌∙◌, arith, rules, of_z, w64, subst, ◌≤ℤ◌}
+use Rattle.std.proofs.Common.{◌≡◌, ◌-◌, pos, length, get_or, ap, arith, rules, of_z, w64, subst, ◌≤ℤ◌}
 use mir.Val.{SFits}
 use Rattle.std.proofs.lemmas.Int.{to_z-of_z, ints}
 use Rattle.std.proofs.lemmas.List.{length-take}
-use Rattle.osm_ids.specs.declared.page.Known.{Known}
 use Rattle.osm_ids.specs.Windows.{IsNext, held}
 use Rattle.osm_ids.proofs.Places.{any_at}
 use Rattle.osm_ids.proofs.Rounds.{not_there, some_before, gap_known, run_known, told_known}
 use Rattle.osm_ids.proofs.page.PageIds.round.Goals as goal
 
 pub returns-then-at-ids-clause-there : goal.returns-then-at-ids-clause-there
-returns-then-at-ids-clause-there c =
-    ap (λ (k : Known). k.there) c.told.ensures
-    ∙ sym (not_there c.args.self.now c.args.id _ c.place_of-at.result (to_z-of_z w64 c.args.id c.ranges.id) c.requires c.place_of-at.ensures (λ lt _. omega (arith, lt, c.if-at-ids.true)))
+returns-then-at-ids-clause-there c = grind (arith, not_there, to_z-of_z)
 
 pub returns-then-at-ids-clause-known : goal.returns-then-at-ids-clause-known
 returns-then-at-ids-clause-known c = λ ids kept.
@@ -24,9 +21,7 @@ returns-then-at-ids-clause-known c = λ ids kept.
     (gap_known ids page at page.below kept (omega (arith, c.if-at-ids.true, length-take page.count page.ids, long, c.requires.some)) c.place_of-at.ensures.within (omega (arith, ints)) (λ lt. absurd (omega (arith, lt, c.if-at-ids.true))))
 
 pub returns-then-ids-at-clause-there : goal.returns-then-ids-at-clause-there
-returns-then-ids-at-clause-there c =
-    ap (λ (k : Known). k.there) c.told-then-ids-at.ensures
-    ∙ sym (not_there c.args.self.now c.args.id _ c.place_of-at.result (to_z-of_z w64 c.args.id c.ranges.id) c.requires c.place_of-at.ensures (λ lt e. c.if-ids-at.true (ap (of_z w64) e)))
+returns-then-ids-at-clause-there c = grind (arith, not_there, to_z-of_z)
 
 pub returns-then-ids-at-clause-known : goal.returns-then-ids-at-clause-known
 returns-then-ids-at-clause-known c = λ ids kept.

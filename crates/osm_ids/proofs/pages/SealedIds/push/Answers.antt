@@ -1,4 +1,4 @@
-use Rattle.std.proofs.Common.{length, ◌≡◌, ◌∷◌, [], ◌++◌, sym, subst, ◌∙◌, arith, length-append, rules, w64}
+use Rattle.std.proofs.Common.{length, ◌≡◌, ◌∷◌, [], ◌++◌, sym, subst, arith, length-append, rules, w64}
 use mir.Val.{SFits}
 use Rattle.std.proofs.lemmas.Int.{to_z-of_z}
 use Rattle.pbf_wire.specs.Varint.{shortest}
@@ -42,16 +42,7 @@ pub overflow_add-self : goal.overflow_add-self
 overflow_add-self c = grind (arith, few_ids, count c, c.self.invariant.2, length-append c.self.invariant.0 (c.args.id ∷ []))
 
 pub invariant_of-self-2 : goal.invariant_of-self-2
-invariant_of-self-2 c =
-    let ids = c.self.invariant.0 in
-    let id = c.args.id in (
-      ids ++ id ∷ [],
-      after c.before.before,
-      omega (arith, count c.before.before, c.self.invariant.2, length-append ids (id ∷ [])),
-      λ _. to_z-of_z w64 id c.ranges.id ∙ sym (last_push _ ids id),
-    )
+invariant_of-self-2 c = grind (arith, after c.before.before, count c.before.before, length-append c.self.invariant.0 (c.args.id ∷ []), to_z-of_z w64 c.args.id c.ranges.id, last_push)
 
 pub returns-clause-ok : goal.returns-clause-ok
-returns-clause-ok c =
-    let above = subst (λ (s : Ids). IsAbove s c.args.id) (sym c.self.view_is) c.requires in
-    grind (arith, inserted _ _ _ c.self.invariant.1 c.args.id above c.ranges.id _ _ (sealed_ids _ _ _ (after c.before.before)), c.self.view_is)
+returns-clause-ok c = grind (arith, inserted, sealed_ids, after c.before.before)

@@ -1,9 +1,7 @@
-use Rattle.std.proofs.Common.{arith, ◌≡◌, true, false, sym, subst, ap, ◌∙◌, w64}
-use Rattle.std.specs.Ordering.{int_cmp}
-use Rattle.std.specs.BTreeSet.{insert_key}
+use Rattle.std.proofs.Common.{arith, true, false, sym, subst, w64}
 use Rattle.std.specs.FinSet as set
 use Rattle.std.proofs.lemmas.Int.{to_z-of_z}
-use Rattle.osm_ids.specs.Order.{IsReached, AreLate}
+use Rattle.osm_ids.specs.Order.{IsReached}
 use Rattle.osm_ids.proofs.Sets.{Ids}
 use Rattle.osm_ids.proofs.OrderLemmas.{late_insert, new_late, insert-with_late}
 use Rattle.osm_ids.proofs.Closing.{insert_same}
@@ -17,16 +15,7 @@ pub returns-then-find-clause-ok : goal.returns-then-find-clause-ok
 returns-then-find-clause-ok c = grind (arith, to_z-of_z w64 c.args.id c.ranges.id, c.find.ensures.told.there, c.if-find.true, c.self.view_is, insert_same c.args.self.now c.args.id (grind (arith, set.members, to_z-of_z w64 c.args.id c.ranges.id, c.find.ensures.told.there, c.if-find.true, c.self.view_is)))
 
 pub invariant_of-self-2 : goal.invariant_of-self-2
-invariant_of-self-2 c =
-    let laid = c.self.inside.pages in
-    let late = c.self.inside.late.keys in
-    let id = c.args.id in
-    let same = to_z-of_z w64 id c.ranges.id in
-    let none : set.contains laid id ≡ false = ap (set.contains laid) (sym same) ∙ c.find.ensures.told.there ∙ c.if-find.false in
-    let reached = reached_laid laid late id c.self.invariant.0 (subst (λ (s : Ids). IsReached s id) (sym c.self.view_is) c.requires) in (
-      subst (AreLate laid) (sym (c.in_ok-insert.ensures.keys ∙ ap (insert_key int_cmp late) same)) (late_insert laid late id c.self.invariant.0 none reached),
-      c.find.ensures.kept,
-    )
+invariant_of-self-2 c = grind (arith, to_z-of_z w64 c.args.id c.ranges.id, reached_laid c.self.inside.pages c.self.inside.late.keys c.args.id c.self.invariant.0 (subst (λ (s : Ids). IsReached s c.args.id) (sym c.self.view_is) c.requires), late_insert c.self.inside.pages c.self.inside.late.keys c.args.id c.self.invariant.0)
 
 pub returns-clause-new : goal.returns-clause-new
 returns-clause-new c = grind (arith, to_z-of_z w64 c.args.id c.ranges.id, c.find.ensures.told.there, c.if-find.false, c.in_ok-insert.ensures.added, new_late c.self.inside.pages c.self.inside.late.keys c.args.id (grind (arith, to_z-of_z w64 c.args.id c.ranges.id, c.find.ensures.told.there, c.if-find.false)), c.self.view_is)

@@ -1,5 +1,4 @@
-use Rattle.std.proofs.Common.{◌≡◌, ◌<◌, ◌*◌, ◌+◌, ◌%◌, ◌/◌, ◌∷◌, pos, List, ℤ, length, take, drop, get_or, sym, ap, ◌∙◌, arith, rules, w64}
-use mir.Val.{SFits}
+use Rattle.std.proofs.Common.{◌≡◌, ◌<◌, ◌*◌, ◌/◌, List, ℤ, length, take, drop, arith}
 use Rattle.std.proofs.lemmas.Int.{to_z-of_z}
 use Rattle.std.proofs.lemmas.List.{drop_all}
 use Rattle.osm_ids.specs.declared.walk.Walk.TheInside.{Inside}
@@ -25,9 +24,4 @@ ready : (c : Joined-self-eq0) → IsReady c.args.self.now c.if-self-eq0.self-ins
 ready c = grind (arith, len_is c.self.inside.ids.now, c.count.ensures, c.if-self-count.false)
 
 pub returns : goal.returns
-returns c =
-    let v = c.if-self-eq0.self-inside in
-    let r = ready c.before.before.before in
-    let id : ℤ = get_or v.here.ids (v.came % 128) (pos 0) in
-    let fits : SFits w64 id = search rules in
-    r.same ∙ walked (rising v.ids.now) v.here v.came r.more r.here ∙ ap (λ z. z ∷ drop (v.came + 1) (rising v.ids.now)) (sym (to_z-of_z w64 id fits))
+returns c = grind (arith, ready, walked, to_z-of_z)
