@@ -2,7 +2,7 @@
 use Rattle.std.proofs.Common.{◌≡◌, ℕ, ◌+◌, ◌≤◌, Bool, true, false, List, [], ◌∷◌, ◌++◌, length, map, Option, Some, None, refl, sym, ap, ◌∙◌, subst, arith}
 use Rattle.std.specs.Prelude.{if◌then◌else◌, unwrap_or}
 use Rattle.std.specs.List.{flat_map, last_or, AllByRecursion}
-use Rattle.std.specs.Option.{option_map, IfSome}
+use Rattle.std.specs.Option.{IfSome}
 use Rattle.std.proofs.lemmas.Bool.{leb-true}
 use Rattle.pbf_wire.specs.declared.fault.Fault.{Fault}
 use Rattle.pbf_wire.specs.declared.fault.Reason.TheVariants.{EntityLarge}
@@ -35,12 +35,12 @@ use Rattle.pbf_header.proofs.ReadHeaderLaw.{header_fits}
 use Rattle.osm_pack.specs.Cuts.{written_entities, written_file}
 use Rattle.pbf_wire.proofs.AllLemmas.{all_append, all_filter}
 use Rattle.pbf_pass.proofs.SoundLemmas.{ends_well}
-use Rattle.pbfcut.specs.Converting.{conversion, answer_bytes}
+use Rattle.pbfcut.specs.Converting.{answer_bytes}
 use Rattle.pbf_pass.specs.HeaderLimit.{header_limit, has_short_texts, with_limit, limited, judged_writable}
 use Rattle.pbf_pass.specs.Counting.{entities_in, frame_entities, stored_entities}
 use Rattle.pbfcut.specs.Extracting.{Choice, complete_ways, all_parents, extract_bytes}
 use Rattle.pbf_pass.specs.Judged.{fault_in, payload_fault, sound_first, sound_front, fully}
-use Rattle.pbfcut.specs.Kept.{verdict_within, verdict_on, IsWritable, header_read, conversion_of, extract_of}
+use Rattle.pbfcut.specs.Kept.{verdict_within, verdict_on, IsWritable, conversion_of, extract_of}
 use Rattle.pbfcut.specs.Theorem.{IsConversion, IsExtract, IsExtraction, IsCanonical}
 use Rattle.pbf_pass.specs.Pass.{headers_in, frame_headers, file_header}
 use Rattle.pbf_pass.specs.Payload.{Payload, payload_of}

@@ -6,7 +6,6 @@ use Rattle.pbf_header.specs.Header.{HeaderSpec}
 use Rattle.pbf_frame.specs.declared.device.Feed as feed
 use Rattle.pbf_frame.specs.declared.device.Drain as drain
 use Rattle.pbf_frame.specs.declared.stop.Stop.{Stop}
-use Rattle.pbf_frame.specs.declared.stop.Stop.TheVariants as stop
 use Rattle.pbf_frame.specs.Frames.{FrameSpec}
 use Rattle.pbf_frame.specs.Keeps.{KeepsDrain}
 use Rattle.pbf_frame.specs.Refusals.{Refuses}
@@ -15,7 +14,6 @@ use Rattle.pbf_frame.proofs.Passed.{added_none}
 use Rattle.pbf_frame.proofs.Refusing.{refused_told}
 use Rattle.pbf_wire.specs.declared.fault.Fault.{Fault}
 use Rattle.pbf_pass.specs.declared.receipt.Halt.{Halt}
-use Rattle.pbf_pass.specs.declared.receipt.Halt.TheVariants as halt
 use Rattle.pbf_pass.specs.declared.receipt.InputReceipt.{InputReceipt}
 use Rattle.pbf_pass.specs.declared.receipt.Refusal.{Refusal}
 use Rattle.pbf_pass.specs.Hashing.{IsDigestOf}

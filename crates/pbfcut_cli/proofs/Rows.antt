@@ -10,7 +10,6 @@ use Rattle.clap.specs.Walk.{answers_to, stop_after}
 use Rattle.pbfcut_cli.specs.declared.programs.Program.{Program}
 use Rattle.pbfcut_cli.specs.declared.programs.Program.TheVariants.{Pbfcut, Pbfcutz}
 use Rattle.pbfcut_cli.specs.declared.words.CliFault.{CliFault}
-use Rattle.pbfcut_cli.specs.declared.words.CliFault.TheVariants as fault
 use Rattle.pbfcut_cli.specs.declared.words.Command.{Command}
 use Rattle.pbfcut_cli.specs.Words.{HasFault, IsHelp, IsNoLine, IsOffered, IsRead, program_app}
 

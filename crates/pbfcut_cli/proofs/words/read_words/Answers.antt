@@ -1,9 +1,9 @@
-use Rattle.std.proofs.Common.{◌≡◌, ◌∙◌, ap, inr, subst, true}
+use Rattle.std.proofs.Common.{◌≡◌, ◌∙◌, ap, inr, subst}
 use Rattle.std.proofs.lemmas.Result.{err_from_is_err_and}
-use Rattle.clap.specs.Words.{App, is_simple, subcommand_of, subcommand_rows_of, takes}
+use Rattle.clap.specs.Words.{App, is_simple, subcommand_of, subcommand_rows_of}
 use Rattle.clap.proofs.CallerLemmas.{subcommand_required}
-use Rattle.pbfcut_cli.specs.Words.{HasFault, IsRead, program_app, word_texts, command_words}
-use Rattle.pbfcut_cli.proofs.Rows.{offered, simple, needs_command, never_help, never_line}
+use Rattle.pbfcut_cli.specs.Words.{HasFault, IsRead, word_texts, command_words}
+use Rattle.pbfcut_cli.proofs.Rows.{offered, simple, needs_command}
 use Rattle.pbfcut_cli.proofs.words.read_words.Goals as goal
 
 pub command_in-requires : goal.command_in-requires
