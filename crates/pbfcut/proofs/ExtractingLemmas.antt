@@ -96,7 +96,7 @@ pub record Selects (b : List ℕ) (choose : Choice) (area : AreaSpec) (pick : Pi
   pub picked : filter pick (stored_entities frames) ≡ choose (stored_entities frames)
   pub typed : EdgesTyped (edges_of area.bounds)
 
--- of what was chosen by passes over the same file
+-- of what was chosen in two passes of the same file
 module _ (area : AreaSpec) (b : List ℕ) (first second : Option Verdict) (sets : WaySets) (h : HeaderSpec) (is : first ≡ judged_file (Some b)) (too : second ≡ judged_file (Some b)) (c : Chooses area first second sets h) where
   its_frames : judged_file (Some b) ≡ Some (c.frames, None)
   its_frames = known_says b (c.frames, None) (subst (λ (k : Option Verdict). Says k (c.frames, None)) is c.judged)
