@@ -31,7 +31,7 @@ const MOST_ROOM: usize = FIELDS_ROOM + RAW_LIMIT + RAW_LIMIT / 512 + 32;
 pub(crate) enum Packing {
     /// Packed.
     Packed,
-    /// As it is, since it would be no shorter, or isn't in written form.
+    /// As it is, since it isn't in written form, or would be too long if it were packed.
     Kept,
 }
 
@@ -212,7 +212,7 @@ impl Packer {
         fits_size(last_field(message, RAW_SIZE), raw_size)
     }
 
-    /// Packs a frame that is in written form, if it gets shorter by that.
+    /// Packs a frame that is in written form, also where that makes it longer: many readers take no raw blobs.
     fn pack_written(
         &mut self,
         frame: &RawFrame,
@@ -235,7 +235,7 @@ impl Packer {
         if !frame.is_written(raw.kind, payload) || payload.len() >= RAW_LIMIT {
             return Ok(false);
         }
-        if !self.put_stream(payload)? || self.end - FIELDS_ROOM >= payload.len() {
+        if !self.put_stream(payload)? {
             return Ok(false);
         }
         self.start = put_fields(payload.len(), &mut self.room, self.end);

@@ -1,4 +1,4 @@
-//! That a drain packs what gets shorter by it, however it is written, and when it stops.
+//! That a drain packs each frame that readers decompress, however it is written, and when it stops.
 
 ghost use Rattle.std.specs.Prelude.{◌<◌};
 
@@ -9,6 +9,10 @@ use std::test::Fail;
 
 /// The length of a piece that has a whole file.
 const WHOLE: usize = 10_000;
+
+/// The length of the header frame once it is packed: 4 bytes, 13 of a header, and a blob of 31 bytes: 2 for `raw_size`, 2 before a stream of
+/// one stored block, which has 11 bytes more than its 16.
+const PACKED_HEADER: usize = 48;
 
 /// A header frame, and a data frame of which a shorter one can be made.
 fn raw_file(alloc: Global) -> Result<Vec<u8>, Stop> {
@@ -75,12 +79,20 @@ fn however_it_is_written(rt: HostRuntime) -> Result<(), Fail> {
 }
 
 #[test]
-fn what_would_not_get_shorter(rt: HostRuntime) -> Result<(), Fail> {
-    // A header frame, of which the payload has 16 bytes; and one of another type, with one byte.
+fn a_header_gets_longer(rt: HostRuntime) -> Result<(), Fail> {
+    // Its payload has 16 bytes.
     let mut raw = Vec::new(rt.alloc());
     put_frame(&mut raw, FrameKind::Header, b"\x22\x0eOsmSchema-V0.6")?;
-    raw.extend_from_slice(b"\x00\x00\x00\x05\x0a\x01X\x18\x01Z")?;
-    assert!(rt; packed(rt.alloc(), &raw, 5)? == raw);
+    let packed = packed(rt.alloc(), &raw, 5)?;
+    assert!(rt; packed.len() == PACKED_HEADER);
+    assert!(rt; unpacked(rt.alloc(), &packed)? == raw);
+    Ok(())
+}
+
+#[test]
+fn a_frame_of_another_type(rt: HostRuntime) -> Result<(), Fail> {
+    let raw = b"\x00\x00\x00\x05\x0a\x01X\x18\x01Z";
+    assert!(rt; packed(rt.alloc(), raw, 5)?.as_slice() == raw);
     Ok(())
 }
 
@@ -102,8 +114,8 @@ fn a_file_that_is_cut(rt: HostRuntime) -> Result<(), Fail> {
     assert!(rt; drain.stop().is_none());
     assert!(rt; drain.finish().is_err());
     assert!(rt; drain.stop() == Some(Stop::Write));
-    // The first frame went out before: 4 bytes, 13 of a header, 18 of a blob.
-    assert!(rt; drain.into_inner().bytes().len() == 35);
+    // The first frame went out before.
+    assert!(rt; drain.into_inner().bytes().len() == PACKED_HEADER);
     Ok(())
 }
 

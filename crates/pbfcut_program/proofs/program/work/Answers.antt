@@ -17,7 +17,7 @@ pub returns-in-Ok-clause-ok : goal.returns-in-Ok-clause-ok
 returns-in-Ok-clause-ok g c =
     let words = map string_bytes c.args.words.now in
     let is : word_texts c.as_slice.result.now ≡ normalized words = ap word_texts c.as_slice.ensures.value ∙ c.in_ok-texts.ensures ∙ ap (map string_bytes) c.deref.ensures.value ∙ c.in_ok-normalized.ensures in
-    let meant = is_meant c.args.program words (word_texts c.as_slice.result.now) c.in_ok-command.command is c.in_ok-command.ensures.read in
+    let meant = is_meant c.args.program words (word_texts c.as_slice.result.now) c.in_ok-command.command is c.in_ok-command.ensures.read c.in_ok-command.ensures.taken in
     let d = c.in-Ok.ensures.ok in
     let does = rw (c.prints_digests.ensures, c.packs.ensures) at d.2 in
     (d.0, d.1, inl (refl, (c.in_ok-command.command, meant, does)))
@@ -26,7 +26,7 @@ pub returns-clause-ok : goal.returns-clause-ok
 returns-clause-ok g c =
     let words = map string_bytes c.args.words.now in
     let is : word_texts c.as_slice.result.now ≡ normalized words = ap word_texts c.as_slice.ensures.value ∙ c.in_ok-texts.ensures ∙ ap (map string_bytes) c.deref.ensures.value ∙ c.in_ok-normalized.ensures in
-    let meant = is_meant c.args.program words (word_texts c.as_slice.result.now) c.in_ok-command.command is c.in_ok-command.ensures.read in
+    let meant = is_meant c.args.program words (word_texts c.as_slice.result.now) c.in_ok-command.command is c.in_ok-command.ensures.read c.in_ok-command.ensures.taken in
     let f = c.in-Err.ensures.err in
     let r = c.report_command.ensures in
     let fails = rw (c.prints_digests.ensures, c.packs.ensures) at f.2 in
