@@ -1,0 +1,5 @@
+#!/usr/bin/env bash
+# Installs the programs that tests/readers.py gives files to, from Debian's packages (as root). The test takes those that are there, and says which aren't.
+set -eu
+apt-get update -qq
+apt-get install -y -qq --no-install-recommends osmium-tool python3-pyosmium osmctools osmpbf-bin osmosis mkgmap-splitter gdal-bin tilemaker
