@@ -261,20 +261,22 @@ FailsIn m command how events = FailsFor (reading_of m command) (judging_of comma
 
 -- ---- the whole run
 
--- the command that the words mean, as `clap` reads them; or help
+-- the command that the words mean, as `clap` reads them; or help, for words that `clap` doesn't take
 abbrev pub IsMeant : Program → List Text → Command → Type 0
-IsMeant program words command = (IsHelp command × (takes (program_app program) (normalized words) ≡ true → ⊥)) ⊎ IsRead (subcommand_of (program_app program) (normalized words)) command
+IsMeant program words command = (IsHelp command × (takes (program_app program) (normalized words) ≡ true → ⊥))
+    ⊎ IsRead (subcommand_of (program_app program) (normalized words)) command
 
 -- it did its work
 abbrev pub IsDone : Program → List Text → List Event → Type 0
 IsDone program words events = (command : Command) × IsMeant program words command × Does (manner_in program command) command events
 
--- it failed: for wrong words nothing had happened
+-- it failed: for wrong words nothing had happened; and where memory was refused, nothing, or OUT took what it may have after any failure
 abbrev pub IsWhy : Program → List Text → Ending → List Event → Type 0
 IsWhy program words (ending.Words text) events = (takes (program_app program) (normalized words) ≡ true → ⊥) × (events ≡ [])
 IsWhy program words (ending.Box f) events = FitsFault (subcommand_of (program_app program) (normalized words)) (fault.Box f) × (events ≡ [])
 IsWhy program words (ending.Choice f) events = FitsFault (subcommand_of (program_app program) (normalized words)) (fault.Choice f) × (events ≡ [])
-IsWhy program words (ending.Stopped stop.Memory) events = (events ≡ []) ⊎ ((command : Command) × IsMeant program words command × LeavesIn (manner_in program command) command events)
+IsWhy program words (ending.Stopped stop.Memory) events = (events ≡ [])
+    ⊎ ((command : Command) × IsMeant program words command × LeavesIn (manner_in program command) command events)
 IsWhy program words how events = (command : Command) × IsMeant program words command × FailsIn (manner_in program command) command how events
 
 -- it failed, and its line was written: the exit status and the line are those of one ending
