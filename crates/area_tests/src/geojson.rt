@@ -1,6 +1,6 @@
 //! What no clause says: by example what GeoJSON means, beside the same rings as a .poly file, and each fault.
 
-use osm_polygon::{PolyError, PolyFault, PolyPlace, PolyReason, Ring, read_rings};
+use osm_polygon::{PolyError, PolyFault, PolyPlace, PolyReason, Ring, read_polygons};
 use std::alloc::Global;
 
 /// Two rings.
@@ -40,12 +40,30 @@ fn is_same_ring(ring: &Ring, other: &Ring) -> bool {
     true
 }
 
-/// Whether both texts have the same two rings.
-fn have_same_rings(alloc: Global, text: &str, other: &str) -> bool {
-    let (Ok(rings), Ok(others)) = (read_rings(alloc, text), read_rings(alloc, other)) else {
+/// The two rings of a text that has no more, of one polygon or of two.
+fn two_rings(polygons: &[Vec<Ring>], are_apart: bool) -> Option<(&Ring, &Ring)> {
+    match (are_apart, polygons) {
+        (false, [rings]) => match rings.as_slice() {
+            [one, two] => Some((one, two)),
+            _ => None,
+        },
+        (true, [first, second]) => match (first.as_slice(), second.as_slice()) {
+            ([one], [two]) => Some((one, two)),
+            _ => None,
+        },
+        _ => None,
+    }
+}
+
+/// Whether the text has the two rings of `POLY`, in one polygon or in two.
+fn has_both(alloc: Global, text: &str, are_apart: bool) -> bool {
+    let (Ok(polygons), Ok(others)) = (read_polygons(alloc, POLY), read_polygons(alloc, text)) else {
         return false;
     };
-    let ([one, two], [three, four]) = (rings.as_slice(), others.as_slice()) else {
+    let Some((one, two)) = two_rings(polygons.as_slice(), false) else {
+        return false;
+    };
+    let Some((three, four)) = two_rings(others.as_slice(), are_apart) else {
         return false;
     };
     is_same_ring(one, three) && is_same_ring(two, four)
@@ -53,14 +71,15 @@ fn have_same_rings(alloc: Global, text: &str, other: &str) -> bool {
 
 #[test]
 fn the_same_rings_in_each_form(rt: HostRuntime) {
-    for text in [POLYGON, POLYGONS, FEATURE, FEATURES, GEOMETRIES] {
-        assert!(rt; have_same_rings(rt.alloc(), POLY, text), "at {text}");
+    assert!(rt; has_both(rt.alloc(), POLYGON, false));
+    for text in [POLYGONS, FEATURE, FEATURES, GEOMETRIES] {
+        assert!(rt; has_both(rt.alloc(), text, true), "at {text}");
     }
 }
 
 /// Whether the text has this fault.
 fn has_fault(alloc: Global, text: &str, place: PolyPlace, reason: PolyReason) -> bool {
-    match read_rings(alloc, text) {
+    match read_polygons(alloc, text) {
         Err(PolyError::Refused(fault)) => fault == PolyFault { place, reason },
         _ => false,
     }
@@ -167,4 +186,19 @@ fn each_fault_of_a_ring(rt: HostRuntime) {
             "at {ring}"
         );
     }
+}
+
+/// Rings are counted over all polygons.
+#[test]
+fn rings_of_later_polygons(rt: HostRuntime) {
+    let polygons =
+        "{\"type\": \"MultiPolygon\", \"coordinates\": [[[[0, 0], [1, 0], [1, 1], [0, 0]], [[0, 0], [1, 0], [1, 1], [0, 0]]], [], [[[0, 0], [1, 0], [1, 1], [0, 0]], [[0, 0], [1, 0], [0, 0]]]]}";
+    assert!(rt;
+        has_fault(
+            rt.alloc(),
+            polygons,
+            PolyPlace::Ring(4, 3),
+            PolyReason::Short
+        )
+    );
 }

@@ -1,6 +1,6 @@
 //! What no clause says: by example what texts of .poly files mean, and each fault.
 
-use osm_polygon::{Place, PolyError, PolyFault, PolyPlace, PolyReason, read_rings};
+use osm_polygon::{Place, PolyError, PolyFault, PolyPlace, PolyReason, read_polygons};
 use std::alloc::Global;
 use std::test::Fail;
 
@@ -36,7 +36,10 @@ fn is_at(place: Place, lat: i64, lon: i64) -> bool {
 
 /// Whether the text has one ring, and this is that of `PLAIN`, or the same beyond the equator and the prime meridian.
 fn is_plain(alloc: Global, text: &str, is_minus: bool) -> bool {
-    let Ok(rings) = read_rings(alloc, text) else {
+    let Ok(polygons) = read_polygons(alloc, text) else {
+        return false;
+    };
+    let [rings] = polygons.as_slice() else {
         return false;
     };
     let [ring] = rings.as_slice() else {
@@ -69,8 +72,11 @@ fn one_ring_in_many_spellings(rt: HostRuntime) {
 fn small_numbers(rt: HostRuntime) {
     let text =
         "x\n1\n 9e-13 0.00000000012345678901234567890123\n -999e-11 99.9E-10\n 9.55000000000000000000000000001 5e-99\nEND\nEND\n";
-    let rings = read_rings(rt.alloc(), text).ok();
-    let places = rings.as_ref().and_then(|rings| rings.first());
+    let polygons = read_polygons(rt.alloc(), text).ok();
+    let places = polygons
+        .as_ref()
+        .and_then(|polygons| polygons.first())
+        .and_then(|rings| rings.first());
     assert!(rt;
         match places {
             Some(ring) => match ring.places.as_slice() {
@@ -86,9 +92,12 @@ fn small_numbers(rt: HostRuntime) {
 
 /// How many rings and places the text has.
 fn size_of(alloc: Global, text: &str) -> Option<(usize, usize)> {
-    let rings = read_rings(alloc, text).ok()?;
+    let polygons = read_polygons(alloc, text).ok()?;
+    let [rings] = polygons.as_slice() else {
+        return None;
+    };
     let mut places = 0usize;
-    for ring in &rings {
+    for ring in rings {
         places = places.saturating_add(ring.places.len());
     }
     Some((rings.len(), places))
@@ -102,7 +111,7 @@ fn two_rings_and_their_places(rt: HostRuntime) {
 
 /// Whether the text has this fault.
 fn has_fault(alloc: Global, text: &str, place: PolyPlace, reason: PolyReason) -> bool {
-    match read_rings(alloc, text) {
+    match read_polygons(alloc, text) {
         Err(PolyError::Refused(fault)) => fault == PolyFault { place, reason },
         _ => false,
     }

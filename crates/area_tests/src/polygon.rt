@@ -4,7 +4,7 @@
 
 use osm_area::Area;
 use osm_box::BoundingBox;
-use osm_polygon::{Place, Polygon, Ring, read_rings};
+use osm_polygon::{MultiPolygon, Place, Polygon, Ring, read_polygons};
 use std::alloc::{AllocError, Global};
 use std::test::Fail;
 
@@ -37,14 +37,14 @@ const POINT: &str = "x\n1\n1 1\n1 1\n1 1\nEND\nEND\n";
 /// The whole earth.
 const EARTH: &str = "x\n1\n-180 -90\n180 -90\n180 90\n-180 90\nEND\nEND\n";
 
-/// The polygon of a text, if it has one.
-fn polygon_of(alloc: Global, text: &str) -> Option<Polygon> {
-    let rings = read_rings(alloc, text).ok()?;
-    Polygon::new(alloc, &rings).ok()
+/// The area of a text, if it has one.
+fn polygon_of(alloc: Global, text: &str) -> Option<MultiPolygon> {
+    let polygons = read_polygons(alloc, text).ok()?;
+    MultiPolygon::new(alloc, &polygons).ok()
 }
 
 /// Whether the polygon has the place with these tenths of degrees.
-fn has_place(polygon: &Polygon, lat: i32, lon: i32) -> bool {
+fn has_place(polygon: &MultiPolygon, lat: i32, lon: i32) -> bool {
     polygon.contains(i128::from(lat) * 100_000_000, i128::from(lon) * 100_000_000)
 }
 
@@ -204,7 +204,7 @@ fn a_hole(rt: HostRuntime) {
     assert!(rt; are_alike(rt.alloc(), HOLE, TURNED));
 }
 
-/// What two rings have in common is in neither, but for the edges. A name that begins with `!` makes no hole.
+/// What two rings of a polygon have in common is in neither, but for the edges. A name that begins with `!` makes no hole.
 #[test]
 fn two_rings(rt: HostRuntime) {
     assert!(rt;
@@ -225,6 +225,61 @@ fn two_rings(rt: HostRuntime) {
     );
     assert!(rt; has_all(rt.alloc(), APART, &[(5, 5), (5, 25)], true));
     assert!(rt; has_all(rt.alloc(), APART, &[(5, 15), (15, 5)], false));
+}
+
+/// The same square twice, as features.
+const TWICE: &str =
+    "{\"type\": \"FeatureCollection\", \"features\": [{\"type\": \"Feature\", \"geometry\": {\"type\": \"Polygon\", \"coordinates\": [[[1, 1], [2, 1], [2, 2], [1, 2], [1, 1]]]}}, {\"type\": \"Feature\", \"geometry\": {\"type\": \"Polygon\", \"coordinates\": [[[1, 1], [2, 1], [2, 2], [1, 2], [1, 1]]]}}]}";
+
+/// Two squares that overlap, as polygons.
+const BOTH: &str =
+    "{\"type\": \"MultiPolygon\", \"coordinates\": [[[[0, 0], [2, 0], [2, 2], [0, 2], [0, 0]]], [[[1, 1], [3, 1], [3, 3], [1, 3], [1, 1]]]]}";
+
+/// A state, and a city within it, as geometries.
+const STATE: &str =
+    "{\"type\": \"GeometryCollection\", \"geometries\": [{\"type\": \"Polygon\", \"coordinates\": [[[0, 0], [3, 0], [3, 3], [0, 3], [0, 0]]]}, {\"type\": \"Polygon\", \"coordinates\": [[[1, 1], [2, 1], [2, 2], [1, 2], [1, 1]]]}]}";
+
+/// A ring with a hole, and in the hole a square that fills its west.
+const FILLED: &str =
+    "{\"type\": \"MultiPolygon\", \"coordinates\": [[[[0, 0], [3, 0], [3, 3], [0, 3], [0, 0]], [[1, 1], [1, 2], [2, 2], [2, 1], [1, 1]]], [[[1, 1], [1.5, 1], [1.5, 2], [1, 2], [1, 1]]]]}";
+
+/// A place is in the area if it is in any of its polygons.
+#[test]
+fn several_polygons(rt: HostRuntime) {
+    let square = BoundingBox {
+        left: 1_000_000_000,
+        bottom: 1_000_000_000,
+        right: 2_000_000_000,
+        top: 2_000_000_000,
+    };
+    assert!(rt; is_box(rt.alloc(), TWICE, square));
+    assert!(rt;
+        has_all(
+            rt.alloc(),
+            BOTH,
+            &[(5, 5), (15, 15), (25, 25), (10, 15)],
+            true
+        )
+    );
+    assert!(rt; has_all(rt.alloc(), BOTH, &[(5, 25), (25, 5), (35, 15)], false));
+    assert!(rt;
+        has_all(
+            rt.alloc(),
+            STATE,
+            &[(5, 5), (15, 15), (25, 5), (10, 10)],
+            true
+        )
+    );
+    assert!(rt; has_all(rt.alloc(), STATE, &[(15, 35), (-1, 15)], false));
+    assert!(rt;
+        has_all(
+            rt.alloc(),
+            FILLED,
+            &[(5, 5), (15, 12), (15, 15), (20, 15)],
+            true
+        )
+    );
+    assert!(rt; has_all(rt.alloc(), FILLED, &[(15, 17), (15, 35)], false));
 }
 
 #[test]
@@ -438,11 +493,89 @@ fn many_crossings(rt: HostRuntime) -> Result<(), Fail> {
     Ok(())
 }
 
+/// A square whose southwest corner is this place.
+fn square_at(alloc: Global, corner: Place) -> Result<Ring, AllocError> {
+    let mut places = Vec::new(alloc);
+    for (north, east) in [(0, 0), (0, 1), (1, 1), (1, 0)] {
+        if let Some(place) = Place::of(
+            i128::from(corner.lat) + north * 900_000_000,
+            i128::from(corner.lon) + east * 900_000_000,
+        ) {
+            places.push(place)?;
+        }
+    }
+    Ok(Ring { places })
+}
+
+/// So many squares in no order, many of which overlap, each as a polygon.
+fn squares(alloc: Global, count: u32) -> Result<Vec<Vec<Ring>>, AllocError> {
+    let mut polygons = Vec::new(alloc);
+    let mut number = u64::from(count);
+    for _square in 0..count {
+        number = next_number(next_number(number));
+        if let Some(corner) = some_place(number) {
+            let mut rings = Vec::new(alloc);
+            rings.push(square_at(alloc, corner)?)?;
+            polygons.push(rings)?;
+        }
+    }
+    Ok(polygons)
+}
+
+/// Whether a polygon of one ring has the place.
+fn is_in_any_ring(polygons: &[Vec<Ring>], place: Place) -> bool {
+    for rings in polygons {
+        for ring in rings {
+            if is_in_ring(ring.places.as_slice(), place) {
+                return true;
+            }
+        }
+    }
+    false
+}
+
+/// Whether the area of polygons of one ring each has those of so many places that any of them has, and how many these are.
+fn count_in_any(
+    alloc: Global,
+    polygons: &[Vec<Ring>],
+    count: u32,
+) -> Result<Option<u32>, AllocError> {
+    let area = MultiPolygon::new(alloc, polygons)?;
+    let mut number = 1;
+    let mut inside = 0u32;
+    for _asked in 0..count {
+        number = next_number(next_number(number));
+        if let Some(place) = some_place(number) {
+            let has = area.contains(i128::from(place.lat), i128::from(place.lon));
+            if has != is_in_any_ring(polygons, place) {
+                return Ok(None);
+            }
+            inside = inside.saturating_add(u32::from(has));
+        }
+    }
+    Ok(Some(inside))
+}
+
+/// Groups of polygons, and regions of groups.
+#[test]
+fn many_polygons(rt: HostRuntime) -> Result<(), Fail> {
+    for count in [1, 2, 9, 30, 300] {
+        let polygons = squares(rt.alloc(), count)?;
+        let inside = count_in_any(rt.alloc(), polygons.as_slice(), 1000)?;
+        assert!(rt; inside.is_some_and(|inside| inside < 1000), "at {count}");
+        assert!(rt;
+            count < 30 || inside.is_some_and(|inside| 10 < inside),
+            "at {count}"
+        );
+    }
+    Ok(())
+}
+
 /// Whether a polygon without rings has no place.
 fn is_nowhere(alloc: Global) -> bool {
     let rings: [Ring; 0] = [];
     match Polygon::new(alloc, &rings) {
-        Ok(polygon) => !has_place(&polygon, 0, 0),
+        Ok(polygon) => !polygon.contains(0, 0),
         Err(_) => false,
     }
 }

@@ -1,12 +1,13 @@
 -- GeoJSON (RFC 7946) of polygons: geometries, collections of them, and features.
-use Rattle.std.specs.Prelude.{ℕ, ◌+◌, ◌-◌, ℤ, pos, Bool, false, ◌&&◌, List, [], ◌∷◌, ◌++◌, length, codes, nat_lt, if◌then◌else◌}
+use Rattle.std.specs.Prelude.{ℕ, ◌+◌, ◌-◌, ℤ, pos, Bool, false, ◌&&◌, List, [], ◌∷◌, ◌++◌, length, codes, min, nat_lt, if◌then◌else◌}
 use Rattle.std.specs.Prelude.{Option, Some, None, option_and_then, Result, Ok, Err}
-use Rattle.std.specs.List.{slice_get}
+use Rattle.std.specs.List.{slice_get, sum_by}
 use Rattle.std.specs.Ordering.{int_eq}
 use Rattle.std.specs.Str.{bytes_eq}
 use Rattle.json.specs.Json.{Json, Items, no_items, item}
 use Rattle.json.specs.Find.{get, at, as_array, as_number, as_str}
 use Rattle.osm_polygon.specs.declared.fault.PolyFault.{PolyFault}
+use Rattle.osm_polygon.specs.declared.fault.PolyPlace.{PolyPlace}
 use Rattle.osm_polygon.specs.declared.fault.PolyPlace.TheVariants as where_
 use Rattle.osm_polygon.specs.declared.fault.PolyReason.{PolyReason}
 use Rattle.osm_polygon.specs.declared.fault.PolyReason.TheVariants as reason
@@ -14,8 +15,8 @@ use Rattle.osm_polygon.specs.declared.geojson.Kind.{Kind}
 use Rattle.osm_polygon.specs.declared.geojson.Kind.TheVariants as kind
 use Rattle.osm_polygon.specs.Coordinates.{coordinate, place_at}
 use Rattle.osm_polygon.specs.Number.{nanodegrees_of}
-use Rattle.osm_polygon.specs.PolyFile.{RingsOrFault}
-use Rattle.osm_polygon.specs.Polygon.{Point}
+use Rattle.osm_polygon.specs.PolyFile.{RingsOrFault, PolygonsOrFault}
+use Rattle.osm_polygon.specs.Polygon.{Point, Rings}
 
 -- ---- in order, up to the first fault
 
@@ -41,9 +42,9 @@ items_in value = or_shape (as_array value)
 abbrev pub member : List ℕ → Json → OrFault Json
 member name value = or_shape (get name value)
 
--- the rings so far, with those of each item
-abbrev pub each : (List (List Point) → Json → RingsOrFault) → List (List Point) → Json → RingsOrFault
-each step rings value = and_then (items_in value) (each_item step rings)
+-- what there is so far, with what each item has
+abbrev pub each : {A : Type 0} → (A → Json → OrFault A) → A → Json → OrFault A
+each step done value = and_then (items_in value) (each_item step done)
 
 -- ---- a ring
 
@@ -85,12 +86,38 @@ if_closed ring places =
 abbrev pub ring_places : (ring : ℕ) → Items → OrFault (List Point)
 ring_places ring items = and_then (each_item (with_position ring) [] items) (if_closed ring)
 
-abbrev pub with_ring : List (List Point) → Json → RingsOrFault
+abbrev pub with_ring : Rings → Json → RingsOrFault
 with_ring rings value =
     and_then (items_in value) (λ items.
     and_then (ring_places (length rings + 1) items) (λ places. Ok (rings ++ places ∷ [])))
 
--- ---- what has rings
+-- ---- a polygon
+
+-- rings are counted together, and `before` rings come before the polygon's
+abbrev pub place_after : (before : ℕ) → PolyPlace → PolyPlace
+place_after before (where_.Ring ring position) =
+    where_.Ring (min (before + ring) 18446744073709551615) position
+place_after before place = place
+
+abbrev pub fault_after : (before : ℕ) → PolyFault → PolyFault
+fault_after before fault =
+    record { place = place_after before fault.place; reason = fault.reason }
+
+abbrev pub after : (before : ℕ) → RingsOrFault → RingsOrFault
+after before (Ok rings) = Ok rings
+after before (Err fault) = Err (fault_after before fault)
+
+-- a polygon without rings is none
+abbrev pub and_polygon : List Rings → Rings → List Rings
+and_polygon polygons [] = polygons
+and_polygon polygons (ring ∷ rings) = polygons ++ (ring ∷ rings) ∷ []
+
+abbrev pub with_polygon : List Rings → Json → PolygonsOrFault
+with_polygon polygons value =
+    and_then (after (sum_by length polygons) (each with_ring [] value)) (λ rings.
+    Ok (and_polygon polygons rings))
+
+-- ---- what has polygons
 
 abbrev pub kind_named : List ℕ → Kind
 kind_named name =
@@ -108,32 +135,32 @@ kind_by (Some name) = kind_named name
 abbrev pub kind_of : Json → Kind
 kind_of value = kind_by (option_and_then as_str (get (codes "type") value))
 
--- the rings so far, with those of one thing more
-abbrev pub shape_by : Kind → List (List Point) → Json → RingsOrFault
-shape_by kind.Polygon rings value = and_then (member (codes "coordinates") value) (each with_ring rings)
-shape_by kind.MultiPolygon rings value =
-    and_then (member (codes "coordinates") value) (each (each with_ring) rings)
-shape_by _ rings value = or_shape None
+-- the polygons so far, with those of one thing more
+abbrev pub shape_by : Kind → List Rings → Json → PolygonsOrFault
+shape_by kind.Polygon polygons value = and_then (member (codes "coordinates") value) (with_polygon polygons)
+shape_by kind.MultiPolygon polygons value =
+    and_then (member (codes "coordinates") value) (each with_polygon polygons)
+shape_by _ polygons value = or_shape None
 
-abbrev pub with_shape : List (List Point) → Json → RingsOrFault
-with_shape rings value = shape_by (kind_of value) rings value
+abbrev pub with_shape : List Rings → Json → PolygonsOrFault
+with_shape polygons value = shape_by (kind_of value) polygons value
 
-abbrev pub geometry_by : Kind → List (List Point) → Json → RingsOrFault
-geometry_by kind.GeometryCollection rings value =
-    and_then (member (codes "geometries") value) (each with_shape rings)
-geometry_by _ rings value = with_shape rings value
+abbrev pub geometry_by : Kind → List Rings → Json → PolygonsOrFault
+geometry_by kind.GeometryCollection polygons value =
+    and_then (member (codes "geometries") value) (each with_shape polygons)
+geometry_by _ polygons value = with_shape polygons value
 
-abbrev pub with_geometry : List (List Point) → Json → RingsOrFault
-with_geometry rings value = geometry_by (kind_of value) rings value
+abbrev pub with_geometry : List Rings → Json → PolygonsOrFault
+with_geometry polygons value = geometry_by (kind_of value) polygons value
 
-abbrev pub feature_by : Kind → List (List Point) → Json → RingsOrFault
-feature_by kind.Feature rings value = and_then (member (codes "geometry") value) (with_geometry rings)
-feature_by _ rings value = or_shape None
+abbrev pub feature_by : Kind → List Rings → Json → PolygonsOrFault
+feature_by kind.Feature polygons value = and_then (member (codes "geometry") value) (with_geometry polygons)
+feature_by _ polygons value = or_shape None
 
-abbrev pub with_feature : List (List Point) → Json → RingsOrFault
-with_feature rings value = feature_by (kind_of value) rings value
+abbrev pub with_feature : List Rings → Json → PolygonsOrFault
+with_feature polygons value = feature_by (kind_of value) polygons value
 
-abbrev pub document_by : Kind → Json → RingsOrFault
+abbrev pub document_by : Kind → Json → PolygonsOrFault
 document_by kind.FeatureCollection value =
     and_then (member (codes "features") value) (each with_feature [])
 document_by kind.Feature value = with_feature [] value
@@ -141,11 +168,11 @@ document_by _ value = with_geometry [] value
 
 -- ---- a text
 
-abbrev pub if_some : List (List Point) → RingsOrFault
+abbrev pub if_some : List Rings → PolygonsOrFault
 if_some [] = Err (record { place = where_.Text; reason = reason.Empty })
-if_some (ring ∷ rings) = Ok (ring ∷ rings)
+if_some (polygon ∷ polygons) = Ok (polygon ∷ polygons)
 
--- the rings of the JSON that a text is, or its first fault
-abbrev pub geojson_rings : Option Json → RingsOrFault
-geojson_rings None = Err (record { place = where_.Text; reason = reason.Json })
-geojson_rings (Some value) = and_then (document_by (kind_of value) value) if_some
+-- the polygons of the JSON that a text is, or its first fault
+abbrev pub geojson_polygons : Option Json → PolygonsOrFault
+geojson_polygons None = Err (record { place = where_.Text; reason = reason.Json })
+geojson_polygons (Some value) = and_then (document_by (kind_of value) value) if_some

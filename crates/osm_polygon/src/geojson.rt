@@ -1,18 +1,19 @@
-//! The polygons of GeoJSON. All of their rings count alike.
+//! The polygons of GeoJSON, each with its rings.
 
-ghost use Rattle.std.specs.Prelude.{◌≡◌, map};
+ghost use Rattle.std.specs.Prelude.{◌≡◌, Ok, length, map, min};
+ghost use Rattle.std.specs.List.{sum_by};
 ghost use Rattle.std.specs.Result.{result_map_both};
 ghost use Rattle.json.specs.Json.{document};
 ghost use Rattle.json.specs.Value.{items_view, value_view};
 ghost use Rattle.osm_polygon.specs.Edges.{point_of};
-ghost use Rattle.osm_polygon.specs.GeoJson.{each, geojson_rings, if_closed, if_some, is_closed, is_same, items_in};
+ghost use Rattle.osm_polygon.specs.GeoJson.{and_polygon, each, fault_after, geojson_polygons, if_closed, if_some, is_closed, is_same, items_in};
 ghost use Rattle.osm_polygon.specs.GeoJson.{kind_named, kind_of, member, number_at, position, ring_places};
 ghost use Rattle.osm_polygon.specs.GeoJson.{document_by, feature_by, geometry_by, shape_by};
-ghost use Rattle.osm_polygon.specs.GeoJson.{with_feature, with_geometry, with_position, with_ring, with_shape};
-ghost use Rattle.osm_polygon.specs.Readings.{ReadsText};
-ghost use Rattle.osm_polygon.specs.RingPlaces.{places_of};
+ghost use Rattle.osm_polygon.specs.GeoJson.{with_feature, with_geometry, with_polygon, with_position, with_ring, with_shape};
+ghost use Rattle.osm_polygon.specs.Readings.{ReadsText, error_after};
+ghost use Rattle.osm_polygon.specs.RingPlaces.{places_of, rings_of};
 
-use crate::fault::{PolyError, PolyPlace, PolyReason, refused};
+use crate::fault::{PolyError, PolyFault, PolyPlace, PolyReason, refused};
 use crate::number::nanodegrees;
 use crate::place::{MOST_LAT, MOST_LON, Place, coordinate};
 use crate::ring::Ring;
@@ -191,117 +192,194 @@ fn with_rings(
     Ok(rings)
 }
 
-/// The rings, and those of polygons, of which these are the coordinates.
+/// The same fault, if so many rings come before those of its polygon.
+fn fault_after(before: usize, fault: PolyFault) -> PolyFault
+    ensures { result ≡ fault_after before fault }
+{
+    let place = match fault.place {
+        PolyPlace::Ring(ring, position) => PolyPlace::Ring(before.saturating_add(ring), position),
+        place => place,
+    };
+    PolyFault {
+        place,
+        reason: fault.reason,
+    }
+}
+
+/// How many rings polygons have together.
+fn ring_count(polygons: &[Vec<Ring>]) -> usize
+    ensures { result ≡ min (sum_by length (map rings_of polygons.now)) 18446744073709551615 }
+{
+    let mut count = 0usize;
+    let mut rest = polygons;
+    'polygons: while let Some((rings, more)) = rest.split_first() {
+        count = count.saturating_add(rings.len());
+        rest = more;
+    }
+    count
+}
+
+/// Why a polygon can't be read, which comes after these.
+fn error_after(polygons: &[Vec<Ring>], error: PolyError) -> PolyError
+    ensures { result ≡ error_after (sum_by length (map rings_of polygons.now)) error }
+{
+    match error {
+        PolyError::Refused(fault) => {
+            PolyError::Refused(fault_after(ring_count(polygons), fault))
+        }
+        PolyError::Memory => PolyError::Memory,
+    }
+}
+
+/// The polygons, and one with these rings, if it has any.
+fn and_polygon(mut polygons: Vec<Vec<Ring>>, rings: Vec<Ring>) -> Result<Vec<Vec<Ring>>, PolyError>
+    ensures { ReadsText (Ok (and_polygon (map rings_of polygons.items) (rings_of rings)))
+        (result_map_both (λ polygons. map rings_of polygons.items) (λ e. e) result) }
+{
+    if !rings.is_empty() {
+        polygons.push(rings)?;
+    }
+    Ok(polygons)
+}
+
+/// The polygons, and the one with these coordinates.
+fn with_polygon(
+    alloc: Global,
+    polygons: Vec<Vec<Ring>>,
+    value: &Value<'_>,
+) -> Result<Vec<Vec<Ring>>, PolyError>
+    ensures { ReadsText (with_polygon (map rings_of polygons.items) (value_view value.now))
+        (result_map_both (λ polygons. map rings_of polygons.items) (λ e. e) result) }
+{
+    match with_rings(alloc, Vec::new(alloc), value) {
+        Ok(rings) => and_polygon(polygons, rings),
+        Err(error) => Err(error_after(polygons.as_slice(), error)),
+    }
+}
+
+/// The polygons, and those with these coordinates.
 fn with_polygons(
     alloc: Global,
-    mut rings: Vec<Ring>,
+    mut polygons: Vec<Vec<Ring>>,
     value: &Value<'_>,
-) -> Result<Vec<Ring>, PolyError>
-    ensures { ReadsText (each (each with_ring) (map places_of rings.items) (value_view value.now))
-        (result_map_both (λ rings. map places_of rings.items) (λ e. e) result) }
+) -> Result<Vec<Vec<Ring>>, PolyError>
+    ensures { ReadsText (each with_polygon (map rings_of polygons.items) (value_view value.now))
+        (result_map_both (λ polygons. map rings_of polygons.items) (λ e. e) result) }
 {
     for item in items_in(value)? {
-        rings = with_rings(alloc, rings, item)?;
+        polygons = with_polygon(alloc, polygons, item)?;
     }
-    Ok(rings)
+    Ok(polygons)
 }
 
-/// The rings, and those of a geometry that is no collection.
-fn with_shape(alloc: Global, rings: Vec<Ring>, value: &Value<'_>) -> Result<Vec<Ring>, PolyError>
-    ensures { ReadsText (with_shape (map places_of rings.items) (value_view value.now))
-        (result_map_both (λ rings. map places_of rings.items) (λ e. e) result) }
+/// The polygons, and those of a geometry that is no collection.
+fn with_shape(
+    alloc: Global,
+    polygons: Vec<Vec<Ring>>,
+    value: &Value<'_>,
+) -> Result<Vec<Vec<Ring>>, PolyError>
+    ensures { ReadsText (with_shape (map rings_of polygons.items) (value_view value.now))
+        (result_map_both (λ polygons. map rings_of polygons.items) (λ e. e) result) }
 {
     match kind_of(value) {
-        Kind::Polygon => with_rings(alloc, rings, member("coordinates", value)?),
-        Kind::MultiPolygon => with_polygons(alloc, rings, member("coordinates", value)?),
+        Kind::Polygon => with_polygon(alloc, polygons, member("coordinates", value)?),
+        Kind::MultiPolygon => with_polygons(alloc, polygons, member("coordinates", value)?),
         _ => Err(refused(PolyPlace::Text, PolyReason::Shape)),
     }
 }
 
-/// The rings, and those of geometries that are no collections.
+/// The polygons, and those of geometries that are no collections.
 fn with_shapes(
     alloc: Global,
-    mut rings: Vec<Ring>,
+    mut polygons: Vec<Vec<Ring>>,
     value: &Value<'_>,
-) -> Result<Vec<Ring>, PolyError>
-    ensures { ReadsText (each with_shape (map places_of rings.items) (value_view value.now))
-        (result_map_both (λ rings. map places_of rings.items) (λ e. e) result) }
+) -> Result<Vec<Vec<Ring>>, PolyError>
+    ensures { ReadsText (each with_shape (map rings_of polygons.items) (value_view value.now))
+        (result_map_both (λ polygons. map rings_of polygons.items) (λ e. e) result) }
 {
     for item in items_in(value)? {
-        rings = with_shape(alloc, rings, item)?;
+        polygons = with_shape(alloc, polygons, item)?;
     }
-    Ok(rings)
+    Ok(polygons)
 }
 
-/// The rings, and those of a geometry.
-fn with_geometry(alloc: Global, rings: Vec<Ring>, value: &Value<'_>) -> Result<Vec<Ring>, PolyError>
-    ensures { ReadsText (with_geometry (map places_of rings.items) (value_view value.now))
-        (result_map_both (λ rings. map places_of rings.items) (λ e. e) result) }
+/// The polygons, and those of a geometry.
+fn with_geometry(
+    alloc: Global,
+    polygons: Vec<Vec<Ring>>,
+    value: &Value<'_>,
+) -> Result<Vec<Vec<Ring>>, PolyError>
+    ensures { ReadsText (with_geometry (map rings_of polygons.items) (value_view value.now))
+        (result_map_both (λ polygons. map rings_of polygons.items) (λ e. e) result) }
 {
     match kind_of(value) {
-        Kind::GeometryCollection => with_shapes(alloc, rings, member("geometries", value)?),
-        _ => with_shape(alloc, rings, value),
+        Kind::GeometryCollection => with_shapes(alloc, polygons, member("geometries", value)?),
+        _ => with_shape(alloc, polygons, value),
     }
 }
 
-/// The rings, and those of a feature.
-fn with_feature(alloc: Global, rings: Vec<Ring>, value: &Value<'_>) -> Result<Vec<Ring>, PolyError>
-    ensures { ReadsText (with_feature (map places_of rings.items) (value_view value.now))
-        (result_map_both (λ rings. map places_of rings.items) (λ e. e) result) }
+/// The polygons, and those of a feature.
+fn with_feature(
+    alloc: Global,
+    polygons: Vec<Vec<Ring>>,
+    value: &Value<'_>,
+) -> Result<Vec<Vec<Ring>>, PolyError>
+    ensures { ReadsText (with_feature (map rings_of polygons.items) (value_view value.now))
+        (result_map_both (λ polygons. map rings_of polygons.items) (λ e. e) result) }
 {
     match kind_of(value) {
-        Kind::Feature => with_geometry(alloc, rings, member("geometry", value)?),
+        Kind::Feature => with_geometry(alloc, polygons, member("geometry", value)?),
         _ => Err(refused(PolyPlace::Text, PolyReason::Shape)),
     }
 }
 
-/// The rings, and those of features.
+/// The polygons, and those of features.
 fn with_features(
     alloc: Global,
-    mut rings: Vec<Ring>,
+    mut polygons: Vec<Vec<Ring>>,
     value: &Value<'_>,
-) -> Result<Vec<Ring>, PolyError>
-    ensures { ReadsText (each with_feature (map places_of rings.items) (value_view value.now))
-        (result_map_both (λ rings. map places_of rings.items) (λ e. e) result) }
+) -> Result<Vec<Vec<Ring>>, PolyError>
+    ensures { ReadsText (each with_feature (map rings_of polygons.items) (value_view value.now))
+        (result_map_both (λ polygons. map rings_of polygons.items) (λ e. e) result) }
 {
     for item in items_in(value)? {
-        rings = with_feature(alloc, rings, item)?;
+        polygons = with_feature(alloc, polygons, item)?;
     }
-    Ok(rings)
+    Ok(polygons)
 }
 
-/// The rings of all that the text has.
-fn rings_in(alloc: Global, value: &Value<'_>) -> Result<Vec<Ring>, PolyError>
+/// The polygons of all that the text has.
+fn polygons_in(alloc: Global, value: &Value<'_>) -> Result<Vec<Vec<Ring>>, PolyError>
     ensures { ReadsText (document_by (kind_of (value_view value.now)) (value_view value.now))
-        (result_map_both (λ rings. map places_of rings.items) (λ e. e) result) }
+        (result_map_both (λ polygons. map rings_of polygons.items) (λ e. e) result) }
 {
-    let rings = Vec::new(alloc);
+    let polygons = Vec::new(alloc);
     match kind_of(value) {
-        Kind::FeatureCollection => with_features(alloc, rings, member("features", value)?),
-        Kind::Feature => with_feature(alloc, rings, value),
-        _ => with_geometry(alloc, rings, value),
+        Kind::FeatureCollection => with_features(alloc, polygons, member("features", value)?),
+        Kind::Feature => with_feature(alloc, polygons, value),
+        _ => with_geometry(alloc, polygons, value),
     }
 }
 
-/// The rings, if there is one.
-fn if_some(rings: Vec<Ring>) -> Result<Vec<Ring>, PolyError>
-    ensures { ReadsText (if_some (map places_of rings.items))
-        (result_map_both (λ rings. map places_of rings.items) (λ e. e) result) }
+/// The polygons, if there is one.
+fn if_some(polygons: Vec<Vec<Ring>>) -> Result<Vec<Vec<Ring>>, PolyError>
+    ensures { ReadsText (if_some (map rings_of polygons.items))
+        (result_map_both (λ polygons. map rings_of polygons.items) (λ e. e) result) }
 {
-    if rings.is_empty() {
+    if polygons.is_empty() {
         return Err(refused(PolyPlace::Text, PolyReason::Empty));
     }
-    Ok(rings)
+    Ok(polygons)
 }
 
-/// The rings of a text of GeoJSON.
-pub(crate) fn read_geojson(alloc: Global, text: &str) -> Result<Vec<Ring>, PolyError>
-    ensures { ReadsText (geojson_rings (document text.now))
-        (result_map_both (λ rings. map places_of rings.items) (λ e. e) result) }
+/// The polygons of a text of GeoJSON.
+pub(crate) fn read_geojson(alloc: Global, text: &str) -> Result<Vec<Vec<Ring>>, PolyError>
+    ensures { ReadsText (geojson_polygons (document text.now))
+        (result_map_both (λ polygons. map rings_of polygons.items) (λ e. e) result) }
 {
     let mut scratch = Scratch::new(alloc);
     match Value::parse(alloc, text, &mut scratch) {
-        Ok(value) => if_some(rings_in(alloc, &value)?),
+        Ok(value) => if_some(polygons_in(alloc, &value)?),
         Err(Error::OutOfMemory) => Err(PolyError::Memory),
         Err(_) => Err(refused(PolyPlace::Text, PolyReason::Json)),
     }

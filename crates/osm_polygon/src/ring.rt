@@ -10,6 +10,14 @@ use crate::place::Place;
 use osm_box::BoundingBox;
 use std::alloc::{AllocError, Global};
 
+/// A box that has no place.
+pub(crate) const NO_BOX: BoundingBox = BoundingBox {
+    left: 180_000_000_000,
+    bottom: 90_000_000_000,
+    right: -180_000_000_000,
+    top: -90_000_000_000,
+};
+
 /// A ring: its places in order. An edge joins the last to the first, whether they are the same place or not.
 #[derive(Debug, Drop)]
 pub struct Ring {
@@ -66,12 +74,7 @@ fn widen(area: BoundingBox, place: Place) -> BoundingBox
 pub(crate) fn bounds_of(edges: &[Edge]) -> BoundingBox
     ensures { result ≡ box_round (map side_of edges.now) }
 {
-    let mut area = BoundingBox {
-        left: 180_000_000_000,
-        bottom: 90_000_000_000,
-        right: -180_000_000_000,
-        top: -90_000_000_000,
-    };
+    let mut area = NO_BOX;
     let mut rest = edges;
     'edges: while let Some((edge, more)) = rest.split_first() {
         area = widen(area, edge.to);

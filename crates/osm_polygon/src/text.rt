@@ -1,10 +1,12 @@
 //! The text of a polygon: GeoJSON, or a .poly file.
 
-ghost use Rattle.std.specs.Prelude.{◌≡◌, map};
+ghost use Rattle.std.specs.Prelude.{◌≡◌, ◌∷◌, [], Ok, map};
 ghost use Rattle.std.specs.Result.{result_map_both};
+ghost use Rattle.osm_polygon.specs.GeoJson.{and_then};
+ghost use Rattle.osm_polygon.specs.PolyFile.{poly_rings};
 ghost use Rattle.osm_polygon.specs.Readings.{ReadsText};
-ghost use Rattle.osm_polygon.specs.RingPlaces.{places_of};
-ghost use Rattle.osm_polygon.specs.Texts.{is_geojson, rings_of_text};
+ghost use Rattle.osm_polygon.specs.RingPlaces.{rings_of};
+ghost use Rattle.osm_polygon.specs.Texts.{is_geojson, polygons_of_text};
 
 use crate::fault::PolyError;
 use crate::geojson::read_geojson;
@@ -19,19 +21,30 @@ fn is_geojson(text: &str) -> bool
     text.trim_start().starts_with('{')
 }
 
-/// The rings of the polygon with this text, in their order, and the places of each in theirs. The text is GeoJSON if it begins with `{`,
-/// after blanks or none, and otherwise that of a .poly file, in which a `!` before a ring's name is part of the name.
+/// The polygon of a .poly file, by its rings.
+fn poly_polygon(alloc: Global, text: &str) -> Result<Vec<Vec<Ring>>, PolyError>
+    ensures { ReadsText (and_then (poly_rings text.now) (λ rings. Ok (rings ∷ [])))
+        (result_map_both (λ polygons. map rings_of polygons.items) (λ e. e) result) }
+{
+    let rings = read_poly(alloc, text)?;
+    let mut polygons = Vec::new(alloc);
+    polygons.push(rings)?;
+    Ok(polygons)
+}
+
+/// The polygons of this text, in their order, each by its rings. The text is GeoJSON if it begins with `{`, after blanks or none, and otherwise
+/// that of a .poly file. All rings of a .poly file are one polygon, and a `!` before a ring's name is part of the name.
 ///
 /// # Errors
 ///
 /// `Refused` with the first fault of the text, or `Memory` if memory is refused.
-#[tactic(auto, unfolding(crate::specs::Texts::rings_of_text))]
-pub fn read_rings(alloc: Global, text: &str) -> Result<Vec<Ring>, PolyError>
-    ensures { ReadsText (rings_of_text text.now)
-        (result_map_both (λ rings. map places_of rings.items) (λ e. e) result) }
+#[tactic(auto, unfolding(crate::specs::Texts::polygons_of_text))]
+pub fn read_polygons(alloc: Global, text: &str) -> Result<Vec<Vec<Ring>>, PolyError>
+    ensures { ReadsText (polygons_of_text text.now)
+        (result_map_both (λ polygons. map rings_of polygons.items) (λ e. e) result) }
 {
     if is_geojson(text) {
         return read_geojson(alloc, text);
     }
-    read_poly(alloc, text)
+    poly_polygon(alloc, text)
 }

@@ -1,7 +1,7 @@
 -- Why a command fails, by what happened.
 use Rattle.std.specs.Prelude.{◌≡◌, ◌⊎◌, ℕ, ◌+◌, ◌<◌, List, [], ◌∷◌, ◌++◌, length, true, false, Option, Err}
 use Rattle.osm_polygon.specs.declared.fault.PolyFault.{PolyFault}
-use Rattle.osm_polygon.specs.Texts.{rings_of_text}
+use Rattle.osm_polygon.specs.Texts.{polygons_of_text}
 use Rattle.pbf_wire.specs.declared.fault.Fault.{Fault}
 use Rattle.pbf_frame.specs.Devices.{IsAtEnd}
 use Rattle.pbf_frame.specs.Verdict.{Verdict, judged_known}
@@ -56,7 +56,7 @@ FailsAsThere _ = ⊥
 
 -- the text that was read is no polygon, by this fault
 abbrev pub FailsAsPolygon : PolyFault → Event → Type 0
-FailsAsPolygon fault (text_read path text) = rings_of_text text ≡ Err fault
+FailsAsPolygon fault (text_read path text) = polygons_of_text text ≡ Err fault
 FailsAsPolygon fault _ = ⊥
 
 abbrev pub FailsToRead : Event → Type 0

@@ -5,9 +5,9 @@ use Rattle.std.specs.Str.{bytes_eq}
 use Rattle.std.specs.String.{string_bytes}
 use Rattle.clap.specs.Words.{Text, subcommand_of, takes}
 use Rattle.osm_area.specs.Area.{AreaSpec, box_area}
-use Rattle.osm_polygon.specs.Polygon.{Point, polygon_area}
-use Rattle.osm_polygon.specs.Texts.{rings_of_text}
-use Rattle.osm_polygon.specs.Rings.{polygon_of}
+use Rattle.osm_polygon.specs.Polygon.{Rings}
+use Rattle.osm_polygon.specs.Polygons.{polygons_area, polygons_of}
+use Rattle.osm_polygon.specs.Texts.{polygons_of_text}
 use Rattle.osm_text.specs.Digests.{digest_line, hex_byte}
 use Rattle.sha2.specs.Sha256.{sha256}
 use Rattle.pbf_block.specs.declared.counts.Counts.{Counts}
@@ -165,11 +165,11 @@ pub record WritesCounts (m : Manner) (task : Task) (files : Files) (counts : Cou
 abbrev pub Writes : Manner → Task → Files → List Event → Type 0
 Writes m task files events = (counts : Counts) × WritesCounts m task files counts events
 
--- what is cut out: a box, or the polygon of a text that was read
+-- what is cut out: a box, or the polygons of a text that was read
 abbrev pub MeansArea : Region → List Event → AreaSpec → Type 0
 MeansArea (region.Box box) events area = (events ≡ []) × (area ≡ box_area box)
-MeansArea (region.Polygon path) events area = (text : List ℕ) × (rings : List (List Point))
-    × (events ≡ text_read path.now text ∷ []) × (rings_of_text text ≡ Ok rings) × (area ≡ polygon_area (polygon_of rings))
+MeansArea (region.Polygon path) events area = (text : List ℕ) × (polygons : List Rings)
+    × (events ≡ text_read path.now text ∷ []) × (polygons_of_text text ≡ Ok polygons) × (area ≡ polygons_area (polygons_of polygons))
 
 abbrev pub extract_task : (parents : Bool) → AreaSpec → Task
 extract_task true area = extracting_parents area

@@ -1,9 +1,9 @@
 //! What is done with IN, opened for each pass that it takes.
 
 ghost use Rattle.std.specs.Prelude.{◌≡◌, ◌∷◌, ℕ, [], List, length, map, IfOk, IfErr, IfSome, Ok, true};
-ghost use Rattle.osm_polygon.specs.Polygon.{Point};
-ghost use Rattle.osm_polygon.specs.Texts.{rings_of_text};
-ghost use Rattle.osm_polygon.specs.Rings.{polygon_of};
+ghost use Rattle.osm_polygon.specs.Polygon.{Rings};
+ghost use Rattle.osm_polygon.specs.Polygons.{polygons_area, polygons_of};
+ghost use Rattle.osm_polygon.specs.Texts.{polygons_of_text};
 ghost use Rattle.pbfcut_program.specs.Devices.{AreFresh, CloseAll, Fronts, WorksOn};
 ghost use Rattle.pbfcut_program.specs.Events.{Event, text_read, then_all};
 ghost use Rattle.pbfcut_program.specs.Fails.{FailsOpening};
@@ -16,7 +16,7 @@ use crate::engine::{Engine, Halted, Report, convert, copy, extract, extract_pare
 use crate::host::{Host, TextFault};
 use crate::opening::{FourPasses, Input, ThreePasses, TwoPasses, open_four, open_three, open_two};
 use osm_box::BoundingBox;
-use osm_polygon::{Polygon, read_rings};
+use osm_polygon::{MultiPolygon, read_polygons};
 use pbf_frame::{Drain, Feed, Stop};
 use pbfcut_cli::{Ending, Region};
 use std::alloc::Global;
@@ -26,14 +26,14 @@ use std::hash::BuildHasher;
 #[derive(Drop)]
 pub(crate) enum Cut {
     Box(BoundingBox),
-    Polygon(Polygon),
+    Polygon(MultiPolygon),
 }
 
-/// The polygon of a file: GeoJSON or a `.poly` file.
-fn read_polygon<H: Host>(alloc: Global, host: &mut H, path: &str) -> Result<Polygon, Ending>
-    ensures ok { IfOk result (λ polygon. (text : List ℕ) × (rings : List (List Point))
+/// The polygons of a file: GeoJSON or a `.poly` file.
+fn read_area<H: Host>(alloc: Global, host: &mut H, path: &str) -> Result<MultiPolygon, Ending>
+    ensures ok { IfOk result (λ area. (text : List ℕ) × (polygons : List Rings)
         × (H.log host.new ≡ then_all (H.log host.old) (text_read path.now text ∷ []))
-        × (rings_of_text text ≡ Ok rings) × (polygon ≡ polygon_of rings)) }
+        × (polygons_of_text text ≡ Ok polygons) × (polygons_area area ≡ polygons_area (polygons_of polygons))) }
     ensures err { IfErr result (λ how. (events : List Event)
         × (H.log host.new ≡ then_all (H.log host.old) events) × FailsOpening how events) }
 {
@@ -42,9 +42,9 @@ fn read_polygon<H: Host>(alloc: Global, host: &mut H, path: &str) -> Result<Poly
         Err(TextFault::Memory) => return Err(Ending::Stopped(Stop::Memory)),
         Err(TextFault::Failed) => return Err(Ending::CannotOpen),
     };
-    let rings = read_rings(alloc, text.as_str())?;
-    match Polygon::new(alloc, rings.as_slice()) {
-        Ok(polygon) => Ok(polygon),
+    let polygons = read_polygons(alloc, text.as_str())?;
+    match MultiPolygon::new(alloc, polygons.as_slice()) {
+        Ok(area) => Ok(area),
         Err(_) => Err(Ending::Stopped(Stop::Memory)),
     }
 }
@@ -63,7 +63,7 @@ pub(crate) fn read_region<H: Host>(
 {
     match region {
         Region::Box(area) => Ok(Cut::Box(*area)),
-        Region::Polygon(path) => Ok(Cut::Polygon(read_polygon(alloc, host, path)?)),
+        Region::Polygon(path) => Ok(Cut::Polygon(read_area(alloc, host, path)?)),
     }
 }
 
