@@ -2,17 +2,16 @@
 
 ghost use Rattle.std.specs.Prelude.{◌≤◌, IfOk, length};
 
+use crate::existing::{is_plain, is_there};
 use crate::failure::{Noted, Target};
+use crate::part::{NotKept, Part, open_new, open_part};
 use pbf_frame::Stop;
 use pbfcut_cli::{Ending, Program};
-use std::fs::{self, File, OpenOptions};
+use std::fs::{self, File};
 use std::io::{self, BufWriter, Stdout, Write};
 
 /// The length of the buffers of OUT and of standard output.
 const OUTPUT_BUFFER: usize = 65_536;
-
-/// How many names are tried for an OUT that isn't whole: more than one only if earlier runs were killed.
-const MOST_PARTS: u32 = 1_000;
 
 /// What OUT is written to.
 #[derive(Drop)]
@@ -46,14 +45,6 @@ pub struct Place<'a> {
     pub overwrite: bool,
 }
 
-/// The name that a file has until it is whole, and the one that it gets then.
-#[derive(Drop)]
-struct Part {
-    name: String,
-    output: String,
-    overwrite: bool,
-}
-
 /// OUT as it is written; or standard output.
 #[derive(Drop)]
 pub struct Output {
@@ -62,62 +53,12 @@ pub struct Output {
     part: Option<Part>,
 }
 
-/// Why OUT doesn't get its name.
-#[derive(Clone, Copy)]
-pub enum NotKept {
-    /// Another file has it.
-    Exists,
-    /// The system says so, with its number of the reason.
-    Failed(Option<i32>),
-}
-
-/// Whether a plain file is there, and no link to one.
-fn is_plain(rt: &HostRuntime, path: &str) -> bool {
-    match fs::symlink_metadata(rt, path) {
-        Ok(metadata) => metadata.is_file(),
-        Err(_) => false,
-    }
-}
-
-/// Whether OUT can be opened for reading, unless it is a plain file that is to be replaced.
+/// Whether something has OUT's name, unless it is a plain file that is to be replaced.
 pub fn is_taken(rt: &HostRuntime, place: Place<'_>) -> bool {
     if place.overwrite && is_plain(rt, place.path) {
         return false;
     }
-    File::open(rt, place.path).is_ok()
-}
-
-/// Makes a new file. One that exists is never opened, so none is ever emptied.
-fn open_new(rt: &HostRuntime, path: &str) -> io::Result<File> {
-    OpenOptions::new()
-        .write(true)
-        .create_new(true)
-        .open(rt, path)
-}
-
-/// Makes a new file beside OUT, with its name.
-fn open_part(rt: &HostRuntime, place: Place<'_>) -> Result<(File, String), Ending> {
-    let output = place.path;
-    let replaces = place.overwrite && is_plain(rt, output);
-    if !replaces && fs::symlink_metadata(rt, output).is_ok() {
-        return Err(Ending::CannotOpen);
-    }
-    for number in 0..MOST_PARTS {
-        let Ok(part) = format!(in rt.alloc(); "{output}.{number}.part") else {
-            return Err(Ending::Stopped(Stop::Memory));
-        };
-        match open_new(rt, part.as_str()) {
-            Ok(file) => return Ok((file, part)),
-            Err(error) if error.kind() == io::ErrorKind::AlreadyExists => {}
-            Err(_) => return Err(Ending::CannotOpen),
-        }
-    }
-    Err(Ending::CannotOpen)
-}
-
-fn remove(rt: &HostRuntime, part: &str) {
-    // If it can't be removed, it is a file by a name of its own, and no OUT.
-    let _ = fs::remove_file(rt, part);
+    is_there(rt, place.path)
 }
 
 /// What OUT is written to: of pbfcut a file by its own name, of pbfcutz one by another name in the same folder.
@@ -128,15 +69,11 @@ fn open_sink(rt: &HostRuntime, place: Place<'_>) -> Result<(Sink, Option<Part>),
             Err(_) => Err(Ending::CannotOpen),
         },
         Program::Pbfcutz => {
-            let Ok(output) = String::from_str(rt.alloc(), place.path) else {
-                return Err(Ending::Stopped(Stop::Memory));
-            };
-            let (file, name) = open_part(rt, place)?;
-            let part = Part {
-                name,
-                output,
-                overwrite: place.overwrite,
-            };
+            let replaces = place.overwrite && is_plain(rt, place.path);
+            if !replaces && fs::symlink_metadata(rt, place.path).is_ok() {
+                return Err(Ending::CannotOpen);
+            }
+            let (file, part) = open_part(rt, place.path, place.overwrite)?;
             Ok((Sink::File(file), Some(part)))
         }
     }
@@ -149,7 +86,7 @@ pub fn create_output(rt: &HostRuntime, place: Place<'_>) -> Result<Output, Endin
         Ok(writer) => Ok(Output { writer, part }),
         Err(_) => {
             if let Some(part) = &part {
-                remove(rt, part.name.as_str());
+                part.remove(rt);
             }
             Err(Ending::Stopped(Stop::Memory))
         }
@@ -163,26 +100,6 @@ pub fn open_screen(rt: &HostRuntime) -> Result<Output, Ending> {
         Ok(writer) => Ok(Output { writer, part: None }),
         Err(_) => Err(Ending::Stopped(Stop::Memory)),
     }
-}
-
-/// Gives a whole file OUT's name, in place of the plain file that has it.
-fn replace(rt: &HostRuntime, part: &Part) -> Result<(), NotKept> {
-    match fs::rename(rt, part.name.as_str(), part.output.as_str()) {
-        Ok(()) => Ok(()),
-        Err(error) => Err(NotKept::Failed(error.raw_os_error())),
-    }
-}
-
-/// Gives a whole file OUT's name, unless another file has it meanwhile. A file system without links moves it.
-fn name(rt: &HostRuntime, part: &Part) -> Result<(), NotKept> {
-    let output = part.output.as_str();
-    let Err(error) = fs::hard_link(rt, part.name.as_str(), output) else {
-        return Ok(());
-    };
-    if error.kind() == io::ErrorKind::AlreadyExists || fs::symlink_metadata(rt, output).is_ok() {
-        return Err(NotKept::Exists);
-    }
-    replace(rt, part)
 }
 
 impl Output {
@@ -225,18 +142,19 @@ impl Output {
             return Ok(());
         };
         let kept = match self.sync() {
-            Ok(()) if part.overwrite && is_plain(rt, part.output.as_str()) => replace(rt, part),
-            Ok(()) => name(rt, part),
-            Err(error) => Err(NotKept::Failed(error.raw_os_error())),
+            Ok(()) => part.keep(rt),
+            Err(error) => Err(NotKept::failed(&error)),
         };
-        remove(rt, part.name.as_str());
+        if kept.is_err() {
+            part.remove(rt);
+        }
         kept
     }
 
     /// OUT isn't whole, and won't be: pbfcut leaves it to its user, pbfcutz removes it.
     pub fn discard(&self, rt: &HostRuntime) {
         if let Some(part) = &self.part {
-            remove(rt, part.name.as_str());
+            part.remove(rt);
         }
     }
 }
