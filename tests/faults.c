@@ -8,7 +8,7 @@
      write-E      write N fails, where E is EIO, EINTR or ENOSPC
      short        each read and write moves at most N bytes
      sync-E       from sync N on all fail, where E is EIO, ENOSPC, EDQUOT or EINVAL
-     close-E      each close of a file fails, after it was closed
+     close-E      close N fails, when the file is closed
      link-E       each link fails, as on a file system that has none
      log          a letter for each call goes to FD: f and d for a sync of a file and of a folder, l, r and u for link, rename and unlink,
                   p for what is printed on standard output
@@ -34,7 +34,7 @@ void *__libc_realloc(void *, size_t);
 void *__libc_memalign(size_t, size_t);
 
 static char sort[32] = "";
-static unsigned long number, requests, reads, writes, syncs;
+static unsigned long number, requests, reads, writes, syncs, closes;
 static int seen_file = -1, is_memory, is_from, is_short, is_slow, is_log, read_error, write_error, sync_error, close_error, link_error;
 
 static int error_of(const char *name) {
@@ -159,7 +159,7 @@ int fsync(int file) {
 
 int close(int file) {
   int closed = syscall(SYS_close, file);
-  if (close_error == 0) return closed;
+  if (close_error == 0 || ++closes != number) return closed;
   see();
   errno = close_error;
   return -1;

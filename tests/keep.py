@@ -8,7 +8,6 @@ set up is left out for other users.
 """
 
 import os
-import shutil
 import subprocess
 import sys
 import tempfile
@@ -31,6 +30,9 @@ class Bench:
     def __init__(self, program: str, folder: str, elsewhere: str):
         self.folder, self.elsewhere, self.count = folder, elsewhere, 0
         self.names = {}
+        # another user runs it too
+        os.chmod(elsewhere, 0o755)
+        os.chmod(folder, 0o755)
         for name in "pbfcut", "pbfcutz":
             self.names[name] = os.path.join(elsewhere, name)
             os.symlink(os.path.abspath(program), self.names[name])
@@ -114,9 +116,12 @@ def together(bench: Bench):
                 if overwrite and number % 2:
                     bench.write("out", OLD)
                 ended, out = started_together(bench, number, overwrite, fault)
-                taken = 0 if overwrite else number - 1
-                wanted = [(0, b"")] * (number - taken) + [(3, b"pbfcutz: OUT exists\n")] * taken
-                expect(f"{number} runs at once, overwrite {overwrite}, {fault!r}: how they ended", wanted, ended)
+                # a run that looked before OUT had its name, and made its part after that, can't open it
+                lost = {(3, b"pbfcutz: OUT exists\n"), (3, b"pbfcutz: cannot open\n")}
+                well = ended.count((0, b""))
+                what = f"{number} runs at once, overwrite {overwrite}, {fault!r}: {ended}"
+                expect(what, number if overwrite else 1, well)
+                expect(what, True, set(ended[well:]) <= lost)
                 expect("OUT is whole", True, out in answers)
 
 
@@ -129,7 +134,7 @@ def parts(bench: Bench):
         bench.count += 1
         environment = {"LD_PRELOAD": bench.library, "FAULTS": fault} if fault and bench.library else {}
         env = [f"{name}={value}" for name, value in environment.items()]
-        run = subprocess.Popen(["sh", "-c", script, "sh", "env", *env, bench.names["pbfcutz"], *words, "in", "out"], cwd=bench.folder)
+        run = subprocess.Popen(["sh", "-c", script, "sh", "env", *env, bench.names["pbfcutz"], *words, "in", "out"], cwd=bench.folder, stdout=subprocess.DEVNULL)
         expect(f"{words} beside parts of others", 0, run.wait(timeout=SECONDS))
         wanted = {"out.0.part", "out.1.0.part", f"out.{run.pid}.0.part", f"out.{run.pid}.1.part"}
         expect(f"the files after {words}", {"out"} | wanted, bench.left())
@@ -138,12 +143,50 @@ def parts(bench: Bench):
             expect(f"the part of another run {name}", b"left\n", bench.take(name))
 
 
+def logged(bench: Bench, words: list, name: str) -> str:
+    """The calls of a run that sync, name and print, in their order: a letter each, as tests/faults.c has them."""
+    reading, writing = os.pipe()
+    try:
+        expect(f"{name} {words}", 0, bench.run(words, name, f"log 0 {writing}", pass_fds=(writing,))[0])
+        os.close(writing)
+        return os.read(reading, 1_000).decode()
+    finally:
+        os.close(reading)
+
+
+def synced(bench: Bench):
+    """The file and its folder are on the disk before OUT has its name and before the counts are printed; an error then is a failed write."""
+    if not bench.library:
+        return
+    for name, new, old in [("pbfcut", "fdp", ""), ("pbfcutz", "fdludp", "fdrdp")]:
+        words = ["extract", BOX, given(name), "out"]
+        expect(f"{name}: the order of its calls", new, logged(bench, words, name))
+        if old:
+            expect(f"{name}: the order of its calls with --overwrite", old, logged(bench, [*words, "-O"], name))
+        expect("OUT", bench.cut[name], bench.take("out"))
+        failed = (3, "", f"{name}: write failed\n")
+        for number, kept in [(1, name == "pbfcut"), (2, name == "pbfcut")] + [(3, True)] * (name == "pbfcutz"):
+            for error in "EIO", "ENOSPC", "EDQUOT":
+                expect(f"{name}: sync {number} fails", failed, bench.run(words, name, f"sync-{error} {number} -1"))
+                expect(f"{name}: what is left after sync {number}", {"out"} if kept else set(), bench.left())
+                if kept:
+                    expect("OUT", bench.cut[name], bench.take("out"))
+        # no such sync, as of some file systems; and close says what sync has said
+        for fault in ["sync-EINVAL 1 -1", "sync-EPERM 2 -1", *(f"close-EIO {number} -1" for number in range(1, 10))]:
+            expect(f"{name}: {fault}", (0, ""), bench.run(words, name, fault)[::2])
+            expect("OUT", bench.cut[name], bench.take("out"))
+    for error in "EIO", "ENOSPC":
+        bench.write("out", OLD)
+        expect("a sync that fails", 3, bench.run(["extract", "-O", BOX, "in", "out"], fault=f"sync-{error} 1 -1")[0])
+        expect("the file that was there", OLD, bench.take("out"))
+
+
 def main():
     if len(sys.argv) != 2 or not os.access(sys.argv[1], os.X_OK):
         sys.exit(__doc__)
     with tempfile.TemporaryDirectory(prefix="pbfcut-keep-") as folder, tempfile.TemporaryDirectory() as elsewhere:
         bench = Bench(sys.argv[1], folder, elsewhere)
-        for part in [parts, together]:
+        for part in [parts, together, synced]:
             part(bench)
             expect(f"what {part.__name__} leaves", set(), bench.left())
     print(f"tests/keep.py: {bench.count} runs ended as they have to")

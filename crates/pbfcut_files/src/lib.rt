@@ -1,6 +1,7 @@
 //! What the program's host does with files and a terminal: IN and OUT, the report of progress, and hints.
 #![tactic(auto)]
 
+mod disk;
 mod existing;
 mod failure;
 mod files;

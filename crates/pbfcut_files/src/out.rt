@@ -2,6 +2,7 @@
 
 ghost use Rattle.std.specs.Prelude.{◌≤◌, IfOk, length};
 
+use crate::disk::{open_folder, sync_file, sync_folder};
 use crate::existing::{is_plain, is_there};
 use crate::failure::{Noted, Target};
 use crate::part::{NotKept, Part, open_new, open_part};
@@ -49,6 +50,8 @@ pub struct Place<'a> {
 #[derive(Drop)]
 pub struct Output {
     writer: BufWriter<Noted<Sink>>,
+    /// OUT's folder, if it may be read.
+    folder: Option<File>,
     /// If it has another name than OUT's own.
     part: Option<Part>,
 }
@@ -83,7 +86,11 @@ fn open_sink(rt: &HostRuntime, place: Place<'_>) -> Result<(Sink, Option<Part>),
 pub fn create_output(rt: &HostRuntime, place: Place<'_>) -> Result<Output, Ending> {
     let (sink, part) = open_sink(rt, place)?;
     match BufWriter::with_capacity(rt.alloc(), OUTPUT_BUFFER, Noted::new(sink)) {
-        Ok(writer) => Ok(Output { writer, part }),
+        Ok(writer) => Ok(Output {
+            writer,
+            folder: open_folder(rt, place.path),
+            part,
+        }),
         Err(_) => {
             if let Some(part) = &part {
                 part.remove(rt);
@@ -97,7 +104,11 @@ pub fn create_output(rt: &HostRuntime, place: Place<'_>) -> Result<Output, Endin
 pub fn open_screen(rt: &HostRuntime) -> Result<Output, Ending> {
     let sink = Sink::Screen(rt.stdout());
     match BufWriter::with_capacity(rt.alloc(), OUTPUT_BUFFER, Noted::new(sink)) {
-        Ok(writer) => Ok(Output { writer, part: None }),
+        Ok(writer) => Ok(Output {
+            writer,
+            folder: None,
+            part: None,
+        }),
         Err(_) => Err(Ending::Stopped(Stop::Memory)),
     }
 }
@@ -120,12 +131,12 @@ impl Output {
         self.writer.get_ref().code()
     }
 
-    /// Has the system write the file to its disk.
+    /// Has the system write the file and its folder to the disk.
     fn sync(&self) -> io::Result<()> {
-        match self.writer.get_ref().inner() {
-            Sink::File(file) => file.sync_all(),
-            Sink::Screen(_) => Ok(()),
+        if let Sink::File(file) = self.writer.get_ref().inner() {
+            sync_file(file)?;
         }
+        sync_folder(self.folder.as_ref())
     }
 
     /// What it is.
@@ -136,19 +147,23 @@ impl Output {
         }
     }
 
-    /// OUT is whole: it is on the disk, by its name.
+    /// OUT is whole: it is on the disk, by its name. On `Err` pbfcutz has made none, unless it couldn't sync the folder once OUT had its name.
     pub fn keep(&self, rt: &HostRuntime) -> Result<(), NotKept> {
+        if let Err(error) = self.sync() {
+            self.discard(rt);
+            return Err(NotKept::failed(&error));
+        }
         let Some(part) = &self.part else {
             return Ok(());
         };
-        let kept = match self.sync() {
-            Ok(()) => part.keep(rt),
-            Err(error) => Err(NotKept::failed(&error)),
-        };
-        if kept.is_err() {
+        if let Err(fault) = part.keep(rt) {
             part.remove(rt);
+            return Err(fault);
         }
-        kept
+        match sync_folder(self.folder.as_ref()) {
+            Ok(()) => Ok(()),
+            Err(_) => Err(NotKept::Failed(None)),
+        }
     }
 
     /// OUT isn't whole, and won't be: pbfcut leaves it to its user, pbfcutz removes it.
