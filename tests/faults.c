@@ -7,16 +7,25 @@
      read-E       read N fails, where E is EIO or EINTR
      write-E      write N fails, where E is EIO, EINTR or ENOSPC
      short        each read and write moves at most N bytes
+     sync-E       from sync N on all fail, where E is EIO, ENOSPC, EDQUOT or EINVAL
+     close-E      close N fails, when the file is closed
+     link-E       each link fails, as on a file system that has none
+     log          a letter for each call goes to FD: f and d for a sync of a file and of a folder, l, r and u for link, rename and unlink,
+                  p for what is printed on standard output
+     slow         each link, rename and unlink waits for up to N milliseconds, before and after it
    Reads of files 0 to 2 and writes to file 2 are let alone. */
 
 #define _GNU_SOURCE
 #include <errno.h>
+#include <fcntl.h>
 #include <stdio.h>
 #include <stdlib.h>
 #include <string.h>
+#include <sys/stat.h>
 #include <sys/syscall.h>
 #include <sys/types.h>
 #include <sys/uio.h>
+#include <time.h>
 #include <unistd.h>
 
 void *__libc_malloc(size_t);
@@ -25,13 +34,22 @@ void *__libc_realloc(void *, size_t);
 void *__libc_memalign(size_t, size_t);
 
 static char sort[32] = "";
-static unsigned long number, requests, reads, writes;
-static int seen_file = -1, is_memory, is_from, is_short, read_error, write_error;
+static unsigned long number, requests, reads, writes, syncs, closes;
+static int seen_file = -1, is_memory, is_from, is_short, is_slow, is_log, read_error, write_error, sync_error, close_error, link_error;
 
 static int error_of(const char *name) {
   if (strcmp(name, "EIO") == 0) return EIO;
   if (strcmp(name, "EINTR") == 0) return EINTR;
+  if (strcmp(name, "EINVAL") == 0) return EINVAL;
+  if (strcmp(name, "EDQUOT") == 0) return EDQUOT;
+  if (strcmp(name, "EPERM") == 0) return EPERM;
   return ENOSPC;
+}
+
+/* The error that the sort names behind these letters, or none. */
+static int error_behind(const char *start) {
+  size_t length = strlen(start);
+  return strncmp(sort, start, length) == 0 ? error_of(sort + length) : 0;
 }
 
 __attribute__((constructor)) static void begin(void) {
@@ -39,14 +57,24 @@ __attribute__((constructor)) static void begin(void) {
   if (words == NULL || sscanf(words, "%31s %lu %d", sort, &number, &seen_file) != 3) return;
   is_from = strcmp(sort, "memory-from") == 0;
   is_short = strcmp(sort, "short") == 0;
-  if (strncmp(sort, "read-", 5) == 0) read_error = error_of(sort + 5);
-  if (strncmp(sort, "write-", 6) == 0) write_error = error_of(sort + 6);
+  is_slow = strcmp(sort, "slow") == 0;
+  is_log = strcmp(sort, "log") == 0;
+  read_error = error_behind("read-");
+  write_error = error_behind("write-");
+  sync_error = error_behind("sync-");
+  close_error = error_behind("close-");
+  link_error = error_behind("link-");
   is_memory = is_from || strcmp(sort, "memory") == 0;
 }
 
 static void see(void) {
   if (seen_file >= 0) syscall(SYS_write, seen_file, "x", 1);
   seen_file = -1;
+}
+
+/* Notes a call. */
+static void note(const char *letter) {
+  if (is_log) syscall(SYS_write, seen_file, letter, 1);
 }
 
 /* Whether this request for memory is to be refused. */
@@ -108,6 +136,7 @@ ssize_t readv(int file, const struct iovec *parts, int count) {
 
 ssize_t write(int file, const void *from, size_t length) {
   if (file == 2) return syscall(SYS_write, file, from, length);
+  if (file == 1) note("p");
   return fails(write_error, &writes) ? -1 : syscall(SYS_write, file, from, moved(length));
 }
 
@@ -117,4 +146,61 @@ ssize_t writev(int file, const struct iovec *parts, int count) {
   if (file != 2 && fails(write_error, &writes)) return -1;
   if (is_short && file != 2 && count > 0) return syscall(SYS_write, file, parts[0].iov_base, moved(parts[0].iov_len));
   return syscall(SYS_writev, file, parts, count);
+}
+
+int fsync(int file) {
+  struct stat seen;
+  note(fstat(file, &seen) == 0 && S_ISDIR(seen.st_mode) ? "d" : "f");
+  if (sync_error == 0 || ++syncs < number) return syscall(SYS_fsync, file);
+  see();
+  errno = sync_error;
+  return -1;
+}
+
+int close(int file) {
+  int closed = syscall(SYS_close, file);
+  if (close_error == 0 || ++closes != number) return closed;
+  see();
+  errno = close_error;
+  return -1;
+}
+
+/* Waits for a time that hangs on the process and on the clock. */
+static void wait_some(void) {
+  if (!is_slow) return;
+  see();
+  struct timespec now;
+  clock_gettime(CLOCK_MONOTONIC, &now);
+  unsigned long span = ((unsigned long)now.tv_nsec / 1000 * 7919 + (unsigned long)getpid() * 104729) % (number * 1000 + 1);
+  struct timespec wait = {0, (long)span * 1000};
+  nanosleep(&wait, NULL);
+}
+
+/* What a call answers, with a wait before it and one after it. */
+#define SLOWLY(call)     \
+  wait_some();           \
+  int done = (call);     \
+  int error = errno;     \
+  wait_some();           \
+  errno = error;         \
+  return done
+
+int link(const char *from, const char *to) {
+  note("l");
+  if (link_error != 0) {
+    see();
+    errno = link_error;
+    return -1;
+  }
+  SLOWLY((int)syscall(SYS_linkat, AT_FDCWD, from, AT_FDCWD, to, 0));
+}
+
+int rename(const char *from, const char *to) {
+  note("r");
+  SLOWLY((int)syscall(SYS_renameat2, AT_FDCWD, from, AT_FDCWD, to, 0));
+}
+
+int unlink(const char *path) {
+  note("u");
+  SLOWLY((int)syscall(SYS_unlinkat, AT_FDCWD, path, 0));
 }

@@ -1,5 +1,5 @@
 #!/usr/bin/env python3
-"""Runs the built program with each request for memory refused, and each read and write failing, in turn.
+"""Runs the built program with each request for memory refused, and each read, write, sync and close failing, in turn.
 
 usage: tests/faults.py PROGRAM [--all]
 
@@ -52,6 +52,8 @@ SORTS = [
     ("write-EIO", WRITE, False),
     ("write-ENOSPC", WRITE, False),
     ("write-EINTR", WRITE, True),
+    ("sync-EIO", WRITE, False),
+    ("close-EIO", WRITE, True),
 ]
 LENGTHS = (1, 2, 3, 7, 64, 4_095)
 

@@ -295,7 +295,8 @@ def signals(bench: Bench):
         left = set(os.listdir(bench.folder)) - before
         is_whole = process.returncode == 0
         ended[is_whole] += 1
-        expect(f"turn {turn}: {process.returncode} and {left}", True, left == {"out"} if is_whole else left <= {"out", "out.0.part"})
+        may_stay = {"out", f"out.{process.pid}.0.part"}
+        expect(f"turn {turn}: {process.returncode} and {left}", True, left == {"out"} if is_whole else left <= may_stay)
         if "out" in left:
             expect("OUT", whole, bench.read("out"))
         for name in left:

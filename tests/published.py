@@ -330,7 +330,7 @@ def whole_or_absent(bench: Bench):
     yield "a whole OUT", (0, ["in", "out"]), ends({"in": sample}, cut)
     yield "a refused IN", (1, ["in"]), ends({"in": sample[:-1]}, cut)
     yield "an OUT that is there", (3, ["in", "out"]), ends({"in": sample, "out": b"kept"}, cut)
-    yield "what a killed run left", (0, ["in", "out", "out.0.part"]), ends({"in": sample, "out.0.part": b"left"}, cut)
+    yield "what a killed run left", (0, ["in", "out", "out.1.0.part"]), ends({"in": sample, "out.1.0.part": b"left"}, cut)
     yield "a disk that is full", (3, ["in"]), ends({"in": sample}, ["convert", "--raw", "in", "out"], preexec_fn=limited)
 
 
