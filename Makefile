@@ -1,5 +1,6 @@
-# What people type. PREFIX is where it is installed, DESTDIR a folder above it for packagers.
-PREFIX = /usr/local
+# What people type. PREFIX, or prefix, is where it is installed, DESTDIR a folder above it for packagers.
+prefix = /usr/local
+PREFIX = $(prefix)
 
 all:
 	@./pbfcut --version

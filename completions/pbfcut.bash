@@ -19,6 +19,16 @@ _pbfcut() {
     _pbfcut_words "$word" "$commands help --help --version"
     return
   fi
+  # The shell makes a word of its own of the = between an option and its value.
+  local option=${COMP_WORDS[COMP_CWORD - 1]}
+  [ "$option" != = ] || option=${COMP_WORDS[COMP_CWORD - 2]}
+  [ "$word" != = ] || word=
+  case $command:$option in
+    extract:--box | extract:--bbox | extract:-b)
+      COMPREPLY=()
+      return
+      ;;
+  esac
   case $command:$word in
     extract:-*) _pbfcut_words "$word" "--box= --polygon= --parents --progress --digests $raw $files --help" ;;
     convert:-*) _pbfcut_words "$word" "--progress --digests $raw $files --help" ;;

@@ -27,7 +27,7 @@ KIT = "rattle-kit-0 logic 0"
 
 # All that a user's machine must have: bash, gzip, sha256sum and other basic tools; no Python and no toolchain.
 TOOLS = ["bash", "env", "awk", "cat", "chmod", "cmp", "cp", "cut", "date", "df", "dirname", "find", "gzip", "ln", "mkdir", "mktemp", "mv", "readlink",
-         "rm", "sed", "sha256sum", "sort", "tail", "uname", "xargs"]
+         "rm", "rmdir", "sed", "sha256sum", "sort", "tail", "uname", "xargs"]
 
 NO_TOOLCHAIN = "the Rattle toolchain, which proves and builds it, is not here"
 ANNOUNCED = "pbfcut: running the program of release/, proved and built from these sources on 2026-01-02 (SHA-256 "
@@ -63,7 +63,7 @@ class Copy:
         os.mkdir(self.bin)
         for name in TOOLS:
             os.symlink(shutil.which(name), os.path.join(self.bin, name))
-        for name in ["pbfcut", "install", "tools", "completions", "docs/pbfcut.1", "docs/pbfcutz.1"]:
+        for name in ["pbfcut", "install", "tools", "completions", "README.md", "docs/USING.md", "docs/pbfcut.1", "docs/pbfcutz.1"]:
             copy = shutil.copytree if os.path.isdir(os.path.join(TOP, name)) else shutil.copy
             os.makedirs(os.path.dirname(self.path(name)), exist_ok=True)
             copy(os.path.join(TOP, name), self.path(name))
@@ -171,6 +171,7 @@ def other_sources(folder: str):
     expect("back at the sources of the release", (0, "handed over\n"), copy.pbfcut()[:2])
     write(copy.path("crates/pbf_wire/specs/New.antt"), "-- a new definition\n")
     expect("a new file of definitions", (0, "built\n"), copy.pbfcut()[:2])
+    other_toolchain(folder)
     for content in ["", "sha256: 12\nsources: 34\n", "\0\xff"]:
         copy = Copy(folder, b"#!/bin/sh\necho handed over\n")
         write(copy.path(MANIFEST), content.encode("latin-1"))
@@ -178,6 +179,19 @@ def other_sources(folder: str):
         expect(f"the manifest {content!r}", (127, "", True), (status, out, "release/MANIFEST cannot be read" in errors))
         copy.toolchain()
         expect(f"the manifest {content!r}, with a toolchain", (0, "built\n"), copy.pbfcut()[:2])
+
+
+def other_toolchain(folder: str):
+    """Sources that were changed, and a toolchain that proves in another way: nothing is begun unasked."""
+    copy = Copy(folder, b"#!/bin/sh\necho handed over\n")
+    write(copy.path(SOURCE), "// a source that was changed\n")
+    copy.toolchain("rattle-kit-1 logic 1")
+    status, out, errors = copy.pbfcut("check", "x")
+    expect("another toolchain", (127, "", False), (status, out, "building\n" in errors))
+    expect("what is said of it", True, f"this toolchain is 'rattle-kit-1 logic 1', and the sources are proved with '{KIT}'" in errors)
+    expect("help, with another toolchain", (0, "handed over\n"), copy.pbfcut("--help")[:2])
+    copy.toolchain("rattle-kit-1 logic 0")
+    expect("a newer kit that proves alike", (0, "built\n"), copy.pbfcut("check", "x")[:2])
 
 
 def other_machines(folder: str):
@@ -241,7 +255,7 @@ def files_below(folder: str) -> set:
     return {os.path.relpath(os.path.join(at, name), folder) for at, _, names in os.walk(folder) for name in names}
 
 
-INSTALLED = {"bin/pbfcut", "bin/pbfcutz", "share/man/man1/pbfcut.1", "share/man/man1/pbfcutz.1",
+INSTALLED = {"bin/pbfcut", "bin/pbfcutz", "share/doc/pbfcut/README.md", "share/doc/pbfcut/USING.md", "share/man/man1/pbfcut.1", "share/man/man1/pbfcutz.1",
              "share/bash-completion/completions/pbfcut", "share/bash-completion/completions/pbfcutz", "share/zsh/site-functions/_pbfcut",
              "share/fish/vendor_completions.d/pbfcut.fish", "share/fish/vendor_completions.d/pbfcutz.fish"}
 
@@ -265,8 +279,30 @@ def installs(folder: str, program: bytes):
     home = os.path.join(copy.folder, "home")
     said = copy.run([install, home])[1]
     expect("what a shell needs", (True, True), (f'export PATH="{home}/bin:$PATH"' in said, f"fpath=({home}/share/zsh/site-functions $fpath)" in said))
+    for words in [["--help"], ["-h"]]:
+        status, out, errors = copy.run([install, *words])
+        expect(f"install {words}", (0, True, ""), (status, out.startswith("usage: ./install [--uninstall] [PREFIX]"), errors))
+    narrow = os.path.join(copy.folder, "narrow")
+    expect("install with a narrow umask", 0, copy.run(["bash", "-c", 'umask 077; exec "$0" "$1"', install, narrow])[0])
+    modes = {oct(os.stat(at).st_mode & 0o777) for at, _, _ in os.walk(narrow)}
+    expect("the modes of its folders", {"0o755"}, modes)
+    for name in INSTALLED:
+        mode = 0o755 if name.startswith("bin/") else 0o644
+        expect(f"the mode of {name}", oct(mode), oct(os.stat(os.path.join(narrow, name)).st_mode & 0o777))
+    expect("uninstall takes its own folder away", 0, copy.run([install, "--uninstall", narrow])[0])
+    expect("the folder of its pages", False, os.path.exists(os.path.join(narrow, "share/doc/pbfcut")))
     for words in [["--nonsense"], ["/a", "/b"], [""]]:
         expect(f"install {words}", 1, copy.run([install, *words], DESTDIR=root)[0])
+
+
+def prefixes(folder: str):
+    """`make install` takes PREFIX in both spellings."""
+    make = shutil.which("make")
+    if make is None:
+        return
+    for name in ["PREFIX", "prefix"]:
+        said = subprocess.run([make, "-n", "-C", TOP, "install", f"{name}={folder}/x"], stdout=subprocess.PIPE, check=True, timeout=SECONDS)
+        expect(f"make install {name}=", True, f"./install '{folder}/x'" in said.stdout.decode())
 
 
 def completions():
@@ -305,6 +341,7 @@ def main():
         no_room(folder)
         proves(folder)
         installs(folder, program)
+        prefixes(folder)
     completions()
     print(f"tests/launcher.py: {COUNT} cases as they have to be")
 

@@ -62,7 +62,7 @@ make_archive() {
   mkdir "$folder/$name"
   unpack_to "$folder/$name/pbfcut" || fail "${packed#"$top"/} is not what MANIFEST says"
   ln -s pbfcut "$folder/$name/pbfcutz"
-  cp --parents -r install docs/pbfcut.1 docs/pbfcutz.1 completions "$folder/$name"
+  cp --parents -r install README.md docs/USING.md docs/pbfcut.1 docs/pbfcutz.1 completions "$folder/$name"
   cp "$manifest" CHANGELOG.md "$folder/$name"
   cat >"$folder/$name/README" <<'TEXT'
 pbfcut cuts a box or a polygon out of an OpenStreetMap PBF file. pbfcutz, the same program under another name, reads and writes compressed
