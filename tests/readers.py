@@ -3,7 +3,7 @@
 
 usage: tests/readers.py PROGRAM
 
-IN is the sample, and a node alone, as Osmium writes them. The readers are those of Debian's packages that are installed (tools/readers.sh installs
+IN is the sample, and a single node, as Osmium writes them. The readers are those of Debian's packages that are installed (tools/readers.sh installs
 them); without Osmium, or with fewer than three of them, the test has nothing to run, and its status is 77. A reader that makes tiles or layers
 can't be asked for counts: it has to find the same in a file as in what Osmium makes of that file.
 """

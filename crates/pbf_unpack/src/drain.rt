@@ -17,7 +17,7 @@ use pbf_frame::{Drain, DrainFault, Stop};
 use std::alloc::Global;
 
 /// Takes the bytes of a raw file, however they are cut, and gives the drain below the published file that means it: each frame in written form
-/// has its payload as zlib data, also where that makes it longer, and all others stay as they are.
+/// has its payload as zlib data, even if it gets longer by that, and all others stay as they are.
 ///
 /// A frame goes to the drain below when the next one begins, and the last one by [`finish`](Self::finish). It holds one raw frame and one packed
 /// one. A write fails if one of the drain below does, if memory is refused, or if the bytes before it are no raw file: no whole frame, or

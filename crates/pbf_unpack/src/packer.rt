@@ -212,7 +212,7 @@ impl Packer {
         fits_size(last_field(message, RAW_SIZE), raw_size)
     }
 
-    /// Packs a frame that is in written form, also where that makes it longer: many readers take no raw blobs.
+    /// Packs a frame that is in written form, even if it gets longer by that: many readers take no raw blobs.
     fn pack_written(
         &mut self,
         frame: &RawFrame,

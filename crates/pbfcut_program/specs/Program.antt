@@ -270,7 +270,7 @@ IsMeant program words command = (IsHelp command × (takes (program_app program) 
 abbrev pub IsDone : Program → List Text → List Event → Type 0
 IsDone program words events = (command : Command) × IsMeant program words command × Does (manner_in program command) command events
 
--- it failed: for wrong words nothing had happened; and where memory was refused, nothing, or OUT took what it may have after any failure
+-- it failed: for wrong words nothing had happened; and if memory was refused, nothing, or OUT took what it may have after any failure
 abbrev pub IsWhy : Program → List Text → Ending → List Event → Type 0
 IsWhy program words (ending.Words text) events = (takes (program_app program) (normalized words) ≡ true → ⊥) × (events ≡ [])
 IsWhy program words (ending.Box f) events = FitsFault (subcommand_of (program_app program) (normalized words)) (fault.Box f) × (events ≡ [])
