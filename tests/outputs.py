@@ -32,6 +32,25 @@ SECONDS = 120
 FEATURE = '{"type": "Feature", "properties": {}, "geometry": %s}'
 RING_JSON = '{"type": "Polygon", "coordinates": [[[9.997, 49.999], [10.003, 49.999], [1.0003e1, 50.003], [9.997, 50.003], [9.997, 49.999]]]}'
 RING = "town\n1\n   9.997E+00   4.9999E+01\n   10.003   49.999\n   10.003   50.003\n   9.997   50.003\n   9.997   49.999\nEND\nEND\n"
+
+
+def square(west, south, east, north) -> str:
+    """The coordinates of a polygon."""
+    return f"[[[{west}, {south}], [{east}, {south}], [{east}, {north}], [{west}, {north}], [{west}, {south}]]]"
+
+
+def multi(*polygons: str) -> str:
+    return '{"type": "MultiPolygon", "coordinates": [%s]}' % ", ".join(polygons)
+
+
+def features(*polygons: str) -> str:
+    return '{"type": "FeatureCollection", "features": [%s]}' % ", ".join(FEATURE % multi(polygon) for polygon in polygons)
+
+
+# Polygons that have the same places together: twice the same, two that overlap, one within another, and one that fills another's hole.
+WHOLE, WEST, EAST, CITY = (square(9.997, 49.999, 10.003, 50.003), square(9.997, 49.999, 10.001, 50.003), square(9.999, 49.999, 10.003, 50.003),
+                           square(9.999, 50, 10.001, 50.001))
+UNIONS = [features(WHOLE, WHOLE), multi(WEST, EAST), features(EAST, WEST), features(WHOLE, CITY), multi(CITY, WHOLE[:-1] + ", " + CITY[1:])]
 # Other programs, and how each prints what it reads.
 READERS = {"osmium": ["cat", "--no-progress", "-f", "opl", "FILE"], "ogrinfo": ["-ro", "-al", "FILE"],
            "osmosis": ["-q", "--read-pbf", "FILE", "--write-xml", "-"]}
@@ -175,6 +194,10 @@ def options(bench: Bench):
                   ["-o", "out", "-b", box, "--", "in"], ["-p", "ring.poly", "in", "out"], ["--polygon=ring.poly", "in", "-o", "out"],
                   ["-p", "ring.geojson", "in", "out"], ["-p", "feature.geojson", "in", "out"]]:
         expect(f"{words}", bench.cut, bench.made(["--raw", *words], ["extract"]))
+    for text in UNIONS:
+        bench.write("union.geojson", text.encode())
+        expect(text, bench.cut, bench.made(["--raw", "-p", "union.geojson", "in", "out"], ["extract"]))
+    os.unlink(bench.path("union.geojson"))
     for words, said in [(["in"], "  <OUT>\n"), (["in", "out", "-o", "other"], "'--output <OUT>' cannot be used with '[OUT]'"),
                         (["in", "-o"], "a value is required"), (["in", "-o", "a", "-o", "b"], "cannot be used multiple times")]:
         bench.case([*CUT, *words], status=2, said=said)
@@ -185,7 +208,9 @@ def options(bench: Bench):
     for text, fault in [("", "line 1, column 1: 1 Ended"), ("a\n1\nx\n", "line 3, column 1: 2 Number"), ("a\n1\n 0  200\n", "line 3, column 5: 3 Range"),
                         ("a\n1\n0 0\n1 1\n  END\nEND\n", "line 5, column 3: 4 Short"), ("a\nEND\n", "line 3, column 1: 5 Empty"),
                         (RING + "b\n", "line 10, column 1: 6 Rest"), (RING_JSON + "}", "7 Json"), (FEATURE % "null", "8 Shape"),
-                        (RING_JSON.replace("50.003]", "90.1]", 1), "ring 1, position 3: 3 Range"), (RING_JSON.replace("9.997", "9.9", 1), "ring 1, position 5: 9 Open")]:
+                        (RING_JSON.replace("50.003]", "90.1]", 1), "ring 1, position 3: 3 Range"), (RING_JSON.replace("9.997", "9.9", 1), "ring 1, position 5: 9 Open"),
+                        (RING_JSON.replace("10.003", "-179", 1).replace("9.997", "9"), "ring 1, position 2: 10 Long"), (RING[5:], "line 2, column 4: 11 Name"),
+                        (features(WHOLE, WHOLE.replace("50.003", "95", 1)), "ring 2, position 3: 3 Range"), ("1\n0 0\n", "line 2, column 1: 11 Name")]:
         bench.write("bad.poly", text.encode())
         bench.case(["extract", "-p", "bad.poly", "in", "out"], status=2, said=f"pbfcutz: polygon: {fault}\n")
     os.unlink(bench.path("bad.poly"))

@@ -15,6 +15,10 @@ const POLYGON: &str =
 const POLYGONS: &str =
     " \n\t{\"coordinates\": [[[[0, 0], [9.5, 0], [9.5, 47.123456789], [0, 0]]], [[[-1, -2], [-3, -2], [-3, -5], [-1, -2]]]], \"bbox\": [], \"type\": \"MultiPolygon\"}\n";
 
+/// The same after a byte order mark.
+const MARKED: &str =
+    "\u{feff}{\"type\": \"Polygon\", \"coordinates\": [[[0, 0], [9.5, 0], [9.5, 47.123456789], [0, 0]], [[-1, -2], [-3, -2], [-3, -5], [-1, -2]]]}";
+
 /// The same as a feature.
 const FEATURE: &str =
     "{\"type\": \"Feature\", \"properties\": {\"type\": \"Point\"}, \"geometry\": {\"type\": \"MultiPolygon\", \"coordinates\": [[[[0, 0], [9.5, 0], [9.5, 47.123456789], [0, 0]]], [[[-1, -2], [-3, -2], [-3, -5], [-1, -2]]]]}}";
@@ -71,7 +75,9 @@ fn has_both(alloc: Global, text: &str, are_apart: bool) -> bool {
 
 #[test]
 fn the_same_rings_in_each_form(rt: HostRuntime) {
-    assert!(rt; has_both(rt.alloc(), POLYGON, false));
+    for text in [POLYGON, MARKED] {
+        assert!(rt; has_both(rt.alloc(), text, false), "at {text}");
+    }
     for text in [POLYGONS, FEATURE, FEATURES, GEOMETRIES] {
         assert!(rt; has_both(rt.alloc(), text, true), "at {text}");
     }
@@ -179,6 +185,16 @@ fn each_fault_of_a_ring(rt: HostRuntime) {
             "[[-180.000000001, 0], [1, 0], [1, 1], [0, 0]]",
             1,
             PolyReason::Range,
+        ),
+        (
+            "[[500000.5, 5300000.25], [1, 0], [1, 1], [0, 0]]",
+            1,
+            PolyReason::Range,
+        ),
+        (
+            "[[170, 0], [-170, 0], [-170, 1], [170, 0]]",
+            2,
+            PolyReason::Long,
         ),
     ] {
         assert!(rt;

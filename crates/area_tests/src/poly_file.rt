@@ -22,6 +22,9 @@ const RETURNS: &str = "x\r\n1\r\n 9.5 47.1\r\n 9.6 47.1\r\n 9.55 47.2\r\nEND\r\n
 /// The same without the last line end, without names, and with `+`.
 const BARE: &str = "\n\n+9.5 +47.1\n9.6  47.1\n  9.55 \t 47.2  \n END \nEND";
 
+/// The same with blank lines, and a byte order mark.
+const SPACED: &str = "\u{feff}x\n\n \n1\n\n9.5 47.1\n\n\t\n9.6 47.1\n9.55 47.2\n\nEND\n\nEND\n\n";
+
 /// The same, but for digits after the ninth decimal place, which are cut off.
 const LONG: &str =
     "x\n1\n   9.5000000000000000   47.100000000000001\n   9.600000000999999999   47.1\n   9.5500000000000007   47.200000000000003\nEND\nEND\n";
@@ -61,7 +64,7 @@ fn is_plain(alloc: Global, text: &str, is_minus: bool) -> bool {
 
 #[test]
 fn one_ring_in_many_spellings(rt: HostRuntime) {
-    for text in [PLAIN, EXPONENTS, TABS, RETURNS, BARE, LONG] {
+    for text in [PLAIN, EXPONENTS, TABS, RETURNS, BARE, SPACED, LONG] {
         assert!(rt; is_plain(rt.alloc(), text, false), "at {text}");
     }
     assert!(rt; is_plain(rt.alloc(), MINUS, true));
@@ -133,12 +136,6 @@ fn each_fault(rt: HostRuntime) {
         ),
         ("x\n1\n0 0\n1\n1 1\nEND\nEND\n", 4, 1, PolyReason::Number),
         (
-            "x\n1\n0 0\n\n1 0\n1 1\nEND\nEND\n",
-            4,
-            1,
-            PolyReason::Number,
-        ),
-        (
             "x\n1\n0 0\n1 0 0\n1 1\nEND\nEND\n",
             4,
             3,
@@ -148,10 +145,48 @@ fn each_fault(rt: HostRuntime) {
         ("x\n1\n0 0\n1. 0\n1 1\nEND\nEND\n", 4, 1, PolyReason::Number),
         ("x\n1\n0 0\n.1 0\n1 1\nEND\nEND\n", 4, 1, PolyReason::Number),
         (
-            "x\n1\n0 0\n0001 0\n1 1\nEND\nEND\n",
+            "x\n1\n0 0\n000000001 0\n1 1\nEND\nEND\n",
             4,
             1,
             PolyReason::Number,
+        ),
+        (
+            "x\n1\n0 0\n3500000.25 5300000\n1 1\nEND\nEND\n",
+            4,
+            1,
+            PolyReason::Range,
+        ),
+        (
+            "x\n1\n0 0\n9 20037508.34\n1 1\nEND\nEND\n",
+            4,
+            3,
+            PolyReason::Range,
+        ),
+        ("0 0\n1 0\n1 1\nEND\nEND\n", 1, 1, PolyReason::Name),
+        ("1\n 0 0\n1 0\n1 1\nEND\nEND\n", 2, 2, PolyReason::Name),
+        (
+            "x\n1\n0 0\n1 0\n1 1\nEND\n2 2\n3 2\n3 3\nEND\nEND\n",
+            7,
+            1,
+            PolyReason::Name,
+        ),
+        (
+            "x\n1\n179 0\n -179 0\n-179 1\nEND\nEND\n",
+            4,
+            2,
+            PolyReason::Long,
+        ),
+        (
+            "x\n1\n179 0\n0 0\n-179 1\n END\nEND\n",
+            6,
+            2,
+            PolyReason::Long,
+        ),
+        (
+            "x\n1\n-90 0\n90.000000001 0\n0 1\nEND\nEND\n",
+            4,
+            1,
+            PolyReason::Long,
         ),
         (
             "x\n1\n0 0\n1E3 0\n1 1\nEND\nEND\n",
@@ -234,6 +269,15 @@ fn each_fault(rt: HostRuntime) {
     }
 }
 
+/// Edges of 180 degrees, and of 360.
+#[test]
+fn the_longest_edges(rt: HostRuntime) {
+    let half = "x\n1\n-90 0\n90 0\n0 1\nEND\nEND\n";
+    assert_eq!(rt; size_of(rt.alloc(), half), Some((1, 3)));
+    let whole = "x\n1\n-180 0\n180 0\n180 1\n-180 1\nEND\nEND\n";
+    assert_eq!(rt; size_of(rt.alloc(), whole), Some((1, 4)));
+}
+
 /// The limits themselves are in range.
 #[test]
 fn the_ends_of_the_range(rt: HostRuntime) {
@@ -253,6 +297,8 @@ fn faults_by_their_names(rt: HostRuntime) -> Result<(), Fail> {
         (PolyReason::Json, "Json"),
         (PolyReason::Shape, "Shape"),
         (PolyReason::Open, "Open"),
+        (PolyReason::Long, "Long"),
+        (PolyReason::Name, "Name"),
     ] {
         let text = reason.to_string(rt.alloc())?;
         assert_eq!(rt; text.as_str(), name);

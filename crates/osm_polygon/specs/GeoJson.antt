@@ -13,7 +13,7 @@ use Rattle.osm_polygon.specs.declared.fault.PolyReason.{PolyReason}
 use Rattle.osm_polygon.specs.declared.fault.PolyReason.TheVariants as reason
 use Rattle.osm_polygon.specs.declared.geojson.Kind.{Kind}
 use Rattle.osm_polygon.specs.declared.geojson.Kind.TheVariants as kind
-use Rattle.osm_polygon.specs.Coordinates.{coordinate, place_at}
+use Rattle.osm_polygon.specs.Coordinates.{coordinate, is_long_to, place_at}
 use Rattle.osm_polygon.specs.Number.{nanodegrees_of}
 use Rattle.osm_polygon.specs.PolyFile.{RingsOrFault, PolygonsOrFault}
 use Rattle.osm_polygon.specs.Polygon.{Point, Rings}
@@ -59,7 +59,10 @@ position value = place_at (coordinate (pos 180000000000) (number_at 0 value))
 
 -- the ring of this number, counted from 1, with a place more
 abbrev pub with_place : (ring : ℕ) → List Point → Result Point PolyReason → OrFault (List Point)
-with_place ring places (Ok place) = Ok (places ++ place ∷ [])
+with_place ring places (Ok place) =
+    if is_long_to places place
+    then Err (record { place = where_.Ring ring (length places + 1); reason = reason.Long })
+    else Ok (places ++ place ∷ [])
 with_place ring places (Err r) = Err (record { place = where_.Ring ring (length places + 1); reason = r })
 
 abbrev pub with_position : (ring : ℕ) → List Point → Json → OrFault (List Point)

@@ -16,7 +16,7 @@ ghost use Rattle.osm_polygon.specs.RingPlaces.{places_of, rings_of};
 use crate::fault::{PolyError, PolyFault, PolyPlace, PolyReason, refused};
 use crate::number::nanodegrees;
 use crate::place::{MOST_LAT, MOST_LON, Place, coordinate};
-use crate::ring::Ring;
+use crate::ring::{Ring, is_long_to};
 use json::{Error, Scratch, Value};
 use std::alloc::Global;
 
@@ -147,6 +147,10 @@ fn with_position(
 {
     match position(value) {
         Ok(place) => {
+            if is_long_to(places.as_slice(), place) {
+                let position = PolyPlace::Ring(ring, places.len() + 1);
+                return Err(refused(position, PolyReason::Long));
+            }
             places.push(place)?;
             Ok(places)
         }

@@ -2,6 +2,7 @@
 
 ghost use Rattle.std.specs.Prelude.{◌≡◌, ◌++◌, IfOk, OnOk, map};
 ghost use Rattle.osm_polygon.specs.Edges.{point_of, side_of};
+ghost use Rattle.osm_polygon.specs.Coordinates.{is_long_back, is_long_to};
 ghost use Rattle.osm_polygon.specs.RingPlaces.{places_of};
 ghost use Rattle.osm_polygon.specs.Rings.{ring_sides, rings_sides, grown, box_round};
 
@@ -23,6 +24,26 @@ pub(crate) const NO_BOX: BoundingBox = BoundingBox {
 pub struct Ring {
     /// The places, in either direction. A ring from a file has three at least; one of fewer has edges too, if it has a place.
     pub places: Vec<Place>,
+}
+
+/// Whether the edge from the last of these places to one more would be shorter round the other side of the earth.
+pub(crate) fn is_long_to(places: &[Place], to: Place) -> bool
+    ensures { result ≡ is_long_to (map point_of places.now) (point_of to) }
+{
+    match places.last() {
+        Some(from) => to.is_long_from(*from),
+        None => false,
+    }
+}
+
+/// Whether that from the last of these places to the first would be.
+pub(crate) fn is_long_back(places: &[Place]) -> bool
+    ensures { result ≡ is_long_back (map point_of places.now) }
+{
+    let (Some(first), Some(last)) = (places.first(), places.last()) else {
+        return false;
+    };
+    first.is_long_from(*last)
 }
 
 /// Adds the edges of a ring with these places.

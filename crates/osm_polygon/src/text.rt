@@ -6,13 +6,23 @@ ghost use Rattle.osm_polygon.specs.GeoJson.{and_then};
 ghost use Rattle.osm_polygon.specs.PolyFile.{poly_rings};
 ghost use Rattle.osm_polygon.specs.Readings.{ReadsText};
 ghost use Rattle.osm_polygon.specs.RingPlaces.{rings_of};
-ghost use Rattle.osm_polygon.specs.Texts.{is_geojson, polygons_of_text};
+ghost use Rattle.osm_polygon.specs.Texts.{is_geojson, polygons_of_text, without_mark};
 
 use crate::fault::PolyError;
 use crate::geojson::read_geojson;
 use crate::poly_file::read_poly;
 use crate::ring::Ring;
 use std::alloc::Global;
+
+/// The text after a byte order mark, if it begins with one.
+fn without_mark(text: &str) -> &str
+    ensures { result.now ≡ without_mark text.now }
+{
+    match text.strip_prefix('\u{feff}') {
+        Some(rest) => rest,
+        None => text,
+    }
+}
 
 /// Whether the first character that is no blank is `{`.
 fn is_geojson(text: &str) -> bool
@@ -32,8 +42,8 @@ fn poly_polygon(alloc: Global, text: &str) -> Result<Vec<Vec<Ring>>, PolyError>
     Ok(polygons)
 }
 
-/// The polygons of this text, in their order, each by its rings. The text is GeoJSON if it begins with `{`, after blanks or none, and otherwise
-/// that of a .poly file. All rings of a .poly file are one polygon, and a `!` before a ring's name is part of the name.
+/// The polygons of this text, in their order, each by its rings. A byte order mark before the text doesn't matter. The text is GeoJSON if it begins
+/// with `{`, after blanks or none, and otherwise that of a .poly file. All rings of a .poly file are one polygon, and a `!` before a ring's name is part of the name.
 ///
 /// # Errors
 ///
@@ -43,6 +53,7 @@ pub fn read_polygons(alloc: Global, text: &str) -> Result<Vec<Vec<Ring>>, PolyEr
     ensures { ReadsText (polygons_of_text text.now)
         (result_map_both (λ polygons. map rings_of polygons.items) (λ e. e) result) }
 {
+    let text = without_mark(text);
     if is_geojson(text) {
         return read_geojson(alloc, text);
     }

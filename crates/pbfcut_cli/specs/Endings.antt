@@ -134,6 +134,8 @@ poly_reason_text poly.Rest = codes "6 Rest"
 poly_reason_text poly.Json = codes "7 Json"
 poly_reason_text poly.Shape = codes "8 Shape"
 poly_reason_text poly.Open = codes "9 Open"
+poly_reason_text poly.Long = codes "10 Long"
+poly_reason_text poly.Name = codes "11 Name"
 
 abbrev pub line_text : (line column : ℕ) → List ℕ
 line_text line column = codes "line " ++ decimal line ++ codes ", column " ++ decimal column ++ codes ": "

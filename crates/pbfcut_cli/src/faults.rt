@@ -71,6 +71,8 @@ fn poly_reason(reason: PolyReason) -> &'static str
         PolyReason::Json => "7 Json",
         PolyReason::Shape => "8 Shape",
         PolyReason::Open => "9 Open",
+        PolyReason::Long => "10 Long",
+        PolyReason::Name => "11 Name",
     }
 }
 
