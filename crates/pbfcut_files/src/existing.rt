@@ -27,17 +27,25 @@ pub fn plain_file_at(rt: &HostRuntime, path: &str) -> Option<Identity> {
     }
 }
 
-/// What is known of the plain file at a path, if no link is there.
-pub(crate) fn plain_metadata(rt: &HostRuntime, path: &str) -> Option<Metadata> {
-    match fs::symlink_metadata(rt, path) {
-        Ok(metadata) if metadata.is_file() => Some(metadata),
-        _ => None,
-    }
+/// The plain file that standard output is, where the system shows it.
+pub fn plain_screen(rt: &HostRuntime) -> Option<Identity> {
+    plain_file_at(rt, "/proc/self/fd/1")
 }
 
 /// Whether a plain file is there, and no link to one.
 pub(crate) fn is_plain(rt: &HostRuntime, path: &str) -> bool {
-    plain_metadata(rt, path).is_some()
+    match fs::symlink_metadata(rt, path) {
+        Ok(metadata) => metadata.is_file(),
+        Err(_) => false,
+    }
+}
+
+/// Whether an empty plain file is there, and no link to one.
+pub(crate) fn is_empty(rt: &HostRuntime, path: &str) -> bool {
+    match fs::symlink_metadata(rt, path) {
+        Ok(metadata) => metadata.is_file() && metadata.len() == 0,
+        Err(_) => false,
+    }
 }
 
 /// Whether something is there that can be opened for reading. A pipe, a device or a socket counts, and is not opened.

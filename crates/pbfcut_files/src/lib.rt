@@ -7,13 +7,17 @@ mod failure;
 mod files;
 mod formats;
 mod hints;
+mod hints_out;
 mod out;
 mod part;
 mod progress;
+mod replaced;
 
+pub use existing::{Identity, plain_file_at, plain_screen};
 pub use failure::{FailedWrite, Target};
 pub use files::{is_long, open_pass};
 pub use hints::{Asked, tell_empty, tell_hint, tell_order};
+pub use hints_out::{Spoiled, tell_spoiled};
 pub use out::{Output, Place, create_output, is_taken, open_screen};
 pub use part::NotKept;
 pub use progress::Watched;

@@ -5,14 +5,18 @@ ghost use Rattle.std.specs.Prelude.{◌≤◌, IfOk, length};
 use crate::disk::{open_folder, sync_file, sync_folder};
 use crate::existing::{is_plain, is_there};
 use crate::failure::{Noted, Target};
-use crate::part::{NotKept, Part, open_new, open_part};
+use crate::part::{NEW_MODE, NotKept, Part, open_new, open_part};
+use crate::replaced::{is_protected, may_replace, take_over};
 use pbf_frame::Stop;
 use pbfcut_cli::{Ending, Program};
-use std::fs::{self, File};
+use std::fs::{self, File, Metadata};
 use std::io::{self, BufWriter, Stdout, Write};
 
 /// The length of the buffers of OUT and of standard output.
 const OUTPUT_BUFFER: usize = 65_536;
+
+/// The mode of a new file that only its owner reads.
+const OWN_MODE: u32 = 0o600;
 
 /// What OUT is written to.
 #[derive(Drop)]
@@ -64,31 +68,72 @@ pub fn is_taken(rt: &HostRuntime, place: Place<'_>) -> bool {
     is_there(rt, place.path)
 }
 
-/// What OUT is written to: of pbfcut a file by its own name, of pbfcutz one by another name in the same folder.
-fn open_sink(rt: &HostRuntime, place: Place<'_>) -> Result<(Sink, Option<Part>), Ending> {
+/// What is known of the plain file that OUT is to replace, if one is there; an ending, if OUT may not be made there.
+fn replaced_file(
+    rt: &HostRuntime,
+    place: Place<'_>,
+    folder: Option<&File>,
+) -> Result<Option<Metadata>, Ending> {
+    match fs::symlink_metadata(rt, place.path) {
+        Err(error) if error.kind() == io::ErrorKind::NotFound => Ok(None),
+        // As it isn't reached, or is longer than a name can be.
+        Err(_) => Err(Ending::CannotOpen),
+        Ok(old) if place.overwrite && old.is_file() && may_replace(rt, place.path, folder) => {
+            Ok(Some(old))
+        }
+        Ok(_) => Err(Ending::CannotOpen),
+    }
+}
+
+/// Makes the file that gets OUT's name when it is whole. One that replaces another has its mode and its owner from the start.
+fn open_beside(
+    rt: &HostRuntime,
+    place: Place<'_>,
+    folder: Option<&File>,
+) -> Result<(File, Part), Ending> {
+    // Without a name there is no file, though there would be a part.
+    if place.path.is_empty() {
+        return Err(Ending::CannotOpen);
+    }
+    let Some(old) = replaced_file(rt, place, folder)? else {
+        return open_part(rt, place.path, place.overwrite, NEW_MODE);
+    };
+    let (file, part) = open_part(rt, place.path, place.overwrite, OWN_MODE)?;
+    if is_protected(&file, &old, folder) {
+        part.remove(rt);
+        return Err(Ending::CannotOpen);
+    }
+    take_over(&file, &old);
+    Ok((file, part))
+}
+
+/// The file that OUT is written to: of pbfcut by its own name, of pbfcutz by another name in the same folder.
+fn open_file(
+    rt: &HostRuntime,
+    place: Place<'_>,
+    folder: Option<&File>,
+) -> Result<(File, Option<Part>), Ending> {
     match place.program {
-        Program::Pbfcut => match open_new(rt, place.path) {
-            Ok(file) => Ok((Sink::File(file), None)),
+        Program::Pbfcut => match open_new(rt, place.path, NEW_MODE) {
+            Ok(file) => Ok((file, None)),
             Err(_) => Err(Ending::CannotOpen),
         },
         Program::Pbfcutz => {
-            let replaces = place.overwrite && is_plain(rt, place.path);
-            if !replaces && fs::symlink_metadata(rt, place.path).is_ok() {
-                return Err(Ending::CannotOpen);
-            }
-            let (file, part) = open_part(rt, place.path, place.overwrite)?;
-            Ok((Sink::File(file), Some(part)))
+            let (file, part) = open_beside(rt, place, folder)?;
+            Ok((file, Some(part)))
         }
     }
 }
 
 /// Makes OUT, with a buffer.
 pub fn create_output(rt: &HostRuntime, place: Place<'_>) -> Result<Output, Ending> {
-    let (sink, part) = open_sink(rt, place)?;
-    match BufWriter::with_capacity(rt.alloc(), OUTPUT_BUFFER, Noted::new(sink)) {
+    let folder = open_folder(rt, place.path);
+    let (file, part) = open_file(rt, place, folder.as_ref())?;
+    let sink = Noted::new(Sink::File(file));
+    match BufWriter::with_capacity(rt.alloc(), OUTPUT_BUFFER, sink) {
         Ok(writer) => Ok(Output {
             writer,
-            folder: open_folder(rt, place.path),
+            folder,
             part,
         }),
         Err(_) => {

@@ -1,13 +1,21 @@
 //! A file that gets OUT's name when it is whole. Until then it has a name of its own, in the same folder.
 
-use crate::existing::is_plain;
+use crate::disk::folder_of;
+use crate::existing::{is_empty, is_plain};
 use pbf_frame::Stop;
 use pbfcut_cli::Ending;
 use std::fs::{self, File, OpenOptions};
+use std::os::unix::fs::OpenOptionsExt;
 use std::{io, process};
 
 /// How many names are tried: more than one only if a run that was killed had the same process number, or one on another machine has it.
 const MOST_PARTS: u32 = 1_000;
+
+/// How the name of a part begins if OUT's is too long to be its beginning.
+const SHORT_NAME: &str = "pbfcutz";
+
+/// The mode of a new file, of which the user's mask takes some bits.
+pub(crate) const NEW_MODE: u32 = 0o666;
 
 /// Why OUT doesn't get its name.
 #[derive(Clone, Copy)]
@@ -33,52 +41,68 @@ pub(crate) struct Part {
 }
 
 /// Makes a new file. One that exists is never opened, so none is ever emptied.
-pub(crate) fn open_new(rt: &HostRuntime, path: &str) -> io::Result<File> {
+pub(crate) fn open_new(rt: &HostRuntime, path: &str, mode: u32) -> io::Result<File> {
     OpenOptions::new()
         .write(true)
         .create_new(true)
+        .mode(mode)
         .open(rt, path)
 }
 
-/// A name for a part: OUT's with the number of this process and that of the try. So two runs have two names, even if one of them removes or renames
-/// a file late.
-fn name_of(rt: &HostRuntime, output: &str, number: u32) -> Result<String, Ending> {
+/// Makes a new file whose name begins so, and has the number of this process and that of the try. So two runs have two names, even if one of them
+/// removes or renames a file late.
+fn open_numbered(rt: &HostRuntime, start: &str, mode: u32) -> io::Result<(File, String)> {
     let process = process::id(rt.process());
-    let Ok(name) = format!(in rt.alloc(); "{output}.{process}.{number}.part") else {
-        return Err(Ending::Stopped(Stop::Memory));
-    };
-    Ok(name)
-}
-
-/// Makes a new file beside OUT, with its name.
-fn open_named(rt: &HostRuntime, output: &str) -> Result<(File, String), Ending> {
     for number in 0..MOST_PARTS {
-        let name = name_of(rt, output, number)?;
-        match open_new(rt, name.as_str()) {
+        let Ok(name) = format!(in rt.alloc(); "{start}.{process}.{number}.part") else {
+            return Err(io::ErrorKind::OutOfMemory.into());
+        };
+        match open_new(rt, name.as_str(), mode) {
             Ok(file) => return Ok((file, name)),
             Err(error) if error.kind() == io::ErrorKind::AlreadyExists => {}
-            Err(_) => return Err(Ending::CannotOpen),
+            Err(error) => return Err(error),
         }
     }
-    Err(Ending::CannotOpen)
+    Err(io::ErrorKind::AlreadyExists.into())
 }
 
-/// Makes a part of OUT.
+/// Makes a new file in OUT's folder, with its name: OUT's and more, or a short one if the system takes no name that is longer.
+fn open_named(rt: &HostRuntime, output: &str, mode: u32) -> io::Result<(File, String)> {
+    match open_numbered(rt, output, mode) {
+        Err(error) if error.kind() == io::ErrorKind::InvalidFilename => {}
+        opened => return opened,
+    }
+    let folder = folder_of(output);
+    match format!(in rt.alloc(); "{folder}/{SHORT_NAME}") {
+        Ok(start) => open_numbered(rt, start.as_str(), mode),
+        Err(_) => Err(io::ErrorKind::OutOfMemory.into()),
+    }
+}
+
+/// Makes a part of OUT, with this mode.
 pub(crate) fn open_part(
     rt: &HostRuntime,
     path: &str,
     overwrite: bool,
+    mode: u32,
 ) -> Result<(File, Part), Ending> {
     let Ok(output) = String::from_str(rt.alloc(), path) else {
         return Err(Ending::Stopped(Stop::Memory));
     };
-    let (file, name) = open_named(rt, path)?;
-    let part = Part {
-        name,
-        output,
-        overwrite,
-    };
-    Ok((file, part))
+    match open_named(rt, path, mode) {
+        Ok((file, name)) => {
+            let part = Part {
+                name,
+                output,
+                overwrite,
+            };
+            Ok((file, part))
+        }
+        Err(error) if error.kind() == io::ErrorKind::OutOfMemory => {
+            Err(Ending::Stopped(Stop::Memory))
+        }
+        Err(_) => Err(Ending::CannotOpen),
+    }
 }
 
 impl Part {
@@ -93,7 +117,7 @@ impl Part {
     /// Takes OUT's name by an empty file, unless another file has it, and puts the whole one in its place: for a file system without links.
     fn reserve(&self, rt: &HostRuntime) -> Result<(), NotKept> {
         let output = self.output.as_str();
-        match open_new(rt, output) {
+        match open_new(rt, output, NEW_MODE) {
             Ok(_) => {}
             Err(error) if error.kind() == io::ErrorKind::AlreadyExists => {
                 return Err(NotKept::Exists);
@@ -101,8 +125,7 @@ impl Part {
             Err(error) => return Err(NotKept::failed(&error)),
         }
         let replaced = self.replace(rt);
-        if replaced.is_err() {
-            // It is the empty file, and no OUT.
+        if replaced.is_err() && is_empty(rt, output) {
             let _ = fs::remove_file(rt, output);
         }
         replaced

@@ -6,8 +6,9 @@ use crate::out::OutFile;
 use pbf_frame::FromRead;
 use pbfcut_cli::{Command, Ending, Program, Region};
 use pbfcut_files::{
-    Asked, FailedWrite, NotKept, Place, Target, Watched, create_output, is_long, is_taken,
-    open_pass, open_screen, tell_empty, tell_hint, tell_order,
+    Asked, FailedWrite, Identity, NotKept, Place, Spoiled, Target, Watched, create_output, is_long,
+    is_taken, open_pass, open_screen, plain_file_at, plain_screen, tell_empty, tell_hint,
+    tell_order, tell_spoiled,
 };
 use pbfcut_program::{CreateFault, FinishFault, Host, NotDone, OpenFault, Screen, TextFault, Turn};
 use std::fs::{self, File};
@@ -19,6 +20,11 @@ use std::io::{self, IsTerminal, Write};
 pub(crate) struct Os<'a> {
     rt: &'a HostRuntime,
     program: Program,
+    /// The file of the polygon and IN, if the run has read them and they are plain files.
+    area: Option<Identity>,
+    input: Option<Identity>,
+    /// What the run would have spoiled, for a hint.
+    spoiled: Option<Spoiled>,
     /// The last write that failed, for a hint.
     failed: Option<FailedWrite>,
 }
@@ -28,6 +34,9 @@ impl<'a> Os<'a> {
         Os {
             rt,
             program,
+            area: None,
+            input: None,
+            spoiled: None,
             failed: None,
         }
     }
@@ -39,6 +48,12 @@ impl<'a> Os<'a> {
             path,
             overwrite,
         }
+    }
+
+    /// Whether the plain file at this path is one that the run reads.
+    fn is_read(&self, path: &str) -> bool {
+        let file = plain_file_at(self.rt, path);
+        file.is_some() && (file == self.input || file == self.area)
     }
 
     /// Notes the system's number of the reason why a write failed, if there is one.
@@ -61,6 +76,7 @@ impl Host for Os<'_> {
     }
 
     fn read_text(&mut self, path: &str) -> Result<String, TextFault> {
+        self.area = plain_file_at(self.rt, path);
         match fs::read_to_string(self.rt, path) {
             Ok(text) => Ok(text),
             Err(error) if error.kind() == io::ErrorKind::OutOfMemory => Err(TextFault::Memory),
@@ -78,6 +94,13 @@ impl Host for Os<'_> {
             passes,
             progress,
         } = turn;
+        let input = plain_file_at(self.rt, path);
+        // What is printed would go into IN, and come in again.
+        if input.is_some() && input == plain_screen(self.rt) {
+            self.spoiled = Some(Spoiled::Input);
+            return Err(OpenFault::Failed);
+        }
+        self.input = input;
         match open_pass(self.rt, path, pass, passes, progress) {
             Ok(feed) => Ok(feed),
             Err(Ending::IsPipe) => Err(OpenFault::Pipe),
@@ -97,6 +120,10 @@ impl Host for Os<'_> {
     }
 
     fn create(&mut self, path: &str, overwrite: bool) -> Result<OutFile, CreateFault> {
+        if overwrite && self.is_read(path) {
+            self.spoiled = Some(Spoiled::Source);
+            return Err(CreateFault::Failed);
+        }
         match create_output(self.rt, self.place(path, overwrite)) {
             Ok(output) => Ok(OutFile::new(output)),
             Err(Ending::CannotOpen) => Err(CreateFault::Failed),
@@ -166,7 +193,9 @@ impl Host for Os<'_> {
     }
 
     fn advise(&mut self, command: &Command<'_>, ending: &Ending) {
-        if let Some(asked) = Asked::of(self.program, command) {
+        if let Some(spoiled) = self.spoiled {
+            tell_spoiled(self.rt, spoiled);
+        } else if let Some(asked) = Asked::of(self.program, command) {
             tell_hint(self.rt, asked, ending, self.failed);
         }
     }
