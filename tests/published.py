@@ -41,6 +41,8 @@ KNOWN = (b"OSMHeader", b"OSMData")
 RAW, RAW_SIZE, ZLIB = 1, 2, 3
 DATA = {RAW, ZLIB, 4, 5, 6, 7}
 LONGEST = 200_000
+# by how much a frame gets longer at most if zlib finds nothing: a stored block's 11 bytes, raw_size, and longer numbers
+MOST_LONGER = 24
 COMMANDS = [["check", "in"], ["show", "--dates", "in"], ["blobs", "in"], ["convert", "in", "out"], ["extract", BOX, "in", "out"],
             ["extract", "--parents", BOX, "in", "out"]]
 
@@ -139,6 +141,12 @@ def packed(data: bytes, level: int = 6) -> bytes:
     return b"".join(parts)
 
 
+def is_packed(data: bytes, raw: bytes) -> bool:
+    """Whether each blob has zlib data, and none is much longer than what it was made of."""
+    frames = [frame for frame in meaning_of(data) if frame.packed]
+    return all(frame.packed != frame.raw for frame in frames) and len(data) <= len(raw) + MOST_LONGER * len(frames)
+
+
 def unpacked(data: Optional[bytes]) -> Optional[bytes]:
     """The raw file that these bytes mean."""
     return None if data is None else b"".join(piece.raw for piece in meaning_of(data))
@@ -203,9 +211,9 @@ class Bench:
         if "out" in words:
             # only pbfcutz takes away an OUT that isn't whole
             out = None if status else out
-            # with --raw OUT is the raw file itself; otherwise it means that file, and has no more bytes
+            # with --raw OUT is the raw file itself; otherwise it means that file, and each blob of it is packed, if it gets longer by a few bytes too
             raw = self.run(self.pbfcutz, [words[0], "--raw", *words[1:]], data)
-            if raw != (*found[:3], out) or len(found[3] or b"") > len(out or b""):
+            if raw != (*found[:3], out) or not is_packed(found[3] or b"", out or b""):
                 return f"{name}: {words} with --raw: found {(raw[0], raw[1][:300], raw[2])!r}, beside {found[:2]!r}"
             found = (*found[:3], unpacked(found[3]))
         line = told_by_pbfcutz(line, pieces)
