@@ -385,6 +385,17 @@ def nested(depth: int) -> bytes:
     return b'{"properties": [%s], %s' % (beside.encode(), as_geojson(ring(100, 0.4499))[1:])
 
 
+def islands(count: int) -> bytes:
+    """So many squares in that square as GeoJSON, in no order, each with the tenth part of what it would have if they lay side by side."""
+    chance, side = random.Random(2), math.sqrt(0.1 / count)
+    polygons = []
+    for _ in range(count):
+        west, south = chance.random() * (1 - side), chance.random() * (1 - side)
+        corners = [(west, south), (west + side, south), (west + side, south + side), (west, south + side), (west, south)]
+        polygons.append("[[%s]]" % ", ".join(f"[{lon:.9f}, {lat:.9f}]" for lon, lat in corners))
+    return b'{"type": "MultiPolygon", "coordinates": [%s]}' % ", ".join(polygons).encode()
+
+
 # by the size: the nodes, and the ring. An edge of a coast crosses few latitudes, and each edge of a zigzag all, but few longitudes. Each edge of a
 # star goes near its middle; so a star takes as long as its edges and the nodes, multiplied
 POLYGONS = {
@@ -394,6 +405,7 @@ POLYGONS = {
     "star of more edges": (lambda size: scattered(10_000), lambda size: ring(200 * size, 0.01)),
     "geojson of more edges": (lambda size: scattered(10_000), lambda size: as_geojson(ring(8_000 * size, 0.4499))),
     "geojson of more lists": (lambda size: scattered(10_000), lambda size: nested(400 * size)),
+    "islands in the sea": (lambda size: scattered(20_000 * size), lambda size: islands(1_000 * size)),
     "star with more nodes": (lambda size: scattered(10_000 * size), lambda size: ring(200, 0.01)),
 }
 # an edge of a ring may cost as much as hashing so many bytes, and each node that a star is asked for so many for each of its edges

@@ -145,16 +145,16 @@ fn with_position(
     ensures { ReadsText (with_position ring (map point_of places.items) (value_view value.now))
         (result_map_both (λ places. map point_of places.items) (λ e. e) result) }
 {
+    let number = PolyPlace::Ring(ring, places.len() + 1);
     match position(value) {
         Ok(place) => {
             if is_long_to(places.as_slice(), place) {
-                let position = PolyPlace::Ring(ring, places.len() + 1);
-                return Err(refused(position, PolyReason::Long));
+                return Err(refused(number, PolyReason::Long));
             }
             places.push(place)?;
             Ok(places)
         }
-        Err(reason) => Err(refused(PolyPlace::Ring(ring, places.len() + 1), reason)),
+        Err(reason) => Err(refused(number, reason)),
     }
 }
 
