@@ -386,6 +386,19 @@ def hints(bench: Bench):
         status, _, seen = on_terminal(bench.names["pbfcutz"], words, bench.folder, to, None)
         expect(f"{words} on a terminal", (3, f"pbfcutz: cannot open\nhint: {hint}\n"), (status, seen))
     bench.take("out")
+    # the numbers of a process that has ended, and of one that goes on
+    ended = subprocess.Popen(["true"])
+    ended.wait()
+    for process, told in [(ended.pid, True), (os.getpid(), False)]:
+        for name in f"out.{process}.0.part", "out.x.0.part", f"other.{process}.0.part", f"out.{process}.part", f"out.{process}.0.parts":
+            bench.write(name, OLD)
+        for flags in [], ["-O"]:
+            bench.count += 1
+            status, _, seen = on_terminal(bench.names["pbfcutz"], ["extract", BOX, *flags, "in", "./out"], bench.folder, "", None)
+            hint = f"hint: out.{process}.0.part is what another run wrote: remove it, if that run has ended\n"
+            expect("a part that was left", (0, hint if told else ""), (status, seen))
+        for name in bench.left():
+            bench.take(name)
 
 
 def main():

@@ -8,7 +8,7 @@ use pbfcut_cli::{Command, Ending, Program, Region};
 use pbfcut_files::{
     Asked, FailedWrite, Identity, NotKept, Place, Spoiled, Target, Watched, create_output, is_long,
     is_taken, open_pass, open_screen, plain_file_at, plain_screen, tell_empty, tell_hint,
-    tell_order, tell_spoiled,
+    tell_left, tell_order, tell_spoiled,
 };
 use pbfcut_program::{CreateFault, FinishFault, Host, NotDone, OpenFault, Screen, TextFault, Turn};
 use std::fs::{self, File};
@@ -125,7 +125,12 @@ impl Host for Os<'_> {
             return Err(CreateFault::Failed);
         }
         match create_output(self.rt, self.place(path, overwrite)) {
-            Ok(output) => Ok(OutFile::new(output)),
+            Ok(output) => {
+                if self.program == Program::Pbfcutz {
+                    tell_left(self.rt, path);
+                }
+                Ok(OutFile::new(output))
+            }
             Err(Ending::CannotOpen) => Err(CreateFault::Failed),
             Err(_) => Err(CreateFault::Memory),
         }
