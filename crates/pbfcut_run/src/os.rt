@@ -7,7 +7,7 @@ use pbf_frame::FromRead;
 use pbfcut_cli::{Command, Ending, Program, Region};
 use pbfcut_files::{
     Asked, FailedWrite, NotKept, Place, Target, Watched, create_output, is_long, is_taken,
-    open_pass, open_screen, tell_empty, tell_hint, tell_order,
+    open_pass, open_screen, tell_box, tell_empty, tell_form, tell_hint,
 };
 use pbfcut_program::{CreateFault, FinishFault, Host, NotDone, OpenFault, Screen, TextFault, Turn};
 use std::fs::{self, File};
@@ -97,6 +97,7 @@ impl Host for Os<'_> {
     }
 
     fn create(&mut self, path: &str, overwrite: bool) -> Result<OutFile, CreateFault> {
+        tell_form(self.rt, self.program, path);
         match create_output(self.rt, self.place(path, overwrite)) {
             Ok(output) => Ok(OutFile::new(output)),
             Err(Ending::CannotOpen) => Err(CreateFault::Failed),
@@ -160,8 +161,8 @@ impl Host for Os<'_> {
     }
 
     fn advise_words(&mut self, ending: &Ending) {
-        if matches!(ending, Ending::Box(_)) {
-            tell_order(self.rt);
+        if let Ending::Box(fault) = ending {
+            tell_box(self.rt, *fault);
         }
     }
 
