@@ -26,6 +26,7 @@ sys.dont_write_bytecode = True
 sys.path.insert(0, HERE)
 
 from published import packed
+from suite import own_lines
 
 SAMPLE = os.path.join(TOP, "sample", "town.osm.pbf")
 SECONDS = 60
@@ -92,12 +93,14 @@ class Bench:
         if os.path.exists(self.out):
             with open(self.out, "rb") as file:
                 out = file.read()
-        return done.returncode, done.stdout, done.stderr, out, met
+        return done.returncode, done.stdout, own_lines(done.stderr), out, met
 
     def compare(self, words: list, fault: str, usual: tuple, ends: tuple, may_be_usual: bool) -> bool:
         """Runs with one fault; answers whether it was met."""
         status, text, error, out, met = self.run(words, fault)
         as_usual = (status, text, error, out) == usual[:4]
+        # of these files the line that says what they are is told after a second look, which a fault can hit
+        may_be_usual = may_be_usual or usual[0] == 1 and usual[2].endswith((b": 11 HeaderLong\n", b": 22 NoHeader\n", b": 55 Feature\n"))
         # a program that had no memory to read its words does not know its name
         named = b"pbfcut" if ends == MEMORY and error == b"pbfcut" + MEMORY[1] else self.name
         ends = ends and (ends[0], named + ends[1])

@@ -380,11 +380,12 @@ def hints(bench: Bench):
         return
     content = bench.read("in")
     bench.write("out", content)
-    for words, to, hint in [(["extract", BOX, "-O", "out", "out"], "", "OUT is a file that is read: name another, and rename it when it is there"),
-                            (["check", "out"], bench.path("out"), "standard output is IN: write to another file")]:
+    spoiled = [(["extract", BOX, "-O", "out", "out"], "", "it is a file that this run reads", "name another OUT, and rename it when it is there"),
+               (["check", "out"], bench.path("out"), "it is standard output too", "write to another file")]
+    for words, to, fact, hint in spoiled:
         bench.count += 1
         status, _, seen = on_terminal(bench.names["pbfcutz"], words, bench.folder, to, None)
-        expect(f"{words} on a terminal", (3, f"pbfcutz: cannot open\nhint: {hint}\n"), (status, seen))
+        expect(f"{words} on a terminal", (3, f"pbfcutz: cannot open\npbfcutz: out: {fact}\nhint: {hint}\n"), (status, seen))
     bench.take("out")
     # the numbers of a process that has ended, and of one that goes on
     ended = subprocess.Popen(["true"])

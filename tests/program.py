@@ -26,6 +26,7 @@ sys.dont_write_bytecode = True
 sys.path.insert(0, os.path.dirname(os.path.abspath(__file__)))
 
 from published import packed
+from suite import own_lines
 
 TOP = os.path.dirname(os.path.dirname(os.path.abspath(__file__)))
 BUILT = os.path.join(TOP, "crates", "pbfcut_run", "out", "pbfcut_run")
@@ -194,7 +195,9 @@ class Case:
         status, stdout, stderr = self.start()
         self.unlock()
         compare("exit status", self.status, status)
-        compare("standard error", self.stderr, stderr)
+        compare("standard error", self.stderr, own_lines(stderr))
+        if status == 1:
+            compare("the line that names IN", True, b"\npbfcut: in: " in b"\n" + stderr)
         if self.output is None:
             compare("standard output", self.stdout, stdout)
         for name in self.kept:
@@ -560,7 +563,7 @@ def files_that_change(bench: Bench):
         for number in range(first, passes + 1):
             status, errors = run_with_change([bench.program, *words, "--progress"], path, given, out, number)
             compare(f"{words}, changed in pass {number}: status", 5, status)
-            compare(f"{words}, changed in pass {number}: last line", told(f"input changed in pass {number}"), errors.split(b"\n")[-2] + b"\n")
+            compare(f"{words}, changed in pass {number}: last line", told(f"input changed in pass {number}"), own_lines(errors).split(b"\n")[-2] + b"\n")
             if os.path.exists(out):
                 compare(f"{words}, changed in pass {number}: OUT is empty", number < passes, os.path.getsize(out) == 0)
                 os.unlink(out)

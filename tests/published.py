@@ -34,7 +34,7 @@ sys.path.insert(0, VECTORS)
 from packing import frame, spelled, varint
 from reference_judge import header_faults, prefix_faults
 from reference_wire import BLOB, BLOB_HEADER, RAW_LIMIT, Message
-from suite import cases
+from suite import cases, own_lines
 from zlib_cases import zlib_cases
 
 KNOWN = (b"OSMHeader", b"OSMData")
@@ -198,7 +198,7 @@ class Bench:
             done = subprocess.run([program, *words], cwd=room, capture_output=True, timeout=SECONDS)
             out = os.path.join(room, "out")
             written_bytes = open(out, "rb").read() if os.path.exists(out) else None
-            return done.returncode, done.stdout.decode(), done.stderr.decode(), written_bytes
+            return done.returncode, done.stdout.decode(), own_lines(done.stderr).decode(), written_bytes
         finally:
             shutil.rmtree(room)
 

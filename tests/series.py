@@ -22,7 +22,7 @@ sys.path[:0] = [os.path.dirname(os.path.abspath(__file__)), os.path.join(TOP, "v
 from published import report
 from reference import counted, entities_of
 from reference_judge import judge
-from suite import cases
+from suite import cases, own_lines
 
 LONGEST = 2_000
 PICKED = 5_000
@@ -58,7 +58,7 @@ def wanted(data: bytes) -> tuple:
 def wrong_in(program: str, name: str, data: bytes):
     """What is out of place with a file, if anything is."""
     done = subprocess.run([program, "check", "/dev/stdin"], input=data, capture_output=True, timeout=SECONDS, check=False)
-    found = done.returncode, done.stdout.decode(), done.stderr.decode()
+    found = done.returncode, done.stdout.decode(), own_lines(done.stderr).decode()
     right = wanted(data)
     return None if found == right else f"{name}: expected {right!r}, found {found!r}"
 

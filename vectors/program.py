@@ -7,7 +7,7 @@ import subprocess
 import tempfile
 import time
 
-from suite import CALLS, Case, digest, processors, shown
+from suite import CALLS, Case, digest, own_lines, processors, shown
 
 SECONDS = 120
 READING = (("blobs",), ("check",), ("show",), ("show", "--dates"))
@@ -67,7 +67,7 @@ class Runs:
         self.differences.append(f"{case.name}: {' '.join(words)}: {what}")
 
     def compare(self, case: Case, words: list, done, status: int, text, error: bytes):
-        for name, got, meant in (("status", done.returncode, status), ("standard output", done.stdout, text), ("standard error", done.stderr, error)):
+        for name, got, meant in (("status", done.returncode, status), ("standard output", done.stdout, text), ("standard error", own_lines(done.stderr), error)):
             if meant is not None and got != meant:
                 self.differs(case, words, f"{name} is {str(got)[:200]}, and not {str(meant)[:200]}")
 

@@ -4,6 +4,7 @@ import datetime
 import hashlib
 import json
 import os
+import re
 
 HERE = os.path.dirname(os.path.abspath(__file__))
 CALLS = ("convert", "extract", "parents")
@@ -55,6 +56,11 @@ def nanodegrees(degrees: str) -> int:
     whole, _, fraction = degrees.lstrip("-").partition(".")
     value = int(whole) * 1_000_000_000 + int((fraction + "000000000")[:9])
     return -value if degrees.startswith("-") else value
+
+
+def own_lines(error: bytes) -> bytes:
+    """What pbfcut writes to standard error, without the line below its own that names the file that it is about."""
+    return re.sub(rb"(\A|\n)(pbfcutz?: [^\n]*\n)pbfcutz?: [^\n]+: [^\n]+\n\Z", rb"\1\2", error)
 
 
 def processors() -> int:

@@ -170,7 +170,7 @@ macro_rules! after_blobs {
 /// What the help of `pack` says after its arguments.
 pub(crate) const AFTER_PACK: &str = after_arguments_of_writer!(
     "OUT has the same bytes in its blobs, compressed by zlib where they get shorter by\n\
-    it. 'pbfcutz unpack' gives the bytes of IN again. IN must have raw blobs. It is\n\
+    it. 'pbfcutz unpack' gives a raw IN again. IN has raw or zlib blobs. It is\n\
     validated first, and read twice, so it must be a file, not a pipe. The command\n\
     prints how many entities there are, as 'nodes 3 ways 0 relations 0'.\n",
     "If a run stops early there is no OUT.\n",
@@ -242,11 +242,11 @@ pub(crate) const BLOBS: &str = "List the frames of IN: where they are, their typ
 /// What pbfcut's help says.
 pub(crate) const OF_PBFCUT: Help = Help {
     name: "pbfcut",
-    about: "Cut a bounding box out of an OpenStreetMap PBF file; validate and print such\nfiles",
+    about: "Cut a box or a polygon out of an OpenStreetMap PBF file; validate and print\nsuch files",
     input: "The OpenStreetMap PBF file to read; its blobs must be raw",
     digests: "Print the SHA-256 digests of IN and OUT",
     digest_of_input: "Print the SHA-256 digest of IN",
-    usage_of_extract: "pbfcut extract [OPTIONS] --box=<WEST,SOUTH,EAST,NORTH> <IN> <OUT>",
+    usage_of_extract: "pbfcut extract [OPTIONS] <--box=W,S,E,N|--polygon=FILE> <IN> <OUT>",
     after: after_arguments_of_writer!(
         "'pbfcut help COMMAND' prints what a command does, its units and an example.\n",
         "pbfcut reads and writes files with raw blobs, and refuses compressed ones.\n\
@@ -302,11 +302,11 @@ pub(crate) const OF_PBFCUT: Help = Help {
 /// What pbfcutz's help says.
 pub(crate) const OF_PBFCUTZ: Help = Help {
     name: "pbfcutz",
-    about: "Cut a bounding box out of a compressed OpenStreetMap PBF file; validate and\nprint such files",
+    about: "Cut a box or a polygon out of a compressed OpenStreetMap PBF file; validate\nand print such files",
     input: "The OpenStreetMap PBF file to read; its blobs are raw or zlib",
     digests: "Print the SHA-256 digests of IN and OUT",
     digest_of_input: "Print the SHA-256 digest of IN",
-    usage_of_extract: "pbfcutz extract [OPTIONS] --box=<WEST,SOUTH,EAST,NORTH> <IN> <OUT>",
+    usage_of_extract: "pbfcutz extract [OPTIONS] <--box=W,S,E,N|--polygon=FILE> <IN> <OUT>",
     after: after_arguments_of_writer!(
         "'pbfcutz help COMMAND' prints what a command does, its units and an example.\n",
         "pbfcutz takes the words of pbfcut. It reads files whose blobs are compressed by\n\

@@ -1,142 +1,92 @@
-//! The line below pbfcut's own that says what to do next. It is for people, so it is written only if standard error is a terminal; IN is
-//! read again for it only if it is a plain file.
+//! What to do next after a run that failed, in lines that begin with `hint:`. They are for people, so they are written only if standard error is a
+//! terminal; IN is read again for them only if it is a plain file. No hint has a file removed that this run did not make.
 
+use crate::asked::{Asked, Existing, error_of, error_of_text, glance_at, what_exists};
+use crate::disk::folder_of;
+use crate::facts::{Refused, feature_of, refusal_of, tell_fact};
 use crate::failure::{FailedWrite, Target};
-use crate::formats::of_start;
+use crate::formats::{Form, form_of, osmium_target};
+use osm_box::BoxFault;
 use osm_polygon::{PolyFault, PolyPlace, PolyReason};
 use pbf_frame::Stop;
-use pbf_unpack::{InflateFault, Place, UnpackReason};
+use pbf_unpack::{InflateFault, UnpackReason};
 use pbf_wire::Reason;
-use pbfcut_cli::{Command, Ending, PackedRefusal, Program, Region};
-use std::fs::{self, File};
-use std::io::{self, IsTerminal, Read, Seek, SeekFrom};
+use pbfcut_cli::{Ending, Program, Region};
+use std::fs;
+use std::io::{self, ErrorKind, IsTerminal};
 
-/// How many bytes of IN are read to see what it is.
-const GLANCE: usize = 96;
+/// The system's number for a device or a disk that is full.
+const NO_SPACE: i32 = 28;
 
-/// The files that a command names, and the program that runs.
-#[derive(Clone, Copy)]
-pub struct Asked<'a> {
-    program: Program,
-    input: &'a str,
-    output: Option<&'a str>,
-    region: Option<Region<'a>>,
-}
-
-impl<'a> Asked<'a> {
-    /// The files of a command that isn't help, and the program.
-    pub fn of(program: Program, command: &Command<'a>) -> Option<Asked<'a>> {
-        let (input, output, region) = match command {
-            Command::Help(_) => return None,
-            Command::Blobs { input } => (*input, None, None),
-            Command::Info { input } => (*input, None, None),
-            Command::Show { input, .. } => (*input, None, None),
-            Command::Check { input, .. } => (*input, None, None),
-            Command::Convert(files) => (files.input, Some(files.output), None),
-            Command::Pack(files) => (files.input, Some(files.output), None),
-            Command::Unpack(files) => (files.input, Some(files.output), None),
-            Command::Extract { region, files, .. } => {
-                (files.input, Some(files.output), Some(*region))
-            }
-        };
-        Some(Asked {
-            program,
-            input,
-            output,
-            region,
-        })
-    }
-}
+/// The system's number for a pipe whose reader has ended.
+const BROKEN_PIPE: i32 = 32;
 
 fn text(rt: &HostRuntime, hint: &str) -> Option<String> {
     String::from_str(rt.alloc(), hint).ok()
 }
 
-/// Up to so many bytes of IN from this place on, if it is a plain file.
-fn glance(rt: &HostRuntime, input: &str, offset: u64) -> Option<Vec<u8>> {
-    if !fs::metadata(rt, input).ok()?.is_file() {
-        return None;
-    }
-    let mut file = File::open(rt, input).ok()?;
-    file.seek(SeekFrom::Start(offset)).ok()?;
-    let mut seen = Vec::new(rt.alloc());
-    file.take(GLANCE as u64).read_to_end(&mut seen).ok()?;
-    Some(seen)
-}
-
-/// The feature at the start of these bytes, which are those of a header's field: its tag, its length and its text.
-fn feature_of(bytes: &[u8]) -> Option<&str> {
-    let (_tag, rest) = bytes.split_first()?;
-    let (length, rest) = rest.split_first()?;
-    let feature = rest.get(..*length as usize)?;
-    if feature.iter().all(|byte| byte.is_ascii_graphic()) {
-        str::from_utf8(feature).ok()
-    } else {
-        None
-    }
-}
-
 /// What to do with a file that requires what pbfcut does not know, by the place of the feature if that is a byte of IN.
-fn of_feature(rt: &HostRuntime, asked: Asked<'_>, offset: Option<u64>) -> Option<String> {
+fn of_feature(rt: &HostRuntime, asked: Asked<'_>, offset: Option<u64>) -> &'static str {
     let Some(offset) = offset else {
-        return text(
-            rt,
-            "IN requires a feature that pbfcutz does not know. If it has history, this takes the state of now out of it: osmium time-filter IN -o NOW.osm.pbf",
-        );
+        return "if IN has history, this takes the state of now out of it: osmium time-filter IN -o NOW.osm.pbf";
     };
-    let bytes = glance(rt, asked.input, offset)?;
-    let feature = feature_of(bytes.as_slice())?;
-    if feature == "HistoricalInformation" {
-        return text(
-            rt,
-            "IN has history; this takes the state of now out of it: osmium time-filter IN -o NOW.osm.pbf",
-        );
+    let is_history = match glance_at(rt, asked.input, offset) {
+        Some(seen) => feature_of(seen.bytes()) == Some("HistoricalInformation"),
+        None => false,
+    };
+    if is_history {
+        "this takes the state of now out of the history: osmium time-filter IN -o NOW.osm.pbf"
+    } else {
+        "ask the author of the file for one without it"
     }
-    format!(in rt.alloc(); "IN requires the feature {feature}, which pbfcut does not know").ok()
 }
 
 /// What to do with a file whose zlib data pbfcutz refuses.
 fn of_zlib(detail: Option<UnpackReason>) -> &'static str {
     match detail {
-        None => {
-            "a blob of IN has its data twice, in zlib's form and in another: ask the author of the file for a sound one"
+        None | Some(UnpackReason::RawSize | UnpackReason::Inflate(InflateFault::Long)) => {
+            "ask the author of the file for a sound one"
         }
-        Some(UnpackReason::Inflate(InflateFault::Long)) => {
-            "a blob of IN unpacks to 32 MiB or more, which the format does not allow: ask the author of the file for a sound one"
-        }
-        Some(UnpackReason::RawSize) => {
-            "a blob of IN names another length than its data have: ask the author of the file for a sound one"
-        }
-        Some(UnpackReason::Inflate(_)) => {
-            "the compressed data of IN is damaged: fetch the file again"
-        }
+        Some(UnpackReason::Inflate(_)) => "fetch the file again",
     }
 }
 
 /// What to do with a file whose blobs the program doesn't read, or with damaged ones.
-fn of_blobs(asked: Asked<'_>, refused: Refused) -> Option<&'static str> {
-    match refused.reason {
-        Reason::Zlib if asked.program == Program::Pbfcutz => Some(of_zlib(refused.detail)),
-        Reason::Zlib if asked.region.is_some() => {
-            Some("IN is compressed; this cuts it: pbfcutz extract --box=BOX IN OUT")
+fn of_blobs(asked: Asked<'_>, refused: Refused) -> &'static str {
+    match (refused.reason, asked.region) {
+        (Reason::Zlib, _) if asked.program == Program::Pbfcutz => of_zlib(refused.detail),
+        (Reason::Zlib, Some(Region::Box(_))) => "this cuts it: pbfcutz extract --box=BOX IN NEW",
+        (Reason::Zlib, Some(Region::Polygon(_))) => {
+            "this cuts it: pbfcutz extract --polygon=FILE IN NEW"
         }
-        Reason::Zlib => Some("IN is compressed; pbfcutz, which takes the same words, reads it"),
-        Reason::Lz4 => Some(
-            "IN is compressed by LZ4; this makes a raw file of it: osmium cat IN -f pbf,pbf_compression=none -o RAW",
-        ),
-        Reason::Lzma | Reason::Bzip2 | Reason::Zstd => Some(
-            "IN is compressed by a method that few programs read: let the program that wrote it write it again, compressed by zlib or not at all",
-        ),
-        _ => None,
+        (Reason::Zlib, None) => "pbfcutz, which has the same commands, reads it",
+        (Reason::Lz4, _) => match asked.program {
+            Program::Pbfcut => {
+                "this makes a raw file of it: osmium cat IN -f pbf,pbf_compression=none -o RAW"
+            }
+            Program::Pbfcutz => "this compresses it by zlib: osmium cat IN -o MAP.osm.pbf",
+        },
+        (Reason::Lzma | Reason::Bzip2 | Reason::Zstd, _) => {
+            "few programs read these: let the program that wrote it write it again, compressed by zlib or not at all"
+        }
+        _ =>
+            "'pbfcutz check IN' finds the same; fetch the file again, or ask its author for a sound one",
     }
 }
 
-/// A refusal: its reason, where it is if that is a byte of IN, and what is wrong with zlib data.
-#[derive(Clone, Copy)]
-struct Refused {
-    reason: Reason,
-    offset: Option<u64>,
-    detail: Option<UnpackReason>,
+/// What to do with a file that is another form of a map, or no map.
+fn of_form(rt: &HostRuntime, asked: Asked<'_>, form: Form) -> Option<String> {
+    let target = osmium_target(asked.program);
+    if let Some(name) = form.of_osmium() {
+        return format!(in rt.alloc();
+            "this makes a PBF file of it: osmium cat -F {name} IN {target}"
+        ).ok();
+    }
+    let is_packed_map = asked.input.ends_with(".osm.gz") || asked.input.ends_with(".osm.bz2");
+    if is_packed_map {
+        return format!(in rt.alloc(); "this makes a PBF file of it: osmium cat IN {target}").ok();
+    }
+    text(rt, form.advice())
 }
 
 /// What to do with a file that is refused.
@@ -144,105 +94,126 @@ fn of_refusal(rt: &HostRuntime, asked: Asked<'_>, refused: Refused) -> Option<St
     match (refused.reason, refused.offset) {
         (Reason::PrefixCut | Reason::HeaderCut | Reason::BlobCut, _) => text(
             rt,
-            "IN ends too early, most often because a download broke off: fetch it again",
+            "most often a download broke off: fetch the file again",
         ),
-        (Reason::NoHeader, Some(0)) if glance(rt, asked.input, 0)?.is_empty() => text(
+        (Reason::NoHeader, Some(0)) if glance_at(rt, asked.input, 0)?.bytes().is_empty() => text(
             rt,
-            "IN is empty: whatever made it has failed, so make it or fetch it again",
+            "whatever made it has failed: make it or fetch it again",
         ),
         (Reason::HeaderLong, Some(0)) => {
-            text(rt, of_start(glance(rt, asked.input, 0)?.as_slice()))
+            of_form(rt, asked, form_of(glance_at(rt, asked.input, 0)?.bytes()))
         }
-        (Reason::Feature, offset) => of_feature(rt, asked, offset),
-        _ => text(rt, of_blobs(asked, refused)?),
+        (Reason::Feature, offset) => text(rt, of_feature(rt, asked, offset)),
+        _ => text(rt, of_blobs(asked, refused)),
     }
 }
 
-/// The byte of IN that a refusal of a published file names.
-fn offset_of(refusal: &PackedRefusal) -> Option<u64> {
-    match refusal.place {
-        Place::Byte(offset) => Some(offset),
-        Place::InPayload(_, _) => None,
+/// What to do about a name under which there is no file that can be read.
+fn of_missing(asked: Asked<'_>, path: &str, error: &io::Error) -> &'static str {
+    if error.kind() == ErrorKind::PermissionDenied {
+        "'ls -l' shows who may read it"
+    } else if path == "-" && asked.output.is_none() {
+        "standard input is /dev/stdin"
+    } else if path == "-" {
+        "IN is read more than once: write standard input to a file first"
+    } else if path.starts_with("http://") || path.starts_with("https://") {
+        "a file is wanted, not an address: fetch it first, as by curl -LO ADDRESS"
+    } else if path.starts_with("~") {
+        "the shell left the ~ as it is: write $HOME for it"
+    } else if error.kind() == ErrorKind::NotFound {
+        "is its name right? A name without / is looked for in the folder that 'pwd' prints"
+    } else {
+        "is its name right?"
     }
 }
 
-/// Why a file cannot be read, as the system says it. A pipe is not opened again.
-fn reason_of(rt: &HostRuntime, path: &str) -> Option<io::Error> {
-    match fs::metadata(rt, path) {
-        Err(error) => Some(error),
-        Ok(metadata) if metadata.is_file() => File::open(rt, path).err(),
-        Ok(_) => None,
-    }
-}
-
-/// Why the file of a polygon is none, if it can be opened.
-fn of_polygon(rt: &HostRuntime, path: &str) -> Option<String> {
-    if let Some(error) = reason_of(rt, path) {
-        return format!(in rt.alloc(); "{path}: {error}").ok();
-    }
-    match fs::read_to_string(rt, path) {
-        Ok(_) => None,
-        Err(error) => format!(in rt.alloc(); "{path}: {error}").ok(),
-    }
-}
-
-/// Which file could not be opened, and the system's reason.
+/// What to do about the file that could not be opened.
 fn of_files(rt: &HostRuntime, asked: Asked<'_>) -> Option<String> {
-    if let Some(Region::Polygon(path)) = asked.region {
-        if let Some(reason) = of_polygon(rt, path) {
-            return Some(reason);
+    if let Some(path) = asked.polygon() {
+        if let Some(error) = error_of_text(rt, path) {
+            return text(rt, of_missing(asked, path, &error));
         }
     }
-    let input = asked.input;
-    if let Some(error) = reason_of(rt, input) {
-        return format!(in rt.alloc(); "{input}: {error}").ok();
+    if let Some(error) = error_of(rt, asked.input) {
+        return text(rt, of_missing(asked, asked.input, &error));
     }
     let output = asked.output?;
-    format!(in rt.alloc();
-        "{output} cannot be made: is its folder there, and may it be written to?"
-    ).ok()
-}
-
-/// What to do after a read that failed, if IN is a folder.
-fn of_read(rt: &HostRuntime, asked: Asked<'_>) -> Option<String> {
-    if fs::metadata(rt, asked.input).ok()?.is_dir() {
-        return text(rt, "IN is a folder, and not a file");
+    let folder = folder_of(output);
+    if !output.is_empty() && fs::metadata(rt, folder).is_err() {
+        return format!(in rt.alloc(); "make its folder first: mkdir -p {folder}").ok();
     }
-    None
+    text(rt, "name another OUT")
 }
 
-/// Which write failed, and the system's reason.
-fn of_write(rt: &HostRuntime, asked: Asked<'_>, failed: FailedWrite) -> Option<String> {
-    let error = io::Error::from_raw_os_error(failed.code);
-    match failed.target {
-        Target::Out => {
-            let output = asked.output?;
-            match asked.program {
-                Program::Pbfcut => format!(in rt.alloc();
-                    "{output}: {error}: remove {output}, since it is incomplete"
-                ).ok(),
-                Program::Pbfcutz => format!(in rt.alloc();
-                    "{output}: {error}: it was not made"
-                ).ok(),
-            }
+/// What to do about a file that has OUT's name.
+fn of_existing(rt: &HostRuntime, asked: Asked<'_>) -> Option<String> {
+    let output = asked.output?;
+    let hint = match (what_exists(rt, asked), asked.program) {
+        (Some(Existing::Folder), _) => {
+            return format!(in rt.alloc(); "name a file in it, as {output}/cut.osm.pbf").ok();
         }
-        Target::StandardOutput => format!(in rt.alloc(); "standard output: {error}").ok(),
+        (Some(Existing::Input), _) => "IN is never changed: name another OUT",
+        (Some(Existing::Pipe | Existing::Device), Program::Pbfcut) => {
+            "OUT is a new file: name one; 'check' counts without one"
+        }
+        (Some(Existing::Pipe | Existing::Device), Program::Pbfcutz) => {
+            "OUT is a new file: name one, or - for standard output; 'check' counts without one"
+        }
+        (Some(Existing::Alone(_)), _) => "IN isn't there but OUT is: are they swapped?",
+        (Some(Existing::Longer(_)), _) => {
+            "OUT is longer than IN: are they swapped? If not, name another OUT"
+        }
+        (_, Program::Pbfcut) => "only new files are written: name another OUT",
+        (_, Program::Pbfcutz) => {
+            "only new files are written: name another OUT, or let -O replace this one"
+        }
+    };
+    text(rt, hint)
+}
+
+/// What to do about a read that failed.
+fn of_read(rt: &HostRuntime, asked: Asked<'_>) -> Option<String> {
+    let input = asked.input;
+    if fs::metadata(rt, input).ok()?.is_dir() {
+        return format!(in rt.alloc(); "name a file in it: ls {input}").ok();
+    }
+    text(rt, "copy IN to another disk, and read the copy")
+}
+
+/// What to do about a write that failed.
+fn of_write(asked: Asked<'_>, failed: FailedWrite) -> Option<&'static str> {
+    match (failed.target, failed.code) {
+        (Target::StandardOutput, BROKEN_PIPE) => {
+            Some("the program that read standard output has ended")
+        }
+        (Target::StandardOutput, _) if asked.output_file().is_some() => {
+            Some("OUT can be used; 'check' counts it again")
+        }
+        (_, NO_SPACE) => Some("make room: df -h shows how much is left"),
+        (Target::Out, _) => Some("write to another OUT, maybe on another disk"),
+        _ => None,
     }
 }
 
 /// What the text of a polygon should be.
 fn of_polygon_fault(fault: &PolyFault) -> &'static str {
-    match fault.reason {
-        PolyReason::Json =>
-            "the file begins with {, and is no JSON: 'python3 -m json.tool FILE' says where",
-        _ => match fault.place {
-            PolyPlace::Line(_, _) => {
-                "a .poly file has a name; for each ring a name, lines of longitude and latitude, and END; and END"
-            }
-            _ => {
-                "GeoJSON has a Polygon or MultiPolygon, alone, in a GeometryCollection, or as geometry of features; its rings end as they begin"
-            }
-        },
+    match (fault.reason, fault.place) {
+        (PolyReason::Json, _) => "'python3 -m json.tool FILE' says where",
+        (PolyReason::Long, _) => {
+            "no area crosses the antimeridian: give it a ring on each side"
+        }
+        (PolyReason::Range, PolyPlace::Line(_, _)) => {
+            "a line has first the longitude, then the latitude, in degrees"
+        }
+        (PolyReason::Range, _) => {
+            "a position is [longitude, latitude] in degrees; this makes them of metres: ogr2ogr -t_srs EPSG:4326 NEW.geojson FILE"
+        }
+        (_, PolyPlace::Line(_, _)) => {
+            "a .poly file has a name; for each ring a name, lines of longitude and latitude, and END; and END"
+        }
+        _ => {
+            "GeoJSON has a Polygon or MultiPolygon, alone, in a GeometryCollection, or as geometry of features; its rings end as they begin"
+        }
     }
 }
 
@@ -253,69 +224,96 @@ fn hint(
     ending: &Ending,
     failed: Option<FailedWrite>,
 ) -> Option<String> {
+    if let Some(refused) = refusal_of(ending) {
+        return of_refusal(rt, asked, refused);
+    }
     match ending {
-        Ending::Words(_) | Ending::NotText | Ending::Box(_) | Ending::Choice(_) => None,
         Ending::Polygon(fault) => text(rt, of_polygon_fault(fault)),
         Ending::CannotOpen => of_files(rt, asked),
         Ending::IsPipe => text(
             rt,
             "IN is read more than once: write what the pipe has to a file first; 'check' and 'blobs' read a pipe",
         ),
-        Ending::OutExists => text(
-            rt,
-            match asked.program {
-                Program::Pbfcut => "only new files are written: remove OUT, or name another",
-                Program::Pbfcutz => {
-                    "only new files are written, or with --overwrite plain ones: remove OUT, or name another"
-                }
-            },
-        ),
-        Ending::Stopped(Stop::Refused(fault)) => {
-            let refused = Refused {
-                reason: fault.reason,
-                offset: Some(fault.offset),
-                detail: None,
-            };
-            of_refusal(rt, asked, refused)
-        }
-        Ending::RefusedPacked(refusal) => {
-            let refused = Refused {
-                reason: refusal.reason,
-                offset: offset_of(refusal),
-                detail: refusal.detail,
-            };
-            of_refusal(rt, asked, refused)
-        }
-        Ending::Stopped(Stop::Changed(_)) => text(
-            rt,
-            "something wrote to IN meanwhile: copy it to a file that stays the same",
-        ),
+        Ending::OutExists => of_existing(rt, asked),
+        Ending::Stopped(Stop::Changed(_)) => text(rt, "copy IN to a file that stays the same"),
         Ending::Stopped(Stop::Memory) if asked.region.is_some() => {
             text(rt, "a smaller area takes less memory")
         }
-        Ending::Stopped(Stop::Memory) => None,
         Ending::Stopped(Stop::Read) => of_read(rt, asked),
-        Ending::Stopped(Stop::Write) => of_write(rt, asked, failed?),
+        Ending::Stopped(Stop::Write) => text(rt, of_write(asked, failed?)?),
+        _ => None,
     }
 }
 
-/// Writes the line below that of an ending, on a terminal.
+/// Whether this run made OUT, and left it: only pbfcut does, and only if it stopped after it had looked for OUT.
+fn may_leave(asked: Asked<'_>, ending: &Ending) -> bool {
+    if asked.program == Program::Pbfcutz {
+        return false;
+    }
+    match ending {
+        // The file of a polygon is read, and may be too long for the memory, before it is known whether there is an OUT.
+        Ending::Stopped(Stop::Memory) => asked.polygon().is_none(),
+        Ending::Stopped(_) => true,
+        _ => false,
+    }
+}
+
+/// What is to be done about the OUT that this run left, if it did. After counts that could not be printed it is whole.
+fn of_leaving(
+    rt: &HostRuntime,
+    asked: Asked<'_>,
+    ending: &Ending,
+    failed: Option<FailedWrite>,
+) -> Option<&'static str> {
+    let counts_failed = match failed {
+        Some(failed) => failed.target == Target::StandardOutput,
+        None => false,
+    };
+    if counts_failed || !may_leave(asked, ending) {
+        return None;
+    }
+    let left = fs::metadata(rt, asked.output_file()?).ok()?;
+    if !left.is_file() {
+        None
+    } else if left.len() == 0 {
+        Some("this run made OUT, and left it empty: remove it, or name another")
+    } else {
+        Some("this run made OUT, and left it incomplete: remove it, or name another")
+    }
+}
+
+/// Writes which file a run failed for, and why; and on a terminal what to do next.
 pub fn tell_hint(rt: &HostRuntime, asked: Asked<'_>, ending: &Ending, failed: Option<FailedWrite>) {
+    tell_fact(rt, asked, ending, failed);
     if !rt.stderr().is_terminal() {
         return;
     }
     if let Some(hint) = hint(rt, asked, ending, failed) {
         let _ = eprintln!(rt; "hint: {hint}");
     }
+    if let Some(hint) = of_leaving(rt, asked, ending, failed) {
+        let _ = eprintln!(rt; "hint: {hint}");
+    }
 }
 
-/// Says what the order of a box is, on a terminal.
-pub fn tell_order(rt: &HostRuntime) {
-    if rt.stderr().is_terminal() {
-        let _ = eprintln!(rt;
-            "hint: the box is west,south,east,north in degrees, as --box=-0.5,51.25,0.3,51.7"
-        );
+/// Says on a terminal how the box should be.
+pub fn tell_box(rt: &HostRuntime, fault: BoxFault) {
+    if !rt.stderr().is_terminal() {
+        return;
     }
+    let _ = eprintln!(rt;
+        "hint: the box is west,south,east,north in degrees, as --box=-0.5,51.25,0.3,51.7"
+    );
+    let more = match fault {
+        BoxFault::Shape => "hint: it is four numbers with commas between them, and no spaces",
+        BoxFault::Digit =>
+            "hint: a number has no letters or signs but -, and up to nine digits after the point",
+        BoxFault::Range => "hint: longitudes are from -180 to 180, latitudes from -90 to 90",
+        BoxFault::LeftOverRight =>
+            "hint: across the antimeridian two boxes are cut, one on each side",
+        BoxFault::BottomOverTop => "hint: south is the lower latitude",
+    };
+    let _ = eprintln!(rt; "{more}");
 }
 
 /// Says on a terminal that an extract is empty.
@@ -324,8 +322,28 @@ pub fn tell_empty(rt: &HostRuntime, region: Region<'_>) {
         return;
     }
     let place = match region {
-        Region::Box(_) => "the box, which is west,south,east,north",
-        Region::Polygon(_) => "the polygon",
+        Region::Box(_) => "the box, west,south,east,north",
+        Region::Polygon(_) => "the polygon, longitude before latitude",
     };
-    let _ = eprintln!(rt; "hint: no node of IN lies in {place}");
+    let _ = eprintln!(rt;
+        "hint: no node of IN lies in {place}: 'pbfcutz info IN' prints IN's own box"
+    );
+}
+
+/// Says on a terminal what OUT is, if its name promises something else.
+pub fn tell_form(rt: &HostRuntime, program: Program, output: &str) {
+    if !rt.stderr().is_terminal() {
+        return;
+    }
+    let other = [
+        ".osm", ".osm.bz2", ".osm.gz", ".xml", ".o5m", ".opl", ".geojson", ".json",
+    ];
+    if other.iter().any(|end| output.ends_with(*end)) {
+        let _ = eprintln!(rt;
+            "hint: OUT is written as PBF, whatever its name is; 'osmium cat' writes other formats"
+        );
+    }
+    if program == Program::Pbfcut && output == "-" {
+        let _ = eprintln!(rt; "hint: OUT is a file named -; pbfcutz writes to standard output");
+    }
 }

@@ -1,5 +1,7 @@
-//! The line below pbfcut's own that says why a file isn't opened that the system would open: two names are one file.
+//! What is said of a file that isn't opened though the system would open it: two names are one file.
 
+use crate::asked::Asked;
+use crate::facts::tell;
 use std::io::IsTerminal;
 
 /// What a run would spoil.
@@ -11,15 +13,22 @@ pub enum Spoiled {
     Input,
 }
 
-/// Says on a terminal which two names are one file.
-pub fn tell_spoiled(rt: &HostRuntime, spoiled: Spoiled) {
-    if !rt.stderr().is_terminal() {
-        return;
-    }
-    let hint = match spoiled {
-        Spoiled::Source =>
-            "OUT is a file that is read: name another, and rename it when it is there",
-        Spoiled::Input => "standard output is IN: write to another file",
+/// Writes which file it is, and why it isn't opened; and on a terminal what to do next.
+pub fn tell_spoiled(rt: &HostRuntime, asked: Asked<'_>, spoiled: Spoiled) {
+    let (path, words, hint) = match spoiled {
+        Spoiled::Source => (
+            asked.output.unwrap_or(asked.input),
+            "it is a file that this run reads",
+            "name another OUT, and rename it when it is there",
+        ),
+        Spoiled::Input => (
+            asked.input,
+            "it is standard output too",
+            "write to another file",
+        ),
     };
-    let _ = eprintln!(rt; "hint: {hint}");
+    tell(rt, asked, path, words);
+    if rt.stderr().is_terminal() {
+        let _ = eprintln!(rt; "hint: {hint}");
+    }
 }

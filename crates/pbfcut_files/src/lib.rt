@@ -1,8 +1,10 @@
 //! What the program's host does with files and a terminal: IN and OUT, the report of progress, and hints.
 #![tactic(auto)]
 
+mod asked;
 mod disk;
 mod existing;
+mod facts;
 mod failure;
 mod files;
 mod formats;
@@ -12,12 +14,14 @@ mod left;
 mod out;
 mod part;
 mod progress;
+mod reasons;
 mod replaced;
 
+pub use asked::Asked;
 pub use existing::{Identity, plain_file_at, plain_screen};
 pub use failure::{FailedWrite, Target};
 pub use files::{is_long, open_pass};
-pub use hints::{Asked, tell_empty, tell_hint, tell_order};
+pub use hints::{tell_box, tell_empty, tell_form, tell_hint};
 pub use hints_out::{Spoiled, tell_spoiled};
 pub use left::tell_left;
 pub use out::{Output, Place, create_output, is_taken, open_screen};

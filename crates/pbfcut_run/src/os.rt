@@ -7,8 +7,8 @@ use pbf_frame::FromRead;
 use pbfcut_cli::{Command, Ending, Program, Region};
 use pbfcut_files::{
     Asked, FailedWrite, Identity, NotKept, Place, Spoiled, Target, Watched, create_output, is_long,
-    is_taken, open_pass, open_screen, plain_file_at, plain_screen, tell_empty, tell_hint,
-    tell_left, tell_order, tell_spoiled,
+    is_taken, open_pass, open_screen, plain_file_at, plain_screen, tell_box, tell_empty, tell_form,
+    tell_hint, tell_left, tell_spoiled,
 };
 use pbfcut_program::{CreateFault, FinishFault, Host, NotDone, OpenFault, Screen, TextFault, Turn};
 use std::fs::{self, File};
@@ -124,6 +124,7 @@ impl Host for Os<'_> {
             self.spoiled = Some(Spoiled::Source);
             return Err(CreateFault::Failed);
         }
+        tell_form(self.rt, self.program, path);
         match create_output(self.rt, self.place(path, overwrite)) {
             Ok(output) => {
                 if self.program == Program::Pbfcutz {
@@ -192,16 +193,18 @@ impl Host for Os<'_> {
     }
 
     fn advise_words(&mut self, ending: &Ending) {
-        if matches!(ending, Ending::Box(_)) {
-            tell_order(self.rt);
+        if let Ending::Box(fault) = ending {
+            tell_box(self.rt, *fault);
         }
     }
 
     fn advise(&mut self, command: &Command<'_>, ending: &Ending) {
-        if let Some(spoiled) = self.spoiled {
-            tell_spoiled(self.rt, spoiled);
-        } else if let Some(asked) = Asked::of(self.program, command) {
-            tell_hint(self.rt, asked, ending, self.failed);
+        let Some(asked) = Asked::of(self.program, command) else {
+            return;
+        };
+        match self.spoiled {
+            Some(spoiled) => tell_spoiled(self.rt, asked, spoiled),
+            None => tell_hint(self.rt, asked, ending, self.failed),
         }
     }
 
