@@ -22,6 +22,7 @@ sys.path.insert(0, HERE)
 
 from faults import build
 from published import SAMPLE, packed
+from suite import own_lines
 from terminal import run as on_terminal
 
 BOX = "--box=9.997,49.999,10.003,50.003"
@@ -74,7 +75,7 @@ class Bench:
         self.count += 1
         process = self.start(words, name, fault, **how)
         out, errors = process.communicate(timeout=SECONDS)
-        return process.returncode, (out or b"").decode(), errors.decode()
+        return process.returncode, (out or b"").decode(), own_lines(errors).decode()
 
     def made(self, name: str) -> bytes:
         """What a run writes, whose OUT goes away."""
@@ -108,7 +109,7 @@ def started_together(bench: Bench, number: int, overwrite: bool, fault: str) -> 
     runs = [bench.start(one, fault=fault) for one in words]
     ends = [(run.communicate(timeout=SECONDS), run.returncode) for run in runs]
     bench.count += number
-    ended = sorted((status, errors) for (_, errors), status in ends)
+    ended = sorted((status, own_lines(errors)) for (_, errors), status in ends)
     expect(f"{number} runs at once, {flags}, {fault}: the files that are new", {"out"}, bench.left())
     return ended, bench.take("out")
 
@@ -325,7 +326,7 @@ def mounted(bench: Bench):
     if os.getuid() == 0 and subprocess.run([*words[:5], "sh", "true"], cwd=bench.folder, capture_output=True).returncode == 0:
         bench.count += 1
         done = subprocess.run(words, cwd=bench.folder, capture_output=True, timeout=SECONDS)
-        expect("OUT that is mounted", (3, b"pbfcutz: cannot open\n"), (done.returncode, done.stderr))
+        expect("OUT that is mounted", (3, b"pbfcutz: cannot open\n"), (done.returncode, own_lines(done.stderr)))
         expect("the files beside it", {"out", "other"}, bench.left())
     for name in "out", "other":
         expect("what is mounted", OLD, bench.take(name))
