@@ -34,7 +34,8 @@ pub(crate) enum Cut {
 fn read_area<H: Host>(alloc: Global, host: &mut H, path: &str) -> Result<MultiPolygon, Ending>
     ensures ok { IfOk result (λ area. (text : List ℕ) × (polygons : List Rings)
         × (H.log host.new ≡ then_all (H.log host.old) (text_read path.now text ∷ []))
-        × (polygons_of_text text ≡ Ok polygons) × (regions_area area ≡ polygons_area (polygons_of polygons))) }
+        × (polygons_of_text text ≡ Ok polygons)
+        × (regions_area area ≡ polygons_area (polygons_of polygons))) }
     ensures err { IfErr result (λ how. (events : List Event)
         × (H.log host.new ≡ then_all (H.log host.old) events) × FailsOpening how events) }
 {
