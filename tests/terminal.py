@@ -182,7 +182,7 @@ def main():
              "pbfcut: in: it requires the feature HistoricalInformation, which pbfcut does not know",
              "hint: this takes the state of now out of the history: osmium time-filter IN -o NOW.osm.pbf", given=header_with(b"HistoricalInformation"))
         case("another fault", ["check", "in"], 1, "pbfcut: refused at 17: 15 NoRaw", "pbfcut: in: a blob has no data of any kind",
-             "hint: 'pbfcutz check IN' finds the same; fetch the file again, or ask its author for a sound one", given=frame(b""))
+             "hint: fetch the file again; if that doesn't help, ask its author for a sound one", given=frame(b""))
         os.mkfifo(os.path.join(folder, "pipe"))
         case("a pipe that is to be read twice", ["show", "pipe"], 3, "pbfcut: IN must be a file, not a pipe",
              "pbfcut: pipe: it is a pipe, which can be read only once",

@@ -69,8 +69,13 @@ fn of_blobs(asked: Asked<'_>, refused: Refused) -> &'static str {
         (Reason::Lzma | Reason::Bzip2 | Reason::Zstd, _) => {
             "few programs read these: let the program that wrote it write it again, compressed by zlib or not at all"
         }
-        _ =>
-            "'pbfcutz check IN' finds the same; fetch the file again, or ask its author for a sound one",
+        (Reason::EntityLarge, _) => {
+            "the file may be sound, but beyond the limits here: 'osmium extract' may cut it"
+        }
+        (Reason::Changesets, _) => {
+            "this leaves them out: osmium cat -t node -t way -t relation IN -o MAP.osm.pbf"
+        }
+        _ => "fetch the file again; if that doesn't help, ask its author for a sound one",
     }
 }
 
