@@ -348,7 +348,7 @@ def words_of_all_kinds(bench: Bench):
         (["extract", BOX, BOX, "in", "out"], b"--box"),
         (["extract", BOX, "--bbox=0,0,1,1", "in", "out"], b"--box"),
         (["help", "cut"], b"'cut'"),
-        (["check", "-o", "in"], b"tip: OUT is the last argument; leave out the option\n"),
+        (["check", "-o", "in"], b"tip: leave it out: this command writes no file\n"),
         (["extract", BOX, "in", "-o", "out"], b"'-o' found\n\n  tip: OUT is the last argument; leave out the option\n\nUsage: pbfcut extract"),
         (["extract", BOX, "in", "--output=out"], b"'--output' found\n\n  tip: OUT is the last argument; leave out the option\n\nUsage: pbfcut"),
         (["extract", BOX, "in", "-x", "out"], b"tip: to pass '-x' as a value"),
