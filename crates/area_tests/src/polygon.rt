@@ -496,10 +496,10 @@ fn many_crossings(rt: HostRuntime) -> Result<(), Fail> {
 /// A square whose southwest corner is this place.
 fn square_at(alloc: Global, corner: Place) -> Result<Ring, AllocError> {
     let mut places = Vec::new(alloc);
-    for (north, east) in [(0, 0), (0, 1), (1, 1), (1, 0)] {
+    for (is_north, is_east) in [(false, false), (false, true), (true, true), (true, false)] {
         if let Some(place) = Place::of(
-            i128::from(corner.lat) + north * 900_000_000,
-            i128::from(corner.lon) + east * 900_000_000,
+            i128::from(corner.lat) + if is_north { 900_000_000 } else { 0 },
+            i128::from(corner.lon) + if is_east { 900_000_000 } else { 0 },
         ) {
             places.push(place)?;
         }
