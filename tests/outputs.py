@@ -27,7 +27,6 @@ COUNTS = "nodes 121 ways 23 relations 7\n"
 ALL = "nodes 272 ways 64 relations 13\n"
 ENDS = [signal.SIGTERM, signal.SIGINT, signal.SIGHUP, signal.SIGQUIT]
 SECONDS = 120
-PAGE = 4_096
 # A ring round the same places as the box of CUT, in the form in which such files are published.
 # the same ring as GeoJSON, as osmium takes it, and alone
 FEATURE = '{"type": "Feature", "properties": {}, "geometry": %s}'
@@ -299,30 +298,6 @@ def disks(bench: Bench):
         os.unlink(bench.path("out"))
 
 
-def limits(bench: Bench):
-    """Each limit of the address space from the least that the program begins with: a run ends as usual or says that memory is short, and by no
-    signal."""
-    def status_of(words: list, most: int) -> int:
-        bench.count += 1
-        done = subprocess.run([bench.pbfcutz, *words], cwd=bench.folder, capture_output=True, timeout=SECONDS,
-                              preexec_fn=lambda: resource.setrlimit(resource.RLIMIT_AS, (most, most)))
-        expect(f"{words} with {most} bytes: what is said", {0: b"", 4: b"pbfcutz: out of memory\n"}.get(done.returncode), done.stderr)
-        return done.returncode
-
-    least, most = 1 << 16, 1 << 26
-    while most - least > PAGE:
-        middle = (least + most) // 2
-        done = subprocess.run([bench.pbfcutz, "--version"], capture_output=True, preexec_fn=lambda: resource.setrlimit(resource.RLIMIT_AS, (middle, middle)))
-        least, most = (least, middle) if done.returncode == 0 else (middle, most)
-    for words in [["check", "raw"], ["convert", "raw", "out"], ["extract", "-p", "ring.poly", "in", "out"], ["extract", "--parents", "-p", "ring.geojson", "in", "out"]]:
-        ends = set()
-        for step in range(0, 4_000_000, 5 * PAGE):
-            ends.add(status_of(words, most + step))
-            if os.path.exists(bench.path("out")):
-                os.unlink(bench.path("out"))
-        expect(f"{words} with little memory: how it ends", {0, 4}, ends)
-
-
 def nodes_of(raw: bytes) -> bytes:
     """The second frame of a file."""
     begin = frame_at(raw, 0)[2]
@@ -398,7 +373,7 @@ def main():
         sys.exit(__doc__)
     with tempfile.TemporaryDirectory(prefix="pbfcut-outputs-") as folder, tempfile.TemporaryDirectory() as elsewhere:
         bench = Bench(sys.argv[1], folder, elsewhere)
-        for part in [copies, headers, options, names, closed, disks, limits, signals, readers, pages]:
+        for part in [copies, headers, options, names, closed, disks, signals, readers, pages]:
             part(bench)
     print(f"tests/outputs.py: {bench.count} cases as they have to be")
 

@@ -13,16 +13,12 @@ use std::fs::File;
 use std::io;
 use std::process::ExitCode;
 
-/// The room for the first word of a command line. It is more than Linux lets a word have, and more than any run has on its stack.
-const ROOM: usize = 524_288;
+/// The room for the first word of a command line: that of the longest path that Linux has.
+const LONGEST_PATH: usize = 4_096;
 
 /// The program that the first word of the command line names, which is read without a request for memory.
-///
-/// It is the first call, and not inlined, so that the stack has grown as far as the run needs it. If memory is short, a stack that grows later ends
-/// the program by a signal; a request that is refused ends it with a line and a status.
-#[inline(never)]
 fn program_named(rt: &HostRuntime) -> Program {
-    let mut path = [0; ROOM];
+    let mut path = [0; LONGEST_PATH];
     let length = rt.arg(0, &mut path).unwrap_or(0);
     let path = path.get(..length).unwrap_or(&[]);
     let name = path.rsplit(|byte| *byte == b'/').next().unwrap_or(path);
