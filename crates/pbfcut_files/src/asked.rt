@@ -124,19 +124,10 @@ pub(crate) fn glance_at(rt: &HostRuntime, input: &str, offset: u64) -> Option<Gl
     }
     let mut file = File::open(rt, input).ok()?;
     file.seek(SeekFrom::Start(offset)).ok()?;
-    let mut seen = Glance {
-        bytes: [0; GLANCE],
-        length: 0,
-    };
-    for _ in 0..GLANCE {
-        let rest = seen.bytes.get_mut(seen.length..)?;
-        let count = file.read(rest).ok()?;
-        if count == 0 {
-            break;
-        }
-        seen.length = seen.length.saturating_add(count);
-    }
-    Some(seen)
+    let mut bytes = [0; GLANCE];
+    // A plain file gives in one read what it has, unless that is interrupted; then less is seen.
+    let length = file.read(&mut bytes).ok()?;
+    Some(Glance { bytes, length })
 }
 
 /// Why a file cannot be read, as the system says it. A pipe is not opened again.
