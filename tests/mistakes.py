@@ -64,6 +64,8 @@ def files(folder: str):
     write("broken.geojson", b'{"type": "Polygon", "coordinates": %s' % square.encode())
     write("point.geojson", b'{"type": "Point", "coordinates": [9, 49]}')
     write("ring.geojson", b'{"type": "Polygon", "coordinates": [[[9, 49], [10, 49], [10, 50], [10, 51]]]}')
+    write("long.geojson", b'{"type": "Polygon", "coordinates": [[[179, -20], [-179, -20], [-179, -15], [179, -20]]]}')
+    write("nameless.poly", b"1\n 9.997 49.999\n 10.003 49.999\n 10.003 50.003\nEND\nEND\n")
     write("metres.geojson", b'{"type": "Polygon", "coordinates": [[[900000, 49], [10, 49], [10, 50], [900000, 49]]]}')
     os.mkdir(os.path.join(folder, "folder"))
     os.mkfifo(os.path.join(folder, "pipe"))
