@@ -138,11 +138,3 @@ pub(crate) fn error_of(rt: &HostRuntime, path: &str) -> Option<io::Error> {
         Ok(_) => None,
     }
 }
-
-/// Why the file of a polygon can't be read as text.
-pub(crate) fn error_of_text(rt: &HostRuntime, path: &str) -> Option<io::Error> {
-    if let Some(error) = error_of(rt, path) {
-        return Some(error);
-    }
-    fs::read_to_string(rt, path).err()
-}

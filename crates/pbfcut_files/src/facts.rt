@@ -1,10 +1,11 @@
 //! The second line of a run that failed: the file that it is about, and why. It goes to every standard error, so that a log has the name of the file.
-//! Nothing here allocates, except to see whether the file of a polygon is text.
+//! Nothing here allocates.
 
-use crate::asked::{Asked, Existing, error_of, error_of_text, glance_at, what_exists};
+use crate::asked::{Asked, Existing, error_of, glance_at, what_exists};
 use crate::disk::folder_of;
 use crate::failure::{FailedWrite, Target};
 use crate::formats::form_of;
+use crate::polygon_text::is_no_file;
 use crate::reasons::{words_of, words_of_polygon, words_of_zlib};
 use pbf_frame::Stop;
 use pbf_unpack::{Place, UnpackReason};
@@ -77,7 +78,16 @@ pub(crate) fn words_of_unmade(rt: &HostRuntime, output: &str) -> &'static str {
 /// Which file could not be opened, and why.
 fn tell_unopened(rt: &HostRuntime, asked: Asked<'_>) {
     if let Some(path) = asked.polygon() {
-        if let Some(error) = error_of_text(rt, path) {
+        if is_no_file(rt, path) {
+            tell(
+                rt,
+                asked,
+                path,
+                "it is a folder, a pipe or a device, and no file",
+            );
+            return;
+        }
+        if let Some(error) = error_of(rt, path) {
             tell_error(rt, asked, path, &error);
             return;
         }

@@ -1,11 +1,12 @@
 //! What to do next after a run that failed, in lines that begin with `hint:`. They are for people, so they are written only if standard error is a
 //! terminal; IN is read again for them only if it is a plain file. No hint has a file removed that this run did not make.
 
-use crate::asked::{Asked, Existing, error_of, error_of_text, glance_at, what_exists};
+use crate::asked::{Asked, Existing, error_of, glance_at, what_exists};
 use crate::disk::folder_of;
 use crate::facts::{Refused, feature_of, refusal_of, tell_fact};
 use crate::failure::{FailedWrite, Target};
 use crate::formats::{Form, form_of, osmium_target};
+use crate::polygon_text::is_no_file;
 use osm_box::BoxFault;
 use osm_polygon::{PolyFault, PolyPlace, PolyReason};
 use pbf_frame::Stop;
@@ -135,7 +136,10 @@ fn of_missing(asked: Asked<'_>, path: &str, error: &io::Error) -> &'static str {
 /// What to do about the file that could not be opened.
 fn of_files(rt: &HostRuntime, asked: Asked<'_>) -> Option<String> {
     if let Some(path) = asked.polygon() {
-        if let Some(error) = error_of_text(rt, path) {
+        if is_no_file(rt, path) {
+            return text(rt, "write the polygon to a file first");
+        }
+        if let Some(error) = error_of(rt, path) {
             return text(rt, of_missing(asked, path, &error));
         }
     }
@@ -203,9 +207,10 @@ fn of_write(asked: Asked<'_>, failed: FailedWrite) -> Option<&'static str> {
 /// What the text of a polygon should be.
 fn of_polygon_fault(fault: &PolyFault) -> &'static str {
     match (fault.reason, fault.place) {
+        (PolyReason::Name, _) => "a name is missing: put a line with one before this line",
         (PolyReason::Json, _) => "'python3 -m json.tool FILE' says where",
         (PolyReason::Long, _) => {
-            "no area crosses the antimeridian: give it a ring on each side"
+            "an edge has at most 180 degrees of longitude: use two rings, one on each side of the antimeridian, or add a corner between"
         }
         (PolyReason::Range, PolyPlace::Line(_, _)) => {
             "a line has first the longitude, then the latitude, in degrees"

@@ -7,11 +7,11 @@ use pbf_frame::FromRead;
 use pbfcut_cli::{Command, Ending, Program, Region};
 use pbfcut_files::{
     Asked, FailedWrite, Identity, NotKept, Place, Spoiled, Target, Watched, create_output, is_long,
-    is_taken, open_pass, open_screen, plain_file_at, plain_screen, tell_box, tell_empty, tell_form,
-    tell_hint, tell_left, tell_spoiled,
+    is_taken, open_pass, open_screen, plain_file_at, plain_screen, read_polygon_text, tell_box,
+    tell_empty, tell_form, tell_hint, tell_left, tell_spoiled,
 };
 use pbfcut_program::{CreateFault, FinishFault, Host, NotDone, OpenFault, Screen, TextFault, Turn};
-use std::fs::{self, File};
+use std::fs::File;
 use std::hash::RandomState;
 use std::io::{self, IsTerminal, Write};
 
@@ -77,7 +77,7 @@ impl Host for Os<'_> {
 
     fn read_text(&mut self, path: &str) -> Result<String, TextFault> {
         self.area = plain_file_at(self.rt, path);
-        match fs::read_to_string(self.rt, path) {
+        match read_polygon_text(self.rt, path) {
             Ok(text) => Ok(text),
             Err(error) if error.kind() == io::ErrorKind::OutOfMemory => Err(TextFault::Memory),
             Err(_) => Err(TextFault::Failed),
