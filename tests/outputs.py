@@ -204,7 +204,13 @@ def options(bench: Bench):
     bench.case(["extract", "in", "out"], status=2, said="  --box <WEST,SOUTH,EAST,NORTH>\n")
     bench.case([*CUT, "-p", "ring.poly", "in", "out"], status=2, said="cannot be used with '--polygon <FILE>'")
     bench.case(["extract", "-p", "absent", "in", "out"], status=3, said="pbfcutz: cannot open\n")
-    bench.case(["extract", "-p", "in", "in", "out"], status=3, said="pbfcutz: cannot open\n")
+    bench.case(["extract", "-p", "in", "in", "out"], status=2, said="pbfcutz: polygon: ")
+    # a name in Latin-1
+    bench.write("latin.poly", RING.replace("town", "Z\u00fcrich").encode("latin-1"))
+    bench.case(["extract", "--raw", "-p", "latin.poly", "in", "out"], out=COUNTS, left=("out",))
+    expect("the places of a polygon with a name in Latin-1", unpacked(bench.cut), unpacked(bench.read("out")))
+    for name in "out", "latin.poly":
+        os.unlink(bench.path(name))
     for text, fault in [("", "line 1, column 1: 1 Ended"), ("a\n1\nx\n", "line 3, column 1: 2 Number"), ("a\n1\n 0  200\n", "line 3, column 5: 3 Range"),
                         ("a\n1\n0 0\n1 1\n  END\nEND\n", "line 5, column 3: 4 Short"), ("a\nEND\n", "line 3, column 1: 5 Empty"),
                         (RING + "b\n", "line 10, column 1: 6 Rest"), (RING_JSON + "}", "7 Json"), (FEATURE % "null", "8 Shape"),
