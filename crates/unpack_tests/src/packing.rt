@@ -91,7 +91,7 @@ fn a_header_gets_longer(rt: HostRuntime) -> Result<(), Fail> {
 
 #[test]
 fn a_frame_of_another_type(rt: HostRuntime) -> Result<(), Fail> {
-    let raw = b"\x00\x00\x00\x05\x0a\x01X\x18\x01Z";
+    let raw = b"\x00\x00\x00\x05\x0a\x01X\x18\x01Z".as_slice();
     assert!(rt; packed(rt.alloc(), raw, 5)?.as_slice() == raw);
     Ok(())
 }
