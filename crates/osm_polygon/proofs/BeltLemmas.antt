@@ -10,9 +10,11 @@ use Rattle.osm_polygon.specs.declared.edge.Axis.TheVariants.{Latitude}
 use Rattle.osm_polygon.specs.declared.place.Place.{Place}
 use Rattle.osm_polygon.specs.declared.bands.Band.{Band}
 use Rattle.osm_polygon.specs.declared.belts.Belt.{Belt}
+use Rattle.osm_polygon.specs.declared.belts.Belt.TheVariants.{One, Many}
+use Rattle.osm_polygon.specs.declared.belts.Parts.{Parts}
 use Rattle.osm_polygon.specs.Edges.{along, strip_number, lowest, highest, is_in_strip}
-use Rattle.osm_polygon.specs.Bands.{IsBand, AreBands, held_by, cells_by}
-use Rattle.osm_polygon.specs.Belts.{IsBelt, AreNarrow, AreBelts, held_in, cells_in}
+use Rattle.osm_polygon.specs.Bands.{IsBand, AreBands}
+use Rattle.osm_polygon.specs.Belts.{AreParts, IsBelt, IsNarrow, AreNarrow, AreBelts, held_of, held_in, cells_of, cells_in}
 use Rattle.osm_polygon.proofs.Counting.{filter_near}
 use Rattle.osm_polygon.proofs.EdgeLemmas.{both}
 use Rattle.osm_polygon.proofs.StripLemmas.{le_true, nat_le_is}
@@ -85,13 +87,13 @@ module _ (shift number finer : ℕ) (narrow : finer ≤ shift) where
       let at : strip_number Latitude finer p / parts ≡ number = finer_number finer shift (along Latitude p) narrow ∙ is in
       (div-lt_iff_lt-mul {k = parts} {x = strip_number Latitude finer p} {y = number + 1} (some_power (shift - finer))).0 (omega (arith, at))
 
-pub is_belt : (shift number : ℕ) (all : List Edge) (belt : Belt) → belt.shift ≤ shift → shift < 64
-    → belt.first ≡ number * 2 ^ (shift - belt.shift) → belt.first + length belt.bands.items ≡ (number + 1) * 2 ^ (shift - belt.shift)
-    → AreBands belt.shift belt.first (filter (is_in_strip Latitude shift number) all) belt.bands.items → IsBelt shift number all belt
-is_belt shift number all belt narrow width first end are = record {
-  bands = bands_in shift number belt.shift narrow belt.first all belt.bands.items are (omega (arith, first)) (omega (arith, end));
-  begun = λ p is. rw first (first_place shift number belt.shift narrow p is);
-  ends = λ p is. rw end (last_place shift number belt.shift narrow p is);
+pub are_parts : (shift number : ℕ) (all : List Edge) (parts : Parts) → parts.shift ≤ shift → shift < 64
+    → parts.first ≡ number * 2 ^ (shift - parts.shift) → parts.first + length parts.bands.items ≡ (number + 1) * 2 ^ (shift - parts.shift)
+    → AreBands parts.shift parts.first (filter (is_in_strip Latitude shift number) all) parts.bands.items → AreParts shift number all parts
+are_parts shift number all parts narrow width first end are = record {
+  bands = bands_in shift number parts.shift narrow parts.first all parts.bands.items are (omega (arith, first)) (omega (arith, end));
+  begun = λ p is. rw first (first_place shift number parts.shift narrow p is);
+  ends = λ p is. rw end (last_place shift number parts.shift narrow p is);
   width = omega (arith, narrow, width);
 }
 
@@ -107,6 +109,10 @@ narrow_at (first ∷ bands) zero band are e = subst (λ (b : Band). b.shift < 64
   same : Some first ≡ Some band → first ≡ band
   same e = cc
 narrow_at (first ∷ bands) (suc i) band are e = narrow_at bands i band are.1 e
+
+pub belt_narrow : (shift number : ℕ) (edges : List Edge) (belt : Belt) → IsBelt shift number edges belt → IsNarrow belt
+belt_narrow shift number edges (One band) is = is.width
+belt_narrow shift number edges (Many parts) is = (is.width, all_narrow parts.shift parts.first edges parts.bands.items is.bands)
 
 -- ---- lists of belts
 
@@ -133,8 +139,8 @@ belt_at shift number edges (first ∷ belts) (suc i) belt are e =
     let same : (number + 1) + i ≡ number + suc i = omega arith in
     subst (λ (n : ℕ). IsBelt shift n edges belt) same (belt_at shift (number + 1) edges belts i belt are.1 e)
 
-pub held_in_more : (belts : List Belt) (belt : Belt) → held_in (belts ++ belt ∷ []) ≡ held_in belts + held_by belt.bands.items
-held_in_more belts belt = omega (arith, sum_by-append (λ (b : Belt). held_by b.bands.items) belts (belt ∷ []))
+pub held_in_more : (belts : List Belt) (belt : Belt) → held_in (belts ++ belt ∷ []) ≡ held_in belts + held_of belt
+held_in_more belts belt = omega (arith, sum_by-append held_of belts (belt ∷ []))
 
-pub cells_in_more : (belts : List Belt) (belt : Belt) → cells_in (belts ++ belt ∷ []) ≡ cells_in belts + cells_by belt.bands.items
-cells_in_more belts belt = omega (arith, sum_by-append (λ (b : Belt). cells_by b.bands.items) belts (belt ∷ []))
+pub cells_in_more : (belts : List Belt) (belt : Belt) → cells_in (belts ++ belt ∷ []) ≡ cells_in belts + cells_of belt
+cells_in_more belts belt = omega (arith, sum_by-append cells_of belts (belt ∷ []))

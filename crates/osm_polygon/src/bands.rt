@@ -136,7 +136,7 @@ fn is_odd_here(edges: &[Edge], shift: u32, cell: u64, border: Border) -> bool
 }
 
 /// The band north of this border, which has these edges.
-fn band_of(alloc: Global, edges: &[Edge], border: Border) -> Result<Band, AllocError>
+pub(crate) fn band_of(alloc: Global, edges: &[Edge], border: Border) -> Result<Band, AllocError>
     requires { border.shift < 64 }
     ensures is { IfOk result (λ band. IsBand border edges.now band) }
     ensures few { IfOk result (λ band. held band.cells.items ≤ 2 * length edges.now) }

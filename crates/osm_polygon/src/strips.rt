@@ -13,8 +13,8 @@ const WHOLE_EARTH: u32 = 39;
 /// The parts of a strip are at most the 2^24th part as wide.
 const FINEST: u32 = 24;
 
-/// A strip has parts of so many edges, if they lie evenly.
-const EDGES_OF_A_PART: u64 = 16;
+/// A strip of fewer edges stays whole.
+const MANY_EDGES: u64 = 32;
 
 /// The edges that have a place in one strip, in their order.
 #[derive(Debug, Drop)]
@@ -141,21 +141,24 @@ fn parts_at(strip: Cut, finer: u32) -> Cut
     }
 }
 
-/// Into which parts a strip with these edges is cut: the narrowest such that there are few for so many edges, and that they have at most half as
-/// many edges more together. So a strip of few edges stays whole, and so does one of edges that all go through it from one end to the other.
+/// Into which parts a strip with these edges is cut: the narrowest such that there are no more parts than edges, and that they have at most half as
+/// many edges more together. A strip of few edges stays whole, and so does one whose edges go through it from one end to the other.
 pub(crate) fn choose_parts(edges: &[Edge], strip: Cut) -> Cut
     requires width { strip.shift < 64 }
     requires small { strip.end ≤ 2 ^ 39 }
     requires one { strip.end ≡ strip.first + 1 }
     ensures width { result.shift ≤ strip.shift }
     ensures are { result ≡ parts_at strip result.shift }
-    ensures number { 16 * (result.end - result.first) ≤ length edges.now + 16 }
+    ensures number { result.end ≤ result.first + (length edges.now + 1) }
     ensures few { 2 * spans_of result edges.now ≤ 3 * length edges.now }
 {
     let count = edges.len() as u64;
+    if count < MANY_EDGES {
+        return strip;
+    }
     for finer in strip.shift.saturating_sub(FINEST)..strip.shift {
         let parts = parts_at(strip, finer);
-        if parts.end.saturating_sub(parts.first) <= count / EDGES_OF_A_PART
+        if parts.end.saturating_sub(parts.first) <= count
             && are_few(edges, parts, count.saturating_add(count / 2))
         {
             return parts;

@@ -9,6 +9,6 @@ invariant-loop-strip l = record {
   are : AreBelts l.cut.shift l.cut.first l.edges l.belts.items;
   number : l.number ≡ l.cut.first + l.strip-index;
   equal : length l.belts.items ≡ l.strip-index;
-  cells : cells_in l.belts.items ≤ 2 * held (take l.strip-index l.strip-items) + l.strip-index;
+  cells : 2 * cells_in l.belts.items ≤ 5 * held (take l.strip-index l.strip-items) + 2 * l.strip-index;
   few : held_in l.belts.items ≤ 3 * held (take l.strip-index l.strip-items);
 }

@@ -9,7 +9,7 @@ use Rattle.osm_polygon.specs.Bands.{is_told}
 use Rattle.osm_polygon.specs.Belts.{IsBelt}
 use Rattle.osm_polygon.proofs.StripLemmas.{none_beyond}
 use Rattle.osm_polygon.proofs.BandLemmas.{amid}
-use Rattle.osm_polygon.proofs.BeltLemmas.{belt_at, all_narrow}
+use Rattle.osm_polygon.proofs.BeltLemmas.{belt_at, belt_narrow}
 use Rattle.osm_polygon.proofs.polygon.Polygon.has.Goals as goal
 
 pub returns-then-number-self : goal.returns-then-number-self
@@ -39,8 +39,8 @@ returns-in_default c =
     ∙ amid (record { place = place; border = record { shift = a.shift; band = n } }) refl edges c.self.invariant.2
     ∙ ap (λ (v : PolygonSpec). is_amid_edges v.sides (point_of place)) c.self.view_is
 
-pub has-requires-clause-bands : goal.has-requires-clause-bands
-has-requires-clause-bands c =
+pub has-requires-clause-narrow : goal.has-requires-clause-narrow
+has-requires-clause-narrow c =
     let a = c.self.inside in
     let i = c.strip_of-number.result - a.first in
     let belt = c.in-Some.belt.now in
@@ -48,33 +48,21 @@ has-requires-clause-bands c =
     let found : slice_get a.belts.items i ≡ Some belt
     = subst (λ (l : List Belt). slice_get l i ≡ Some belt) c.deref.ensures.value
     (slice_get_read c.deref.result.now (length c.deref.result.now) i belt refl item.0 (search (rules, item.1 belt))) in
-    (belt_at a.shift a.first a.edges.items a.belts.items i belt c.self.invariant.0 found).width
-
-pub has-requires-clause-cells : goal.has-requires-clause-cells
-has-requires-clause-cells c =
-    let a = c.self.inside in
-    let i = c.strip_of-number.result - a.first in
-    let belt = c.in-Some.belt.now in
-    let item = c.in-Some.ensures.lookup.3 in
-    let found : slice_get a.belts.items i ≡ Some belt
-    = subst (λ (l : List Belt). slice_get l i ≡ Some belt) c.deref.ensures.value
-    (slice_get_read c.deref.result.now (length c.deref.result.now) i belt refl item.0 (search (rules, item.1 belt))) in
-    all_narrow belt.shift belt.first a.edges.items belt.bands.items (belt_at a.shift a.first a.edges.items a.belts.items i belt c.self.invariant.0 found).bands
+    belt_narrow a.shift (a.first + i) a.edges.items belt (belt_at a.shift a.first a.edges.items a.belts.items i belt c.self.invariant.0 found)
 
 pub returns : goal.returns
 returns c =
-    let a = c.self.inside in
-    let edges = a.edges.items in
-    let place = c.args.place in
+    let edges = c.self.inside.edges.items in
     let number = c.strip_of-number.result in
-    let i = number - a.first in
+    let a = c.self.inside in
+    let i = c.strip_of-number.result - a.first in
     let belt = c.in-Some.belt.now in
     let item = c.in-Some.ensures.lookup.3 in
     let found : slice_get a.belts.items i ≡ Some belt
     = subst (λ (l : List Belt). slice_get l i ≡ Some belt) c.deref.ensures.value
     (slice_get_read c.deref.result.now (length c.deref.result.now) i belt refl item.0 (search (rules, item.1 belt))) in
-    let at : a.first + i ≡ strip_number Latitude a.shift place = omega (arith, c.if-number-self.false, c.strip_of-number.ensures.value) in
-    let is : IsBelt a.shift (strip_number Latitude a.shift place) edges belt
+    let at : a.first + i ≡ number = omega (arith, c.if-number-self.false) in
+    let is : IsBelt a.shift number edges belt
     = subst (λ (n : ℕ). IsBelt a.shift n edges belt) at (belt_at a.shift a.first edges a.belts.items i belt c.self.invariant.0 found) in
-    c.has.ensures a.shift edges is c.self.invariant.2
-    ∙ ap (λ (v : PolygonSpec). is_amid_edges v.sides (point_of place)) c.self.view_is
+    c.has.ensures edges is c.strip_of-number.ensures.value c.self.invariant.2
+    ∙ ap (λ (v : PolygonSpec). is_amid_edges v.sides (point_of c.args.place)) c.self.view_is
