@@ -1,0 +1,15 @@
+//! The laws of a polygon. Each is the contract of a function that does nothing: a proof that needs the law calls it, or takes the lemma of that
+//! name from this crate's `proofs/`.
+
+ghost use Rattle.std.specs.Prelude.{◌≡◌, ◌&&◌, ℤ, List};
+ghost use Rattle.osm_polygon.specs.Earth.{is_on_earth};
+ghost use Rattle.osm_polygon.specs.Polygon.{Point, is_amid_edges, is_in_polygon};
+ghost use Rattle.osm_polygon.specs.Rings.{rings_sides, polygon_of};
+
+/// The box of a polygon takes no place away: the polygon has all places on earth that lie on one of its edges, or whose ray to the east crosses an
+/// odd number of them.
+pub fn box_takes_no_place()
+    ensures { (rings : List (List Point)) (lat lon : ℤ)
+        → is_in_polygon (polygon_of rings) lat lon ≡ (is_on_earth lat lon
+        && is_amid_edges (rings_sides rings) (record { lat = lat; lon = lon })) }
+{}
