@@ -1,7 +1,7 @@
 //! The laws of a polygon. Each is the contract of a function that does nothing: a proof that needs the law calls it, or takes the lemma of that
 //! name from this crate's `proofs/`.
 
-ghost use Rattle.std.specs.Prelude.{◌≡◌, ◌&&◌, ℤ, List};
+ghost use Rattle.std.specs.Prelude.{◌≡◌, ◌&&◌, ◌++◌, ◌∷◌, ℤ, List, reverse};
 ghost use Rattle.osm_polygon.specs.Earth.{is_on_earth};
 ghost use Rattle.osm_polygon.specs.Polygon.{Point, is_amid_edges, is_in_polygon};
 ghost use Rattle.osm_polygon.specs.Rings.{rings_sides, polygon_of};
@@ -12,4 +12,18 @@ pub fn box_takes_no_place()
     ensures { (rings : List (List Point)) (lat lon : ℤ)
         → is_in_polygon (polygon_of rings) lat lon ≡ (is_on_earth lat lon
         && is_amid_edges (rings_sides rings) (record { lat = lat; lon = lon })) }
+{}
+
+/// A ring that is turned round keeps the places of its polygon.
+pub fn turned_ring_is_the_same()
+    ensures { (before after : List (List Point)) (ring : List Point) (lat lon : ℤ)
+        → is_in_polygon (polygon_of (before ++ reverse ring ∷ after)) lat lon
+        ≡ is_in_polygon (polygon_of (before ++ ring ∷ after)) lat lon }
+{}
+
+/// So does a ring that begins at another of its places.
+pub fn ring_begins_anywhere()
+    ensures { (before after : List (List Point)) (front back : List Point) (lat lon : ℤ)
+        → is_in_polygon (polygon_of (before ++ (back ++ front) ∷ after)) lat lon
+        ≡ is_in_polygon (polygon_of (before ++ (front ++ back) ∷ after)) lat lon }
 {}
