@@ -1,4 +1,4 @@
-use Rattle.std.proofs.Common.{◌≡◌, ℕ, List, subst, ◌∙◌}
+use Rattle.std.proofs.Common.{ℕ, subst, ◌∙◌}
 use Rattle.std.specs.Prelude.{filter}
 use Rattle.osm_polygon.specs.declared.belts.Belt.{Belt}
 use Rattle.osm_polygon.specs.declared.edge.Axis.TheVariants.{Latitude}
