@@ -15,11 +15,11 @@ use Rattle.osm_polygon.proofs.EdgeLemmas.{either, le_is, is_le, not_le, on_amid,
 use Rattle.osm_polygon.proofs.BandLemmas.{amid_parts, closed_rings}
 
 -- the box has the place
-record Has (b : BoundingBox) (p : Point) : Type 0 where
-  west : b.left ≤ℤ p.lon
-  south : b.bottom ≤ℤ p.lat
-  east : p.lon ≤ℤ b.right
-  north : p.lat ≤ℤ b.top
+pub record Has (b : BoundingBox) (p : Point) : Type 0 where
+  pub west : b.left ≤ℤ p.lon
+  pub south : b.bottom ≤ℤ p.lat
+  pub east : p.lon ≤ℤ b.right
+  pub north : p.lat ≤ℤ b.top
 
 -- ---- the box has both ends of each edge
 
@@ -59,7 +59,7 @@ abbrev AllTo : BoundingBox → List Side → Type 0
 AllTo b [] = Unit {0}
 AllTo b (s ∷ sides) = Has b s.to × AllTo b sides
 
-abbrev AllIn : BoundingBox → List Side → Type 0
+abbrev pub AllIn : BoundingBox → List Side → Type 0
 AllIn b [] = Unit {0}
 AllIn b (s ∷ sides) = (Has b s.from × Has b s.to) × AllIn b sides
 
@@ -168,10 +168,10 @@ module _ (b : BoundingBox) (p : Point) where
       north = bound p.lat b.top odd beyond_north;
     }
 
-    amid_has : AreClosed sides → is_amid_edges sides p ≡ true → Has b p
+    pub amid_has : AreClosed sides → is_amid_edges sides p ≡ true → Has b p
     amid_has closed is = ⊎_elim (any_has sides all) (odd_has closed) (either (list_any (is_on p) sides) (is_odd_of (crosses p) sides) is)
 
-has_inside : (b : BoundingBox) (p : Point) → Has b p → is_inside b p.lat p.lon ≡ true
+pub has_inside : (b : BoundingBox) (p : Point) → Has b p → is_inside b p.lat p.lon ≡ true
 has_inside b p has =
     rw (is_le b.bottom p.lat has.south, is_le p.lat b.top has.north, is_le b.left p.lon has.west, is_le p.lon b.right has.east) refl
 

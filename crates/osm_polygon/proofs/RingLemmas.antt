@@ -1,5 +1,5 @@
 -- Rings: in which direction and from which place their places come.
-use Rattle.std.proofs.Common.{◌≡◌, ◌∙◌, ℕ, zero, suc, ℤ, pos, ◌+ℤ◌, ◌-ℤ◌, Bool, true, false, not, cond, List, [], ◌∷◌, ◌++◌, append_assoc, ap, ap₂, sym, refl, rules, arith}
+use Rattle.std.proofs.Common.{◌≡◌, ◌∙◌, zero, suc, ℤ, pos, ◌+ℤ◌, ◌-ℤ◌, Bool, true, false, not, cond, List, [], ◌∷◌, ◌++◌, append_assoc, ap, ap₂, sym, refl, arith}
 use Rattle.std.specs.Prelude.{◌*ℤ◌, negsuc, neg_ℤ, ◌&&◌, ◌||◌, int_le, int_lt, reverse}
 use Rattle.std.specs.List.{list_any}
 use Rattle.std.specs.Ordering.{int_eq}
@@ -12,7 +12,7 @@ use Rattle.osm_polygon.specs.Polygon.{Point, Side, turn, is_on, crosses, is_in_p
 use Rattle.osm_polygon.specs.Rings.{sides_back, ring_sides, rings_sides, polygon_of}
 use Rattle.osm_polygon.specs.Bands.{differ, is_odd_of}
 use Rattle.osm_polygon.proofs.Counting.{differ_swap, odd_cons, odd_append}
-use Rattle.osm_polygon.proofs.EdgeLemmas.{neg_mul}
+use Rattle.osm_polygon.proofs.EdgeLemmas.{neg_mul, not_le_lt}
 use Rattle.osm_polygon.proofs.BoundsLemmas.{box_takes_none}
 
 -- ---- products of integers
@@ -90,9 +90,6 @@ above_neg x = grind (arith, ints)
 
 below_neg : (x : ℤ) → int_lt (neg_ℤ x) (pos 0) ≡ int_lt (pos 0) x
 below_neg x = grind (arith, ints)
-
-not_le_lt : (a b : ℤ) → int_lt a b ≡ not (int_le b a)
-not_le_lt a b = grind (arith, ints)
 
 or_swap : (a b : Bool) → (a || b) ≡ (b || a)
 or_swap true true = refl
