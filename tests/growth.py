@@ -373,6 +373,23 @@ def zigzag_ring(edges: int) -> bytes:
     return ("ring\n1\n" + "".join(lines) + " 1 -89.5\n 0 -89.5\nEND\nEND\n").encode()
 
 
+def far_rings(edges: int) -> bytes:
+    """A ring in the thousandth part of that square, and two triangles that lie far from it: one at its latitudes, and one near a pole. So without finer
+    parts all its edges lie in a few bands, and there in one cell."""
+    dense = ring(edges, 0.4499).decode().splitlines()[2:-2]
+    lines = ["rings", "ring", *(" ".join(f"{0.5 + (float(number) - 0.5) / 1_000:.9f}" for number in line.split()) for line in dense), "END"]
+    for lon, lat in ((170, 0), (0, 88)):
+        lines += ["far", f"{lon} {lat}", f"{lon + 1} {lat}", f"{lon} {lat + 1}", "END"]
+    return "\n".join([*lines, "END", ""]).encode()
+
+
+def in_the_dense_ring(count: int) -> list:
+    """Nodes all over the thousandth part of that square."""
+    chance = random.Random(3)
+    place = [[4_995_000 + chance.randrange(10_000) for _ in range(count)] for _ in range(2)]
+    return [block(dense(growing(count), deltas(place[0]), deltas(place[1])))]
+
+
 def as_geojson(text: bytes) -> bytes:
     """The ring of a .poly file as GeoJSON."""
     places = [line.split() for line in text.decode().splitlines()[2:-2]]
@@ -403,6 +420,7 @@ POLYGONS = {
     "coast with more nodes": (lambda size: scattered(40_000 * size), lambda size: ring(10_000, 0.4499)),
     "zigzag of more edges with more nodes": (lambda size: scattered(10_000 * size), lambda size: zigzag_ring(4_000 * size)),
     "star of more edges": (lambda size: scattered(10_000), lambda size: ring(200 * size, 0.01)),
+    "dense ring of more edges with more nodes and two far rings": (lambda size: in_the_dense_ring(5_000 * size), lambda size: far_rings(4_000 * size)),
     "geojson of more edges": (lambda size: scattered(10_000), lambda size: as_geojson(ring(8_000 * size, 0.4499))),
     "geojson of more lists": (lambda size: scattered(10_000), lambda size: nested(400 * size)),
     "islands in the sea": (lambda size: scattered(20_000 * size), lambda size: islands(1_000 * size)),

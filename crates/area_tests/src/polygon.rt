@@ -556,7 +556,7 @@ fn count_in_any(
     Ok(Some(inside))
 }
 
-/// Groups of polygons, and regions of groups.
+/// Groups of polygons, and clusters of groups.
 #[test]
 fn many_polygons(rt: HostRuntime) -> Result<(), Fail> {
     for count in [1, 2, 9, 30, 300] {

@@ -1,5 +1,5 @@
 -- Polygons that are one area.
-use Rattle.std.proofs.Common.{◌≡◌, ◌∙◌, ℕ, ℤ, Bool, true, false, List, [], ◌∷◌, ◌++◌, take, drop, map, ap, sym, refl, rules, arith, take-append-drop, true≢false}
+use Rattle.std.proofs.Common.{◌≡◌, ◌∙◌, ℕ, ℤ, Bool, true, false, List, [], ◌∷◌, ◌++◌, take, drop, ap, sym, refl, rules, arith, take-append-drop, true≢false}
 use Rattle.std.specs.Prelude.{◌&&◌, ◌||◌}
 use Rattle.std.specs.Prelude.{int_le}
 use Rattle.std.specs.List.{list_any, fold}
@@ -12,9 +12,9 @@ use Rattle.osm_box.specs.declared.bounding_box.BoundingBox.{BoundingBox}
 use Rattle.osm_box.specs.BoundingBox.{is_inside}
 use Rattle.osm_polygon.specs.Earth.{is_on_earth}
 use Rattle.osm_polygon.specs.Polygon.{PolygonSpec, is_in_polygon}
-use Rattle.osm_polygon.specs.declared.groups.Region.{Region}
+use Rattle.osm_polygon.specs.declared.groups.Cluster.{Cluster}
 use Rattle.osm_polygon.specs.Polygons.{box_of, is_in_any, joined}
-use Rattle.osm_polygon.specs.Groups.{is_in_regions, regions_area}
+use Rattle.osm_polygon.specs.Groups.{is_in_clusters, clusters_area}
 
 -- ---- boxes
 
@@ -117,14 +117,14 @@ module _ {X Y : Type 0} (p : X → Bool) (q : Y → Bool) where
 
 -- ---- the area
 
-module _ (polygons : List PolygonSpec) (bounds : BoundingBox) (regions : List Region) (e : bounds ≡ box_of polygons)
-    (has : (lat lon : ℤ) → is_in_regions regions lat lon ≡ is_in_any polygons lat lon) where
+module _ (polygons : List PolygonSpec) (bounds : BoundingBox) (clusters : List Cluster) (e : bounds ≡ box_of polygons)
+    (has : (lat lon : ℤ) → is_in_clusters clusters lat lon ≡ is_in_any polygons lat lon) where
   -- the box of all polygons, and the earth, take nothing away
-  whole : (lat lon : ℤ) → (regions_area (record { bounds = bounds; regions = regions })).has lat lon ≡ is_in_any polygons lat lon
+  whole : (lat lon : ℤ) → (clusters_area (record { bounds = bounds; clusters = clusters })).has lat lon ≡ is_in_any polygons lat lon
   whole lat lon =
       ap (λ b. (is_inside bounds lat lon && is_on_earth lat lon) && b) (has lat lon)
       ∙ ap (λ b. (is_inside b lat lon && is_on_earth lat lon) && is_in_any polygons lat lon) e
       ∙ implied _ _ (λ any. both (bounded lat lon _ polygons any) (on_earth lat lon polygons any))
 
-  pub same_area : ◌≡◌ {A = AreaSpec} (regions_area (record { bounds = bounds; regions = regions })) (record { bounds = box_of polygons; has = is_in_any polygons })
+  pub same_area : ◌≡◌ {A = AreaSpec} (clusters_area (record { bounds = bounds; clusters = clusters })) (record { bounds = box_of polygons; has = is_in_any polygons })
   same_area = λ i. record { bounds = e i; has = λ lat lon. whole lat lon i }

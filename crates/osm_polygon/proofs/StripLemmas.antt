@@ -13,8 +13,9 @@ use Rattle.osm_polygon.specs.declared.edge.Axis.{Axis}
 use Rattle.osm_polygon.specs.declared.edge.Axis.TheVariants.{Latitude, Longitude}
 use Rattle.osm_polygon.specs.declared.place.Place.{Place}
 use Rattle.osm_polygon.specs.declared.strips.Strip.{Strip}
+use Rattle.osm_polygon.specs.declared.strips.Cut.{Cut}
 use Rattle.osm_polygon.specs.Edges.{along, strip_number, lowest, highest, is_in_strip}
-use Rattle.osm_polygon.specs.Strips.{AreStrips, AreWithin, lists_of, pushed_at, with_edge, span_of, spans_of, held}
+use Rattle.osm_polygon.specs.Strips.{AreStrips, AreWithin, lists_of, cut_at, pushed_at, with_edge, end_of, span_of, spans_of, held}
 
 pub le_true : (a b : ℕ) → a ≤ b → nat_le a b ≡ true
 le_true a b h = search rules
@@ -121,17 +122,21 @@ all_earth Longitude p = let on = p.on_earth in omega (arith, ints, on.west, on.e
 zero_div : (n : ℕ) → n < 2 ^ 39 → n / 2 ^ 39 ≡ 0
 zero_div n h = omega (arith, h)
 
-one_span : (axis : Axis) (e : Edge) → span_of axis 39 e ≡ 1
-one_span axis e = rw (zero_div (along axis e.from) (all_earth axis e.from), zero_div (along axis e.to) (all_earth axis e.to)) refl
+-- an edge is in no more strips than there are
+span_most : (cut : Cut) (e : Edge) → span_of cut e ≤ cut.end - cut.first
+span_most cut e = by (lowest cut.axis cut.shift e) (highest cut.axis cut.shift e) cut.first cut.end where
+  by : (low high first end : ℕ) → min (high + 1) end - max low first ≤ end - first
+  by low high first end = omega arith
 
-one_strip : (axis : Axis) (edges : List Edge) → spans_of axis 39 edges ≡ length edges
-one_strip axis [] = refl
-one_strip axis (e ∷ edges) = omega (arith, sum_by-cons (span_of axis 39) e edges, one_span axis e, one_strip axis edges)
+pub one_strip : (cut : Cut) (edges : List Edge) → cut.end - cut.first ≤ 1 → spans_of cut edges ≤ length edges
+one_strip cut [] one = omega arith
+one_strip cut (e ∷ edges) one = omega (arith, sum_by-cons (span_of cut) e edges, span_most cut e, one, one_strip cut edges one)
 
-pub one_strip_few : (axis : Axis) (times : ℕ) (edges : List Edge) → 1 ≤ times → spans_of axis 39 edges ≤ times * length edges
-one_strip_few axis times edges some = omega (arith, one_strip axis edges, mul-le-mul some (le_self (length edges))) where
-  le_self : (n : ℕ) → n ≤ n
-  le_self n = omega arith
+pub all_few : (axis : Axis) (first last times : ℕ) (edges : List Edge) → last < 2 ^ 39 → 1 ≤ times → spans_of (cut_at axis 39 first last) edges ≤ times * length edges
+all_few axis first last times edges small some =
+    omega (arith, one_strip (cut_at axis 39 first last) edges (omega (arith, zero_div last small)), mul-le-mul some (le_self (length edges))) where
+      le_self : (n : ℕ) → n ≤ n
+      le_self n = omega arith
 
 pub none_held : (strips : List Strip) (strip : Strip) → held strips ≡ 0 → strip.edges.items ≡ [] → held (strips ++ strip ∷ []) ≡ 0
 none_held [] strip none is = rw is refl
@@ -140,8 +145,8 @@ none_held (first ∷ strips) strip none is =
     let more : held ((first ∷ strips) ++ strip ∷ []) ≡ length first.edges.items + held (strips ++ strip ∷ []) = sum_by-cons length first.edges.items (lists_of (strips ++ strip ∷ [])) in
     omega (arith, here, more, none, none_held strips strip (omega (arith, here, none)) is)
 
-pub spans_more : (axis : Axis) (shift : ℕ) (edges : List Edge) (e : Edge) → spans_of axis shift (edges ++ e ∷ []) ≡ spans_of axis shift edges + span_of axis shift e
-spans_more axis shift edges e = omega (arith, sum_by-append (span_of axis shift) edges (e ∷ []))
+pub spans_more : (cut : Cut) (edges : List Edge) (e : Edge) → spans_of cut (edges ++ e ∷ []) ≡ spans_of cut edges + span_of cut e
+spans_more cut edges e = omega (arith, sum_by-append (span_of cut) edges (e ∷ []))
 
 -- ---- an edge more in one strip
 
@@ -178,11 +183,16 @@ same_number test e number before after is =
 abbrev with_by : Bool → Edge → List Edge → List (List Edge) → List (List Edge)
 with_by b e near more = (if b then near ++ e ∷ [] else near) ∷ more
 
-pub with_same : (test other : ℕ → Bool) (e : Edge) (k : ℕ) (l : List (List Edge)) → ((n : ℕ) → k ≤ n → test n ≡ other n)
+with_upto : (test other : ℕ → Bool) (e : Edge) (k : ℕ) (l : List (List Edge)) → ((n : ℕ) → k ≤ n → n < k + length l → test n ≡ other n)
     → with_edge test e k l ≡ with_edge other e k l
-with_same test other e k [] h = refl
-with_same test other e k (near ∷ more) h =
-    ap₂ (λ b rest. with_by b e near rest) (h k (omega arith)) (with_same test other e (k + 1) more (λ n le. h n (omega (arith, le))))
+with_upto test other e k [] h = refl
+with_upto test other e k (near ∷ more) h =
+    ap₂ (λ b rest. with_by b e near rest) (h k (omega arith) (omega arith))
+    (with_upto test other e (k + 1) more (λ n le below. h n (omega (arith, le)) (omega (arith, below))))
+
+with_same : (test other : ℕ → Bool) (e : Edge) (k : ℕ) (l : List (List Edge)) → ((n : ℕ) → k ≤ n → test n ≡ other n)
+    → with_edge test e k l ≡ with_edge other e k l
+with_same test other e k l h = with_upto test other e k l (λ n le below. h n le)
 
 pub with_none : (test : ℕ → Bool) (e : Edge) (k : ℕ) (l : List (List Edge)) → ((n : ℕ) → k ≤ n → test n ≡ false) → with_edge test e k l ≡ l
 with_none test e k [] h = refl
@@ -264,3 +274,17 @@ next_pushed l axis shift e first number begun low high =
 
     others : (n : ℕ) → n ≢ number → nat_lt n number ≡ nat_lt n (number + 1)
     others n other = search (arith, other)
+
+-- at the end the strips of an edge below that number are all of them that there are
+past_all : (a b : Bool) (n high first end number size : ℕ) → nat_le n high ≡ b → first ≤ n → n < first + size → size ≡ end - first → min (high + 1) end ≤ number
+    → ((a && b) && nat_lt n number) ≡ (a && b)
+past_all false b n high first end number size is low below all past = refl
+past_all true false n high first end number size is low below all past = refl
+past_all true true n high first end number size is low below all past =
+    lt_true n number (let most = nat_le_is n high is in omega (arith, most, low, below, all, past))
+
+pub all_pushed : (cut : Cut) (e : Edge) (number : ℕ) (l : List (List Edge)) → length l ≡ cut.end - cut.first → end_of cut e ≤ number
+    → with_edge (in_strip_below cut.axis cut.shift e number) e cut.first l ≡ with_edge (λ n. is_in_strip cut.axis cut.shift n e) e cut.first l
+all_pushed cut e number l all past =
+    with_upto (in_strip_below cut.axis cut.shift e number) (λ n. is_in_strip cut.axis cut.shift n e) e cut.first l
+    (λ n low below. past_all (nat_le (lowest cut.axis cut.shift e) n) (nat_le n (highest cut.axis cut.shift e)) n (highest cut.axis cut.shift e) cut.first cut.end number (length l) refl low below all past)

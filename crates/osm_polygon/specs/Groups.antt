@@ -1,11 +1,11 @@
--- Polygons in groups, and groups in regions. Each has a box, without whose places it has none.
+-- Polygons in groups, and groups in clusters. Each has a box, without whose places it has none.
 use Rattle.std.specs.Prelude.{ℤ, Bool, ◌&&◌, List}
 use Rattle.std.specs.List.{list_any}
 use Rattle.osm_area.specs.Area.{AreaSpec}
 use Rattle.osm_box.specs.declared.bounding_box.BoundingBox.{BoundingBox}
 use Rattle.osm_box.specs.BoundingBox.{is_inside}
 use Rattle.osm_polygon.specs.declared.groups.Group.{Group}
-use Rattle.osm_polygon.specs.declared.groups.Region.{Region}
+use Rattle.osm_polygon.specs.declared.groups.Cluster.{Cluster}
 use Rattle.osm_polygon.specs.Earth.{is_on_earth}
 use Rattle.osm_polygon.specs.Polygons.{is_in_any}
 
@@ -15,21 +15,21 @@ is_in_group group lat lon = is_inside group.bounds lat lon && is_in_any group.po
 abbrev pub is_in_groups : List Group → ℤ → ℤ → Bool
 is_in_groups groups lat lon = list_any (λ group. is_in_group group lat lon) groups
 
-abbrev pub is_in_region : Region → ℤ → ℤ → Bool
-is_in_region region lat lon =
-    is_inside region.bounds lat lon && is_in_groups region.groups.items lat lon
+abbrev pub is_in_cluster : Cluster → ℤ → ℤ → Bool
+is_in_cluster cluster lat lon =
+    is_inside cluster.bounds lat lon && is_in_groups cluster.groups.items lat lon
 
-abbrev pub is_in_regions : List Region → ℤ → ℤ → Bool
-is_in_regions regions lat lon = list_any (λ region. is_in_region region lat lon) regions
+abbrev pub is_in_clusters : List Cluster → ℤ → ℤ → Bool
+is_in_clusters clusters lat lon = list_any (λ cluster. is_in_cluster cluster lat lon) clusters
 
--- regions, and a box that has all of them
-pub record RegionsSpec : Type 0 where
+-- clusters, and a box that has all of them
+pub record ClustersSpec : Type 0 where
   pub bounds : BoundingBox
-  pub regions : List Region
+  pub clusters : List Cluster
 
-abbrev pub regions_area : RegionsSpec → AreaSpec
-regions_area area = record {
+abbrev pub clusters_area : ClustersSpec → AreaSpec
+clusters_area area = record {
   bounds = area.bounds;
   has = λ lat lon. (is_inside area.bounds lat lon && is_on_earth lat lon)
-      && is_in_regions area.regions lat lon;
+      && is_in_clusters area.clusters lat lon;
 }

@@ -1,5 +1,5 @@
 -- Strips of latitude or of longitude, each with the edges that have a place in it.
-use Rattle.std.specs.Prelude.{◌≡◌, ℕ, zero, suc, ◌+◌, ◌-◌, ◌/◌, ◌^◌, ◌<◌, ◌≤◌, ◌++◌, Bool, List, [], ◌∷◌, map, filter, length, if◌then◌else◌}
+use Rattle.std.specs.Prelude.{◌≡◌, ℕ, zero, suc, ◌+◌, ◌-◌, ◌*◌, ◌/◌, ◌^◌, ◌<◌, ◌≤◌, ◌++◌, Bool, List, [], ◌∷◌, map, filter, length, min, max, if◌then◌else◌}
 use Rattle.std.specs.List.{sum_by}
 use Rattle.osm_polygon.specs.declared.edge.Edge.{Edge}
 use Rattle.osm_polygon.specs.declared.edge.Axis.{Axis}
@@ -30,6 +30,15 @@ abbrev pub cut_at : Axis → ℕ → ℕ → ℕ → Cut
 cut_at axis shift first last =
     record { axis = axis; shift = shift; first = first / 2 ^ shift; end = last / 2 ^ shift + 1 }
 
+-- strips, each cut into parts that are 2^finer nanodegrees wide
+abbrev pub parts_at : Cut → ℕ → Cut
+parts_at strip finer = record {
+  axis = strip.axis;
+  shift = finer;
+  first = strip.first * 2 ^ (strip.shift - finer);
+  end = strip.end * 2 ^ (strip.shift - finer);
+}
+
 -- ---- an edge more
 
 -- in the strip with this index
@@ -46,12 +55,19 @@ with_edge test e number (near ∷ more) =
 
 -- ---- how much that is
 
--- how many strips an edge has a place in
-abbrev pub span_of : Axis → ℕ → Edge → ℕ
-span_of axis shift e = highest axis shift e - lowest axis shift e + 1
+-- the first of these strips that an edge has a place in, and the one after the last
+abbrev pub first_of : Cut → Edge → ℕ
+first_of cut e = max (lowest cut.axis cut.shift e) cut.first
 
-abbrev pub spans_of : Axis → ℕ → List Edge → ℕ
-spans_of axis shift edges = sum_by (span_of axis shift) edges
+abbrev pub end_of : Cut → Edge → ℕ
+end_of cut e = min (highest cut.axis cut.shift e + 1) cut.end
+
+-- how many of them it has a place in
+abbrev pub span_of : Cut → Edge → ℕ
+span_of cut e = end_of cut e - first_of cut e
+
+abbrev pub spans_of : Cut → List Edge → ℕ
+spans_of cut edges = sum_by (span_of cut) edges
 
 -- how many edges the strips have together
 abbrev pub held : List Strip → ℕ

@@ -136,7 +136,7 @@ fn is_odd_here(edges: &[Edge], shift: u32, cell: u64, border: Border) -> bool
 }
 
 /// The band north of this border, which has these edges.
-fn band_of(alloc: Global, edges: &[Edge], border: Border) -> Result<Band, AllocError>
+pub(crate) fn band_of(alloc: Global, edges: &[Edge], border: Border) -> Result<Band, AllocError>
     requires { border.shift < 64 }
     ensures is { IfOk result (λ band. IsBand border edges.now band) }
     ensures few { IfOk result (λ band. held band.cells.items ≤ 2 * length edges.now) }
@@ -169,9 +169,9 @@ pub(crate) fn bands_of(alloc: Global, edges: &[Edge], cut: Cut) -> Result<Vec<Ba
     ensures are { IfOk result (λ bands. AreBands cut.shift cut.first edges.now bands.items) }
     ensures number { IfOk result (λ bands. length bands.items ≡ cut.end - cut.first) }
     ensures few { IfOk result (λ bands.
-        held_by bands.items ≤ 2 * spans_of Latitude cut.shift edges.now) }
+        held_by bands.items ≤ 2 * spans_of cut edges.now) }
     ensures cells { IfOk result (λ bands.
-        cells_by bands.items ≤ spans_of Latitude cut.shift edges.now + length bands.items) }
+        cells_by bands.items ≤ spans_of cut edges.now + length bands.items) }
 {
     let strips = strips_of(alloc, edges, cut)?;
     let mut bands = Vec::new(alloc);

@@ -1,9 +1,9 @@
-//! Polygons in groups, and groups in regions, each with a box. So a place is compared with few of many polygons.
+//! Polygons in groups, and groups in clusters, each with a box. So a place is compared with few of many polygons.
 
 ghost use Rattle.std.specs.Prelude.{◌≡◌, ◌≤◌, ℤ, IfOk};
 ghost use Rattle.osm_box.specs.BoundingBox.{is_inside};
 ghost use Rattle.osm_polygon.specs.Polygons.{box_of, is_in_any, joined};
-ghost use Rattle.osm_polygon.specs.Groups.{is_in_group, is_in_groups, is_in_region, is_in_regions};
+ghost use Rattle.osm_polygon.specs.Groups.{is_in_group, is_in_groups, is_in_cluster, is_in_clusters};
 
 use crate::place::Place;
 use crate::polygon::Polygon;
@@ -24,7 +24,7 @@ pub(crate) struct Group {
 
 /// Groups that lie beside each other, and the least box that has their polygons.
 #[derive(Debug, Drop)]
-pub(crate) struct Region {
+pub(crate) struct Cluster {
     pub(crate) bounds: BoundingBox,
     pub(crate) groups: Vec<Group>,
 }
@@ -65,13 +65,13 @@ fn any_group_has(groups: &[Group], place: Place) -> bool
     false
 }
 
-/// Whether a polygon of any of the regions has the place.
-pub(crate) fn any_region_has(regions: &[Region], place: Place) -> bool
-    ensures { result ≡ is_in_regions regions.now place.lat place.lon }
+/// Whether a polygon of any of the clusters has the place.
+pub(crate) fn any_cluster_has(clusters: &[Cluster], place: Place) -> bool
+    ensures { result ≡ is_in_clusters clusters.now place.lat place.lon }
 {
-    let mut rest = regions;
-    'regions: while let Some((region, more)) = rest.split_first() {
-        if is_inside(&region.bounds, place) && any_group_has(region.groups.as_slice(), place) {
+    let mut rest = clusters;
+    'clusters: while let Some((cluster, more)) = rest.split_first() {
+        if is_inside(&cluster.bounds, place) && any_group_has(cluster.groups.as_slice(), place) {
             return true;
         }
         rest = more;
@@ -104,7 +104,7 @@ pub(crate) fn box_of(polygons: &[Polygon]) -> BoundingBox
     area
 }
 
-/// How many polygons a group has, and how many groups a region, if there are so many polygons: the cube root, so that there are as many regions.
+/// How many polygons a group has, and how many groups a cluster, if there are so many polygons: the cube root, so that there are as many clusters.
 pub(crate) fn size_for(count: usize) -> usize
     ensures least { 1 ≤ result }
     ensures most { result ≤ 4096 }
@@ -147,36 +147,36 @@ fn groups_of(
     Ok(groups)
 }
 
-/// The region of these polygons: its groups lie beside each other from west to east.
-fn region_of(alloc: Global, mut polygons: Vec<Polygon>, size: usize) -> Result<Region, AllocError>
+/// The cluster of these polygons: its groups lie beside each other from west to east.
+fn cluster_of(alloc: Global, mut polygons: Vec<Polygon>, size: usize) -> Result<Cluster, AllocError>
     requires { 1 ≤ size }
-    ensures { IfOk result (λ region. (lat lon : ℤ)
-        → is_in_region region lat lon ≡ is_in_any polygons.items lat lon) }
+    ensures { IfOk result (λ cluster. (lat lon : ℤ)
+        → is_in_cluster cluster lat lon ≡ is_in_any polygons.items lat lon) }
 {
     let bounds = box_of(polygons.as_slice());
     polygons.sort_by_key(|polygon| polygon.bounds().left)?;
     let groups = groups_of(alloc, polygons, size)?;
-    Ok(Region { bounds, groups })
+    Ok(Cluster { bounds, groups })
 }
 
-/// The regions of these polygons, from south to north.
-pub(crate) fn regions_of(
+/// The clusters of these polygons, from south to north.
+pub(crate) fn clusters_of(
     alloc: Global,
     mut polygons: Vec<Polygon>,
     size: usize,
-) -> Result<Vec<Region>, AllocError>
+) -> Result<Vec<Cluster>, AllocError>
     requires least { 1 ≤ size }
     requires most { size ≤ 4096 }
-    ensures { IfOk result (λ regions. (lat lon : ℤ)
-        → is_in_regions regions.items lat lon ≡ is_in_any polygons.items lat lon) }
+    ensures { IfOk result (λ clusters. (lat lon : ℤ)
+        → is_in_clusters clusters.items lat lon ≡ is_in_any polygons.items lat lon) }
 {
     polygons.sort_by_key(|polygon| polygon.bounds().bottom)?;
-    let mut regions = Vec::new(alloc);
+    let mut clusters = Vec::new(alloc);
     'parts: while polygons.len() > size * size {
         let at = polygons.len() - size * size;
         let part = polygons.split_off(at)?;
-        regions.push(region_of(alloc, part, size)?)?;
+        clusters.push(cluster_of(alloc, part, size)?)?;
     }
-    regions.push(region_of(alloc, polygons, size)?)?;
-    Ok(regions)
+    clusters.push(cluster_of(alloc, polygons, size)?)?;
+    Ok(clusters)
 }

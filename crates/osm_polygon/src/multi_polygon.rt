@@ -1,12 +1,12 @@
 //! Polygons as one area.
 
 ghost use Rattle.std.specs.Prelude.{◌≡◌, IfOk, map};
-ghost use Rattle.osm_polygon.specs.Groups.{regions_area};
+ghost use Rattle.osm_polygon.specs.Groups.{clusters_area};
 ghost use Rattle.osm_polygon.specs.Polygons.{polygons_area, polygons_of};
 ghost use Rattle.osm_polygon.specs.RingPlaces.{rings_of};
 ghost use Rattle.osm_polygon.specs.Rings.{polygon_of};
 
-use crate::groups::{Region, any_region_has, box_of, regions_of, size_for};
+use crate::groups::{Cluster, any_cluster_has, box_of, clusters_of, size_for};
 use crate::place::Place;
 use crate::polygon::Polygon;
 use crate::ring::Ring;
@@ -19,15 +19,15 @@ use std::marker::Model;
 #[derive(Debug, Drop)]
 pub struct MultiPolygon {
     bounds: BoundingBox,
-    regions: Vec<Region>,
+    clusters: Vec<Cluster>,
 }
 
 impl Model for MultiPolygon {
-    ghost use Rattle.osm_polygon.specs.Groups.{RegionsSpec};
+    ghost use Rattle.osm_polygon.specs.Groups.{ClustersSpec};
 
-    ghost Value = { RegionsSpec };
+    ghost Value = { ClustersSpec };
 
-    ghost view = { λ a. record { bounds = a.bounds; regions = a.regions.items } };
+    ghost view = { λ a. record { bounds = a.bounds; clusters = a.clusters.items } };
 }
 
 /// The polygons with these rings.
@@ -50,19 +50,19 @@ impl MultiPolygon {
     ///
     /// If memory is refused.
     pub fn new(alloc: Global, polygons: &[Vec<Ring>]) -> Result<MultiPolygon, AllocError>
-        ensures { IfOk result (λ area. regions_area area
+        ensures { IfOk result (λ area. clusters_area area
             ≡ polygons_area (polygons_of (map rings_of polygons.now))) }
     {
         let made = made_of(alloc, polygons)?;
         let bounds = box_of(made.as_slice());
         let size = size_for(made.len());
-        let regions = regions_of(alloc, made, size)?;
-        Ok(MultiPolygon { bounds, regions })
+        let clusters = clusters_of(alloc, made, size)?;
+        Ok(MultiPolygon { bounds, clusters })
     }
 }
 
 impl Area for MultiPolygon {
-    ghost area = { regions_area };
+    ghost area = { clusters_area };
 
     fn bounds(&self) -> BoundingBox {
         self.bounds
@@ -75,7 +75,7 @@ impl Area for MultiPolygon {
         let Some(place) = Place::of(lat, lon) else {
             return false;
         };
-        any_region_has(self.regions.as_slice(), place)
+        any_cluster_has(self.clusters.as_slice(), place)
     }
 
     fn as_box(&self) -> Option<BoundingBox> {

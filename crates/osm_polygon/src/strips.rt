@@ -1,7 +1,7 @@
 //! Strips of latitude or of longitude, each with the edges that have a place in it.
 
 ghost use Rattle.std.specs.Prelude.{◌≡◌, ◌<◌, ◌≤◌, ◌+◌, ◌-◌, ◌*◌, ◌^◌, true, [], IfOk, OnOk, length};
-ghost use Rattle.osm_polygon.specs.Strips.{AreStrips, AreWithin, lists_of, cut_at, pushed_at, with_edge, span_of, spans_of, held};
+ghost use Rattle.osm_polygon.specs.Strips.{AreStrips, AreWithin, lists_of, cut_at, parts_at, pushed_at, with_edge, first_of, end_of, span_of, spans_of, held};
 ghost use Rattle.osm_polygon.specs.Edges.{is_in_strip};
 
 use crate::edge::{Axis, Edge};
@@ -9,6 +9,12 @@ use std::alloc::{AllocError, Global};
 
 /// A strip that is 2^39 nanodegrees wide is the whole earth.
 const WHOLE_EARTH: u32 = 39;
+
+/// The parts of a strip are at most the 2^24th part as wide.
+const FINEST: u32 = 24;
+
+/// A strip of fewer edges stays whole.
+const MANY_EDGES: u64 = 32;
 
 /// The edges that have a place in one strip, in their order.
 #[derive(Debug, Drop)]
@@ -25,14 +31,40 @@ pub(crate) struct Cut {
     pub(crate) end: u64,
 }
 
-/// Whether the strips of this width have at most `most` edges together. An edge counts once in each strip that it has a place in.
-fn are_few(edges: &[Edge], axis: Axis, shift: u32, most: u64) -> bool
-    requires { shift < 64 }
-    ensures { result ≡ true → spans_of axis shift edges.now ≤ most }
+impl Cut {
+    /// The number of the first of its strips that an edge has a place in.
+    fn first_of(self, edge: &Edge) -> u64
+        requires { self.shift < 64 }
+        ensures { result ≡ first_of self edge.now }
+    {
+        edge.lowest(self.axis, self.shift).max(self.first)
+    }
+
+    /// The number after that of the last one.
+    fn end_of(self, edge: &Edge) -> u64
+        requires { self.shift < 64 }
+        ensures { result ≡ end_of self edge.now }
+    {
+        (edge.highest(self.axis, self.shift) + 1).min(self.end)
+    }
+
+    /// How many of its strips an edge has a place in.
+    fn span(self, edge: &Edge) -> u64
+        requires { self.shift < 64 }
+        ensures { result ≡ span_of self edge.now }
+    {
+        self.end_of(edge).saturating_sub(self.first_of(edge))
+    }
+}
+
+/// Whether these strips have at most `most` edges together. An edge counts once in each strip that it has a place in.
+fn are_few(edges: &[Edge], cut: Cut, most: u64) -> bool
+    requires { cut.shift < 64 }
+    ensures { result ≡ true → spans_of cut edges.now ≤ most }
 {
     let mut left = most;
     for edge in edges {
-        let Some(rest) = left.checked_sub(edge.span(axis, shift)) else {
+        let Some(rest) = left.checked_sub(cut.span(edge)) else {
             return false;
         };
         left = rest;
@@ -58,7 +90,8 @@ fn ends(edges: &[Edge], axis: Axis) -> (u64, u64)
 fn cut_at(axis: Axis, shift: u32, first: u64, last: u64) -> Cut
     requires width { shift < 64 }
     requires small { last < 2 ^ 39 }
-    ensures { result ≡ cut_at axis shift first last }
+    ensures value { result ≡ cut_at axis shift first last }
+    ensures small { result.end ≤ 2 ^ 39 }
 {
     Cut {
         axis,
@@ -76,19 +109,62 @@ pub(crate) fn choose_cut(edges: &[Edge], axis: Axis, times: u64) -> Cut
     ensures width { (result.axis ≡ axis) × (result.shift < 64) }
     ensures within { AreWithin axis result.shift result.first result.end edges.now }
     ensures number { result.end ≤ result.first + (length edges.now + 1) }
-    ensures few { spans_of axis result.shift edges.now ≤ times * length edges.now }
+    ensures small { result.end ≤ 2 ^ 39 }
+    ensures few { spans_of result edges.now ≤ times * length edges.now }
 {
     let most = edges.len() as u64;
     let (first, last) = ends(edges, axis);
     for shift in 0..WHOLE_EARTH {
         let cut = cut_at(axis, shift, first, last);
         if cut.end.saturating_sub(cut.first) <= most
-            && are_few(edges, axis, shift, most.saturating_mul(times))
+            && are_few(edges, cut, most.saturating_mul(times))
         {
             return cut;
         }
     }
     cut_at(axis, WHOLE_EARTH, first, last)
+}
+
+/// The strip with this number, cut evenly into parts that are 2^finer nanodegrees wide.
+fn parts_at(strip: Cut, finer: u32) -> Cut
+    requires width { (finer ≤ strip.shift) × (strip.shift ≤ finer + 24) × (strip.shift < 64) }
+    requires small { strip.end ≤ 2 ^ 39 }
+    requires some { strip.first ≤ strip.end }
+    ensures { result ≡ parts_at strip finer }
+{
+    let depth = strip.shift - finer;
+    Cut {
+        axis: strip.axis,
+        shift: finer,
+        first: strip.first << depth,
+        end: strip.end << depth,
+    }
+}
+
+/// Into which parts a strip with these edges is cut: the narrowest such that there are no more parts than edges, and that they have at most half as
+/// many edges more together. A strip of few edges stays whole, and so does one whose edges go through it from one end to the other.
+pub(crate) fn choose_parts(edges: &[Edge], strip: Cut) -> Cut
+    requires width { strip.shift < 64 }
+    requires small { strip.end ≤ 2 ^ 39 }
+    requires one { strip.end ≡ strip.first + 1 }
+    ensures width { result.shift ≤ strip.shift }
+    ensures are { result ≡ parts_at strip result.shift }
+    ensures number { result.end ≤ result.first + (length edges.now + 1) }
+    ensures few { 2 * spans_of result edges.now ≤ 3 * length edges.now }
+{
+    let count = edges.len() as u64;
+    if count < MANY_EDGES {
+        return strip;
+    }
+    for finer in strip.shift.saturating_sub(FINEST)..strip.shift {
+        let parts = parts_at(strip, finer);
+        if parts.end.saturating_sub(parts.first) <= count
+            && are_few(edges, parts, count.saturating_add(count / 2))
+        {
+            return parts;
+        }
+    }
+    strip
 }
 
 /// As many strips as `cut` says, without edges.
@@ -120,15 +196,16 @@ fn push_at(strips: &mut Vec<Strip>, index: usize, edge: Edge) -> Result<(), Allo
 
 /// Adds an edge to each strip that it has a place in.
 fn add_edge(strips: &mut Vec<Strip>, cut: Cut, edge: Edge) -> Result<(), AllocError>
-    requires { cut.shift < 64 }
+    requires width { cut.shift < 64 }
+    requires number { length strips.now.items ≡ cut.end - cut.first }
     ensures with { OnOk result (lists_of strips.new.items
         ≡ with_edge (λ n. is_in_strip cut.axis cut.shift n edge) edge cut.first
         (lists_of strips.old.items)) }
     ensures few { OnOk result
-        (held strips.new.items ≤ held strips.old.items + span_of cut.axis cut.shift edge) }
+        (held strips.new.items ≤ held strips.old.items + span_of cut edge) }
 {
-    let from = edge.lowest(cut.axis, cut.shift).max(cut.first);
-    let end = edge.highest(cut.axis, cut.shift) + 1;
+    let from = cut.first_of(&edge);
+    let end = cut.end_of(&edge);
     for number in from..end {
         push_at(strips, (number - cut.first) as usize, edge)?;
     }
@@ -142,7 +219,7 @@ pub(crate) fn strips_of(alloc: Global, edges: &[Edge], cut: Cut) -> Result<Vec<S
         AreStrips cut.axis cut.shift cut.first edges.now (lists_of strips.items)) }
     ensures number { IfOk result (λ strips. length strips.items ≡ cut.end - cut.first) }
     ensures few { IfOk result (λ strips.
-        held strips.items ≤ spans_of cut.axis cut.shift edges.now) }
+        held strips.items ≤ spans_of cut edges.now) }
 {
     let mut strips = empty_strips(alloc, cut)?;
     for edge in edges {

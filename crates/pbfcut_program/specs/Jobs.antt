@@ -1,7 +1,7 @@
 -- What a job is for, and its feeds.
 use Rattle.std.specs.Prelude.{List, [], ◌∷◌}
 use Rattle.osm_area.specs.Area.{AreaSpec, box_area}
-use Rattle.osm_polygon.specs.Groups.{regions_area}
+use Rattle.osm_polygon.specs.Groups.{clusters_area}
 use Rattle.pbfcut_program.specs.declared.jobs.Cut.{Cut}
 use Rattle.pbfcut_program.specs.declared.jobs.Cut.TheVariants as cut
 use Rattle.pbfcut_program.specs.declared.jobs.Job.{Job}
@@ -12,7 +12,7 @@ use Rattle.pbfcut_program.specs.Tasks.{Task, converting, copying, extracting, ex
 
 abbrev pub area_of : Cut → AreaSpec
 area_of (cut.Box box) = box_area box
-area_of (cut.Polygon area) = regions_area area
+area_of (cut.Polygon area) = clusters_area area
 
 abbrev pub plan_of : Plan → Task
 plan_of plan.Convert = converting

@@ -1,7 +1,7 @@
 //! What is done with IN, opened for each pass that it takes.
 
 ghost use Rattle.std.specs.Prelude.{◌≡◌, ◌∷◌, ℕ, [], List, length, map, IfOk, IfErr, IfSome, Ok, true};
-ghost use Rattle.osm_polygon.specs.Groups.{regions_area};
+ghost use Rattle.osm_polygon.specs.Groups.{clusters_area};
 ghost use Rattle.osm_polygon.specs.Polygon.{Rings};
 ghost use Rattle.osm_polygon.specs.Polygons.{polygons_area, polygons_of};
 ghost use Rattle.osm_polygon.specs.Texts.{polygons_of_text};
@@ -35,7 +35,7 @@ fn read_area<H: Host>(alloc: Global, host: &mut H, path: &str) -> Result<MultiPo
     ensures ok { IfOk result (λ area. (text : List ℕ) × (polygons : List Rings)
         × (H.log host.new ≡ then_all (H.log host.old) (text_read path.now text ∷ []))
         × (polygons_of_text text ≡ Ok polygons)
-        × (regions_area area ≡ polygons_area (polygons_of polygons))) }
+        × (clusters_area area ≡ polygons_area (polygons_of polygons))) }
     ensures err { IfErr result (λ how. (events : List Event)
         × (H.log host.new ≡ then_all (H.log host.old) events) × FailsOpening how events) }
 {

@@ -1,4 +1,4 @@
-use Rattle.std.proofs.Common.{◌≡◌, ◌∙◌, ap}
+use Rattle.std.proofs.Common.{◌∙◌, ap}
 use Rattle.std.specs.Prelude.{◌&&◌}
 use Rattle.osm_box.specs.BoundingBox.{is_inside}
 use Rattle.osm_polygon.specs.Polygons.{box_of, is_in_any}

@@ -1,7 +1,7 @@
-use Rattle.std.proofs.Common.{◌≡◌, ◌∙◌, ◌-◌, ◌++◌, [], ◌∷◌, take, drop, ap, sym, rules}
+use Rattle.std.proofs.Common.{◌≡◌, ◌∙◌, ◌-◌, ◌++◌, [], ◌∷◌, take, drop, ap}
 use Rattle.osm_polygon.specs.Polygon.{is_in_polygon}
 use Rattle.osm_polygon.specs.Polygons.{is_in_any}
-use Rattle.osm_polygon.specs.Groups.{is_in_group, is_in_groups}
+use Rattle.osm_polygon.specs.Groups.{is_in_group}
 use Rattle.osm_polygon.proofs.PolygonsLemmas.{part_last, part_moved}
 use Rattle.osm_polygon.proofs.groups.groups_of.Goals as goal
 

@@ -1,8 +1,9 @@
 use Rattle.std.proofs.Common.{◌≡◌, ◌+◌, ◌-◌, ◌≤◌, ◌<◌, ◌∙◌, ap, sym, arith, rules}
 use Rattle.std.specs.Prelude.{max}
+use Rattle.std.proofs.lemmas.List.{length-map}
 use Rattle.osm_polygon.specs.Strips.{lists_of, pushed_at, held}
 use Rattle.osm_polygon.specs.Edges.{lowest, highest}
-use Rattle.osm_polygon.proofs.StripLemmas.{in_strip_below, with_none, none_below, next_pushed, pushed_held}
+use Rattle.osm_polygon.proofs.StripLemmas.{in_strip_below, with_none, none_below, next_pushed, pushed_held, all_pushed}
 use Rattle.osm_polygon.proofs.strips.add_edge.Goals as goal
 
 pub loop-number-init : goal.loop-number-init
@@ -11,9 +12,9 @@ loop-number-init c =
     let shift = c.args.cut.shift in
     let e = c.args.edge in
     let first = c.args.cut.first in
-    let from : c.max-from.result ≡ max (lowest axis shift e) first = search rules in
+    let from : c.first_of-from.result ≡ max (lowest axis shift e) first = search rules in
     record {
-      with = sym (with_none (in_strip_below axis shift e c.max-from.result) e first (lists_of c.args.strips.now.items) (λ n le. none_below axis shift e first c.max-from.result n from le));
+      with = sym (with_none (in_strip_below axis shift e c.first_of-from.result) e first (lists_of c.args.strips.now.items) (λ n le. none_below axis shift e first c.first_of-from.result n from le));
       few = omega arith;
       begun = omega arith;
       ends = omega arith;
@@ -27,7 +28,7 @@ loop-number-preserved c =
     let e = c.args.edge in
     let first = c.args.cut.first in
     let number = c.loop-number.number in
-    let from : c.max-from.result ≡ max (lowest axis shift e) first = search rules in
+    let from : c.first_of-from.result ≡ max (lowest axis shift e) first = search rules in
     let most : number < highest axis shift e + 1 = search rules in
     let pushed : lists_of c.push_at.new.strips.items ≡ pushed_at (number - first) e (lists_of c.loop-number.strips.items) = search rules in
     let more : held c.push_at.new.strips.items ≤ held c.loop-number.strips.items + 1 = rw pushed (pushed_held (lists_of c.loop-number.strips.items) (number - first) e) in
@@ -38,3 +39,8 @@ loop-number-preserved c =
       begun = omega (arith, so_far.begun);
       ends = search (rules, so_far.ends);
     }
+
+pub returns-clause-with : goal.returns-clause-with
+returns-clause-with c =
+    let so_far = c.loop-number.invariant in
+    so_far.with ∙ all_pushed c.args.cut c.args.edge c.loop-number.number (lists_of c.args.strips.now.items) (length-map c.args.strips.now.items (λ s. s.edges.items) ∙ c.requires.number) (search rules)

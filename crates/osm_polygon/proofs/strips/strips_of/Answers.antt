@@ -16,5 +16,5 @@ loop-edge-preserved c =
     rw more (record {
       number = same_number (λ n. is_in_strip axis shift n e) e c.args.cut.first _ _ c.in_ok-add_edge.ensures.with ∙ so_far.number;
       are = rw c.in_ok-add_edge.ensures.with (strips_with _ axis shift c.args.cut.first (take i edges) e so_far.are);
-      few = omega (arith, c.in_ok-add_edge.ensures.few, so_far.few, spans_more axis shift (take i edges) e);
+      few = omega (arith, c.in_ok-add_edge.ensures.few, so_far.few, spans_more c.args.cut (take i edges) e);
     })

@@ -7,5 +7,5 @@ abbrev pub invariant-loop-edge : goal.invariant-loop-edge
 invariant-loop-edge l = record {
   are : AreStrips l.cut.axis l.cut.shift l.cut.first (take l.edge-index l.edges) (lists_of l.strips.items);
   number : length l.strips.items ≡ l.cut.end - l.cut.first;
-  few : held l.strips.items ≤ spans_of l.cut.axis l.cut.shift (take l.edge-index l.edges);
+  few : held l.strips.items ≤ spans_of l.cut (take l.edge-index l.edges);
 }

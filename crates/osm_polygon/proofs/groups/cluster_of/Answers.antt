@@ -6,7 +6,7 @@ use Rattle.osm_polygon.specs.Polygon.{is_in_polygon}
 use Rattle.osm_polygon.specs.Polygons.{box_of, is_in_any}
 use Rattle.osm_polygon.specs.Groups.{is_in_groups}
 use Rattle.osm_polygon.proofs.PolygonsLemmas.{in_box}
-use Rattle.osm_polygon.proofs.groups.region_of.Goals as goal
+use Rattle.osm_polygon.proofs.groups.cluster_of.Goals as goal
 
 pub returns : goal.returns
 returns c = λ lat lon.
