@@ -570,6 +570,28 @@ def files_that_change(bench: Bench):
             bench.count += 1
 
 
+def compressed_files_that_change(bench: Bench):
+    """The same of pbfcutz, which compares its passes by a keyed hash, or with `--digests` by SHA-256. Then there is no OUT."""
+    twin = os.path.join(bench.folder, "changing-pbfcutz", "pbfcutz")
+    os.mkdir(os.path.dirname(twin))
+    os.symlink(bench.program, twin)
+    path, out = os.path.join(bench.folder, "changing"), os.path.join(bench.folder, "changed")
+    mixed = EMPTY_HEADER + WAY_FRAME + DENSE_FRAME
+    for options in [[], ["--digests"]]:
+        extract, convert = ["extract", BOX, *options, path, out], ["convert", *options, path, out]
+        parents = ["extract", "--parents", BOX, *options, path, out]
+        show = [] if options else [(["show", path], THREE_DENSE, 2, 2)]
+        for words, given, first, passes in [*show, (convert, THREE_DENSE, 2, 2), (extract, mixed, 2, 3), (extract, THREE_DENSE, 3, 3), (parents, mixed, 2, 4)]:
+            for number in range(first, passes + 1):
+                for form, content in [("raw", given), ("compressed", packed(given))]:
+                    status, errors = run_with_change([twin, *words, "--progress"], path, content, out, number)
+                    name = f"pbfcutz {words} of a {form} file, changed in pass {number}"
+                    compare(f"{name}: status", 5, status)
+                    compare(f"{name}: last line", b"pbfcutz: input changed in pass %d\n" % number, own_lines(errors).split(b"\n")[-2] + b"\n")
+                    compare(f"{name}: OUT is there", False, os.path.exists(out))
+                    bench.count += 1
+
+
 def run_with_change(words: list, path: str, given: bytes, out: str, number: int):
     """A run that finds the last byte of IN changed from pass N on. It can't get further before that is done: standard error is a pipe that
     has room for the progress of the passes before, and no more."""
@@ -918,7 +940,7 @@ def main():
     folder = tempfile.mkdtemp(prefix="pbfcut-program-")
     try:
         bench = Bench(program, folder)
-        for part in [words_of_all_kinds, boxes, progress, digests, files_that_cannot_be, pipes, files_that_change, closed_descriptors,
+        for part in [words_of_all_kinds, boxes, progress, digests, files_that_cannot_be, pipes, files_that_change, compressed_files_that_change, closed_descriptors,
                      files_that_are_refused, files_that_are_accepted, extracts, conversions, sample, millions, twenty_million]:
             part(bench)
     except Difference as difference:

@@ -9,3 +9,4 @@ pub mod UnjudgedLemmas
 pub mod GivenLemmas
 pub mod LimitLemmas
 pub mod HaltingLemmas
+pub mod HashLemmas

@@ -6,7 +6,7 @@ use Rattle.pbf_frame.specs.declared.reader.FrameReader.{FrameReader}
 use Rattle.pbf_frame.specs.Next.{place_of, had_header_of}
 use Rattle.pbf_frame.specs.Transfers.{Added, Supplied}
 use Rattle.pbf_frame.specs.Verdict.{Verdict, judged_known}
-use Rattle.pbf_pass.specs.Hashing.{IsDigestOf}
+use Rattle.pbf_pass.specs.Hashing.{Mark, IsDigestOf}
 
 -- the verdict of frames on bytes that begin at a reader's place
 abbrev pub judged_from : {F : Type 0} → FrameReader F → List ℕ → Option Verdict
@@ -18,8 +18,8 @@ pub record GaveRest {F : Type 0} (f : feed.Ghosts F) (old new : FrameReader F) (
   pub supplied : Supplied f old.feed bytes new.feed
   pub holding : holds (judged_from old bytes)
 
--- a feed gave a file, of this digest if there is one, to its end, and this holds of it
-pub record GaveFile {F : Type 0} (f : feed.Ghosts F) (old new : F) (digest : Option (List ℕ)) (holds : List ℕ → Type 0) : Type 0 where
+-- a feed gave a file, of this digest, to its end, and this holds of it
+pub record GaveFile {F : Type 0} (f : feed.Ghosts F) (old new : F) (digest : Mark) (holds : List ℕ → Type 0) : Type 0 where
   pub file : List ℕ
   pub supplied : Supplied f old file new
   pub digest_is : IsDigestOf digest file

@@ -2,12 +2,13 @@
 
 ghost use Rattle.std.specs.Prelude.{◌≤◌, Some, IfOk, IfErr};
 ghost use Rattle.pbf_pass.specs.Given.{GaveFile};
-ghost use Rattle.pbf_pass.specs.Hashing.{digest_if};
+ghost use Rattle.pbf_pass.specs.Hashing.{mark_by};
 ghost use Rattle.pbf_pass.specs.Judged.{judged_file};
 ghost use Rattle.pbf_pass.specs.Pass.{CountsFile};
 ghost use Rattle.pbf_pass.specs.Stops.{Caused, FaultOf, unchanged, ReadFailed};
 ghost use Rattle.pbf_pass.specs.Refused.{EndsJudging};
 
+use crate::hashing::PassCheck;
 use crate::pass::{Nothing, judge};
 use crate::receipt::{Halt, InputReceipt, Passes};
 use pbf_block::Counts;
@@ -29,7 +30,7 @@ pub fn check<F: Feed>(alloc: Global, feed: &mut F) -> Result<Counts, Stop>
 {
     let passes = Passes {
         alloc,
-        hashes: false,
+        check: PassCheck::None,
     };
     Ok(check_with_receipt(passes, feed)?.counts)
 }
@@ -41,10 +42,10 @@ pub fn check<F: Feed>(alloc: Global, feed: &mut F) -> Result<Counts, Stop>
 pub fn check_with_receipt<F: Feed>(passes: Passes, feed: &mut F) -> Result<InputReceipt, Halt>
     // The feed gave a file, of this digest if it is hashed, to its end. It has no fault, and the counts are those of its entities.
     ensures receipt { IfOk result (λ receipt. GaveFile F.Feed feed.old feed.new
-        (digest_if passes.hashes receipt.input)
+        (mark_by passes.check receipt.input)
         (λ file. CountsFile (judged_file (Some file)) receipt.counts)) }
     // However it ends: `refused` says what is refused, of the bytes that were read; `stops` why it stops; and `keeps` that it keeps its feed.
-    ensures ends { EndsJudging F.Feed feed.old feed.new passes.hashes result }
+    ensures ends { EndsJudging F.Feed feed.old feed.new passes.check result }
 {
     let told = judge(passes, feed, &mut Nothing)?;
     let input = told.digest;

@@ -1,8 +1,10 @@
 //! A pass over a whole file: it is judged, its entities are counted and gathered, and its bytes are hashed.
 #![tactic(auto)]
 
+
 mod checking;
 mod hashed;
+mod hashing;
 mod header_limit;
 mod in_area;
 mod pass;
@@ -10,6 +12,7 @@ mod receipt;
 mod unjudged;
 mod visit;
 
+pub use hashing::{PassCheck, PassHasher};
 pub use checking::{check, check_with_receipt};
 pub use hashed::{HashedDrain, PassFeed};
 pub use header_limit::writable_header;

@@ -15,7 +15,7 @@ ghost use Rattle.pbf_pass.specs.Judged.{fault_in, judged_file};
 ghost use Rattle.pbf_pass.specs.Payload.{header_block, primitive_block, lent_by};
 ghost use Rattle.pbf_pass.specs.Pass.{IsFresh, TakesPayload, TakesAll, TakesFrame, CountsFrame, TakesFile, FailsToJudge, as_it_was, with_node, with_way, with_relation, Steps};
 ghost use Rattle.pbf_pass.specs.Given.{GaveFile};
-ghost use Rattle.pbf_pass.specs.Hashing.{IsLength, digest_if};
+ghost use Rattle.pbf_pass.specs.Hashing.{IsLength, mark_by};
 ghost use Rattle.pbf_wire.specs.declared.limits.TheConstants.{OFFSET_LIMIT};
 ghost use Rattle.pbf_pass.specs.Refused.{EndsJudging};
 
@@ -394,10 +394,10 @@ pub fn judge<F: Feed, G: Gather>(
     // The feed gave a file, of this digest if it is hashed, to its end. It has no fault, the pass has its header and the counts of its
     // entities, and these were gathered in order. `count` is the number of its bytes, or 2^64 - 1 if it has more.
     ensures judged { IfOk result (λ told. GaveFile F.Feed feed.old feed.new
-        (digest_if passes.hashes told.digest) (λ file. IsLength told.count file
+        (mark_by passes.check told.digest) (λ file. IsLength told.count file
         × TakesFile G.gathered (judged_file (Some file)) gathering.old gathering.new told.pass)) }
     // However it ends: `refused` says what is refused, of the bytes that were read; `stops` why it stops; and `keeps` that it keeps its feed.
-    ensures ends { EndsJudging F.Feed feed.old feed.new passes.hashes result }
+    ensures ends { EndsJudging F.Feed feed.old feed.new passes.check result }
 {
     let mut pass = Pass::new();
     let mut judging = Judging {

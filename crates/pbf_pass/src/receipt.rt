@@ -3,8 +3,10 @@
 ghost use Rattle.std.specs.Prelude.{◌≡◌};
 ghost use Rattle.pbf_frame.specs.declared.stop.Stop.TheVariants as stop;
 ghost use Rattle.pbf_pass.specs.declared.receipt.Halt.TheVariants as halt;
+ghost use Rattle.pbf_pass.specs.Hashing.{raw_check};
 ghost use Rattle.pbf_pass.specs.Refused.{stop_of, halted};
 
+use crate::hashing::PassCheck;
 use pbf_block::Counts;
 use pbf_frame::Stop;
 use pbf_wire::Fault;
@@ -15,17 +17,33 @@ use std::alloc::{AllocError, Global};
 pub struct Passes {
     /// The allocator.
     pub alloc: Global,
-    /// Whether what is read is hashed. If it isn't, a digest says nothing, and a later pass that reads other bytes is not noticed.
-    pub hashes: bool,
+    /// By what function the bytes are hashed that are read, and those of a later pass compared.
+    pub check: PassCheck,
 }
 
-/// What a call that reads reports: how many entities, and the SHA-256 digest of its input.
+impl Passes {
+    /// How those are made of what packed bytes mean: they are hashed only for their SHA-256 digest.
+    pub fn of_raw(self) -> Passes
+        ensures alloc { result.alloc ≡ self.alloc }
+        ensures check { result.check ≡ raw_check self.check }
+    {
+        Passes {
+            alloc: self.alloc,
+            check: match self.check {
+                PassCheck::Sha256 => PassCheck::Sha256,
+                PassCheck::Keyed(_) | PassCheck::None => PassCheck::None,
+            },
+        }
+    }
+}
+
+/// What a call that reads reports: how many entities, and the digest of its input by the check of its passes.
 #[derive(Clone, Copy, Debug)]
 pub struct InputReceipt {
     /// The numbers of the entities.
     pub counts: Counts,
     /// The digest of the bytes that the feed gave; if a call has several feeds, of those that each of them gave that was read. It says
-    /// nothing if the call hashes nothing.
+    /// nothing if the check is [`PassCheck::None`].
     pub input: [u8; 32],
     /// Whether nothing was read of the second feed, since the first pass was enough: so it is in calls for sorted files.
     pub spared: bool,
@@ -40,7 +58,7 @@ pub struct Refusal {
     /// and it is the first of the file that has these bytes and no more.
     /// A count that would be higher stays at 2^64 - 1.
     pub read: u64,
-    /// The digest of these bytes, if the call hashes them.
+    /// The digest of these bytes by the check of the passes.
     pub input: [u8; 32],
 }
 

@@ -4,7 +4,7 @@
 ghost use Rattle.std.specs.Prelude.{◌≡◌, [], ◌∷◌, Some, IfOk, IfErr, OnOk};
 ghost use Rattle.pbf_pass.specs.Unjudged.{GathersPayload, GathersFrame, GathersFile, StopsAtPayload, StopsAtFrame, StopsUnjudged, ReadsFaulty};
 ghost use Rattle.pbf_pass.specs.Given.{GaveFile};
-ghost use Rattle.pbf_pass.specs.Hashing.{digest_if};
+ghost use Rattle.pbf_pass.specs.Hashing.{mark_by};
 ghost use Rattle.pbf_pass.specs.Judged.{judged_file};
 ghost use Rattle.pbf_pass.specs.Payload.{primitive_block, lent_by};
 ghost use Rattle.pbf_pass.specs.Stops.{ReadFailed};
@@ -114,7 +114,7 @@ pub fn gather_unjudged<F: Feed, G: Gather>(
 ) -> Result<[u8; 32], Stop>
     // The feed gave a file, of this digest if it is hashed, to its end; if it has no fault, its entities were gathered in order.
     ensures gathered { IfOk result (λ digest. GaveFile F.Feed feed.old feed.new
-        (digest_if passes.hashes digest) (λ file. GathersFile G.gathered (judged_file (Some file))
+        (mark_by passes.check digest) (λ file. GathersFile G.gathered (judged_file (Some file))
         gathering.old gathering.new)) }
     // `Refused` and `Changed` come only if what the feed gave has a fault, whatever follows it (or by itself, if the feed was at its end).
     ensures faulty { IfErr result (ReadsFaulty F.Feed feed.old feed.new) }

@@ -8,7 +8,7 @@ ghost use Rattle.pbf_frame.specs.Frames.{FrameSpec};
 ghost use Rattle.pbf_frame.specs.Next.{IsReading, Shows, verdict};
 ghost use Rattle.pbf_frame.specs.Verdict.{judged_known};
 ghost use Rattle.pbf_pass.specs.Given.{GaveRest, GaveFile, judged_from};
-ghost use Rattle.pbf_pass.specs.Hashing.{IsLength, digest_if};
+ghost use Rattle.pbf_pass.specs.Hashing.{IsLength, mark_by};
 ghost use Rattle.pbf_pass.specs.Refused.{RefusesRest, RefusesBytes, Halts, stop_of};
 ghost use Rattle.pbf_pass.specs.Stops.{ReadFailed};
 ghost use Rattle.pbf_frame.specs.Keeps.{KeepsFeed};
@@ -119,7 +119,7 @@ pub fn pass_over<F: Feed, V: Visit>(
     requires { V.ready visitor.old }
     // The feed gave a file, of this digest if it is hashed, to its end, and its frames were visited.
     ensures visited { IfOk result (λ read. GaveFile F.Feed feed.old feed.new
-        (digest_if passes.hashes read.digest) (λ file. IsLength read.count file
+        (mark_by passes.check read.digest) (λ file. IsLength read.count file
         × VisitsAll V.took (judged_known false 0 (Some file)) read.frames
         visitor.old visitor.new)) }
     // The reader stopped after frames that were visited, or the visitor at the frame after them.
@@ -127,7 +127,7 @@ pub fn pass_over<F: Feed, V: Visit>(
         (judged_known false 0 (F.remaining feed.old)) (ReadFailed F.Feed feed.old feed.new)
         visitor.old visitor.new (stop_of h)) }
     // A refusal has the number and the digest of what the feed gave: whatever begins so is refused so.
-    ensures refused { IfErr result (Halts (RefusesBytes F.Feed feed.old feed.new passes.hashes
+    ensures refused { IfErr result (Halts (RefusesBytes F.Feed feed.old feed.new passes.check
         (λ e. RefusesVisit V.took V.failed (λ b. judged_known false 0 (Some b))
         visitor.old visitor.new (stop.Refused e)))) }
     // So is a visitor's `Changed` returned for whatever begins with what the feed gave.
@@ -139,7 +139,7 @@ pub fn pass_over<F: Feed, V: Visit>(
     // The visitor can take a frame until it stops, and goes through the same references.
     ensures visitor { KeepsVisitor V.ready V.lender visitor.old visitor.new result }
 {
-    let mut reader = FrameReader::new(passes.alloc, PassFeed::new(&mut *feed, passes.hashes));
+    let mut reader = FrameReader::new(passes.alloc, PassFeed::new(&mut *feed, passes.check));
     let outcome = visit_rest(passes.alloc, &mut reader, visitor);
     let count = reader.feed.count();
     let digest = reader.feed.digest();

@@ -2,7 +2,6 @@
 use Rattle.std.proofs.Common.{arith, ◌≡◌, ◌||◌, ◌⊎◌, inl, inr, ℕ, Bool, true, false, List, [], Option, Some, None, Result, Ok, Err, IfOk, IfErr, IfSome, OnErr, refl, sym, ap, ◌∙◌, subst}
 use Rattle.std.specs.Option.{option_map}
 use Rattle.std.proofs.lemmas.Option.{same_Some}
-use Rattle.sha2.specs.Sha256.{sha256}
 use Rattle.pbf_wire.specs.declared.fault.Fault.{Fault}
 use Rattle.pbf_frame.specs.declared.device.Feed as feed
 use Rattle.pbf_frame.specs.declared.stop.Stop.{Stop}
@@ -10,7 +9,8 @@ use Rattle.pbf_frame.specs.declared.stop.Stop.TheVariants as stop
 use Rattle.pbf_frame.specs.Devices.{IsAtEnd, IsFront, HasRisen, prepend}
 use Rattle.pbf_frame.specs.Verdict.{Verdict}
 use Rattle.pbf_pass.specs.Given.{GaveFile}
-use Rattle.pbf_pass.specs.Hashing.{HasCounted, IsDigestOf, digest_if}
+use Rattle.pbf_pass.specs.Hashing.{Mark, digest_by, mark_by}
+use Rattle.pbf_pass.specs.declared.hashing.PassCheck.{PassCheck}
 use Rattle.pbf_pass.specs.declared.receipt.Halt.{Halt}
 use Rattle.pbf_pass.specs.declared.receipt.Refusal.{Refusal}
 use Rattle.pbf_pass.specs.declared.receipt.InputReceipt.{InputReceipt}
@@ -24,16 +24,7 @@ use Rattle.pbf_unpack.specs.Unpacked.{unpacked}
 use Rattle.pbfcut.specs.Calls.{Differ, FeedUse, GaveBy, GaveOrNot, supply_of}
 use Rattle.pbfcut.proofs.ConvertingLemmas.{nothing_out}
 use Rattle.pbf_published.specs.declared.input.PublishedHalt.{PublishedHalt}
-use Rattle.pbf_published.specs.Published.{Closed, GavePublished, GaveOrNone, Opened, ReportsOutcome, UnlessChanged, log_of, raw_of}
-
--- a feed of a pass that was opened, in the log that says most
-pub opened_by : {D H : Type 0} (holds : H → List ℕ → Type 0) (below : D → ℕ → List ℕ → Type 0) (device : D) (flag hashes : Bool) (hasher : H) (count : ℕ) → flag ≡ hashes → holds hasher [] → count ≡ 0 → HasCounted holds below device flag hasher count (log_of hashes) []
-opened_by holds below device flag hashes hasher count h7 h8 h9 = grind arith
-
--- and the digest of what it has read then
-pub digest_by : {D H : Type 0} (holds : H → List ℕ → Type 0) (below : D → ℕ → List ℕ → Type 0) (device : D) (flag hashes : Bool) (hasher : H) (count : ℕ) (digest packed : List ℕ) → HasCounted holds below device flag hasher count (log_of hashes) packed
-    → ((b : List ℕ) → holds hasher b → digest ≡ sha256 b) → IsDigestOf (digest_if hashes digest) packed
-digest_by holds below device flag hashes hasher count digest packed h9 h10 = grind arith
+use Rattle.pbf_published.specs.Published.{Closed, GavePublished, GaveOrNone, Opened, ReportsOutcome, UnlessChanged, raw_of}
 
 -- what is one with a third is the same
 pub same_by : {F : Type 0} (mid last first : F) → mid ≡ last → mid ≡ first → last ≡ first
@@ -48,27 +39,27 @@ none_left_of_all : (old new : Option (List ℕ)) (file all : List ℕ) → old �
 none_left_of_all old new file all h4 h5 h6 = grind arith
 
 -- a feed of which all was read has the digest of what it had to give, as far as that is known
-abbrev pub DigestIsOf : (known digest : Option (List ℕ)) → Type 0
-DigestIsOf known digest = (all : List ℕ) → known ≡ Some all → digest ≡ Some (sha256 all)
+abbrev pub DigestIsOf : PassCheck → (known digest : Option (List ℕ)) → Type 0
+DigestIsOf check known digest = (all : List ℕ) → known ≡ Some all → digest ≡ Some (digest_by check all)
 
-module _ {F U : Type 0} (f : feed.Ghosts F) (first last : F) {u : feed.Ghosts U} {old new : U} {raw_digest : Option (List ℕ)} {holds : List ℕ → Type 0} (given : GaveFile u old new raw_digest holds) (hashes : Bool) (o : Option (List ℕ)) (remaining : u.remaining old ≡ raw_of (f.remaining first)) (opened : Opened (f.remaining first) (f.has_passed first) hashes (u.has_passed old)) (closed : Closed (f.has_passed last) (f.remaining last) (u.has_passed new) (u.remaining new) o) where
+module _ {F U : Type 0} (f : feed.Ghosts F) (first last : F) {u : feed.Ghosts U} {old new : U} {raw_digest : Mark} {holds : List ℕ → Type 0} (given : GaveFile u old new raw_digest holds) (check : PassCheck) (o : Option (List ℕ)) (remaining : u.remaining old ≡ raw_of (f.remaining first)) (opened : Opened (f.remaining first) (f.has_passed first) check (u.has_passed old)) (closed : Closed (f.has_passed last) (f.remaining last) (u.has_passed new) (u.remaining new) o) where
   ended : (all : List ℕ) → f.remaining first ≡ Some all → u.remaining new ≡ Some []
   ended all is = none_left_of_all (u.remaining old) (u.remaining new) given.file (unpacked all) given.supplied.gave.told given.supplied.end (remaining ∙ ap raw_of is)
 
   -- what is said of the file that an unpacking feed gave is said of the raw file that packed bytes mean
-  pub published_of : (digest : List ℕ) → o ≡ Some digest → (keeps : List ℕ → Type 0) → ((file : List ℕ) → holds file → keeps file) → GavePublished f first last (digest_if hashes digest) raw_digest keeps
+  pub published_of : (digest : List ℕ) → o ≡ Some digest → (keeps : List ℕ → Type 0) → ((file : List ℕ) → holds file → keeps file) → GavePublished f first last (mark_by check digest) raw_digest keeps
   published_of digest is keeps step = grind (arith, if_digest o digest, same_Some, ended)
 
   -- the digest is that of what the feed had to give
-  pub digest_told : hashes ≡ true → DigestIsOf (f.remaining first) o
-  digest_told hashed all is = grind arith
+  pub digest_told : DigestIsOf check (f.remaining first) o
+  digest_told all is = grind arith
 
 -- the same of a feed that may have been spared
-pub published_or_none : {F : Type 0} (f : feed.Ghosts F) (first last : F) (above : FeedUse) {raw_digest : Option (List ℕ)} (holds : List ℕ → Type 0) (file : List ℕ) (spared : Bool) → GaveOrNot above spared raw_digest file holds → (o : Option (List ℕ)) → supply_of above ≡ raw_of (f.remaining first)
-    → Opened (f.remaining first) (f.has_passed first) true (above.ghosts.has_passed above.old) → Closed (f.has_passed last) (f.remaining last) (above.ghosts.has_passed above.new) (above.ghosts.remaining above.new) o → (digest : List ℕ) → (spared ≡ false → o ≡ Some digest) → (above.new ≡ above.old → last ≡ first)
-    → (keeps : List ℕ → Type 0) → ((file : List ℕ) → holds file → keeps file) → GaveOrNone f first last digest raw_digest file keeps
-published_or_none f first last above holds file false given o remaining opened closed digest is same keeps step = inl (published_of f first last given true o remaining opened closed digest (is refl) keeps step)
-published_or_none f first last above holds file true none o remaining opened closed digest is same keeps step = inr (same none.0, step file none.1)
+pub published_or_none : {F : Type 0} (check : PassCheck) (f : feed.Ghosts F) (first last : F) (above : FeedUse) {raw_digest : Mark} (holds : List ℕ → Type 0) (file : List ℕ) (spared : Bool) → GaveOrNot above spared raw_digest file holds → (o : Option (List ℕ)) → supply_of above ≡ raw_of (f.remaining first)
+    → Opened (f.remaining first) (f.has_passed first) check (above.ghosts.has_passed above.old) → Closed (f.has_passed last) (f.remaining last) (above.ghosts.has_passed above.new) (above.ghosts.remaining above.new) o → (digest : List ℕ) → (spared ≡ false → o ≡ Some digest) → (above.new ≡ above.old → last ≡ first)
+    → (keeps : List ℕ → Type 0) → ((file : List ℕ) → holds file → keeps file) → GaveOrNone f first last (mark_by check digest) raw_digest file keeps
+published_or_none check f first last above holds file false given o remaining opened closed digest is same keeps step = inl (published_of f first last given check o remaining opened closed digest (is refl) keeps step)
+published_or_none check f first last above holds file true none o remaining opened closed digest is same keeps step = inr (same none.0, step file none.1)
 
 -- a feed that was closed is one that a reference goes to
 pub closed_below : {F : Type 0} (f : feed.Ghosts F) (mid last : F) (supplied : ℕ → List ℕ → Type 0) (left o : Option (List ℕ)) → mid ≡ last → Closed (f.has_passed mid) (f.remaining mid) supplied left o → Closed (f.has_passed last) (f.remaining last) supplied left o
@@ -136,21 +127,21 @@ pub changed_stop : (refused : Fault → Type 0) (read wrote : Type 0) (numbers :
 changed_stop refused read wrote numbers reported s number is change holds = subst (λ (x : Stop). Caused refused read wrote numbers x) (sym (is ∙ change)) holds
 
 -- the first feed has no digest: so it doesn't report its bytes
-pub first_unknown : (known o : Option (List ℕ)) → DigestIsOf known o → o ≡ None → Differ known known
-first_unknown known o of none b c is_b is_c same = (let bad : ⊥ = (let some : None ≡ Some (sha256 b) = sym none ∙ of b is_b in cc) in absurd bad)
+pub first_unknown : (check : PassCheck) (known o : Option (List ℕ)) → DigestIsOf check known o → o ≡ None → Differ known known
+first_unknown check known o of none b c is_b is_c same = (let bad : ⊥ = (let some : None ≡ Some (digest_by check b) = sym none ∙ of b is_b in cc) in absurd bad)
 
 -- a later feed hasn't the digest of the first: so its bytes differ
-pub later_differ : (first other o p : Option (List ℕ)) (digest : List ℕ) → DigestIsOf first o → o ≡ Some digest → DigestIsOf other p → (p ≡ Some digest → ⊥) → Differ first other
-later_differ first other o p digest of is other_of unlike b c is_b is_c same = unlike (other_of c is_c ∙ ap (λ (l : List ℕ). Some (sha256 l)) (sym same) ∙ sym (of b is_b) ∙ is)
+pub later_differ : (check : PassCheck) (first other o p : Option (List ℕ)) (digest : List ℕ) → DigestIsOf check first o → o ≡ Some digest → DigestIsOf check other p → (p ≡ Some digest → ⊥) → Differ first other
+later_differ check first other o p digest of is other_of unlike b c is_b is_c same = unlike (other_of c is_c ∙ ap (λ (l : List ℕ). Some (digest_by check l)) (sym same) ∙ sym (of b is_b) ∙ is)
 
 -- the second feed was read, and hasn't the digest of the first: so its bytes differ
-pub second_differs : {above : FeedUse} {raw_digest : Option (List ℕ)} (file : List ℕ) (holds : List ℕ → Type 0) (spared : Bool) → GaveOrNot above spared raw_digest file holds → spared ≡ false → {first other o p : Option (List ℕ)} {digest : List ℕ} → DigestIsOf first o → o ≡ Some digest
-    → (GaveBy above raw_digest holds → DigestIsOf other p) → (p ≡ Some digest → ⊥) → Differ first other
-second_differs file holds false given was of is read unlike = later_differ _ _ _ _ _ of is (read given) unlike
-second_differs file holds true none was of is read unlike = (let bad : ⊥ = cc in absurd bad)
+pub second_differs : (check : PassCheck) {above : FeedUse} {raw_digest : Mark} (file : List ℕ) (holds : List ℕ → Type 0) (spared : Bool) → GaveOrNot above spared raw_digest file holds → spared ≡ false → {first other o p : Option (List ℕ)} {digest : List ℕ} → DigestIsOf check first o → o ≡ Some digest
+    → (GaveBy above raw_digest holds → DigestIsOf check other p) → (p ≡ Some digest → ⊥) → Differ first other
+second_differs check file holds false given was of is read unlike = later_differ check _ _ _ _ _ of is (read given) unlike
+second_differs check file holds true none was of is read unlike = (let bad : ⊥ = cc in absurd bad)
 
 -- what is said of the next feed, whether the one before was read or not
-pub rest_of : (above : FeedUse) (raw_digest : Option (List ℕ)) (file : List ℕ) (holds : List ℕ → Type 0) (spared : Bool) → GaveOrNot above spared raw_digest file holds → (c : List ℕ) × holds c
+pub rest_of : (above : FeedUse) (raw_digest : Mark) (file : List ℕ) (holds : List ℕ → Type 0) (spared : Bool) → GaveOrNot above spared raw_digest file holds → (c : List ℕ) × holds c
 rest_of above raw_digest file holds spared h5 = grind arith
 
 -- before a drain was used, whatever is said

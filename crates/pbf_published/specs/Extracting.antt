@@ -1,6 +1,7 @@
 -- What a call says that extracts of published files.
-use Rattle.std.specs.Prelude.{Bool, List, ◌∷◌, Some, Result, IfOk, IfErr}
-use Rattle.pbf_pass.specs.Hashing.{digest_if}
+use Rattle.std.specs.Prelude.{List, ◌∷◌, Result, IfOk, IfErr}
+use Rattle.pbf_pass.specs.Hashing.{mark_by, raw_check}
+use Rattle.pbf_pass.specs.declared.hashing.PassCheck.{PassCheck}
 use Rattle.pbf_pass.specs.HeaderLimit.{judged_writable}
 use Rattle.pbfcut.specs.Calls.{DrainUse, FeedUse, IfSame, TookBy}
 use Rattle.pbfcut.specs.Kept.{IsWritable, extract_of}
@@ -10,12 +11,12 @@ use Rattle.pbf_published.specs.declared.input.PublishedHalt.{PublishedHalt}
 use Rattle.pbf_published.specs.declared.input.PublishedInput.{PublishedInput}
 use Rattle.pbf_published.specs.Published.{FrontUnlessChanged, GaveOrNone, GavePublished, GavePublishedEach, StopsPublished}
 
-pub record ExtractsPublished {D : Type 0} (cut : Cut) (first second : FeedUse) (later : List FeedUse) (out : DrainUse D) (hashes : Bool) (result : Result PublishedInput PublishedHalt) : Type 0 where
+pub record ExtractsPublished {D : Type 0} (cut : Cut) (first second : FeedUse) (later : List FeedUse) (out : DrainUse D) (check : PassCheck) (result : Result PublishedInput PublishedHalt) : Type 0 where
   -- each feed gave packed bytes of the digest `input`, which mean a raw file, of the digest `raw` if it is hashed, unless nothing was read of the second.
   -- The first raw file has no fault, and its header can be written. The drain took bytes: if the raw files are the same, exactly its extract, in
   -- canonical form, and the counts are those of the entities in it
-  pub receipt : IfOk result (λ receipt. GavePublished first.ghosts first.old first.new (Some receipt.input) (digest_if hashes receipt.raw) (λ b. IsWritable b
-      × GaveOrNone second.ghosts second.old second.new receipt.input (digest_if hashes receipt.raw) b (λ c. GavePublishedEach later (Some receipt.input) (digest_if hashes receipt.raw) (λ files.
+  pub receipt : IfOk result (λ receipt. GavePublished first.ghosts first.old first.new (mark_by check receipt.input) (mark_by (raw_check check) receipt.raw) (λ b. IsWritable b
+      × GaveOrNone second.ghosts second.old second.new (mark_by check receipt.input) (mark_by (raw_check check) receipt.raw) b (λ c. GavePublishedEach later (mark_by check receipt.input) (mark_by (raw_check check) receipt.raw) (λ files.
       TookBy out (λ written. IfSame b (c ∷ files) (IsExtraction cut.choose cut.select cut.area b receipt.counts written))))))
   -- each stop has its cause
   pub stops : IfErr result (λ h. StopsPublished judged_writable first (second ∷ later) out h.stop)

@@ -9,7 +9,8 @@ use Rattle.pbf_frame.specs.declared.stop.Stop.TheVariants.{Refused, Read, Write,
 use Rattle.pbf_frame.specs.Devices.{IsAtEnd, IsFront, prepend}
 use Rattle.pbf_frame.specs.Transfers.{Added}
 use Rattle.pbf_frame.specs.Verdict.{Verdict}
-use Rattle.pbf_pass.specs.Hashing.{IsDigestOf, digest_if}
+use Rattle.pbf_pass.specs.Hashing.{IsDigestOf, Mark, below_log, hash_log, mark_by}
+use Rattle.pbf_pass.specs.declared.hashing.PassCheck.{PassCheck}
 use Rattle.pbf_pass.specs.declared.receipt.Halt.{Halt}
 use Rattle.pbf_pass.specs.declared.receipt.InputReceipt.{InputReceipt}
 use Rattle.pbf_pass.specs.Refused.{stop_of}
@@ -21,7 +22,7 @@ use Rattle.pbf_published.specs.declared.input.PublishedHalt.{PublishedHalt}
 -- ---- what was given
 
 -- by a log of a feed packed bytes passed, of this digest if there is one, that mean this raw file
-pub record PassedAs (has_passed : ℕ → List ℕ → Type 0) (log : ℕ) (digest : Option (List ℕ)) (raw : List ℕ) : Type 0 where
+pub record PassedAs (has_passed : ℕ → List ℕ → Type 0) (log : ℕ) (digest : Mark) (raw : List ℕ) : Type 0 where
   pub packed : List ℕ
   pub passed : has_passed log packed
   pub digest_is : IsDigestOf digest packed
@@ -29,7 +30,7 @@ pub record PassedAs (has_passed : ℕ → List ℕ → Type 0) (log : ℕ) (dige
 
 -- a feed gave packed bytes of one digest, to its end, which mean a raw file, of another if there is one, and this holds of that file. They are what
 -- the feed had to give, if it reports its bytes
-pub record GavePublished {F : Type 0} (f : feed.Ghosts F) (old new : F) (digest raw_digest : Option (List ℕ)) (holds : List ℕ → Type 0) : Type 0 where
+pub record GavePublished {F : Type 0} (f : feed.Ghosts F) (old new : F) (digest raw_digest : Mark) (holds : List ℕ → Type 0) : Type 0 where
   pub packed : List ℕ
   pub digest_is : IsDigestOf digest packed
   pub raw_digest_is : IsDigestOf raw_digest (unpacked packed)
@@ -40,24 +41,19 @@ pub record GavePublished {F : Type 0} (f : feed.Ghosts F) (old new : F) (digest 
   pub holding : holds (unpacked packed)
 
 -- a later feed did so; or nothing was read of it, and this holds of the file before
-abbrev pub GaveOrNone : {F : Type 0} → feed.Ghosts F → (old new : F) → (digest : List ℕ) → Option (List ℕ) → (raw : List ℕ) → (List ℕ → Type 0) → Type 0
-GaveOrNone f old new digest raw_digest raw holds = GavePublished f old new (Some digest) raw_digest holds ⊎ ((new ≡ old) × holds raw)
+abbrev pub GaveOrNone : {F : Type 0} → feed.Ghosts F → (old new : F) → (digest raw_digest : Mark) → (raw : List ℕ) → (List ℕ → Type 0) → Type 0
+GaveOrNone f old new digest raw_digest raw holds = GavePublished f old new digest raw_digest holds ⊎ ((new ≡ old) × holds raw)
 
 -- each of these feeds did, and this holds of the raw files
-abbrev pub GavePublishedEach : List FeedUse → (digest raw_digest : Option (List ℕ)) → (List (List ℕ) → Type 0) → Type 0
+abbrev pub GavePublishedEach : List FeedUse → (digest raw_digest : Mark) → (List (List ℕ) → Type 0) → Type 0
 GavePublishedEach [] digest raw_digest holds = holds []
 GavePublishedEach (one ∷ more) digest raw_digest holds = GavePublished one.ghosts one.old one.new digest raw_digest (λ raw. GavePublishedEach more digest raw_digest (λ raws. holds (raw ∷ raws)))
 
 -- ---- the digest of a feed that was read
 
--- the log that says most of the packed bytes: what the hasher holds if they are hashed, otherwise how many they are
-abbrev pub log_of : Bool → ℕ
-log_of true = zero
-log_of false = suc zero
-
 -- packed bytes of this digest mean this raw file; and if nothing is left, nothing is left of them, and they are what there was at the start, as far
 -- as that is known
-pub record Means (digest start left left_below : Option (List ℕ)) (raw : List ℕ) : Type 0 where
+pub record Means (digest : Mark) (start left left_below : Option (List ℕ)) (raw : List ℕ) : Type 0 where
   pub packed : List ℕ
   pub digest_is : IsDigestOf digest packed
   pub means : unpacked packed ≡ raw
@@ -97,15 +93,15 @@ pub record HasTraced {F : Type 0} (f : feed.Ghosts F) (feed : F) (log : ℕ) (by
 -- ---- feeds that are opened and closed
 
 -- an unpacking feed, by its logs, has supplied nothing of what the feed below reports and logs
-pub record Opened (known : Option (List ℕ)) (passed : ℕ → List ℕ → Type 0) (hashes : Bool) (supplied : ℕ → List ℕ → Type 0) : Type 0 where
-  pub hashed : supplied (log_number (log_of hashes) (log_of hashes) known) []
-  pub logged : (log : ℕ) → passed log [] → supplied (log_number (log_of hashes) (suc (suc log)) known) []
+pub record Opened (known : Option (List ℕ)) (passed : ℕ → List ℕ → Type 0) (check : PassCheck) (supplied : ℕ → List ℕ → Type 0) : Type 0 where
+  pub hashed : supplied (log_number (hash_log check) (hash_log check) known) []
+  pub logged : (log : ℕ) → passed log [] → supplied (log_number (hash_log check) (below_log log) known) []
 
 -- the packed bytes, of the digest if there is one, mean what was supplied, and passed by each log of the feed below; and there is a digest if nothing
 -- is reported to be left
 pub record Closed (passed : ℕ → List ℕ → Type 0) (left_below : Option (List ℕ)) (supplied : ℕ → List ℕ → Type 0) (left digest : Option (List ℕ)) : Type 0 where
-  pub means : (hashes : Bool) (start : Option (List ℕ)) (raw : List ℕ) → supplied (log_number (log_of hashes) (log_of hashes) start) raw → IfSome digest (λ d. Means (digest_if hashes d) start left left_below raw)
-  pub logged : (hashes : Bool) (log : ℕ) (start : Option (List ℕ)) (raw : List ℕ) → supplied (log_number (log_of hashes) (suc (suc log)) start) raw → IfSome digest (λ d. PassedAs passed log (digest_if hashes d) raw)
+  pub means : (check : PassCheck) (start : Option (List ℕ)) (raw : List ℕ) → supplied (log_number (hash_log check) (hash_log check) start) raw → IfSome digest (λ d. Means (mark_by check d) start left left_below raw)
+  pub logged : (check : PassCheck) (log : ℕ) (start : Option (List ℕ)) (raw : List ℕ) → supplied (log_number (hash_log check) (below_log log) start) raw → IfSome digest (λ d. PassedAs passed log (mark_by check d) raw)
   pub there : left ≡ Some [] → digest ≡ None → ⊥
 
 -- ---- why a call stops

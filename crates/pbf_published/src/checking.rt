@@ -4,7 +4,7 @@ ghost use Rattle.std.specs.Prelude.{Some, ◌∷◌, [], IfOk, IfErr};
 ghost use Rattle.pbf_pass.specs.Judged.{judged_file};
 ghost use Rattle.pbf_pass.specs.Pass.{CountsFile};
 ghost use Rattle.pbf_pass.specs.Stops.{Caused, ReadFailed, FaultOf};
-ghost use Rattle.pbf_pass.specs.Hashing.{digest_if};
+ghost use Rattle.pbf_pass.specs.Hashing.{mark_by, raw_check};
 ghost use Rattle.pbf_published.specs.Published.{ChangedOf, GavePublished, raw_of};
 
 use crate::input::{
@@ -25,8 +25,8 @@ pub fn check_with_receipt<F: Feed>(
     // The feed gave packed bytes of the digest `input`, which mean a raw file, of the digest `raw` if it is hashed. That file has no
     // fault, and the counts are those of its entities.
     ensures receipt { IfOk result (λ receipt. GavePublished F.Feed feed.old feed.new
-        (digest_if passes.hashes receipt.input)
-        (digest_if passes.hashes receipt.raw)
+        (mark_by passes.check receipt.input)
+        (mark_by (raw_check passes.check) receipt.raw)
         (λ file. CountsFile (judged_file (Some file)) receipt.counts)) }
     // Each stop has its cause. What is refused is the raw file that the feed's bytes mean, by its first fault. `Read` comes only if the
     // feed's count of failures rose; `Write` never comes. `Changed(1)` comes only if the feed doesn't report its bytes.
@@ -35,8 +35,8 @@ pub fn check_with_receipt<F: Feed>(
         (ChangedOf (F.remaining feed.old ∷ [])) h.stop) }
 {
     let alloc = passes.alloc;
-    let mut input = open(alloc, Inflater::new(alloc)?, &mut *feed, passes.hashes);
-    let outcome = pbf_pass::check_with_receipt(passes, &mut input);
+    let mut input = open(alloc, Inflater::new(alloc)?, &mut *feed, passes.check);
+    let outcome = pbf_pass::check_with_receipt(passes.of_raw(), &mut input);
     let outcome = published_outcome(outcome, &input, lacks_memory(&input));
     let (digest, _feed) = close(input);
     let receipt = outcome?;

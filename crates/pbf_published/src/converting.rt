@@ -3,7 +3,7 @@
 ghost use Rattle.std.specs.Prelude.{Some, ◌≡◌, ◌∷◌, [], IfOk, IfErr};
 ghost use Rattle.pbf_pass.specs.Given.{Took};
 ghost use Rattle.pbf_pass.specs.HeaderLimit.{judged_writable};
-ghost use Rattle.pbf_pass.specs.Hashing.{digest_if};
+ghost use Rattle.pbf_pass.specs.Hashing.{mark_by, raw_check};
 ghost use Rattle.pbfcut.specs.Calls.{drained, fed};
 ghost use Rattle.pbfcut.specs.Kept.{IsWritable, conversion_of};
 ghost use Rattle.pbfcut.specs.Theorem.{IsConverted};
@@ -35,10 +35,10 @@ pub fn convert_with_receipt<F: Feed, G: Feed, D: Drain, S: BuildHasher + Drop>(
     // has no fault, and its header can be written. The drain took bytes. If both raw files are the same, these bytes are exactly its
     // conversion in canonical form, and the counts are those of its entities.
     ensures receipt { IfOk result (λ receipt. GavePublished F.Feed first.old first.new
-        (Some receipt.input)
-        (digest_if passes.hashes receipt.raw) (λ b. IsWritable b
-        × GavePublished G.Feed second.old second.new (Some receipt.input)
-        (digest_if passes.hashes receipt.raw)
+        (mark_by passes.check receipt.input)
+        (mark_by (raw_check passes.check) receipt.raw) (λ b. IsWritable b
+        × GavePublished G.Feed second.old second.new (mark_by passes.check receipt.input)
+        (mark_by (raw_check passes.check) receipt.raw)
         (λ c. Took D.Drain drain.old drain.new
         (λ written. b ≡ c → IsConverted b receipt.counts written)))) }
     // Each stop has its cause. What is refused is the raw file that the first feed's bytes mean, by its first fault, and then the drain took
@@ -53,9 +53,9 @@ pub fn convert_with_receipt<F: Feed, G: Feed, D: Drain, S: BuildHasher + Drop>(
 {
     let alloc = passes.alloc;
     let (inflater, another) = two_inflaters(alloc)?;
-    let mut one = open(alloc, inflater, &mut *first, true);
-    let mut two = open(alloc, another, &mut *second, true);
-    let outcome = pbfcut::convert_with_receipt(passes, &mut one, &mut two, drain, hasher);
+    let mut one = open(alloc, inflater, &mut *first, passes.check);
+    let mut two = open(alloc, another, &mut *second, passes.check);
+    let outcome = pbfcut::convert_with_receipt(passes.of_raw(), &mut one, &mut two, drain, hasher);
     let is_memory = lacks_memory(&one) | lacks_memory(&two);
     let outcome = published_outcome(outcome, &one, is_memory);
     let (one, _first) = close(one);

@@ -2,7 +2,7 @@
 
 ghost use Rattle.std.specs.Prelude.{Some, ◌≡◌, ◌∷◌, [], IfOk, IfErr};
 ghost use Rattle.pbf_pass.specs.Given.{Took};
-ghost use Rattle.pbf_pass.specs.Hashing.{digest_if};
+ghost use Rattle.pbf_pass.specs.Hashing.{mark_by, raw_check};
 ghost use Rattle.pbf_pass.specs.Judged.{judged_file};
 ghost use Rattle.pbf_pass.specs.Pass.{CountsFile};
 ghost use Rattle.pbfcut.specs.Calls.{drained, fed};
@@ -31,10 +31,10 @@ pub fn copy_with_receipt<F: Feed, G: Feed, D: Drain>(
     // Each feed gave packed bytes of the digest `input`, which mean a raw file, of the digest `raw` if it is hashed. That of the first
     // has no fault, and the counts are those of its entities. The drain took exactly that of the second.
     ensures receipt { IfOk result (λ receipt. GavePublished F.Feed first.old first.new
-        (Some receipt.input)
-        (digest_if passes.hashes receipt.raw) (λ b. CountsFile (judged_file (Some b)) receipt.counts
-        × GavePublished G.Feed second.old second.new (Some receipt.input)
-        (digest_if passes.hashes receipt.raw)
+        (mark_by passes.check receipt.input)
+        (mark_by (raw_check passes.check) receipt.raw) (λ b. CountsFile (judged_file (Some b)) receipt.counts
+        × GavePublished G.Feed second.old second.new (mark_by passes.check receipt.input)
+        (mark_by (raw_check passes.check) receipt.raw)
         (λ c. Took D.Drain drain.old drain.new (λ written. written ≡ c)))) }
     // Each stop has its cause. What is refused is the raw file that the first feed's bytes mean, by its first fault, and then the drain took
     // nothing. `Read` and `Write` come only if a count of failures rose: of a feed, of the drain. `Changed` has the number of the pass
@@ -48,9 +48,9 @@ pub fn copy_with_receipt<F: Feed, G: Feed, D: Drain>(
 {
     let alloc = passes.alloc;
     let (inflater, another) = two_inflaters(alloc)?;
-    let mut one = open(alloc, inflater, &mut *first, true);
-    let mut two = open(alloc, another, &mut *second, true);
-    let outcome = pbfcut::copy_with_receipt(passes, &mut one, &mut two, drain);
+    let mut one = open(alloc, inflater, &mut *first, passes.check);
+    let mut two = open(alloc, another, &mut *second, passes.check);
+    let outcome = pbfcut::copy_with_receipt(passes.of_raw(), &mut one, &mut two, drain);
     let is_memory = lacks_memory(&one) | lacks_memory(&two);
     let outcome = published_outcome(outcome, &one, is_memory);
     let (one, _first) = close(one);

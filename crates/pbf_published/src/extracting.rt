@@ -49,16 +49,16 @@ pub fn extract_sorted_with_receipt<
     ensures { ExtractsPublished (ways_in (A.area area)) (fed F.Feed first.old first.new)
         (fed G.Feed second.old second.new)
         (fed H.Feed third.old third.new ∷ [])
-        (drained D.Drain drain.old drain.new) passes.hashes result }
+        (drained D.Drain drain.old drain.new) passes.check result }
 {
     let alloc = passes.alloc;
     let (inflater, another) = two_inflaters(alloc)?;
     let last = Inflater::new(alloc)?;
-    let mut one = open(alloc, inflater, &mut *first, true);
-    let mut two = open(alloc, another, &mut *second, true);
-    let mut three = open(alloc, last, &mut *third, true);
+    let mut one = open(alloc, inflater, &mut *first, passes.check);
+    let mut two = open(alloc, another, &mut *second, passes.check);
+    let mut three = open(alloc, last, &mut *third, passes.check);
     let outcome = pbfcut::extract_sorted_with_receipt(
-        passes, &mut one, &mut two, &mut three, area, drain, hasher,
+        passes.of_raw(), &mut one, &mut two, &mut three, area, drain, hasher,
     );
     let is_memory = lacks_memory(&one) | lacks_memory(&two) | lacks_memory(&three);
     let outcome = published_outcome(outcome, &one, is_memory);

@@ -7,19 +7,19 @@ ghost use Rattle.pbf_published.specs.Published.{Closed, Opened, ReportsOutcome, 
 use crate::traced::TracedFeed;
 use pbf_block::Counts;
 use pbf_frame::{Feed, Stop};
-use pbf_pass::{Halt, InputReceipt, PassFeed, Refusal};
+use pbf_pass::{Halt, InputReceipt, PassCheck, PassFeed, Refusal};
 use pbf_unpack::{Inflater, Place, UnpackFault, UnpackedFeed};
 use sha2::{Digest, Sha256};
 use std::alloc::{AllocError, Global};
 
-/// What a call reports: how many entities, and the SHA-256 digests of its input.
+/// What a call reports: how many entities, and the digests of its input.
 #[derive(Clone, Copy, Debug)]
 pub struct PublishedInput {
     /// The numbers of the entities.
     pub counts: Counts,
-    /// The digest of the packed bytes that each feed gave that was read.
+    /// The digest of the packed bytes that each feed gave that was read, by the check of the passes.
     pub input: [u8; 32],
-    /// The digest of the raw file that they mean. It says nothing if the call doesn't hash that.
+    /// The SHA-256 digest of the raw file that they mean, if SHA-256 is the check. Otherwise it says nothing.
     pub raw: [u8; 32],
 }
 
@@ -61,10 +61,10 @@ impl From<AllocError> for PublishedHalt {
 pub type PublishedFeed<F> = UnpackedFeed<TracedFeed<PassFeed<F>>>;
 
 /// A published file from its start.
-pub fn open<F: Feed>(alloc: Global, inflater: Inflater, feed: F, hashes: bool) -> PublishedFeed<F>
+pub fn open<F: Feed>(alloc: Global, inflater: Inflater, feed: F, check: PassCheck) -> PublishedFeed<F>
     ensures remaining { ⟦<PublishedFeed<F> as Feed>⟧.remaining result
         ≡ raw_of (F.remaining feed) }
-    ensures opened { Opened (F.remaining feed) (F.has_passed feed) hashes
+    ensures opened { Opened (F.remaining feed) (F.has_passed feed) check
         (⟦<PublishedFeed<F> as Feed>⟧.has_passed result) }
     ensures below { result.feed.feed.feed ≡ feed }
     ensures lender { ⟦<PublishedFeed<F> as Feed>⟧.lender result ≡ F.lender feed }
@@ -72,7 +72,7 @@ pub fn open<F: Feed>(alloc: Global, inflater: Inflater, feed: F, hashes: bool) -
         ≡ F.failures feed }
 {
     let traced = TracedFeed {
-        feed: PassFeed::new(feed, hashes),
+        feed: PassFeed::new(feed, check),
     };
     UnpackedFeed::new(alloc, inflater, traced)
 }

@@ -43,17 +43,17 @@ pub fn extract_parents_sorted_with_receipt<
     ensures { ExtractsPublished (parents_in (A.area area)) (fed F.Feed first.old first.new)
         (fed G.Feed second.old second.new)
         (fed H.Feed third.old third.new ∷ fed I.Feed fourth.old fourth.new ∷ [])
-        (drained D.Drain drain.old drain.new) passes.hashes result }
+        (drained D.Drain drain.old drain.new) passes.check result }
 {
     let alloc = passes.alloc;
     let (inflater, another) = two_inflaters(alloc)?;
     let (more, last) = two_inflaters(alloc)?;
-    let mut one = open(alloc, inflater, &mut *first, true);
-    let mut two = open(alloc, another, &mut *second, true);
-    let mut three = open(alloc, more, &mut *third, true);
-    let mut four = open(alloc, last, &mut *fourth, true);
+    let mut one = open(alloc, inflater, &mut *first, passes.check);
+    let mut two = open(alloc, another, &mut *second, passes.check);
+    let mut three = open(alloc, more, &mut *third, passes.check);
+    let mut four = open(alloc, last, &mut *fourth, passes.check);
     let outcome = pbfcut::extract_parents_sorted_with_receipt(
-        passes, &mut one, &mut two, &mut three, &mut four, area, drain, hasher,
+        passes.of_raw(), &mut one, &mut two, &mut three, &mut four, area, drain, hasher,
     );
     let is_memory = lacks_memory(&one)
         | lacks_memory(&two)

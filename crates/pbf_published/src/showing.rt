@@ -5,7 +5,7 @@ ghost use Rattle.pbf_frame.specs.Verdict.{judged_known};
 ghost use Rattle.pbf_pass.specs.Given.{Took};
 ghost use Rattle.pbf_pass.specs.Judged.{judged_file};
 ghost use Rattle.pbf_pass.specs.Pass.{CountsFile};
-ghost use Rattle.pbf_pass.specs.Hashing.{digest_if};
+ghost use Rattle.pbf_pass.specs.Hashing.{mark_by, raw_check};
 ghost use Rattle.pbfcut.specs.Calls.{drained, fed};
 ghost use Rattle.pbfcut.specs.Listing.{Lists, ListsFront, ListsToFault};
 ghost use Rattle.pbfcut.specs.Showing.{RefusedAtOnce, Shown, ShowsFront};
@@ -18,7 +18,7 @@ use crate::input::{
     published_outcome, stopped, two_inflaters,
 };
 use pbf_frame::{Drain, Feed, Stop, write_all};
-use pbf_pass::Passes;
+use pbf_pass::{PassCheck, Passes};
 use pbf_unpack::Inflater;
 use std::alloc::Global;
 
@@ -38,10 +38,10 @@ pub fn show_with_receipt<F: Feed, G: Feed, D: Drain>(
     // Each feed gave packed bytes of the digest `input`, which mean a raw file, of the digest `raw` if it is hashed. That of the first
     // has no fault, and the counts are those of its entities. The drain took exactly the text of that of the second, which has no fault.
     ensures receipt { IfOk result (λ receipt. GavePublished F.Feed first.old first.new
-        (Some receipt.input)
-        (digest_if passes.hashes receipt.raw) (λ b. CountsFile (judged_file (Some b)) receipt.counts
-        × GavePublished G.Feed second.old second.new (Some receipt.input)
-        (digest_if passes.hashes receipt.raw)
+        (mark_by passes.check receipt.input)
+        (mark_by (raw_check passes.check) receipt.raw) (λ b. CountsFile (judged_file (Some b)) receipt.counts
+        × GavePublished G.Feed second.old second.new (mark_by passes.check receipt.input)
+        (mark_by (raw_check passes.check) receipt.raw)
         (λ c. Took D.Drain drain.old drain.new (Shown dates (judged_file (Some c)))))) }
     // Each stop has its cause. What is refused is the raw file that the first feed's bytes mean, by its first fault, and then the drain took
     // nothing. `Read` and `Write` come only if a count of failures rose: of a feed, of the drain. `Changed` has the number of the pass
@@ -56,9 +56,9 @@ pub fn show_with_receipt<F: Feed, G: Feed, D: Drain>(
 {
     let alloc = passes.alloc;
     let (inflater, another) = two_inflaters(alloc)?;
-    let mut one = open(alloc, inflater, &mut *first, true);
-    let mut two = open(alloc, another, &mut *second, true);
-    let outcome = pbfcut::show_with_receipt(passes, &mut one, &mut two, drain, dates);
+    let mut one = open(alloc, inflater, &mut *first, passes.check);
+    let mut two = open(alloc, another, &mut *second, passes.check);
+    let outcome = pbfcut::show_with_receipt(passes.of_raw(), &mut one, &mut two, drain, dates);
     let is_memory = lacks_memory(&one) | lacks_memory(&two);
     let outcome = published_outcome(outcome, &one, is_memory);
     let (one, _first) = close(one);
@@ -103,7 +103,7 @@ pub fn show_header<F: Feed, D: Drain>(
         (ReadFailed F.Feed feed.old feed.new) (WriteFailed D.Drain drain.old drain.new)
         unchanged h.stop) }
 {
-    let mut input = open(alloc, Inflater::new(alloc)?, &mut *feed, false);
+    let mut input = open(alloc, Inflater::new(alloc)?, &mut *feed, PassCheck::None);
     let outcome = pbfcut::show_first(alloc, &mut input, drain);
     let is_packed = input.has_packed_header();
     if let Err(stop) = outcome {
@@ -140,7 +140,7 @@ pub fn list_blobs<F: Feed, D: Drain>(
     ensures beginning { OnErr result (ListsFront D.Drain drain.old drain.new
         (judged_known false 0 (raw_of (F.remaining feed.old)))) }
 {
-    let mut input = open(alloc, Inflater::new(alloc)?, &mut *feed, false);
+    let mut input = open(alloc, Inflater::new(alloc)?, &mut *feed, PassCheck::None);
     let outcome = pbfcut::list_blobs(alloc, &mut input, drain);
     match outcome {
         Ok(frames) => Ok(frames),

@@ -1,6 +1,5 @@
 -- A later pass that stopped for a change: what its feed gave isn't the first feed's file.
 use Rattle.std.proofs.Common.{arith, ◌≡◌, ℕ, Bool, true, List, Option, subst, ◌∙◌}
-use Rattle.sha2.specs.Sha256.{sha256}
 use Rattle.pbf_wire.specs.declared.fault.Fault.{Fault}
 use Rattle.pbf_frame.specs.declared.device.Feed as feed
 use Rattle.pbf_frame.specs.declared.stop.Stop.{Stop}
@@ -8,7 +7,7 @@ use Rattle.pbf_frame.specs.declared.stop.Stop.TheVariants as stop
 use Rattle.pbf_frame.specs.Verdict.{Verdict}
 use Rattle.pbf_pass.specs.Unjudged.{StopsUnjudged, ReadsFaulty}
 use Rattle.pbf_pass.specs.Given.{GaveFile}
-use Rattle.pbf_pass.specs.Hashing.{IsDigestOf, digest_if}
+use Rattle.pbf_pass.specs.Hashing.{mark_by}
 use Rattle.pbf_pass.specs.Stops.{Caused, unchanged, ReadFailed}
 use Rattle.pbf_pass.proofs.UnjudgedLemmas.{refuses_less}
 use Rattle.pbfcut.specs.declared.repeat.LaterPass.{LaterPass}
@@ -30,13 +29,9 @@ module _ {F : Type 0} (f : feed.Ghosts F) (repeat : LaterPass) (old new : F) (wr
   pub fault_as_change : (refused : Fault → Type 0) (s : Stop) → Caused refused (ReadFailed f old new) wrote unchanged s → ReadsFaulty f old new s → StopsLater f repeat old new wrote (as_change repeat.number s)
   fault_as_change refused s h2 h3 = grind (arith, refuses_less)
 
-  -- the digest of bytes that were hashed
-  hashed_is : (hashes : Bool) (digest bytes : List ℕ) → hashes ≡ true → IsDigestOf (digest_if hashes digest) bytes → digest ≡ sha256 bytes
-  hashed_is hashes digest bytes is same = subst (λ (b : Bool). IsDigestOf (digest_if b digest) bytes) is same
-
   -- all was read, and the digest is another
-  pub digest_as_change : (hashes : Bool) (digest : List ℕ) (holds : List ℕ → Type 0) (s : Stop) → hashes ≡ repeat.passes.hashes → GaveFile f old new (digest_if hashes digest) holds → (s ≡ stop.Changed repeat.number) × (repeat.passes.hashes ≡ true) × (digest ≡ repeat.digest → ⊥) → StopsLater f repeat old new wrote s
-  digest_as_change hashes digest holds s same given (is, hashed, other) = grind (arith, hashed_is hashes digest given.file (same ∙ hashed) given.digest_is, hashed_is repeat.passes.hashes repeat.digest given.file hashed)
+  pub digest_as_change : (digest : List ℕ) (holds : List ℕ → Type 0) (s : Stop) → GaveFile f old new (mark_by repeat.passes.check digest) holds → (s ≡ stop.Changed repeat.number) × (digest ≡ repeat.digest → ⊥) → StopsLater f repeat old new wrote s
+  digest_as_change digest holds s given (is, other) = grind (arith, given.digest_is)
 
 -- ---- of a call
 

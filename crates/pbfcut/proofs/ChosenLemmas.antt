@@ -12,7 +12,7 @@ use Rattle.pbf_frame.specs.Devices.{IsFront}
 use Rattle.pbf_pass.specs.declared.receipt.Halt.{Halt}
 use Rattle.pbf_pass.specs.declared.receipt.InputReceipt.{InputReceipt}
 use Rattle.pbf_pass.specs.declared.receipt.Passes.{Passes}
-use Rattle.pbf_pass.specs.Hashing.{digest_if}
+use Rattle.pbf_pass.specs.Hashing.{Mark, mark_by}
 use Rattle.pbf_pass.specs.Judged.{judged_file}
 use Rattle.pbf_pass.proofs.GivenLemmas.{gave_file_less}
 use Rattle.pbfcut.specs.declared.extracting.Choice.{Choice as Choosing}
@@ -37,12 +37,12 @@ if_ok_both r P Q R h4 h5 h6 = grind arith
 
 -- what it wrote is the extract of a file, if it wrote from that file, and a prefix of it went out otherwise
 module _ {D : Type 0} (last : FeedUse) (out : DrainUse D) (choose : Choice) (select : List Decoded → List Decoded) (selection : IsSelection choose select) (area : AreaSpec) (again : LaterPass) (sets : KeptSets) (h : HeaderSpec) (spared : Bool) (r : Result InputReceipt Halt) (wrote : WritesChoice last out again sets h spared r) where
-  abbrev WroteExtract : InputReceipt → Option (List ℕ) → Type 0
+  abbrev WroteExtract : InputReceipt → Mark → Type 0
   WroteExtract receipt digest = GaveBy last digest (λ e. TookBy out (λ written. (b : List ℕ) → Selects b choose area (taken_by sets) h → b ≡ e → IsExtraction choose select area b receipt.counts written))
 
-  pub wrote_extract : (passes : Passes) → again.passes ≡ passes → IfOk r (λ receipt. WroteExtract receipt (digest_if passes.hashes receipt.input))
+  pub wrote_extract : (passes : Passes) → again.passes ≡ passes → IfOk r (λ receipt. WroteExtract receipt (mark_by passes.check receipt.input))
   wrote_extract passes is = if_ok_both r _ _ _ (λ receipt input packed.
-      let same : digest_of again ≡ digest_if passes.hashes receipt.input = ap (λ (p : Passes). digest_if p.hashes again.digest) is ∙ ap (λ (l : List ℕ). digest_if passes.hashes l) (sym input.0) in
+      let same : digest_of again ≡ mark_by passes.check receipt.input = ap (λ (p : Passes). mark_by p.check again.digest) is ∙ ap (λ (l : List ℕ). mark_by passes.check l) (sym input.0) in
       subst (WroteExtract receipt) same
       (gave_file_less last.ghosts last.old last.new (digest_of again) _ _ (λ e took. took_weaker out.ghosts out.old out.new _ _ (λ written packed b selects is. extracted choose select selection area b (taken_by sets) h selects receipt.counts (judged_file (Some e)) written (ap (λ (l : List ℕ). judged_file (Some l)) (sym is)) packed) took) packed)) wrote.input wrote.packed
 
@@ -51,43 +51,43 @@ module _ {D : Type 0} (last : FeedUse) (out : DrainUse D) (choose : Choice) (sel
 
 -- of a call without parents
 module _ {D : Type 0} (first second last : FeedUse) (out : DrainUse D) (area : AreaSpec) (passes : Passes) (again : LaterPass) (is : again.passes ≡ passes) (sets : KeptSets) (h : HeaderSpec) (spared : Bool) (r : Result InputReceipt Halt) (wrote : WritesChoice last out again sets h spared r) where
-  pub extract_receipt : GaveBy first (digest_if passes.hashes again.digest) (λ b. GaveOrNot second spared (digest_if passes.hashes again.digest) b (λ c. IsChoice area b c sets h))
-      → IfOk r (λ receipt. Wrote first second (last ∷ []) out (digest_if passes.hashes receipt.input) receipt.spared (λ b written. IsExtraction (complete_ways area) (λ meant. extract (seen_decoded area) meant) area b receipt.counts written))
+  pub extract_receipt : GaveBy first (mark_by passes.check again.digest) (λ b. GaveOrNot second spared (mark_by passes.check again.digest) b (λ c. IsChoice area b c sets h))
+      → IfOk r (λ receipt. Wrote first second (last ∷ []) out (mark_by passes.check receipt.input) receipt.spared (λ b written. IsExtraction (complete_ways area) (λ meant. extract (seen_decoded area) meant) area b receipt.counts written))
   extract_receipt chosen = if_ok_both r _ _ _ (λ receipt input wrote.
-      let digest = digest_if passes.hashes receipt.input in
+      let digest = mark_by passes.check receipt.input in
       gave_file_less first.ghosts first.old first.new digest (λ b. GaveOrNot second receipt.spared digest b (λ c. IsChoice area b c sets h)) _ (λ b two. (
         gave_or_not second digest receipt.spared b _ (IsWritable b) (λ c choice. chosen_sound area b _ _ h choice.chosen) two,
         gave_or_less second digest receipt.spared b _ _ (λ c choice. gave_file_less last.ghosts last.old last.new digest _ _ (λ e took. took_weaker out.ghosts out.old out.new _ _ (λ written is same third. is b (selects_chosen sets area b b c h refl (sym same) choice) third) took) wrote) two,
-      )) (subst (λ (s : Bool). GaveBy first digest (λ b. GaveOrNot second s digest b (λ c. IsChoice area b c sets h))) (sym input.1) (subst (λ (l : List ℕ). GaveBy first (digest_if passes.hashes l) (λ b. GaveOrNot second spared (digest_if passes.hashes l) b (λ c. IsChoice area b c sets h))) (sym input.0) chosen))) wrote.input
+      )) (subst (λ (s : Bool). GaveBy first digest (λ b. GaveOrNot second s digest b (λ c. IsChoice area b c sets h))) (sym input.1) (subst (λ (l : List ℕ). GaveBy first (mark_by passes.check l) (λ b. GaveOrNot second spared (mark_by passes.check l) b (λ c. IsChoice area b c sets h))) (sym input.0) chosen))) wrote.input
       (wrote_extract last out (complete_ways area) (λ meant. extract (seen_decoded area) meant) (complete_ways_select area) area again sets h spared r wrote passes is)
 
   -- with all parents, by a third feed
-  pub parents_receipt : (third : FeedUse) → GaveBy first (digest_if passes.hashes again.digest) (λ b. GaveOrNot second spared (digest_if passes.hashes again.digest) b (λ c. GaveBy third (digest_if passes.hashes again.digest) (λ e. IsChoiceWithParents area b c e sets h)))
-      → IfOk r (λ receipt. Wrote first second (third ∷ last ∷ []) out (digest_if passes.hashes receipt.input) receipt.spared (λ b written. IsExtraction (all_parents area) (λ meant. extract_with_parents (seen_decoded area) meant) area b receipt.counts written))
+  pub parents_receipt : (third : FeedUse) → GaveBy first (mark_by passes.check again.digest) (λ b. GaveOrNot second spared (mark_by passes.check again.digest) b (λ c. GaveBy third (mark_by passes.check again.digest) (λ e. IsChoiceWithParents area b c e sets h)))
+      → IfOk r (λ receipt. Wrote first second (third ∷ last ∷ []) out (mark_by passes.check receipt.input) receipt.spared (λ b written. IsExtraction (all_parents area) (λ meant. extract_with_parents (seen_decoded area) meant) area b receipt.counts written))
   parents_receipt third chosen = if_ok_both r _ _ _ (λ receipt input wrote.
-      let digest = digest_if passes.hashes receipt.input in
+      let digest = mark_by passes.check receipt.input in
       let judged = λ (l : List ℕ). judged_file (Some l) in
       gave_file_less first.ghosts first.old first.new digest (λ b. GaveOrNot second receipt.spared digest b (λ c. GaveBy third digest (λ e. IsChoiceWithParents area b c e sets h))) _ (λ b two. (
         gave_or_not second digest receipt.spared b _ (IsWritable b) (λ c three. chosen_sound area b _ _ h three.holding.chosen.chosen) two,
         gave_or_less second digest receipt.spared b _ _ (λ c three. gave_file_less third.ghosts third.old third.new digest _ _ (λ e choice. gave_file_less last.ghosts last.old last.new digest _ _ (λ n took. took_weaker out.ghosts out.old out.new _ _ (λ written is same more fourth.
             is b (selects_parents sets area b _ _ _ h refl (ap judged (sym same)) (ap judged (sym more)) choice.chosen) fourth) took) wrote) three) two,
-      )) (subst (λ (s : Bool). GaveBy first digest (λ b. GaveOrNot second s digest b (λ c. GaveBy third digest (λ e. IsChoiceWithParents area b c e sets h)))) (sym input.1) (subst (λ (l : List ℕ). GaveBy first (digest_if passes.hashes l) (λ b. GaveOrNot second spared (digest_if passes.hashes l) b (λ c. GaveBy third (digest_if passes.hashes l) (λ e. IsChoiceWithParents area b c e sets h)))) (sym input.0) chosen))) wrote.input
+      )) (subst (λ (s : Bool). GaveBy first digest (λ b. GaveOrNot second s digest b (λ c. GaveBy third digest (λ e. IsChoiceWithParents area b c e sets h)))) (sym input.1) (subst (λ (l : List ℕ). GaveBy first (mark_by passes.check l) (λ b. GaveOrNot second spared (mark_by passes.check l) b (λ c. GaveBy third (mark_by passes.check l) (λ e. IsChoiceWithParents area b c e sets h)))) (sym input.0) chosen))) wrote.input
       (wrote_extract last out (all_parents area) (λ meant. extract_with_parents (seen_decoded area) meant) (all_parents_select area) area again sets h spared r wrote passes is)
 
 -- ---- the pass that takes relations
 
 pub parents_chosen : (first second third : FeedUse) (area : AreaSpec) (passes : Passes) (before : Choosing) (is : IsPass 3 passes before.next) (r : Result Choosing Halt)
-    → GaveBy first (digest_if passes.hashes before.next.digest) (λ b. GaveOrNot second before.spared (digest_if passes.hashes before.next.digest) b (λ c. IsChoice area b c before.chosen (header_of before.header)))
+    → GaveBy first (mark_by passes.check before.next.digest) (λ b. GaveOrNot second before.spared (mark_by passes.check before.next.digest) b (λ c. IsChoice area b c before.chosen (header_of before.header)))
     → IfOk r (λ choice. GaveBy third (digest_of before.next) (λ file. AddsParents (judged_file (Some file)) before.chosen choice.chosen))
     → IfOk r (λ choice. (choice.header ≡ before.header) × (choice.next.digest ≡ before.next.digest) × (choice.spared ≡ before.spared))
-    → IfOk r (λ choice. GaveBy first (digest_if passes.hashes choice.next.digest) (λ b. GaveOrNot second choice.spared (digest_if passes.hashes choice.next.digest) b (λ c. GaveBy third (digest_if passes.hashes choice.next.digest) (λ e. IsChoiceWithParents area b c e choice.chosen (header_of choice.header)))))
+    → IfOk r (λ choice. GaveBy first (mark_by passes.check choice.next.digest) (λ b. GaveOrNot second choice.spared (mark_by passes.check choice.next.digest) b (λ c. GaveBy third (mark_by passes.check choice.next.digest) (λ e. IsChoiceWithParents area b c e choice.chosen (header_of choice.header)))))
 parents_chosen first second third area passes before is r chosen parents same = if_ok_both r _ _ _ (λ choice three same.
-    let digest = digest_if passes.hashes choice.next.digest in
+    let digest = mark_by passes.check choice.next.digest in
     let h = header_of choice.header in
     let s = choice.spared in
-    let hashed : digest_of before.next ≡ digest = ap (λ (p : Passes). digest_if p.hashes before.next.digest) is.1 ∙ ap (λ (l : List ℕ). digest_if passes.hashes l) (sym same.1) in
-    let here = subst (λ (s : Bool). GaveBy first (digest_if passes.hashes before.next.digest) (λ b. GaveOrNot second s (digest_if passes.hashes before.next.digest) b (λ c. IsChoice area b c before.chosen (header_of before.header)))) (sym same.2) chosen in
-    let one = subst (λ (l : List ℕ). GaveBy first (digest_if passes.hashes l) (λ b. GaveOrNot second s (digest_if passes.hashes l) b (λ c. IsChoice area b c before.chosen h))) (sym same.1)
-    (subst (λ (g : HeaderSpec). GaveBy first (digest_if passes.hashes before.next.digest) (λ b. GaveOrNot second s (digest_if passes.hashes before.next.digest) b (λ c. IsChoice area b c before.chosen g))) (ap header_of (sym same.0)) here) in
-    let more = subst (λ (dg : Option (List ℕ)). GaveBy third dg (λ file. AddsParents (judged_file (Some file)) before.chosen choice.chosen)) hashed three in
+    let hashed : digest_of before.next ≡ digest = ap (λ (p : Passes). mark_by p.check before.next.digest) is.1 ∙ ap (λ (l : List ℕ). mark_by passes.check l) (sym same.1) in
+    let here = subst (λ (s : Bool). GaveBy first (mark_by passes.check before.next.digest) (λ b. GaveOrNot second s (mark_by passes.check before.next.digest) b (λ c. IsChoice area b c before.chosen (header_of before.header)))) (sym same.2) chosen in
+    let one = subst (λ (l : List ℕ). GaveBy first (mark_by passes.check l) (λ b. GaveOrNot second s (mark_by passes.check l) b (λ c. IsChoice area b c before.chosen h))) (sym same.1)
+    (subst (λ (g : HeaderSpec). GaveBy first (mark_by passes.check before.next.digest) (λ b. GaveOrNot second s (mark_by passes.check before.next.digest) b (λ c. IsChoice area b c before.chosen g))) (ap header_of (sym same.0)) here) in
+    let more = subst (λ (dg : Mark). GaveBy third dg (λ file. AddsParents (judged_file (Some file)) before.chosen choice.chosen)) hashed three in
     gave_file_less first.ghosts first.old first.new digest _ _ (λ b two. gave_or_less second digest s b _ _ (λ c chosen. gave_file_less third.ghosts third.old third.new digest _ _ (λ e adds. chooses_parents area b c e before.chosen choice.chosen h chosen adds) more) two) one) parents same

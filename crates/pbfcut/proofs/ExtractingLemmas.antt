@@ -42,6 +42,7 @@ use Rattle.pbfcut.specs.Pick.{Pick, taken_by}
 use Rattle.pbfcut.specs.Write.{Packed, PacksFront}
 use Rattle.pbfcut.proofs.ConvertingLemmas.{known_says}
 use Rattle.pbf_pass.proofs.LimitLemmas.{held_is, judged_sound}
+use Rattle.pbf_pass.specs.Hashing.{Mark}
 
 -- ---- what was chosen
 
@@ -227,7 +228,7 @@ same_frames : (b : List ℕ) (one two : List FrameSpec) → judged_file (Some b)
 same_frames b one two e f = grind arith
 
 -- what the first pass took, and a second one if it hadn't all ways
-module _ {S : Type 0} (start : S) (step : S → Seen → S) (has_ways : S → Bool) (ended : S → WaySets) (takes : TakesFirst start step has_ways ended) (second : FeedUse) (digest : Option (List ℕ)) (area : AreaSpec) (b : List ℕ) (h : HeaderSpec) (begun phase : S) (started ways : WaySets) (sets : KeptSets) where
+module _ {S : Type 0} (start : S) (step : S → Seen → S) (has_ways : S → Bool) (ended : S → WaySets) (takes : TakesFirst start step has_ways ended) (second : FeedUse) (digest : Mark) (area : AreaSpec) (b : List ℕ) (h : HeaderSpec) (begun phase : S) (started ways : WaySets) (sets : KeptSets) where
   pub chooses : (taken_in : AreaSpec) (spared : Bool) → taken_in ≡ area → Begins taken_in step b begun phase h → begun ≡ start → spared ≡ has_ways phase → started ≡ ended phase → GathersRest second.ghosts with_way spared second.old second.new digest started ways → sets ≡ without_parents ways → GaveOrNot second spared digest b (λ c. IsChoice area b c sets h)
   chooses taken_in spared same begins fresh all starts rest kept = of spared all rest where
     p : Begins area step b begun phase h

@@ -16,7 +16,7 @@ use Rattle.pbf_wire.specs.declared.fault.Fault.{Fault}
 use Rattle.pbf_pass.specs.declared.receipt.Halt.{Halt}
 use Rattle.pbf_pass.specs.declared.receipt.InputReceipt.{InputReceipt}
 use Rattle.pbf_pass.specs.declared.receipt.Refusal.{Refusal}
-use Rattle.pbf_pass.specs.Hashing.{IsDigestOf}
+use Rattle.pbf_pass.specs.Hashing.{IsDigestOf, Mark}
 use Rattle.pbf_pass.specs.HeaderLimit.{judged_writable}
 use Rattle.pbf_pass.specs.Judged.{judged_file}
 use Rattle.pbf_pass.specs.Refused.{Halts, stop_of}
@@ -33,6 +33,7 @@ use Rattle.pbfcut.specs.Repeat.{IsUnlike, StopsLater, digest_of}
 use Rattle.pbfcut.specs.Write.{WritesChoice}
 use Rattle.pbfcut.proofs.ChangedLemmas.{changed_before, no_refusal}
 use Rattle.pbfcut.proofs.ConvertingLemmas.{known_says}
+use Rattle.pbf_pass.specs.declared.hashing.PassCheck.{PassCheck}
 
 -- ---- one feed more
 
@@ -68,9 +69,9 @@ module _ (changed : ℕ → FeedUse → ℕ → Type 0) (nothing : Type 0) (last
 pub stops_earlier : (refused also : Fault → Type 0) (read more wrote : Type 0) (changed too : ℕ → Type 0) (s : Stop) → ((e : Fault) → refused e → also e) → (read → more) → ((pass : ℕ) → changed pass → too pass) → Caused refused read ⊥ changed s → Caused also more wrote too s
 stops_earlier refused also read more wrote changed too s h8 h9 h10 h11 = grind arith
 
-module _ (first : FeedUse) (later : List FeedUse) (last : FeedUse) (hashes : Bool) (h : Halt) (stops : StopsChoosing first later hashes h) where
+module _ (first : FeedUse) (later : List FeedUse) (last : FeedUse) (check : PassCheck) (h : Halt) (stops : StopsChoosing first later check h) where
   -- if this one chooses too
-  pub choosing_more : StopsChoosing first (later ++ last ∷ []) hashes h
+  pub choosing_more : StopsChoosing first (later ++ last ∷ []) check h
   choosing_more = record {
     refused = stops.refused;
     stops = stops_earlier (FaultOf (judged_writable (supply_of first))) (FaultOf (judged_writable (supply_of first))) (AnyFailed (first ∷ later)) (AnyFailed (first ∷ later ++ last ∷ [])) ⊥ (ChangedAmong (Unit {0}) first later) (ChangedAmong (Unit {0}) first (later ++ last ∷ [])) (stop_of h) (λ e is. is) (failed_more (first ∷ later) last) (λ pass. changed_more _ _ last pass later 2 tt) stops.stops;
@@ -78,9 +79,9 @@ module _ (first : FeedUse) (later : List FeedUse) (last : FeedUse) (hashes : Boo
   }
 
   -- if it writes, and nothing was written
-  pub choosing_ends : {D X : Type 0} (d : drain.Ghosts D) (out : D) (result : Result X Halt) → result ≡ Err h → KeepsAll (first ∷ later ++ last ∷ []) → KeepsDrain d out out → EndsPasses judged_writable first (later ++ last ∷ []) (drained d out out) hashes result
+  pub choosing_ends : {D X : Type 0} (d : drain.Ghosts D) (out : D) (result : Result X Halt) → result ≡ Err h → KeepsAll (first ∷ later ++ last ∷ []) → KeepsDrain d out out → EndsPasses judged_writable first (later ++ last ∷ []) (drained d out out) check result
   choosing_ends d out result is keeps drain_keeps = rw is (record {
-    refused = halts_first first.ghosts first.old first.new hashes d (λ b. judged_writable (Some b)) out h stops.refused;
+    refused = halts_first first.ghosts first.old first.new check d (λ b. judged_writable (Some b)) out h stops.refused;
     stops = stops_earlier (FaultOf (judged_writable (supply_of first))) (RefusedFirst (judged_writable (supply_of first)) (d.taken out) (d.taken out)) (AnyFailed (first ∷ later)) (AnyFailed (first ∷ later ++ last ∷ [])) _ (ChangedAmong (Unit {0}) first later) (ChangedAmong (d.taken out ≡ d.taken out) first (later ++ last ∷ [])) (stop_of h) (λ e fault. (fault, refl)) (failed_more (first ∷ later) last) (λ pass. changed_more _ _ last pass later 2 refl) stops.stops;
     changed = changed_before _ _ (stop_of h) (λ pass. changed_more _ _ last pass later 2 (added_none d out)) stops.changed;
     feeds = keeps;
@@ -90,15 +91,15 @@ module _ (first : FeedUse) (later : List FeedUse) (last : FeedUse) (hashes : Boo
 -- ---- this one stopped
 
 -- bytes that aren't those of the first pass's digest are not the first pass's bytes
-later_differs : (one : FeedUse) (first digest : Option (List ℕ)) (frames : List FrameSpec) → IsDigest first digest → Says (judged_file first) (frames, None) → Refuses (IsUnlike digest) (one.ghosts.has_passed one.old) (one.ghosts.has_passed one.new) (supply_of one) (one.ghosts.remaining one.new) → Differ first (supply_of one)
+later_differs : (one : FeedUse) (first : Option (List ℕ)) (digest : Mark) (frames : List FrameSpec) → IsDigest first digest → Says (judged_file first) (frames, None) → Refuses (IsUnlike digest) (one.ghosts.has_passed one.old) (one.ghosts.has_passed one.new) (supply_of one) (one.ghosts.remaining one.new) → Differ first (supply_of one)
 later_differs one first digest frames same says unlike b c is too e =
     let judged = known_says b (frames, None) (subst (λ (o : Option (List ℕ)). Says (judged_file o) (frames, None)) is says) in
     refused_told (IsUnlike digest) _ _ _ (one.ghosts.remaining one.new) c unlike too (subst (λ (l : List ℕ). IsDigestOf digest l) e (same b is)) frames (ap (λ (l : List ℕ). judged_file (Some l)) (sym e) ∙ judged)
 
 -- after a first pass that found no fault
-module _ (first : FeedUse) (digest : Option (List ℕ)) (holds : List ℕ → Type 0) (given : GaveBy first digest holds) (frames : List FrameSpec) (says : Says (judged_file (Some given.file)) (frames, None)) (later : List FeedUse) (last : FeedUse) (again : LaterPass) (number : again.number ≡ length later + 2) (is : digest_of again ≡ digest) (nothing : Type 0) where
+module _ (first : FeedUse) (digest : Mark) (holds : List ℕ → Type 0) (given : GaveBy first digest holds) (frames : List FrameSpec) (says : Says (judged_file (Some given.file)) (frames, None)) (later : List FeedUse) (last : FeedUse) (again : LaterPass) (number : again.number ≡ length later + 2) (is : digest_of again ≡ digest) (nothing : Type 0) where
   last_differs : Refuses (IsUnlike (digest_of again)) (last.ghosts.has_passed last.old) (last.ghosts.has_passed last.new) (supply_of last) (last.ghosts.remaining last.new) → Differ (supply_of first) (supply_of last)
-  last_differs = later_differs last (supply_of first) (digest_of again) frames (subst (λ (d : Option (List ℕ)). IsDigest (supply_of first) d) (sym is) (told_digest first.ghosts _ _ digest holds given)) (told_says first.ghosts _ _ digest holds (frames, None) given says)
+  last_differs = later_differs last (supply_of first) (digest_of again) frames (subst (λ (d : Mark). IsDigest (supply_of first) d) (sym is) (told_digest first.ghosts _ _ digest holds given)) (told_says first.ghosts _ _ digest holds (frames, None) given says)
 
   pub last_stops : (refused : Fault → Type 0) (wrote : Type 0) (s : Stop) → StopsLater last.ghosts again last.old last.new wrote s → Caused refused (AnyFailed (first ∷ later ++ last ∷ [])) wrote (ChangedAmong nothing first (later ++ last ∷ [])) s
   last_stops refused wrote s h3 = grind (arith, failed_last, changed_last, last_differs)
@@ -112,10 +113,10 @@ module _ (first : FeedUse) (digest : Option (List ℕ)) (holds : List ℕ → Ty
 pub later_halts : {F : Type 0} (f : feed.Ghosts F) (again : LaterPass) (old new : F) (wrote : Type 0) (refused : Refusal → Type 0) (h : Halt) → StopsLater f again old new wrote (stop_of h) → Halts refused h
 later_halts f again old new wrote refused h h7 = grind (arith, no_refusal)
 
-module _ {D : Type 0} (first : FeedUse) (digest : Option (List ℕ)) (holds : List ℕ → Type 0) (given : GaveBy first digest holds) (frames : List FrameSpec) (says : Says (judged_file (Some given.file)) (frames, None)) (later : List FeedUse) (last : FeedUse) (again : LaterPass) (number : again.number ≡ length later + 2) (is : digest_of again ≡ digest)
+module _ {D : Type 0} (first : FeedUse) (digest : Mark) (holds : List ℕ → Type 0) (given : GaveBy first digest holds) (frames : List FrameSpec) (says : Says (judged_file (Some given.file)) (frames, None)) (later : List FeedUse) (last : FeedUse) (again : LaterPass) (number : again.number ≡ length later + 2) (is : digest_of again ≡ digest)
     (out : DrainUse D) (sets : KeptSets) (h : HeaderSpec) (spared : Bool) (r : Result InputReceipt Halt) (wrote : WritesChoice last out again sets h spared r) where
-  pub writing_ends : (hashes : Bool) → KeepsAll (first ∷ later) → EndsPasses judged_writable first (later ++ last ∷ []) out hashes r
-  writing_ends hashes keeps = record {
+  pub writing_ends : (check : PassCheck) → KeepsAll (first ∷ later) → EndsPasses judged_writable first (later ++ last ∷ []) out check r
+  writing_ends check keeps = record {
     refused = IfErr-weaker r _ _ (λ h stops. later_halts last.ghosts again _ _ _ _ h stops) wrote.stops;
     stops = IfErr-weaker r _ _ (λ h stops. last_stops first digest holds given frames says later last again number is (taken_after out ≡ taken_before out) _ (FailedDrain out) (stop_of h) stops) wrote.stops;
     changed = IfErr-weaker r _ _ (λ h stops. last_changed first digest holds given frames says later last again number is (TookNothing out) (FailedDrain out) (stop_of h) stops) wrote.stops;

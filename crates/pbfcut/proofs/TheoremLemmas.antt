@@ -6,18 +6,20 @@ use Rattle.pbf_pass.specs.Given.{Took}
 use Rattle.pbfcut.specs.Receipts.{Wrote}
 use Rattle.pbfcut.specs.Repeat.{SameDigest}
 use Rattle.pbf_pass.proofs.GivenLemmas.{Tells, IsDigest, tells_file, told_digest, gave_file_less}
+use Rattle.pbf_pass.specs.Hashing.{Mark, mark_by}
+use Rattle.pbf_pass.specs.declared.hashing.PassCheck.TheVariants.{Sha256}
 
 pub took_weaker : {D : Type 0} (d : drain.Ghosts D) (old new : D) (P Q : List ℕ → Type 0) → ((written : List ℕ) → P written → Q written) → Took d old new P → Took d old new Q
 took_weaker d old new P Q weaker took = record { written = took.written; added = took.added; holding = weaker took.written took.holding }
 
 -- ---- digests
 
-pub same_digest : (first other : Option (List ℕ)) (digest : List ℕ) → IsDigest first (Some digest) → IsDigest other (Some digest) → SameDigest first other
+pub same_digest : (first other : Option (List ℕ)) (digest : List ℕ) → IsDigest first (mark_by Sha256 digest) → IsDigest other (mark_by Sha256 digest) → SameDigest first other
 same_digest first other digest one two b c is too = sym (one b is) ∙ two c too
 
 -- ---- a feed that may not have been read
 
-module _ (second : FeedUse) (digest : Option (List ℕ)) where
+module _ (second : FeedUse) (digest : Mark) where
   -- what follows of the file that a later feed gave follows of the earlier one too, if the later feed was not read
   pub gave_or_not : (spared : Bool) (file : List ℕ) (holds : List ℕ → Type 0) (told : Type 0) → ((c : List ℕ) → holds c → told) → GaveOrNot second spared digest file holds → told
   gave_or_not spared file holds told h4 h5 = grind arith
@@ -34,23 +36,23 @@ module _ (second : FeedUse) (digest : Option (List ℕ)) where
   told_or_not true first file b holds tells is also none = subst holds (tells b is) none.1
 
 -- a feed that was read supplied bytes of the digest
-pub second_digest : (second : FeedUse) (digest : List ℕ) (first : Option (List ℕ)) (file : List ℕ) (holds : List ℕ → Type 0) → IsDigest first (Some digest) → (spared : Bool) → GaveOrNot second spared (Some digest) file holds → SameDigest first (supply_of second) ⊎ (second.new ≡ second.old)
-second_digest second digest first file holds same false given = inl (same_digest first (supply_of second) digest same (told_digest second.ghosts second.old second.new (Some digest) holds given))
+pub second_digest : (second : FeedUse) (digest : List ℕ) (first : Option (List ℕ)) (file : List ℕ) (holds : List ℕ → Type 0) → IsDigest first (mark_by Sha256 digest) → (spared : Bool) → GaveOrNot second spared (mark_by Sha256 digest) file holds → SameDigest first (supply_of second) ⊎ (second.new ≡ second.old)
+second_digest second digest first file holds same false given = inl (same_digest first (supply_of second) digest same (told_digest second.ghosts second.old second.new (mark_by Sha256 digest) holds given))
 second_digest second digest first file holds same true none = inr none.0
 
 -- ---- what was written
 
-pub each_less : (feeds : List FeedUse) (digest : Option (List ℕ)) (P Q : List (List ℕ) → Type 0) → ((files : List (List ℕ)) → P files → Q files) → GaveEach feeds digest P → GaveEach feeds digest Q
+pub each_less : (feeds : List FeedUse) (digest : Mark) (P Q : List (List ℕ) → Type 0) → ((files : List (List ℕ)) → P files → Q files) → GaveEach feeds digest P → GaveEach feeds digest Q
 each_less [] digest P Q step given = step [] given
 each_less (one ∷ more) digest P Q step given = gave_file_less one.ghosts one.old one.new digest _ _ (λ file. each_less more digest (λ files. P (file ∷ files)) (λ files. Q (file ∷ files)) (λ files. step (file ∷ files))) given
 
 -- later feeds that have the bytes of the first to give gave the same file
-took_each : {D : Type 0} (feeds : List FeedUse) (out : DrainUse D) (digest : Option (List ℕ)) (b : List ℕ) (holds : List ℕ → Type 0) → AllSupply b (map supply_of feeds) → GaveEach feeds digest (λ files. TookBy out (λ written. IfSame b files (holds written))) → TookBy out holds
+took_each : {D : Type 0} (feeds : List FeedUse) (out : DrainUse D) (digest : Mark) (b : List ℕ) (holds : List ℕ → Type 0) → AllSupply b (map supply_of feeds) → GaveEach feeds digest (λ files. TookBy out (λ written. IfSame b files (holds written))) → TookBy out holds
 took_each [] out digest b holds supply given = given
 took_each (one ∷ more) out digest b holds supply given =
     took_each more out digest b holds supply.1 (each_less more digest _ _ (λ files took. took_weaker out.ghosts out.old out.new _ _ (λ written same. same (sym (tells_file one.ghosts one.old one.new digest _ given b supply.0))) took) given.holding)
 
-pub took_of : {D : Type 0} (first second : FeedUse) (later : List FeedUse) (out : DrainUse D) (digest : Option (List ℕ)) (spared : Bool) (holds : List ℕ → List ℕ → Type 0) (b : List ℕ) → Wrote first second later out digest spared holds → AllSupply b (supply_of first ∷ supply_of second ∷ map supply_of later) → TookBy out (holds b)
+pub took_of : {D : Type 0} (first second : FeedUse) (later : List FeedUse) (out : DrainUse D) (digest : Mark) (spared : Bool) (holds : List ℕ → List ℕ → Type 0) (b : List ℕ) → Wrote first second later out digest spared holds → AllSupply b (supply_of first ∷ supply_of second ∷ map supply_of later) → TookBy out (holds b)
 took_of first second later out digest spared holds b one supply =
     let tells = tells_file first.ghosts first.old first.new digest _ one in
     let is = tells b supply.0 in

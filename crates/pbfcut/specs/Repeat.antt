@@ -11,7 +11,7 @@ use Rattle.pbfcut.specs.declared.repeat.LaterPass.{LaterPass}
 use Rattle.pbf_pass.specs.declared.receipt.Passes.{Passes}
 use Rattle.pbf_pass.specs.Unjudged.{GathersFile, IsFaulty}
 use Rattle.pbf_pass.specs.Given.{GaveFile}
-use Rattle.pbf_pass.specs.Hashing.{IsDigestOf, digest_if}
+use Rattle.pbf_pass.specs.Hashing.{IsDigestOf, Mark, mark_by}
 use Rattle.pbf_pass.specs.Judged.{judged_file}
 use Rattle.pbf_pass.specs.Stops.{Caused, ReadFailed}
 
@@ -20,11 +20,11 @@ abbrev pub IsPass : ℕ → Passes → LaterPass → Type 0
 IsPass number passes again = (again.number ≡ number) × (again.passes ≡ passes)
 
 -- the digest of the first pass, if it was hashed
-abbrev pub digest_of : LaterPass → Option (List ℕ)
-digest_of again = digest_if again.passes.hashes again.digest
+abbrev pub digest_of : LaterPass → Mark
+digest_of again = mark_by again.passes.check again.digest
 
 -- these aren't bytes without a fault that have this digest, if there is one
-abbrev pub IsUnlike : Option (List ℕ) → List ℕ → Type 0
+abbrev pub IsUnlike : Mark → List ℕ → Type 0
 IsUnlike digest bytes = IsDigestOf digest bytes → IsFaulty (judged_file (Some bytes))
 
 -- nothing is refused; and if the stop is `Changed`, the feed gave other bytes than those of the digest
@@ -45,7 +45,7 @@ abbrev pub SameDigest : Option (List ℕ) → Option (List ℕ) → Type 0
 SameDigest first other = (b c : List ℕ) → first ≡ Some b → other ≡ Some c → sha256 b ≡ sha256 c
 
 -- the entities of a whole file, of this digest if there is one, were gathered, if it has no fault; or none were left, and nothing was read
-abbrev pub GathersRest : {F S : Type 0} → feed.Ghosts F → (S → EntitySpec → S) → Bool → (old new : F) → Option (List ℕ) → (before now : S) → Type 0
+abbrev pub GathersRest : {F S : Type 0} → feed.Ghosts F → (S → EntitySpec → S) → Bool → (old new : F) → Mark → (before now : S) → Type 0
 GathersRest f gathered true old new digest before now = (new ≡ old) × (now ≡ before)
 GathersRest f gathered false old new digest before now = GaveFile f old new digest (λ file. GathersFile gathered (judged_file (Some file)) before now)
 

@@ -13,13 +13,14 @@ use Rattle.pbf_frame.specs.Verdict.{Verdict, Says, with_first_known}
 use Rattle.osm_text.specs.EntityText.{entity_line}
 use Rattle.osm_text.specs.HeaderText.{header_text}
 use Rattle.pbfcut.specs.declared.showing.LineWriter.{LineWriter}
-use Rattle.pbf_pass.specs.Hashing.{digest_if}
+use Rattle.pbf_pass.specs.Hashing.{mark_by}
 use Rattle.pbf_pass.specs.Unjudged.{ReadsFaulty}
 use Rattle.pbf_pass.specs.Judged.{fault_in, judged_file, payload_fault}
 use Rattle.pbf_pass.specs.Payload.{Payload, header_block, primitive_block, unknown, payload_of}
 use Rattle.pbf_pass.specs.Stops.{Caused, FaultOf, Only, unchanged, WriteFailed}
 use Rattle.pbf_frame.specs.Keeps.{KeepsDrain}
 use Rattle.pbfcut.specs.Calls.{DrainUse, FailedDrain, FailedFeed, FeedUse, GaveBy, KeepsDrained, KeepsFed, TookBy, supply_of, taken_after, taken_before}
+use Rattle.pbf_pass.specs.declared.hashing.PassCheck.{PassCheck}
 
 -- ---- the text
 
@@ -60,8 +61,8 @@ abbrev pub WritesFront : Bool → Option Verdict → Option (List ℕ) → Optio
 WritesFront dates known old new = (all : Verdict) → known ≡ Some all → IsFront old new (file_text dates all.0)
 
 -- the feed gave a file, of this digest if it is hashed, and the drain took its text; or a prefix of it, if the pass stopped
-pub record ShowsAgain {D : Type 0} (source : FeedUse) (drain : DrainUse D) (hashes dates : Bool) (result : Result (List ℕ) Stop) : Type 0 where
-  pub shown : IfOk result (λ digest. GaveBy source (digest_if hashes digest) (λ file. TookBy drain (Shown dates (judged_file (Some file)))))
+pub record ShowsAgain {D : Type 0} (source : FeedUse) (drain : DrainUse D) (check : PassCheck) (dates : Bool) (result : Result (List ℕ) Stop) : Type 0 where
+  pub shown : IfOk result (λ digest. GaveBy source (mark_by check digest) (λ file. TookBy drain (Shown dates (judged_file (Some file)))))
   pub beginning : OnErr result (WritesFront dates (judged_file (supply_of source)) (taken_before drain) (taken_after drain))
   pub stops : IfErr result (Caused (FaultOf (judged_file (supply_of source))) (FailedFeed source) (FailedDrain drain) unchanged)
   pub faulty : IfErr result (ReadsFaulty source.ghosts source.old source.new)

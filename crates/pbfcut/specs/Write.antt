@@ -15,7 +15,7 @@ use Rattle.pbf_frame.specs.Verdict.{Verdict}
 use Rattle.pbf_pass.specs.declared.receipt.Halt.{Halt}
 use Rattle.pbf_pass.specs.declared.receipt.InputReceipt.{InputReceipt}
 use Rattle.pbf_pass.specs.Unjudged.{ReadsFaulty, StopsAtPayload, StopsUnjudged}
-use Rattle.pbf_pass.specs.Hashing.{digest_if}
+use Rattle.pbf_pass.specs.Hashing.{mark_by}
 use Rattle.pbf_pass.specs.Counting.{counts_of, stored_entities}
 use Rattle.pbf_pass.specs.Judged.{fault_in, judged_file}
 use Rattle.pbf_pass.specs.Payload.{Payload, payload_of}
@@ -90,7 +90,7 @@ PacksFrontOf source drain pick h = PacksFront pick h (judged_file (supply_of sou
 -- the feed gave a file, and the drain took its header and what is picked of it; or a prefix of that, if the pass stopped: at a fault, since the
 -- bytes changed, or for a device
 pub record WritesUnjudged {D : Type 0} (source : FeedUse) (drain : DrainUse D) (plan : OutputPlan) (result : Result InputReceipt Stop) : Type 0 where
-  pub packed : IfOk result (λ wrote. GaveBy source (digest_if plan.pass.passes.hashes wrote.input) (λ file. TookBy drain (Packed (take_of plan.chosen) (header_of plan.header.now) wrote.counts (judged_file (Some file)))))
+  pub packed : IfOk result (λ wrote. GaveBy source (mark_by plan.pass.passes.check wrote.input) (λ file. TookBy drain (Packed (take_of plan.chosen) (header_of plan.header.now) wrote.counts (judged_file (Some file)))))
   pub beginning : OnErr result (PacksFrontOf source drain (take_of plan.chosen) (header_of plan.header.now))
   pub faulty : IfErr result (ReadsFaulty source.ghosts source.old source.new)
   pub stops : IfErr result (StopsUnjudged plan.pass.number (judged_file (supply_of source)) (FailedFeed source) (FailedDrain drain))

@@ -5,7 +5,7 @@ ghost use Rattle.pbfcut.specs.Calls.{AllSupply, drained, fed, StopsPasses};
 ghost use Rattle.pbfcut.specs.Theorem.{Converted, IsConverted, Promised, Canonical};
 ghost use Rattle.pbfcut.specs.Converting.{answer_bytes, CanBeWritten};
 ghost use Rattle.pbf_pass.specs.HeaderLimit.{judged_writable};
-ghost use Rattle.pbf_pass.specs.Hashing.{digest_if};
+ghost use Rattle.pbf_pass.specs.Hashing.{mark_by};
 ghost use Rattle.pbfcut.specs.Kept.{conversion_of};
 ghost use Rattle.pbfcut.specs.Receipts.{Wrote};
 ghost use Rattle.pbfcut.specs.Repeat.{SameDigest};
@@ -15,7 +15,7 @@ use crate::repeat::LaterPass;
 use crate::write::OutputPlan;
 use pbf_block::Counts;
 use pbf_frame::{Drain, Feed, Stop};
-use pbf_pass::{Halt, InputReceipt, Nothing, Passes, judge, writable_header};
+use pbf_pass::{Halt, InputReceipt, Nothing, PassCheck, Passes, judge, writable_header};
 use std::alloc::Global;
 use std::hash::BuildHasher;
 
@@ -58,7 +58,7 @@ pub fn convert<F: Feed, G: Feed, D: Drain, S: BuildHasher + Drop>(
 {
     let passes = Passes {
         alloc,
-        hashes: true,
+        check: PassCheck::Sha256,
     };
     Ok(convert_with_receipt(passes, first, second, drain, hasher)?.counts)
 }
@@ -76,13 +76,13 @@ pub fn convert_with_receipt<F: Feed, G: Feed, D: Drain, S: BuildHasher + Drop>(
     // The drain took bytes. If both files are the same, these bytes are exactly its conversion, and the counts are those of its entities.
     ensures receipt { IfOk result (λ receipt. Wrote (fed F.Feed first.old first.new)
         (fed G.Feed second.old second.new) [] (drained D.Drain drain.old drain.new)
-        (digest_if passes.hashes receipt.input) false
+        (mark_by passes.check receipt.input) false
         (λ b written. IsConverted b receipt.counts written)) }
     // However it ends: `refused` says what is refused, of the bytes that were read, and that the drain took nothing then; `stops` why it
     // stops; `changed` of what bytes it says `Changed`; and `feeds` and `out` that it keeps its devices.
     ensures ends { EndsPasses judged_writable (fed F.Feed first.old first.new)
         (fed G.Feed second.old second.new ∷ [])
-        (drained D.Drain drain.old drain.new) passes.hashes result }
+        (drained D.Drain drain.old drain.new) passes.check result }
     // Whatever stopped it, if both feeds supply these bytes, a prefix of their conversion went out, and nothing if they have a fault.
     ensures beginning { EndsInFront conversion_of (fed F.Feed first.old first.new
         ∷ fed G.Feed second.old second.new ∷ []) (drained D.Drain drain.old drain.new) result }

@@ -4,7 +4,7 @@ ghost use Rattle.std.specs.Prelude.{◌≡◌, [], ◌∷◌, Some, List, ℕ, I
 ghost use Rattle.pbf_frame.specs.Devices.{IsFront};
 ghost use Rattle.pbf_frame.specs.Keeps.{KeepsDrain, KeepsFeed};
 ghost use Rattle.pbf_pass.specs.Given.{GaveFile, Took};
-ghost use Rattle.pbf_pass.specs.Hashing.{digest_if};
+ghost use Rattle.pbf_pass.specs.Hashing.{mark_by};
 ghost use Rattle.pbf_pass.specs.Judged.{judged_file};
 ghost use Rattle.pbf_pass.specs.Pass.{CountsFile};
 ghost use Rattle.pbf_pass.specs.Stops.{Caused, ReadFailed, WriteFailed, unchanged};
@@ -48,7 +48,7 @@ fn copy_again<F: Feed, D: Drain>(again: LaterPass, feed: &mut F, drain: &mut D) 
     ensures { CopiesAgain (fed F.Feed feed.old feed.new)
         (drained D.Drain drain.old drain.new) again result }
 {
-    let mut passing = PassFeed::new(&mut *feed, again.passes.hashes);
+    let mut passing = PassFeed::new(&mut *feed, again.passes.check);
     let outcome = copy_rest(&mut passing, drain);
     let digest = passing.digest();
     // What is known of the feed comes back with the reference itself.
@@ -74,15 +74,15 @@ pub fn copy_with_receipt<F: Feed, G: Feed, D: Drain>(
     // Each feed gave a file, of the digest `input` if the passes hash, to its end. The first has no fault, and the counts are those of
     // its entities. The drain took exactly the second.
     ensures receipt { IfOk result (λ receipt. GaveFile F.Feed first.old first.new
-        (digest_if passes.hashes receipt.input)
+        (mark_by passes.check receipt.input)
         (λ b. CountsFile (judged_file (Some b)) receipt.counts
-        × GaveFile G.Feed second.old second.new (digest_if passes.hashes receipt.input)
+        × GaveFile G.Feed second.old second.new (mark_by passes.check receipt.input)
         (λ c. Took D.Drain drain.old drain.new (λ written. written ≡ c)))) }
     // However it ends: `refused` says what is refused, of the bytes that were read, and that the drain took nothing then; `stops` why it
     // stops; `changed` of what bytes it says `Changed`; and `feeds` and `out` that it keeps its devices.
     ensures ends { EndsPasses judged_file (fed F.Feed first.old first.new)
         (fed G.Feed second.old second.new ∷ [])
-        (drained D.Drain drain.old drain.new) passes.hashes result }
+        (drained D.Drain drain.old drain.new) passes.check result }
     // Whatever stopped it, if both feeds supply these bytes, a prefix of them went out.
     ensures beginning { OnErr result ((b : List ℕ)
         → AllSupply b (F.remaining first.old ∷ G.remaining second.old ∷ [])

@@ -13,7 +13,8 @@ ghost use Rattle.pbfcut.specs.Converting.{CanBeWritten};
 ghost use Rattle.pbf_pass.specs.HeaderLimit.{HasShortTexts, judged_writable};
 ghost use Rattle.pbfcut.specs.Extracting.{complete_ways, all_parents, extract_bytes, Begins, AddsParents, IsChoice, IsChoiceWithParents};
 ghost use Rattle.pbf_pass.specs.Given.{GaveFile};
-ghost use Rattle.pbf_pass.specs.Hashing.{digest_if};
+ghost use Rattle.pbf_pass.specs.declared.hashing.PassCheck.TheVariants as check;
+ghost use Rattle.pbf_pass.specs.Hashing.{mark_by};
 ghost use Rattle.pbf_pass.specs.Judged.{judged_file};
 ghost use Rattle.pbf_pass.specs.Refused.{stop_of};
 ghost use Rattle.pbfcut.specs.Repeat.{IsPass, SameDigest, StopsLater, digest_of};
@@ -29,7 +30,7 @@ use osm_ways::{Chosen, InArea, NodeIds, NodeTaker};
 use pbf_block::Counts;
 use pbf_frame::{Drain, Feed, Stop};
 use pbf_header::Header;
-use pbf_pass::{Halt, InputReceipt, Passes, judge, writable_header};
+use pbf_pass::{Halt, InputReceipt, PassCheck, Passes, judge, writable_header};
 use std::alloc::Global;
 use std::hash::BuildHasher;
 
@@ -62,9 +63,9 @@ pub(crate) fn begin<A: Area, P: NodeTaker, F: Feed>(
     taking: &mut InArea<A, P>,
 ) -> Result<Begun, Halt>
     ensures begun { IfOk result (λ begun. GaveFile F.Feed feed.old feed.new
-        (digest_if passes.hashes begun.digest) (λ b. Begins (A.area taking.old.area) P.step b
+        (mark_by passes.check begun.digest) (λ b. Begins (A.area taking.old.area) P.step b
         taking.old.phase taking.new.phase (header_of begun.header))) }
-    ensures halts { IfErr result (StopsChoosing (fed F.Feed feed.old feed.new) [] passes.hashes) }
+    ensures halts { IfErr result (StopsChoosing (fed F.Feed feed.old feed.new) [] passes.check) }
     ensures keeps { KeepsFeed F.Feed feed.old feed.new }
 {
     let bounds = taking.area.bounds();
@@ -137,9 +138,9 @@ fn choose<A: Area + Copy, P: NodeTaker + Drop, F: Feed, G: Feed>(
     second: &mut G,
 ) -> Result<Choice, Halt>
     ensures chosen { IfOk result (λ choice. GaveBy (fed F.Feed first.old first.new)
-        (digest_if passes.hashes choice.next.digest)
+        (mark_by passes.check choice.next.digest)
         (λ b. GaveOrNot (fed G.Feed second.old second.new) choice.spared
-        (digest_if passes.hashes choice.next.digest) b
+        (mark_by passes.check choice.next.digest) b
         (λ c. IsChoice (A.area area) b c choice.chosen (header_of choice.header)))) }
     ensures spared { IfOk result (λ choice. IsNever P.has_ways → choice.spared ≡ false) }
     ensures ends { EndsChoosing (fed F.Feed first.old first.new)
@@ -174,11 +175,11 @@ fn choose_parents<A: Area + Copy, P: NodeTaker + Drop, F: Feed, G: Feed, H: Feed
     third: &mut H,
 ) -> Result<Choice, Halt>
     ensures chosen { IfOk result (λ choice. GaveBy (fed F.Feed first.old first.new)
-        (digest_if passes.hashes choice.next.digest)
+        (mark_by passes.check choice.next.digest)
         (λ b. GaveOrNot (fed G.Feed second.old second.new) choice.spared
-        (digest_if passes.hashes choice.next.digest) b
+        (mark_by passes.check choice.next.digest) b
         (λ c. GaveBy (fed H.Feed third.old third.new)
-        (digest_if passes.hashes choice.next.digest)
+        (mark_by passes.check choice.next.digest)
         (λ d. IsChoiceWithParents (A.area area) b c d choice.chosen (header_of choice.header))))) }
     ensures spared { IfOk result (λ choice. IsNever P.has_ways → choice.spared ≡ false) }
     ensures ends { EndsChoosing (fed F.Feed first.old first.new)
@@ -209,7 +210,7 @@ pub(crate) fn cut<
     ensures extracts { Extracts (ways_in (A.area area)) (fed F.Feed first.old first.new)
         (fed G.Feed second.old second.new)
         (fed H.Feed third.old third.new ∷ [])
-        (drained D.Drain drain.old drain.new) passes.hashes result }
+        (drained D.Drain drain.old drain.new) passes.check result }
     ensures spared { IfOk result (λ receipt. IsNever P.has_ways → receipt.spared ≡ false) }
 {
     let choice = choose::<A, P, F, G>(passes, area, first, second)?;
@@ -239,7 +240,7 @@ pub(crate) fn cut_parents<
     ensures extracts { Extracts (parents_in (A.area area)) (fed F.Feed first.old first.new)
         (fed G.Feed second.old second.new)
         (fed H.Feed third.old third.new ∷ fed I.Feed fourth.old fourth.new ∷ [])
-        (drained D.Drain drain.old drain.new) passes.hashes result }
+        (drained D.Drain drain.old drain.new) passes.check result }
     ensures spared { IfOk result (λ receipt. IsNever P.has_ways → receipt.spared ≡ false) }
 {
     let choice = choose_parents::<A, P, F, G, H>(passes, area, first, second, third)?;
@@ -312,13 +313,13 @@ pub fn extract_with_receipt<F: Feed, G: Feed, H: Feed, D: Drain, S: BuildHasher 
     ensures extracts { Extracts (ways_in (box_area area)) (fed F.Feed first.old first.new)
         (fed G.Feed second.old second.new)
         (fed H.Feed third.old third.new ∷ [])
-        (drained D.Drain drain.old drain.new) true result }
+        (drained D.Drain drain.old drain.new) check.Sha256 result }
     // Each feed was read.
     ensures spared { IfOk result (λ receipt. receipt.spared ≡ false) }
 {
     let passes = Passes {
         alloc,
-        hashes: true,
+        check: PassCheck::Sha256,
     };
     cut::<BoundingBox, NodeIds, F, G, H, D, S>(passes, first, second, third, area, drain, hasher)
 }
@@ -399,13 +400,13 @@ pub fn extract_parents_with_receipt<
     ensures extracts { Extracts (parents_in (box_area area)) (fed F.Feed first.old first.new)
         (fed G.Feed second.old second.new)
         (fed H.Feed third.old third.new ∷ fed I.Feed fourth.old fourth.new ∷ [])
-        (drained D.Drain drain.old drain.new) true result }
+        (drained D.Drain drain.old drain.new) check.Sha256 result }
     // Each feed was read.
     ensures spared { IfOk result (λ receipt. receipt.spared ≡ false) }
 {
     let passes = Passes {
         alloc,
-        hashes: true,
+        check: PassCheck::Sha256,
     };
     cut_parents::<BoundingBox, NodeIds, F, G, H, I, D, S>(
         passes, first, second, third, fourth, area, drain, hasher,

@@ -2,7 +2,7 @@
 
 ghost use Rattle.std.specs.Prelude.{◌≡◌, true, false, IfErr, OnOk, Ok, Err};
 ghost use Rattle.pbf_frame.specs.declared.stop.Stop.TheVariants.{Changed};
-ghost use Rattle.pbf_pass.specs.Hashing.{digest_if};
+ghost use Rattle.pbf_pass.specs.Hashing.{mark_by};
 ghost use Rattle.pbfcut.specs.Repeat.{as_change, digest_of, GathersLater};
 
 use pbf_frame::{Feed, Stop};
@@ -30,13 +30,13 @@ impl LaterPass {
         }
     }
 
-    /// Another digest is `Changed`, if the passes are hashed.
+    /// Another digest is `Changed`.
     pub(crate) fn compare(self, digest: [u8; 32]) -> Result<(), Stop>
-        ensures same { OnOk result (digest_if self.passes.hashes digest ≡ digest_of self) }
+        ensures same { OnOk result (mark_by self.passes.check digest ≡ digest_of self) }
         ensures other { IfErr result (λ stop. (stop ≡ Changed self.number)
-            × (self.passes.hashes ≡ true) × (digest ≡ self.digest → ⊥)) }
+            × (digest ≡ self.digest → ⊥)) }
     {
-        if !self.passes.hashes || digest == self.digest {
+        if digest == self.digest {
             Ok(())
         } else {
             Err(Stop::Changed(self.number))

@@ -8,7 +8,7 @@ ghost use Rattle.osm_entity.specs.Views.{entity_of};
 ghost use Rattle.pbf_block.specs.Runs.{entities_left};
 ghost use Rattle.osm_text.specs.EntityText.{entity_line};
 ghost use Rattle.pbf_pass.specs.Given.{GaveFile, Took};
-ghost use Rattle.pbf_pass.specs.Hashing.{digest_if};
+ghost use Rattle.pbf_pass.specs.Hashing.{mark_by};
 ghost use Rattle.pbf_pass.specs.Judged.{judged_file};
 ghost use Rattle.pbf_pass.specs.Pass.{CountsFile};
 ghost use Rattle.pbf_pass.specs.Payload.{header_block, primitive_block, lent_by};
@@ -24,7 +24,7 @@ use osm_text::{put_entity, put_header};
 use pbf_block::{Block, Counts, Entities};
 use pbf_frame::{Drain, Feed, Frame, FrameKind, FrameReader, Stop, write_all};
 use pbf_header::Header;
-use pbf_pass::{Halt, InputReceipt, Nothing, Passes, Visit, judge, pass_over, step};
+use pbf_pass::{Halt, InputReceipt, Nothing, PassCheck, Passes, Visit, judge, pass_over, step};
 use std::alloc::Global;
 
 /// Writes lines into a drain.
@@ -144,7 +144,7 @@ fn write_text<F: Feed, D: Drain>(
     dates: bool,
 ) -> Result<[u8; 32], Stop>
     ensures { ShowsAgain (fed F.Feed feed.old feed.new) (drained D.Drain drain.old drain.new)
-        passes.hashes dates result }
+        passes.check dates result }
 {
     let text = Vec::new(passes.alloc);
     let mut lines = LineWriter { text, dates };
@@ -216,7 +216,7 @@ pub fn show<F: Feed, G: Feed, D: Drain>(
 {
     let passes = Passes {
         alloc,
-        hashes: true,
+        check: PassCheck::Sha256,
     };
     Ok(show_with_receipt(passes, first, second, drain, dates)?.counts)
 }
@@ -233,15 +233,15 @@ pub fn show_with_receipt<F: Feed, G: Feed, D: Drain>(
     // Each feed gave a file, of the digest `input` if the passes hash, to its end. The first has no fault, and the counts are those of
     // its entities. The drain took exactly the text of the second, which has no fault.
     ensures receipt { IfOk result (λ receipt. GaveFile F.Feed first.old first.new
-        (digest_if passes.hashes receipt.input)
+        (mark_by passes.check receipt.input)
         (λ b. CountsFile (judged_file (Some b)) receipt.counts
-        × GaveFile G.Feed second.old second.new (digest_if passes.hashes receipt.input)
+        × GaveFile G.Feed second.old second.new (mark_by passes.check receipt.input)
         (λ c. Took D.Drain drain.old drain.new (Shown dates (judged_file (Some c)))))) }
     // However it ends: `refused` says what is refused, of the bytes that were read, and that the drain took nothing then; `stops` why it
     // stops; `changed` of what bytes it says `Changed`; and `feeds` and `out` that it keeps its devices.
     ensures ends { EndsPasses judged_file (fed F.Feed first.old first.new)
         (fed G.Feed second.old second.new ∷ [])
-        (drained D.Drain drain.old drain.new) passes.hashes result }
+        (drained D.Drain drain.old drain.new) passes.check result }
     // Whatever stopped it, if both feeds supply one file, a prefix of its text went out, and nothing if it has a fault.
     ensures beginning { OnErr result (F.remaining first.old ≡ G.remaining second.old
         → ShowsFront dates (judged_file (F.remaining first.old))

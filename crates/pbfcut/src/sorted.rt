@@ -16,7 +16,7 @@ use osm_area::Area;
 use osm_ways::FirstPhase;
 use pbf_block::Counts;
 use pbf_frame::{Drain, Feed, Stop};
-use pbf_pass::{Halt, InputReceipt, Passes};
+use pbf_pass::{Halt, InputReceipt, PassCheck, Passes};
 use std::alloc::Global;
 use std::hash::BuildHasher;
 
@@ -61,7 +61,7 @@ pub fn extract_sorted<A: Area + Copy, F: Feed, G: Feed, H: Feed, D: Drain, S: Bu
 {
     let passes = Passes {
         alloc,
-        hashes: true,
+        check: PassCheck::Sha256,
     };
     let receipt = extract_sorted_with_receipt(passes, first, second, third, area, drain, hasher)?;
     Ok(receipt.counts)
@@ -90,7 +90,7 @@ pub fn extract_sorted_with_receipt<
     ensures { Extracts (ways_in (A.area area)) (fed F.Feed first.old first.new)
         (fed G.Feed second.old second.new)
         (fed H.Feed third.old third.new ∷ [])
-        (drained D.Drain drain.old drain.new) passes.hashes result }
+        (drained D.Drain drain.old drain.new) passes.check result }
 {
     cut::<A, FirstPhase, F, G, H, D, S>(passes, first, second, third, area, drain, hasher)
 }
@@ -121,7 +121,7 @@ pub fn extract_parents_sorted_with_receipt<
     ensures { Extracts (parents_in (A.area area)) (fed F.Feed first.old first.new)
         (fed G.Feed second.old second.new)
         (fed H.Feed third.old third.new ∷ fed I.Feed fourth.old fourth.new ∷ [])
-        (drained D.Drain drain.old drain.new) passes.hashes result }
+        (drained D.Drain drain.old drain.new) passes.check result }
 {
     cut_parents::<A, FirstPhase, F, G, H, I, D, S>(
         passes, first, second, third, fourth, area, drain, hasher,

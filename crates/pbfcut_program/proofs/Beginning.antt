@@ -1,13 +1,14 @@
 -- What happens before IN is read, and after.
-use Rattle.std.proofs.Common.{arith, ◌≡◌, ℕ, suc, ◌+◌, List, [], ◌∷◌, ◌++◌, length, map, Bool, true, false, Option, inl, refl, ap, append_assoc}
+use Rattle.std.proofs.Common.{arith, ◌≡◌, ◌∙◌, ℕ, suc, ◌+◌, List, [], ◌∷◌, ◌++◌, length, map, Bool, true, false, Option, Some, inl, refl, ap, sym, append_assoc}
 use Rattle.osm_area.specs.Area.{AreaSpec}
 use Rattle.pbf_block.specs.declared.counts.Counts.{Counts}
 use Rattle.pbf_pass.specs.HeaderLimit.{judged_writable}
+use Rattle.pbfcut_cli.specs.declared.programs.Program.{Program}
 use Rattle.pbfcut_cli.specs.declared.words.Region.{Region}
 use Rattle.pbfcut_program.specs.Tasks.{judge_of}
 use Rattle.pbfcut_program.specs.Events.{Event, advised, opened, seeded}
 use Rattle.pbfcut_program.specs.Fails.{Each, Opens, Quiet}
-use Rattle.pbfcut_program.specs.Program.{MeansArea, advice, extract_task, is_empty, looks, makes, openings}
+use Rattle.pbfcut_program.specs.Program.{MeansArea, advice, draws, extract_task, is_empty, looks, makes, openings}
 use Rattle.pbfcut_program.proofs.EventLemmas.{each_both}
 use Rattle.pbfcut_program.proofs.FailLemmas.{opens_after, opens_before}
 
@@ -21,21 +22,28 @@ pub quiet_openings : (input : List ℕ) (pass : ℕ) (has : List (Option (List �
 quiet_openings input pass [] = tt
 quiet_openings input pass (h ∷ has) = (tt, quiet_openings input (pass + 1) has)
 
--- all of it
-abbrev pub begun : Bool → (input output : List ℕ) → List (Option (List ℕ)) → List Event
-begun is input output has = looks is output ++ openings input 1 has ++ seeded true ∷ makes is output ∷ []
+pub quiet_draws : (program : Program) (key : ℕ) → Each Quiet (draws program key)
+quiet_draws program key = grind arith
 
-pub quiet_begun : (is : Bool) (input output : List ℕ) (has : List (Option (List ℕ))) → Each Quiet (begun is input output has)
-quiet_begun is input output has =
-    each_both Quiet (looks is output ++ openings input 1 has) (seeded true ∷ makes is output ∷ []) (each_both Quiet (looks is output) (openings input 1 has) (quiet_looks is output) (quiet_openings input 1 has)) (tt, (quiet_makes is output, tt))
+-- what `show` does before its passes, and what comes next
+pub shown_events : (ds rs ws : List Event) (s : Event) → (ds ++ s ∷ []) ++ (rs ++ ws) ≡ (ds ++ s ∷ rs) ++ ws
+shown_events ds rs ws s = append_assoc ds (s ∷ []) (rs ++ ws) ∙ sym (append_assoc ds (s ∷ rs) ws)
+
+-- all of it
+abbrev pub begun : Bool → (input output : List ℕ) → List (Option (List ℕ)) → (key : ℕ) → List Event
+begun is input output has key = looks is output ++ openings input 1 has ++ seeded (Some key) ∷ makes is output ∷ []
+
+pub quiet_begun : (is : Bool) (input output : List ℕ) (has : List (Option (List ℕ))) (key : ℕ) → Each Quiet (begun is input output has key)
+quiet_begun is input output has key =
+    each_both Quiet (looks is output ++ openings input 1 has) (seeded (Some key) ∷ makes is output ∷ []) (each_both Quiet (looks is output) (openings input 1 has) (quiet_looks is output) (quiet_openings input 1 has)) (tt, (quiet_makes is output, tt))
 
 opens_openings : (input : List ℕ) (pass : ℕ) (has : List (Option (List ℕ))) → Opens pass has (openings input pass has)
 opens_openings input pass [] = tt
 opens_openings input pass (h ∷ has) = (inl (refl, refl), opens_after (pass + 1) has (opened input pass h ∷ []) (openings input (pass + 1) has) (opens_openings input (pass + 1) has))
 
-pub opens_begun : (is : Bool) (input output : List ℕ) (has : List (Option (List ℕ))) → Opens 1 has (begun is input output has)
-opens_begun is input output has =
-    opens_before 1 has (looks is output ++ openings input 1 has) (seeded true ∷ makes is output ∷ []) (opens_after 1 has (looks is output) (openings input 1 has) (opens_openings input 1 has))
+pub opens_begun : (is : Bool) (input output : List ℕ) (has : List (Option (List ℕ))) (key : ℕ) → Opens 1 has (begun is input output has key)
+opens_begun is input output has key =
+    opens_before 1 has (looks is output ++ openings input 1 has) (seeded (Some key) ∷ makes is output ∷ []) (opens_after 1 has (looks is output) (openings input 1 has) (opens_openings input 1 has))
 
 -- what comes next
 pub all_events : (a rs ps : List Event) (s m w : Event) → ((a ++ s ∷ m ∷ []) ++ (rs ++ w ∷ [])) ++ ps ≡ (a ++ s ∷ m ∷ rs) ++ w ∷ ps

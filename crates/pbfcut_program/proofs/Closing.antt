@@ -11,6 +11,7 @@ use Rattle.pbf_frame.specs.declared.stop.Stop.TheVariants as stop
 use Rattle.pbf_frame.specs.Devices.{HasRisen, IsFront}
 use Rattle.pbf_frame.specs.Verdict.{Verdict}
 use Rattle.pbf_pass.specs.Stops.{WriteFailed}
+use Rattle.pbf_pass.specs.declared.hashing.PassCheck.{PassCheck}
 use Rattle.pbfcut_cli.specs.declared.endings.Ending.{Ending}
 use Rattle.pbfcut_cli.specs.declared.endings.Ending.TheVariants as ending
 use Rattle.pbfcut_cli.specs.declared.programs.Program.{Program}
@@ -26,7 +27,7 @@ use Rattle.pbfcut_program.specs.Outcomes.{EndsAs}
 use Rattle.pbfcut_program.specs.Program.{digest_if_asked}
 use Rattle.pbfcut_program.specs.Readings.{IsOther, IsWholeOrSpared, IsWork, ReadAll, ReadLater}
 use Rattle.pbfcut_program.specs.Leaving.{Leaves, TookFront}
-use Rattle.pbfcut_program.specs.Tasks.{Task, answer_of, hashes_in, judge_of, spares}
+use Rattle.pbfcut_program.specs.Tasks.{Task, answer_of, judge_of, spares}
 use Rattle.pbfcut_program.proofs.EventLemmas.{each_both, has_after, has_before, nothing_read, readings_both, readings_of}
 use Rattle.pbfcut_program.proofs.FailLemmas.{stop_fails, unless_packed, write_stops}
 use Rattle.pbfcut_program.proofs.LeavingLemmas.{TakenFront, front_nothing, front_read, front_taken, taken_front}
@@ -216,21 +217,21 @@ module _ {F : Type 0} (f : feed.Ghosts F) (packs digests : Bool) (judge : Option
   stop_told Pbfcutz (stop.Changed pass) olds news fresh c stops = (some news c, some_log news c, stops, some_front news c)
 
 -- a call stopped, and all devices were returned
-pub work_fails : (program : Program) (packs digests : Bool) {F : Type 0} (f : feed.Ghosts F) (task : Task) (took : List ℕ → Type 0) (failed : Type 0) (front : List ℕ → Type 0) (l m n : Option (List Event)) (olds news : List F) (halted : Halted)
-    → Ends took failed front m n → AreFresh f olds → CloseAll f news l m → Works (manner program packs digests) f task olds news took failed (Err halted)
+pub work_fails : (program : Program) (packs digests : Bool) (check : PassCheck) {F : Type 0} (f : feed.Ghosts F) (task : Task) (took : List ℕ → Type 0) (failed : Type 0) (front : List ℕ → Type 0) (l m n : Option (List Event)) (olds news : List F) (halted : Halted)
+    → Ends took failed front m n → AreFresh f olds → CloseAll f news l m → Works (manner program packs digests) check f task olds news took failed (Err halted)
     → (events : List Event) × (n ≡ then_all l events) × Fails (manner program packs digests) (judging (judge_of task)) (map f.remaining olds) halted.ending events × ((answer : List ℕ) → front answer → Each (TookFront answer) events)
-work_fails program packs digests f task took failed front l m n olds news halted tail fresh c works =
+work_fails program packs digests check f task took failed front l m n olds news halted tail fresh c works =
     let told = stop_told f packs digests (judge_of task) took failed front l m n tail program works.0 olds news fresh c works.2 in
     (told.0, told.1, stop_fails (manner program packs digests) (judging (judge_of task)) (map f.remaining olds) halted.ending told.0 works.0 works.1 told.2, told.3)
 
 -- ---- what it does
 
 -- the same, and its drain too
-pub work_done : {F D : Type 0} (f : feed.Ghosts F) (d : drain.Ghosts D) (out : D) (went : Bool) (by : Manner) (task : Task) (took : List ℕ → Type 0) (failed : Type 0) (l m n : Option (List Event)) (olds news : List F) (report : Report)
-    → AreFresh f olds → CloseAll f news l m → Finishes d out went m n → ((w : List ℕ) → took w → d.has_taken out 0 w) → Works by f task olds news took failed (Ok report)
-    → (rs : List Reading) × (w : Writing) × (n ≡ then_all l (reads rs ++ wrote w ∷ [])) × (w.out ≡ went) × took w.bytes × IsWork by task rs w.bytes report.counts report.input report.raw
-work_done f d out went by task took failed l m n olds news report fresh c fin taken works =
-    let given = close_given f (AreDigests by (hashes_in task by.digests) report.input report.raw) (spares task) olds news works.files l m fresh c works.gave in (
+pub work_done : {F D : Type 0} (f : feed.Ghosts F) (d : drain.Ghosts D) (out : D) (went : Bool) (by : Manner) (check : PassCheck) (task : Task) (took : List ℕ → Type 0) (failed : Type 0) (l m n : Option (List Event)) (olds news : List F) (report : Report)
+    → AreFresh f olds → CloseAll f news l m → Finishes d out went m n → ((w : List ℕ) → took w → d.has_taken out 0 w) → Works by check f task olds news took failed (Ok report)
+    → (rs : List Reading) × (w : Writing) × (n ≡ then_all l (reads rs ++ wrote w ∷ [])) × (w.out ≡ went) × took w.bytes × IsWork by check task rs w.bytes report.counts report.input report.raw
+work_done f d out went by check task took failed l m n olds news report fresh c fin taken works =
+    let given = close_given f (AreDigests by check report.input report.raw) (spares task) olds news works.files l m fresh c works.gave in (
       given.0,
       record { bytes = works.written; reports = is_some (d.taken out); failures = d.failures out; out = went },
       and_then l m n (reads given.0) (wrote (record { bytes = works.written; reports = is_some (d.taken out); failures = d.failures out; out = went }) ∷ []) given.1 (fin.1 works.written (taken works.written works.took_them)),
@@ -252,17 +253,17 @@ finish_fails f d out went l m n news c fin e =
     )
 
 -- the same of one pass
-pub work_read_once : {F : Type 0} (f : feed.Ghosts F) (by : Manner) (task : Task) (failed : Type 0) (l m : Option (List Event)) (old now : F) (report : Report)
-    → IsFresh f old → Closes f now l m → Works by f task (old ∷ []) (now ∷ []) (λ took. took ≡ []) failed (Ok report)
-    → (first : Reading) × (m ≡ then_one l (read first)) × IsWork by task (first ∷ []) [] report.counts report.input report.raw
-work_read_once f by task failed l m old now report fresh c works = grind arith
+pub work_read_once : {F : Type 0} (f : feed.Ghosts F) (by : Manner) (check : PassCheck) (task : Task) (failed : Type 0) (l m : Option (List Event)) (old now : F) (report : Report)
+    → IsFresh f old → Closes f now l m → Works by check f task (old ∷ []) (now ∷ []) (λ took. took ≡ []) failed (Ok report)
+    → (first : Reading) × (m ≡ then_one l (read first)) × IsWork by check task (first ∷ []) [] report.counts report.input report.raw
+work_read_once f by check task failed l m old now report fresh c works = grind arith
 
 -- what a call did, however it ended
-pub if_done : {F D : Type 0} (f : feed.Ghosts F) (d : drain.Ghosts D) (out : D) (went : Bool) (by : Manner) (task : Task) (took : List ℕ → Type 0) (failed : Type 0) (l m n : Option (List Event)) (olds news : List F) (outcome : Result Report Halted)
-    → AreFresh f olds → CloseAll f news l m → Finishes d out went m n → ((w : List ℕ) → took w → d.has_taken out 0 w) → Works by f task olds news took failed outcome
-    → OnOk outcome ((report : Report) × (rs : List Reading) × (w : Writing) × (n ≡ then_all l (reads rs ++ wrote w ∷ [])) × (w.out ≡ went) × IsWork by task rs w.bytes report.counts report.input report.raw)
-if_done f d out went by task took failed l m n olds news (Ok report) fresh c fin taken works = grind (arith, work_done f d out went by task took failed l m n olds news report fresh c fin taken works)
-if_done f d out went by task took failed l m n olds news (Err halted) fresh c fin taken works = tt
+pub if_done : {F D : Type 0} (f : feed.Ghosts F) (d : drain.Ghosts D) (out : D) (went : Bool) (by : Manner) (check : PassCheck) (task : Task) (took : List ℕ → Type 0) (failed : Type 0) (l m n : Option (List Event)) (olds news : List F) (outcome : Result Report Halted)
+    → AreFresh f olds → CloseAll f news l m → Finishes d out went m n → ((w : List ℕ) → took w → d.has_taken out 0 w) → Works by check f task olds news took failed outcome
+    → OnOk outcome ((report : Report) × (rs : List Reading) × (w : Writing) × (n ≡ then_all l (reads rs ++ wrote w ∷ [])) × (w.out ≡ went) × IsWork by check task rs w.bytes report.counts report.input report.raw)
+if_done f d out went by check task took failed l m n olds news (Ok report) fresh c fin taken works = grind (arith, work_done f d out went by check task took failed l m n olds news report fresh c fin taken works)
+if_done f d out went by check task took failed l m n olds news (Err halted) fresh c fin taken works = tt
 
 -- a call stopped, and it and its devices left this
 pub stops_leaving : (m : Manner) (task : Task) (has : List (Option (List ℕ))) (before after : Option (List ℕ)) (events : List Event) → IfSome before (λ taken. taken ≡ [])
@@ -281,32 +282,32 @@ keep_fails m j has how events h5 h6 h7 = grind (arith, write_stops)
 -- ---- a text
 
 -- a call stopped whose text goes to standard output; or the rest of the text didn't go out
-pub text_fails : {F D A : Type 0} (program : Program) (digests : Bool) (f : feed.Ghosts F) (d : drain.Ghosts D) (task : Task) (before out : D) (went : Bool) (l m n : Option (List Event)) (olds news : List F) (outcome : Result Report Halted) (result : Result A Ending)
-    → IsFreshOut d before → AreFresh f olds → CloseAll f news l m → Finishes d out went m n → Works (manner program false digests) f task olds news (d.has_taken out 0) (WriteFailed d before out) outcome
+pub text_fails : {F D A : Type 0} (program : Program) (digests : Bool) (check : PassCheck) (f : feed.Ghosts F) (d : drain.Ghosts D) (task : Task) (before out : D) (went : Bool) (l m n : Option (List Event)) (olds news : List F) (outcome : Result Report Halted) (result : Result A Ending)
+    → IsFreshOut d before → AreFresh f olds → CloseAll f news l m → Finishes d out went m n → Works (manner program false digests) check f task olds news (d.has_taken out 0) (WriteFailed d before out) outcome
     → Fronts (input_form program) task (map f.remaining olds) (d.taken before) (d.taken out) outcome → EndsAs went outcome result
     → IfErr result (λ how. (events : List Event) × (n ≡ then_all l events) × Fails (manner program false digests) (judging (judge_of task)) (map f.remaining olds) how events × Leaves (manner program false digests) task (map f.remaining olds) events)
-text_fails program digests f d task before out true l m n olds news (Ok report) (Ok a) fresh begun c fin works front ends = tt
-text_fails program digests f d task before out true l m n olds news (Ok report) (Err how) fresh begun c fin works front ends = absurd ends
-text_fails program digests f d task before out true l m n olds news (Err halted) (Ok a) fresh begun c fin works front ends = absurd ends
-text_fails program digests f d task before out true l m n olds news (Err halted) (Err how) fresh begun c fin works front ends =
+text_fails program digests check f d task before out true l m n olds news (Ok report) (Ok a) fresh begun c fin works front ends = tt
+text_fails program digests check f d task before out true l m n olds news (Ok report) (Err how) fresh begun c fin works front ends = absurd ends
+text_fails program digests check f d task before out true l m n olds news (Err halted) (Ok a) fresh begun c fin works front ends = absurd ends
+text_fails program digests check f d task before out true l m n olds news (Err halted) (Err how) fresh begun c fin works front ends =
     let by = manner program false digests in
     let has = map f.remaining olds in
     let tail = ends_with_out d out true (d.has_taken out 0) (WriteFailed d before out) m n (λ w t. t) (λ risen. has_failed _ _ fresh.2 risen) fin in
-    let fail = work_fails program false digests f task (d.has_taken out 0) (WriteFailed d before out) (TakenFront (d.taken out)) l m n olds news halted tail begun c works in
+    let fail = work_fails program false digests check f task (d.has_taken out 0) (WriteFailed d before out) (TakenFront (d.taken out)) l m n olds news halted tail begun c works in
     (fail.0, fail.1, subst (λ h. Fails by (judging (judge_of task)) has h fail.0) (sym ends) fail.2, stops_leaving by task has (d.taken before) (d.taken out) fail.0 fresh.1 fail.3 front)
-text_fails program digests f d task before out false l m n olds news (Ok report) (Ok a) fresh begun c fin works front ends = absurd ends
-text_fails program digests f d task before out false l m n olds news (Err halted) (Ok a) fresh begun c fin works front ends = absurd ends
-text_fails program digests f d task before out false l m n olds news (Ok report) (Err how) fresh begun c fin works front ends =
+text_fails program digests check f d task before out false l m n olds news (Ok report) (Ok a) fresh begun c fin works front ends = absurd ends
+text_fails program digests check f d task before out false l m n olds news (Err halted) (Ok a) fresh begun c fin works front ends = absurd ends
+text_fails program digests check f d task before out false l m n olds news (Ok report) (Err how) fresh begun c fin works front ends =
     let by = manner program false digests in
     let has = map f.remaining olds in
-    let done = work_done f d out false by task (d.has_taken out 0) (WriteFailed d before out) l m n olds news report begun c fin (λ w t. t) works in
+    let done = work_done f d out false by check task (d.has_taken out 0) (WriteFailed d before out) l m n olds news report begun c fin (λ w t. t) works in
     let events : List Event = reads done.0 ++ wrote done.1 ∷ [] in (
       events,
       done.2,
       subst (λ h. Fails by (judging (judge_of task)) has h events) (sym ends) (write_stops by (judging (judge_of task)) has events (has_after _ (reads done.0) (wrote done.1 ∷ []) (inl (inr done.3)))),
-      inr (record { before = []; rs = done.0; out = done.1; after = []; happened = refl; counts = report.counts; digest = report.input; raw = report.raw; work = done.5 }),
+      inr (record { before = []; rs = done.0; out = done.1; after = []; happened = refl; by = check; counts = report.counts; digest = report.input; raw = report.raw; work = done.5 }),
     )
-text_fails program digests f d task before out false l m n olds news (Err halted) (Err how) fresh begun c fin works front ends =
+text_fails program digests check f d task before out false l m n olds news (Err halted) (Err how) fresh begun c fin works front ends =
     let by = manner program false digests in
     let has = map f.remaining olds in
     let fail = finish_fails f d out false l m n news c fin refl in

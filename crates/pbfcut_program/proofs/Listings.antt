@@ -20,7 +20,7 @@ use Rattle.pbfcut_program.specs.Devices.{Closes, EndsFor, Finishes, Fronts, IsFr
 use Rattle.pbfcut_program.specs.Events.{Event, Reading, Writing, opened, screened, read, wrote, then_all}
 use Rattle.pbfcut_program.specs.Fails.{Fails, FailsFor, Judging, judging, listing}
 use Rattle.pbfcut_program.specs.Outcomes.{ListsBy}
-use Rattle.pbfcut_program.specs.Manner.{Manner, input_form, manner, meant, meant_known, of_input, packed_file, to_raw}
+use Rattle.pbfcut_program.specs.Manner.{Manner, input_form, manner, once_check, meant, meant_known, of_input, packed_file, to_raw}
 use Rattle.pbfcut_program.specs.Program.{IsHeaderText, IsListing}
 use Rattle.pbfcut_program.specs.Leaving.{LeavesFor}
 use Rattle.pbfcut_program.specs.Tasks.{answer_of, checking, listing_frames}
@@ -104,6 +104,6 @@ module _ {F D : Type 0} (f : feed.Ghosts F) (d : drain.Ghosts D) (now : F) (out 
       let first : List Event = opened input 1 (f.remaining old) ∷ screened true ∷ [] in
       let works = ends_weaker f (Added d before [] out) (took []) (λ none. none.logged 0 [] start.0) Pbfcutz judged_file failed failed halted.ending (old ∷ []) (now ∷ []) (λ w. w) ends in
       let tail = ends_with_out d out went took failed m n (λ w t. t) (λ risen. has_failed _ _ start.2 risen) fin in
-      let why = work_fails Pbfcutz false digests f checking took failed (TakenFront (d.taken out)) l m n (old ∷ []) (now ∷ []) halted tail (fresh, tt) (m, c, refl) works in
+      let why = work_fails Pbfcutz false digests (once_check digests) f checking took failed (TakenFront (d.taken out)) l m n (old ∷ []) (now ∷ []) halted tail (fresh, tt) (m, c, refl) works in
       (_, and_then k l n first why.0 e why.1, opened_fails (manner Pbfcutz false digests) (judging judged_file) (f.remaining old ∷ []) halted.ending first why.0 (tt, (tt, tt)) (inl (refl, refl), tt) why.2)
   header_fails digests old before (Ok t) k input fresh start e ends = tt

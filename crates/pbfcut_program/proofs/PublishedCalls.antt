@@ -4,7 +4,8 @@ use Rattle.osm_area.specs.Area.{AreaSpec}
 use Rattle.pbf_frame.specs.declared.device.Feed as feed
 use Rattle.pbf_frame.specs.declared.device.Drain as drain
 use Rattle.pbf_pass.specs.Given.{Took}
-use Rattle.pbf_pass.specs.Hashing.{IsDigestOf, digest_if}
+use Rattle.pbf_pass.specs.Hashing.{mark_by, raw_check}
+use Rattle.pbf_pass.specs.declared.hashing.PassCheck.{PassCheck}
 use Rattle.pbf_pass.specs.Judged.{judged_file}
 use Rattle.pbf_pass.specs.Pass.{CountsFile}
 use Rattle.pbf_pass.specs.HeaderLimit.{judged_writable}
@@ -25,9 +26,8 @@ use Rattle.pbfcut_program.specs.declared.engine.Halted.{Halted}
 use Rattle.pbfcut_program.specs.Devices.{AreFresh, Gives, GivesOrNot, Works}
 use Rattle.pbfcut_program.specs.Manner.{AreDigests, manner}
 use Rattle.pbfcut_program.specs.Outcomes.{ReportsPublished}
-use Rattle.pbfcut_program.specs.Tasks.{Holds, Task, checking, hashes_in, judge_of, showing, converting, copying, extracting, extracting_parents}
+use Rattle.pbfcut_program.specs.Tasks.{Holds, Task, checking, judge_of, showing, converting, copying, extracting, extracting_parents}
 use Rattle.pbfcut_program.proofs.FailLemmas.{caused_weaker}
-use Rattle.pbfcut_program.proofs.RawCalls.{digest_or_not}
 
 -- a feed gave packed bytes, and this holds of the raw file that they mean
 record Gave {F : Type 0} (f : feed.Ghosts F) (known : List ℕ → Type 0) (now : F) (holds : List ℕ → Type 0) : Type 0 where
@@ -41,45 +41,42 @@ record GaveAfter {F : Type 0} (f : feed.Ghosts F) (known : List ℕ → Type 0) 
   gives : GivesOrNot f known true first old now file
   holding : holds (unpacked file)
 
-module _ {F : Type 0} (f : feed.Ghosts F) (packs digests hashes : Bool) (input r : List ℕ) (raw : Option (List ℕ)) (is : raw ≡ Some r) where
+module _ {F : Type 0} (f : feed.Ghosts F) (packs digests : Bool) (by : PassCheck) (input r : List ℕ) (raw : Option (List ℕ)) (is : raw ≡ Some r) where
   -- what is known of the files that one call reports
   abbrev Known : List ℕ → Type 0
-  Known = AreDigests (manner Pbfcutz packs digests) hashes input raw
+  Known = AreDigests (manner Pbfcutz packs digests) by input raw
 
   -- what passed by the first log is what is said of
-  gave : {old now : F} {digest : Option (List ℕ)} {holds : List ℕ → Type 0} → ((file : List ℕ) → IsDigestOf digest file → IsDigestOf (digest_if hashes input) file) → f.has_passed old 0 [] → GavePublished f old now digest (digest_if digests r) holds → Gave f Known now holds
-  gave {holds = holds} same start g = grind (arith, same ((g.logged 0 start).packed) ((g.logged 0 start).digest_is))
+  gave : {old now : F} {holds : List ℕ → Type 0} → f.has_passed old 0 [] → GavePublished f old now (mark_by by input) (mark_by (raw_check by) r) holds → Gave f Known now holds
+  gave {holds = holds} start g = grind (arith, (g.logged 0 start).packed, (g.logged 0 start).digest_is)
 
-  gave_all : {old now : F} {holds : List ℕ → Type 0} → f.has_passed old 0 [] → GavePublished f old now (Some input) (digest_if digests r) holds → Gave f Known now holds
-  gave_all start g = gave (digest_or_not hashes input) start g
-
-  gave_after : {old now : F} {first : List ℕ} {holds : List ℕ → Type 0} → f.has_passed old 0 [] → GaveOrNone f old now input (digest_if digests r) (unpacked first) holds → GaveAfter f Known first old now holds
-  gave_after h0 h1 = grind (arith, gave_all)
+  gave_after : {old now : F} {first : List ℕ} {holds : List ℕ → Type 0} → f.has_passed old 0 [] → GaveOrNone f old now (mark_by by input) (mark_by (raw_check by) r) (unpacked first) holds → GaveAfter f Known first old now holds
+  gave_after h0 h1 = grind (arith, gave)
 
 -- ---- one pass
 
-pub check_published : {F : Type 0} (f : feed.Ghosts F) (packs digests : Bool) (one one_now : F) → AreFresh f (one ∷ []) → (outcome : Result PublishedInput PublishedHalt) (result : Result Report Halted)
-    → IfOk outcome (λ receipt. GavePublished f one one_now (digest_if digests receipt.input) (digest_if digests receipt.raw) (λ file. CountsFile (judged_file (Some file)) receipt.counts))
+pub check_published : {F : Type 0} (f : feed.Ghosts F) (packs digests : Bool) (by : PassCheck) (one one_now : F) → AreFresh f (one ∷ []) → (outcome : Result PublishedInput PublishedHalt) (result : Result Report Halted)
+    → IfOk outcome (λ receipt. GavePublished f one one_now (mark_by by receipt.input) (mark_by (raw_check by) receipt.raw) (λ file. CountsFile (judged_file (Some file)) receipt.counts))
     → IfErr outcome (λ h. Caused (FaultOf (judged_file (raw_of (f.remaining one)))) (ReadFailed f one one_now) ⊥ (ChangedOf (f.remaining one ∷ [])) h.stop) → ReportsPublished outcome result
-    → Works (manner Pbfcutz packs digests) f checking (one ∷ []) (one_now ∷ []) (λ took. took ≡ []) ⊥ result
-check_published f packs digests one one_now fresh (Ok receipt) (Ok report) given stops r =
-    let first = gave f packs digests digests receipt.input receipt.raw report.raw r.2 (λ file same. same) fresh.0.0 given in
+    → Works (manner Pbfcutz packs digests) by f checking (one ∷ []) (one_now ∷ []) (λ took. took ≡ []) ⊥ result
+check_published f packs digests by one one_now fresh (Ok receipt) (Ok report) given stops r =
+    let first = gave f packs digests by receipt.input receipt.raw report.raw r.2 fresh.0.0 given in
     rw (r.0, r.1) record { files = first.file ∷ []; written = []; gave = (first.gives, tt); took_them = refl; holds = first.holding }
-check_published f packs digests one one_now fresh (Err halt) (Err halted) given stops r = (halt.stop, r, caused_weaker _ _ _ _ _ _ _ _ halt.stop (λ e fault. (fault, refl)) (λ failed. inl failed) (λ none. absurd none) (λ p c. c) stops)
-check_published f packs digests one one_now fresh _ _ given stops r = absurd r
+check_published f packs digests by one one_now fresh (Err halt) (Err halted) given stops r = (halt.stop, r, caused_weaker _ _ _ _ _ _ _ _ halt.stop (λ e fault. (fault, refl)) (λ failed. inl failed) (λ none. absurd none) (λ p c. c) stops)
+check_published f packs digests by one one_now fresh _ _ given stops r = absurd r
 
 -- ---- more passes
 
-module _ {F D : Type 0} (f : feed.Ghosts F) (d : drain.Ghosts D) (out out_now : D) (digests : Bool) (log : ℕ) (start : d.has_taken out log []) where
+module _ {F D : Type 0} (f : feed.Ghosts F) (d : drain.Ghosts D) (out out_now : D) (digests : Bool) (by : PassCheck) (log : ℕ) (start : d.has_taken out log []) where
   two_published : (task : Task) (P : PublishedInput → List ℕ → Type 0) (Q : PublishedInput → (b c w : List ℕ) → Type 0)
       → ((receipt : PublishedInput) (b c w : List ℕ) → P receipt b → Q receipt b c w → Holds task (b ∷ c ∷ []) receipt.counts w)
       → (one one_now two two_now : F) (outcome : Result PublishedInput PublishedHalt) (result : Result Report Halted) → AreFresh f (one ∷ two ∷ [])
-      → IfOk outcome (λ receipt. GavePublished f one one_now (Some receipt.input) (digest_if digests receipt.raw) (λ b. P receipt b × GavePublished f two two_now (Some receipt.input) (digest_if digests receipt.raw) (λ c. Took d out out_now (λ w. Q receipt b c w))))
+      → IfOk outcome (λ receipt. GavePublished f one one_now (mark_by by receipt.input) (mark_by (raw_check by) receipt.raw) (λ b. P receipt b × GavePublished f two two_now (mark_by by receipt.input) (mark_by (raw_check by) receipt.raw) (λ c. Took d out out_now (λ w. Q receipt b c w))))
       → IfErr outcome (λ h. StopsPublished (judge_of task) (fed f one one_now) (fed f two two_now ∷ []) (drained d out out_now) h.stop) → ReportsPublished outcome result
-      → Works (manner Pbfcutz false digests) f task (one ∷ two ∷ []) (one_now ∷ two_now ∷ []) (d.has_taken out_now log) (WriteFailed d out out_now) result
+      → Works (manner Pbfcutz false digests) by f task (one ∷ two ∷ []) (one_now ∷ two_now ∷ []) (d.has_taken out_now log) (WriteFailed d out out_now) result
   two_published task P Q meant one one_now two two_now (Ok receipt) (Ok report) fresh given stops r =
-      let first = gave_all f false digests (hashes_in task digests) receipt.input receipt.raw report.raw r.2 fresh.0.0 given in
-      let again = gave_all f false digests (hashes_in task digests) receipt.input receipt.raw report.raw r.2 fresh.1.0.0 first.holding.1 in
+      let first = gave f false digests by receipt.input receipt.raw report.raw r.2 fresh.0.0 given in
+      let again = gave f false digests by receipt.input receipt.raw report.raw r.2 fresh.1.0.0 first.holding.1 in
       let took = again.holding in
       rw (r.0, r.1) record {
         files = first.file ∷ again.file ∷ [];
@@ -93,32 +90,31 @@ module _ {F D : Type 0} (f : feed.Ghosts F) (d : drain.Ghosts D) (out out_now : 
   two_published task P Q meant one one_now two two_now _ _ fresh given stops r = absurd r
 
   pub show_published : (dates : Bool) (one one_now two two_now : F) (outcome : Result PublishedInput PublishedHalt) (result : Result Report Halted) → AreFresh f (one ∷ two ∷ [])
-      → IfOk outcome (λ receipt. GavePublished f one one_now (Some receipt.input) (digest_if digests receipt.raw) (λ b. CountsFile (judged_file (Some b)) receipt.counts × GavePublished f two two_now (Some receipt.input) (digest_if digests receipt.raw) (λ c. Took d out out_now (Shown dates (judged_file (Some c))))))
+      → IfOk outcome (λ receipt. GavePublished f one one_now (mark_by by receipt.input) (mark_by (raw_check by) receipt.raw) (λ b. CountsFile (judged_file (Some b)) receipt.counts × GavePublished f two two_now (mark_by by receipt.input) (mark_by (raw_check by) receipt.raw) (λ c. Took d out out_now (Shown dates (judged_file (Some c))))))
       → IfErr outcome (λ h. StopsPublished judged_file (fed f one one_now) (fed f two two_now ∷ []) (drained d out out_now) h.stop) → ReportsPublished outcome result
-      → Works (manner Pbfcutz false digests) f (showing dates) (one ∷ two ∷ []) (one_now ∷ two_now ∷ []) (d.has_taken out_now log) (WriteFailed d out out_now) result
+      → Works (manner Pbfcutz false digests) by f (showing dates) (one ∷ two ∷ []) (one_now ∷ two_now ∷ []) (d.has_taken out_now log) (WriteFailed d out out_now) result
   show_published dates = two_published (showing dates) (λ receipt b. CountsFile (judged_file (Some b)) receipt.counts) (λ receipt b c w. Shown dates (judged_file (Some c)) w) (λ receipt b c w p q. (p, q))
 
   pub convert_published : (one one_now two two_now : F) (outcome : Result PublishedInput PublishedHalt) (result : Result Report Halted) → AreFresh f (one ∷ two ∷ [])
-      → IfOk outcome (λ receipt. GavePublished f one one_now (Some receipt.input) (digest_if digests receipt.raw) (λ b. IsWritable b × GavePublished f two two_now (Some receipt.input) (digest_if digests receipt.raw) (λ c. Took d out out_now (λ w. b ≡ c → IsConverted b receipt.counts w))))
+      → IfOk outcome (λ receipt. GavePublished f one one_now (mark_by by receipt.input) (mark_by (raw_check by) receipt.raw) (λ b. IsWritable b × GavePublished f two two_now (mark_by by receipt.input) (mark_by (raw_check by) receipt.raw) (λ c. Took d out out_now (λ w. b ≡ c → IsConverted b receipt.counts w))))
       → IfErr outcome (λ h. StopsPublished judged_writable (fed f one one_now) (fed f two two_now ∷ []) (drained d out out_now) h.stop) → ReportsPublished outcome result
-      → Works (manner Pbfcutz false digests) f converting (one ∷ two ∷ []) (one_now ∷ two_now ∷ []) (d.has_taken out_now log) (WriteFailed d out out_now) result
+      → Works (manner Pbfcutz false digests) by f converting (one ∷ two ∷ []) (one_now ∷ two_now ∷ []) (d.has_taken out_now log) (WriteFailed d out out_now) result
   convert_published = two_published converting (λ receipt b. IsWritable b) (λ receipt b c w. b ≡ c → IsConverted b receipt.counts w) (λ receipt b c w p q. (p, q))
 
   pub copy_published : (one one_now two two_now : F) (outcome : Result PublishedInput PublishedHalt) (result : Result Report Halted) → AreFresh f (one ∷ two ∷ [])
-      → IfOk outcome (λ receipt. GavePublished f one one_now (Some receipt.input) (digest_if digests receipt.raw) (λ b. CountsFile (judged_file (Some b)) receipt.counts × GavePublished f two two_now (Some receipt.input) (digest_if digests receipt.raw) (λ c. Took d out out_now (λ w. w ≡ c))))
+      → IfOk outcome (λ receipt. GavePublished f one one_now (mark_by by receipt.input) (mark_by (raw_check by) receipt.raw) (λ b. CountsFile (judged_file (Some b)) receipt.counts × GavePublished f two two_now (mark_by by receipt.input) (mark_by (raw_check by) receipt.raw) (λ c. Took d out out_now (λ w. w ≡ c))))
       → IfErr outcome (λ h. StopsPublished judged_file (fed f one one_now) (fed f two two_now ∷ []) (drained d out out_now) h.stop) → ReportsPublished outcome result
-      → Works (manner Pbfcutz false digests) f copying (one ∷ two ∷ []) (one_now ∷ two_now ∷ []) (d.has_taken out_now log) (WriteFailed d out out_now) result
+      → Works (manner Pbfcutz false digests) by f copying (one ∷ two ∷ []) (one_now ∷ two_now ∷ []) (d.has_taken out_now log) (WriteFailed d out out_now) result
   copy_published = two_published copying (λ receipt b. CountsFile (judged_file (Some b)) receipt.counts) (λ receipt b c w. w ≡ c) (λ receipt b c w p q. (p, q))
 
   -- three passes
   pub extract_published : (area : AreaSpec) (one one_now two two_now three three_now : F) (outcome : Result PublishedInput PublishedHalt) (result : Result Report Halted) → AreFresh f (one ∷ two ∷ three ∷ [])
-      → ExtractsPublished (ways_in area) (fed f one one_now) (fed f two two_now) (fed f three three_now ∷ []) (drained d out out_now) digests outcome → ReportsPublished outcome result
-      → Works (manner Pbfcutz false digests) f (extracting area) (one ∷ two ∷ three ∷ []) (one_now ∷ two_now ∷ three_now ∷ []) (d.has_taken out_now log) (WriteFailed d out out_now) result
+      → ExtractsPublished (ways_in area) (fed f one one_now) (fed f two two_now) (fed f three three_now ∷ []) (drained d out out_now) by outcome → ReportsPublished outcome result
+      → Works (manner Pbfcutz false digests) by f (extracting area) (one ∷ two ∷ three ∷ []) (one_now ∷ two_now ∷ three_now ∷ []) (d.has_taken out_now log) (WriteFailed d out out_now) result
   extract_published area one one_now two two_now three three_now (Ok receipt) (Ok report) fresh extracts r =
-      let task = extracting area in
-      let first = gave_all f false digests (hashes_in task digests) receipt.input receipt.raw report.raw r.2 fresh.0.0 extracts.receipt in
-      let again = gave_after f false digests (hashes_in task digests) receipt.input receipt.raw report.raw r.2 fresh.1.0.0 first.holding.1 in
-      let last = gave_all f false digests (hashes_in task digests) receipt.input receipt.raw report.raw r.2 fresh.1.1.0.0 again.holding in
+      let first = gave f false digests by receipt.input receipt.raw report.raw r.2 fresh.0.0 extracts.receipt in
+      let again = gave_after f false digests by receipt.input receipt.raw report.raw r.2 fresh.1.0.0 first.holding.1 in
+      let last = gave f false digests by receipt.input receipt.raw report.raw r.2 fresh.1.1.0.0 again.holding in
       let took = last.holding in
       rw (r.0, r.1) record {
         files = first.file ∷ again.file ∷ last.file ∷ [];
@@ -133,14 +129,13 @@ module _ {F D : Type 0} (f : feed.Ghosts F) (d : drain.Ghosts D) (out out_now : 
 
   -- four passes
   pub extract_parents_published : (area : AreaSpec) (one one_now two two_now three three_now four four_now : F) (outcome : Result PublishedInput PublishedHalt) (result : Result Report Halted) → AreFresh f (one ∷ two ∷ three ∷ four ∷ [])
-      → ExtractsPublished (parents_in area) (fed f one one_now) (fed f two two_now) (fed f three three_now ∷ fed f four four_now ∷ []) (drained d out out_now) digests outcome → ReportsPublished outcome result
-      → Works (manner Pbfcutz false digests) f (extracting_parents area) (one ∷ two ∷ three ∷ four ∷ []) (one_now ∷ two_now ∷ three_now ∷ four_now ∷ []) (d.has_taken out_now log) (WriteFailed d out out_now) result
+      → ExtractsPublished (parents_in area) (fed f one one_now) (fed f two two_now) (fed f three three_now ∷ fed f four four_now ∷ []) (drained d out out_now) by outcome → ReportsPublished outcome result
+      → Works (manner Pbfcutz false digests) by f (extracting_parents area) (one ∷ two ∷ three ∷ four ∷ []) (one_now ∷ two_now ∷ three_now ∷ four_now ∷ []) (d.has_taken out_now log) (WriteFailed d out out_now) result
   extract_parents_published area one one_now two two_now three three_now four four_now (Ok receipt) (Ok report) fresh extracts r =
-      let task = extracting_parents area in
-      let first = gave_all f false digests (hashes_in task digests) receipt.input receipt.raw report.raw r.2 fresh.0.0 extracts.receipt in
-      let again = gave_after f false digests (hashes_in task digests) receipt.input receipt.raw report.raw r.2 fresh.1.0.0 first.holding.1 in
-      let third = gave_all f false digests (hashes_in task digests) receipt.input receipt.raw report.raw r.2 fresh.1.1.0.0 again.holding in
-      let last = gave_all f false digests (hashes_in task digests) receipt.input receipt.raw report.raw r.2 fresh.1.1.1.0.0 third.holding in
+      let first = gave f false digests by receipt.input receipt.raw report.raw r.2 fresh.0.0 extracts.receipt in
+      let again = gave_after f false digests by receipt.input receipt.raw report.raw r.2 fresh.1.0.0 first.holding.1 in
+      let third = gave f false digests by receipt.input receipt.raw report.raw r.2 fresh.1.1.0.0 again.holding in
+      let last = gave f false digests by receipt.input receipt.raw report.raw r.2 fresh.1.1.1.0.0 third.holding in
       let took = last.holding in
       rw (r.0, r.1) record {
         files = first.file ∷ again.file ∷ third.file ∷ last.file ∷ [];

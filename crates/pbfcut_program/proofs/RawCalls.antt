@@ -10,7 +10,8 @@ use Rattle.pbf_pass.specs.declared.receipt.Halt.{Halt}
 use Rattle.pbf_pass.specs.declared.receipt.Halt.TheVariants as halt
 use Rattle.pbf_pass.specs.declared.receipt.InputReceipt.{InputReceipt}
 use Rattle.pbf_pass.specs.Given.{GaveFile, Took}
-use Rattle.pbf_pass.specs.Hashing.{IsDigestOf, digest_if}
+use Rattle.pbf_pass.specs.Hashing.{IsDigestOf, Mark, mark_by, no_mark}
+use Rattle.pbf_pass.specs.declared.hashing.PassCheck.{PassCheck}
 use Rattle.pbf_pass.specs.HeaderLimit.{judged_writable}
 use Rattle.pbf_pass.specs.Judged.{judged_file}
 use Rattle.pbf_pass.specs.Pass.{CountsFile}
@@ -30,25 +31,21 @@ use Rattle.pbfcut_program.specs.Devices.{AreFresh, EndsFor, StopsFor, Gives, Giv
 use Rattle.pbfcut_program.specs.Fails.{EndsAsStop, UnlessPacked}
 use Rattle.pbfcut_program.specs.Manner.{AreDigests, manner, output_form}
 use Rattle.pbfcut_program.specs.Outcomes.{ReportsRaw}
-use Rattle.pbfcut_program.specs.Tasks.{Holds, Task, checking, hashes_in, showing, converting, copying, extracting, extracting_parents, judge_of}
+use Rattle.pbfcut_program.specs.Tasks.{Holds, Task, checking, showing, converting, copying, extracting, extracting_parents, judge_of}
 
 -- a call that halted
 abbrev Stopped : (X : Type 0) → Halt → Result X Halt
 Stopped X h = Err h
 
--- a digest of bytes is theirs, whether they are hashed or not
-pub digest_or_not : (hashes : Bool) (digest bytes : List ℕ) → IsDigestOf (Some digest) bytes → IsDigestOf (digest_if hashes digest) bytes
-digest_or_not hashes digest bytes h3 = grind arith
-
 module _ {F : Type 0} (f : feed.Ghosts F) where
-  gives_file : {digest : Option (List ℕ)} {holds : List ℕ → Type 0} {old now : F} (known : List ℕ → Type 0) → ((file : List ℕ) → IsDigestOf digest file → known file) → f.has_passed old 0 [] → (g : GaveFile f old now digest holds) → Gives f known now g.file
+  gives_file : {digest : Mark} {holds : List ℕ → Type 0} {old now : F} (known : List ℕ → Type 0) → ((file : List ℕ) → IsDigestOf digest file → known file) → f.has_passed old 0 [] → (g : GaveFile f old now digest holds) → Gives f known now g.file
   gives_file known is start g = record { passed = g.supplied.gave.logged 0 [] start; end = g.supplied.end; is_known = is g.file g.digest_is }
 
   -- of which nothing is known
-  gives_some : {holds : List ℕ → Type 0} {old now : F} → f.has_passed old 0 [] → (g : GaveFile f old now None holds) → Gives f (λ _. Unit {0}) now g.file
+  gives_some : {holds : List ℕ → Type 0} {old now : F} → f.has_passed old 0 [] → (g : GaveFile f old now no_mark holds) → Gives f (λ _. Unit {0}) now g.file
   gives_some start g = gives_file (λ _. Unit {0}) (λ _ _. tt) start g
 
-  gives_faulty : {hashes : Bool} (judge : Option (List ℕ) → Option Verdict) {old now : F} (r : _) → f.has_passed old 0 [] → RefusesFile f old now hashes (λ b. judge (Some b)) r → GivesFaulty f judge r.fault now
+  gives_faulty : {by : PassCheck} (judge : Option (List ℕ) → Option Verdict) {old now : F} (r : _) → f.has_passed old 0 [] → RefusesFile f old now by (λ b. judge (Some b)) r → GivesFaulty f judge r.fault now
   gives_faulty judge r start x = record { bytes = x.bytes.read; passed = x.bytes.logged 0 [] start; faulty = x.bytes.faulty }
 
   gives_other : (old now : F) (file : List ℕ) → f.has_passed old 0 [] → GaveOther f old now file → GivesOther f file now
@@ -60,18 +57,18 @@ reported_ends f judge olds news nothing failed h halted e stops = (stop_of h, su
 
 -- ---- one pass
 
-module _ {F : Type 0} (f : feed.Ghosts F) (packs digests : Bool) (one one_now : F) (fresh : AreFresh f (one ∷ [])) where
-  check_ends : (failed : Type 0) (h : Halt) → EndsJudging f one one_now digests (Stopped InputReceipt h) → StopsFor Pbfcut f judged_file (one ∷ []) (one_now ∷ []) (◌≡◌ {A = List ℕ} [] []) failed (stop_of h)
+module _ {F : Type 0} (f : feed.Ghosts F) (packs digests : Bool) (by : PassCheck) (one one_now : F) (fresh : AreFresh f (one ∷ [])) where
+  check_ends : (failed : Type 0) (h : Halt) → EndsJudging f one one_now by (Stopped InputReceipt h) → StopsFor Pbfcut f judged_file (one ∷ []) (one_now ∷ []) (◌≡◌ {A = List ℕ} [] []) failed (stop_of h)
   check_ends failed h h2 = grind (arith, gives_faulty)
 
   pub check_works : (outcome : Result InputReceipt Halt) (result : Result Report Halted)
-      → IfOk outcome (λ receipt. GaveFile f one one_now (digest_if digests receipt.input) (λ file. CountsFile (judged_file (Some file)) receipt.counts)) → EndsJudging f one one_now digests outcome → ReportsRaw outcome result
-      → Works (manner Pbfcut packs digests) f checking (one ∷ []) (one_now ∷ []) (λ took. took ≡ []) ⊥ result
+      → IfOk outcome (λ receipt. GaveFile f one one_now (mark_by by receipt.input) (λ file. CountsFile (judged_file (Some file)) receipt.counts)) → EndsJudging f one one_now by outcome → ReportsRaw outcome result
+      → Works (manner Pbfcut packs digests) by f checking (one ∷ []) (one_now ∷ []) (λ took. took ≡ []) ⊥ result
   check_works (Ok receipt) (Ok report) given ends r =
       rw (r.0, r.1) record {
         files = given.file ∷ [];
         written = [];
-        gave = (gives_file f (AreDigests (manner Pbfcut packs digests) digests receipt.input report.raw) (λ file is. (is, r.2)) fresh.0.0 given, tt);
+        gave = (gives_file f (AreDigests (manner Pbfcut packs digests) by receipt.input report.raw) (λ file is. (is, r.2)) fresh.0.0 given, tt);
         took_them = refl;
         holds = given.holding;
       }
@@ -80,13 +77,13 @@ module _ {F : Type 0} (f : feed.Ghosts F) (packs digests : Bool) (one one_now : 
 
 -- ---- more passes
 
-module _ {F D : Type 0} (f : feed.Ghosts F) (d : drain.Ghosts D) (out out_now : D) (digests : Bool) (log : ℕ) (start : d.has_taken out log []) where
+module _ {F D : Type 0} (f : feed.Ghosts F) (d : drain.Ghosts D) (out out_now : D) (digests : Bool) (by : PassCheck) (log : ℕ) (start : d.has_taken out log []) where
   -- what is known of a file that was read
-  abbrev Known : Task → List ℕ → Option (List ℕ) → List ℕ → Type 0
-  Known task input raw = AreDigests (manner Pbfcut false digests) (hashes_in task digests) input raw
+  abbrev Known : List ℕ → Option (List ℕ) → List ℕ → Type 0
+  Known input raw = AreDigests (manner Pbfcut false digests) by input raw
 
-  known_of : (task : Task) (input : List ℕ) (raw : Option (List ℕ)) → raw ≡ None → (file : List ℕ) → IsDigestOf (Some input) file → Known task input raw file
-  known_of task input raw none file is = (digest_or_not (hashes_in task digests) input file is, none)
+  known_of : (input : List ℕ) (raw : Option (List ℕ)) → raw ≡ None → (file : List ℕ) → IsDigestOf (mark_by by input) file → Known input raw file
+  known_of input raw none file is = (is, none)
 
   -- why a call stops
   module _ (one one_now : F) (fresh_one : f.has_passed one 0 []) where
@@ -116,7 +113,7 @@ module _ {F D : Type 0} (f : feed.Ghosts F) (d : drain.Ghosts D) (out out_now : 
         let m = found pass (number + 1) later fresh.1 c in
         record { file = m.file; first = m.first; at = suc m.at; pass_is = omega (arith, m.pass_is); other = m.other; last = elim m.last [ inl e ↦ inl (omega (arith, e)) | inr none ↦ inr none ] }
 
-    call_ends : (judge : Option (List ℕ) → Option Verdict) (later : List (F × F)) (h : Halt) → AreFresh f (olds later) → EndsPasses judge (fed f one one_now) (used f (olds later) (news later)) (drained d out out_now) true (Stopped InputReceipt h)
+    call_ends : (judge : Option (List ℕ) → Option Verdict) (later : List (F × F)) (h : Halt) → AreFresh f (olds later) → EndsPasses judge (fed f one one_now) (used f (olds later) (news later)) (drained d out out_now) by (Stopped InputReceipt h)
         → StopsFor Pbfcut f judge (one ∷ olds later) (one_now ∷ news later) (d.has_taken out_now log []) (WriteFailed d out out_now) (stop_of h)
     call_ends judge later (halt.Refused r) fresh ends = (gives_faulty f judge r fresh_one ends.refused.0, ends.refused.1.logged log [] start)
     call_ends judge later (halt.Stopped (stop.Refused e)) fresh ends = absurd (ends.refused e refl)
@@ -129,12 +126,12 @@ module _ {F D : Type 0} (f : feed.Ghosts F) (d : drain.Ghosts D) (out out_now : 
   two_works : (task : Task) (P : InputReceipt → List ℕ → Type 0) (Q : InputReceipt → (b c w : List ℕ) → Type 0)
       → ((receipt : InputReceipt) (b c w : List ℕ) → P receipt b → Q receipt b c w → Holds task (b ∷ c ∷ []) receipt.counts w)
       → (one one_now two two_now : F) (outcome : Result InputReceipt Halt) (result : Result Report Halted) → AreFresh f (one ∷ two ∷ [])
-      → IfOk outcome (λ receipt. GaveFile f one one_now (Some receipt.input) (λ b. P receipt b × GaveFile f two two_now (Some receipt.input) (λ c. Took d out out_now (λ w. Q receipt b c w))))
-      → EndsPasses (judge_of task) (fed f one one_now) (fed f two two_now ∷ []) (drained d out out_now) true outcome → ReportsRaw outcome result
-      → Works (manner Pbfcut false digests) f task (one ∷ two ∷ []) (one_now ∷ two_now ∷ []) (d.has_taken out_now log) (WriteFailed d out out_now) result
+      → IfOk outcome (λ receipt. GaveFile f one one_now (mark_by by receipt.input) (λ b. P receipt b × GaveFile f two two_now (mark_by by receipt.input) (λ c. Took d out out_now (λ w. Q receipt b c w))))
+      → EndsPasses (judge_of task) (fed f one one_now) (fed f two two_now ∷ []) (drained d out out_now) by outcome → ReportsRaw outcome result
+      → Works (manner Pbfcut false digests) by f task (one ∷ two ∷ []) (one_now ∷ two_now ∷ []) (d.has_taken out_now log) (WriteFailed d out out_now) result
   two_works task P Q meant one one_now two two_now (Ok receipt) (Ok report) fresh given ends r =
       let again = given.holding.1 in let took = again.holding in
-      let known = Known task receipt.input report.raw in let is = known_of task receipt.input report.raw r.2 in
+      let known = Known receipt.input report.raw in let is = known_of receipt.input report.raw r.2 in
       rw (r.0, r.1) record {
         files = given.file ∷ again.file ∷ [];
         written = took.written;
@@ -147,35 +144,35 @@ module _ {F D : Type 0} (f : feed.Ghosts F) (d : drain.Ghosts D) (out out_now : 
   two_works task P Q meant one one_now two two_now _ _ fresh given ends r = absurd r
 
   pub show_works : (dates : Bool) (one one_now two two_now : F) (outcome : Result InputReceipt Halt) (result : Result Report Halted) → AreFresh f (one ∷ two ∷ [])
-      → IfOk outcome (λ receipt. GaveFile f one one_now (Some receipt.input) (λ b. CountsFile (judged_file (Some b)) receipt.counts × GaveFile f two two_now (Some receipt.input) (λ c. Took d out out_now (Shown dates (judged_file (Some c))))))
-      → EndsPasses judged_file (fed f one one_now) (fed f two two_now ∷ []) (drained d out out_now) true outcome → ReportsRaw outcome result
-      → Works (manner Pbfcut false digests) f (showing dates) (one ∷ two ∷ []) (one_now ∷ two_now ∷ []) (d.has_taken out_now log) (WriteFailed d out out_now) result
+      → IfOk outcome (λ receipt. GaveFile f one one_now (mark_by by receipt.input) (λ b. CountsFile (judged_file (Some b)) receipt.counts × GaveFile f two two_now (mark_by by receipt.input) (λ c. Took d out out_now (Shown dates (judged_file (Some c))))))
+      → EndsPasses judged_file (fed f one one_now) (fed f two two_now ∷ []) (drained d out out_now) by outcome → ReportsRaw outcome result
+      → Works (manner Pbfcut false digests) by f (showing dates) (one ∷ two ∷ []) (one_now ∷ two_now ∷ []) (d.has_taken out_now log) (WriteFailed d out out_now) result
   show_works dates = two_works (showing dates) (λ receipt b. CountsFile (judged_file (Some b)) receipt.counts) (λ receipt b c w. Shown dates (judged_file (Some c)) w) (λ receipt b c w p q. (p, q))
 
   pub convert_works : (one one_now two two_now : F) (outcome : Result InputReceipt Halt) (result : Result Report Halted) → AreFresh f (one ∷ two ∷ [])
-      → IfOk outcome (λ receipt. GaveFile f one one_now (Some receipt.input) (λ b. IsWritable b × GaveFile f two two_now (Some receipt.input) (λ c. Took d out out_now (λ w. b ≡ c → IsConverted b receipt.counts w))))
-      → EndsPasses judged_writable (fed f one one_now) (fed f two two_now ∷ []) (drained d out out_now) true outcome → ReportsRaw outcome result
-      → Works (manner Pbfcut false digests) f converting (one ∷ two ∷ []) (one_now ∷ two_now ∷ []) (d.has_taken out_now log) (WriteFailed d out out_now) result
+      → IfOk outcome (λ receipt. GaveFile f one one_now (mark_by by receipt.input) (λ b. IsWritable b × GaveFile f two two_now (mark_by by receipt.input) (λ c. Took d out out_now (λ w. b ≡ c → IsConverted b receipt.counts w))))
+      → EndsPasses judged_writable (fed f one one_now) (fed f two two_now ∷ []) (drained d out out_now) by outcome → ReportsRaw outcome result
+      → Works (manner Pbfcut false digests) by f converting (one ∷ two ∷ []) (one_now ∷ two_now ∷ []) (d.has_taken out_now log) (WriteFailed d out out_now) result
   convert_works = two_works converting (λ receipt b. IsWritable b) (λ receipt b c w. b ≡ c → IsConverted b receipt.counts w) (λ receipt b c w p q. (p, q))
 
   pub copy_works : (one one_now two two_now : F) (outcome : Result InputReceipt Halt) (result : Result Report Halted) → AreFresh f (one ∷ two ∷ [])
-      → IfOk outcome (λ receipt. GaveFile f one one_now (Some receipt.input) (λ b. CountsFile (judged_file (Some b)) receipt.counts × GaveFile f two two_now (Some receipt.input) (λ c. Took d out out_now (λ w. w ≡ c))))
-      → EndsPasses judged_file (fed f one one_now) (fed f two two_now ∷ []) (drained d out out_now) true outcome → ReportsRaw outcome result
-      → Works (manner Pbfcut false digests) f copying (one ∷ two ∷ []) (one_now ∷ two_now ∷ []) (d.has_taken out_now log) (WriteFailed d out out_now) result
+      → IfOk outcome (λ receipt. GaveFile f one one_now (mark_by by receipt.input) (λ b. CountsFile (judged_file (Some b)) receipt.counts × GaveFile f two two_now (mark_by by receipt.input) (λ c. Took d out out_now (λ w. w ≡ c))))
+      → EndsPasses judged_file (fed f one one_now) (fed f two two_now ∷ []) (drained d out out_now) by outcome → ReportsRaw outcome result
+      → Works (manner Pbfcut false digests) by f copying (one ∷ two ∷ []) (one_now ∷ two_now ∷ []) (d.has_taken out_now log) (WriteFailed d out out_now) result
   copy_works = two_works copying (λ receipt b. CountsFile (judged_file (Some b)) receipt.counts) (λ receipt b c w. w ≡ c) (λ receipt b c w p q. (p, q))
 
   -- the second pass, which may have been spared
-  later_of : (digest : Option (List ℕ)) {first : List ℕ} {holds : List ℕ → Type 0} (known : List ℕ → Type 0) → ((file : List ℕ) → IsDigestOf digest file → known file) → (spared : Bool) (old now : F) → f.has_passed old 0 [] → GaveOrNot (fed f old now) spared digest first holds
+  later_of : (digest : Mark) {first : List ℕ} {holds : List ℕ → Type 0} (known : List ℕ → Type 0) → ((file : List ℕ) → IsDigestOf digest file → known file) → (spared : Bool) (old now : F) → f.has_passed old 0 [] → GaveOrNot (fed f old now) spared digest first holds
       → (file : List ℕ) × GivesOrNot f known true first old now file × holds file
   later_of digest known h2 spared old now h6 h7 = grind (arith, gives_file)
 
   -- three passes
   pub extract_works : (area : AreaSpec) (one one_now two two_now three three_now : F) (outcome : Result InputReceipt Halt) (result : Result Report Halted) → AreFresh f (one ∷ two ∷ three ∷ [])
-      → Extracts (ways_in area) (fed f one one_now) (fed f two two_now) (fed f three three_now ∷ []) (drained d out out_now) true outcome → ReportsRaw outcome result
-      → Works (manner Pbfcut false digests) f (extracting area) (one ∷ two ∷ three ∷ []) (one_now ∷ two_now ∷ three_now ∷ []) (d.has_taken out_now log) (WriteFailed d out out_now) result
+      → Extracts (ways_in area) (fed f one one_now) (fed f two two_now) (fed f three three_now ∷ []) (drained d out out_now) by outcome → ReportsRaw outcome result
+      → Works (manner Pbfcut false digests) by f (extracting area) (one ∷ two ∷ three ∷ []) (one_now ∷ two_now ∷ three_now ∷ []) (d.has_taken out_now log) (WriteFailed d out out_now) result
   extract_works area one one_now two two_now three three_now (Ok receipt) (Ok report) fresh extracts r =
-      let known = Known (extracting area) receipt.input report.raw in let is = known_of (extracting area) receipt.input report.raw r.2 in
-      let again = later_of (Some receipt.input) known is receipt.spared two two_now fresh.1.0.0 extracts.receipt.holding.1 in let last = again.2 in let took = last.holding in
+      let known = Known receipt.input report.raw in let is = known_of receipt.input report.raw r.2 in
+      let again = later_of (mark_by by receipt.input) known is receipt.spared two two_now fresh.1.0.0 extracts.receipt.holding.1 in let last = again.2 in let took = last.holding in
       rw (r.0, r.1) record {
         files = extracts.receipt.file ∷ again.0 ∷ last.file ∷ [];
         written = took.written;
@@ -189,11 +186,11 @@ module _ {F D : Type 0} (f : feed.Ghosts F) (d : drain.Ghosts D) (out out_now : 
 
   -- four passes
   pub extract_parents_works : (area : AreaSpec) (one one_now two two_now three three_now four four_now : F) (outcome : Result InputReceipt Halt) (result : Result Report Halted) → AreFresh f (one ∷ two ∷ three ∷ four ∷ [])
-      → Extracts (parents_in area) (fed f one one_now) (fed f two two_now) (fed f three three_now ∷ fed f four four_now ∷ []) (drained d out out_now) true outcome → ReportsRaw outcome result
-      → Works (manner Pbfcut false digests) f (extracting_parents area) (one ∷ two ∷ three ∷ four ∷ []) (one_now ∷ two_now ∷ three_now ∷ four_now ∷ []) (d.has_taken out_now log) (WriteFailed d out out_now) result
+      → Extracts (parents_in area) (fed f one one_now) (fed f two two_now) (fed f three three_now ∷ fed f four four_now ∷ []) (drained d out out_now) by outcome → ReportsRaw outcome result
+      → Works (manner Pbfcut false digests) by f (extracting_parents area) (one ∷ two ∷ three ∷ four ∷ []) (one_now ∷ two_now ∷ three_now ∷ four_now ∷ []) (d.has_taken out_now log) (WriteFailed d out out_now) result
   extract_parents_works area one one_now two two_now three three_now four four_now (Ok receipt) (Ok report) fresh extracts r =
-      let known = Known (extracting_parents area) receipt.input report.raw in let is = known_of (extracting_parents area) receipt.input report.raw r.2 in
-      let again = later_of (Some receipt.input) known is receipt.spared two two_now fresh.1.0.0 extracts.receipt.holding.1 in let third = again.2 in let last = third.holding in let took = last.holding in
+      let known = Known receipt.input report.raw in let is = known_of receipt.input report.raw r.2 in
+      let again = later_of (mark_by by receipt.input) known is receipt.spared two two_now fresh.1.0.0 extracts.receipt.holding.1 in let third = again.2 in let last = third.holding in let took = last.holding in
       rw (r.0, r.1) record {
         files = extracts.receipt.file ∷ again.0 ∷ third.file ∷ last.file ∷ [];
         written = took.written;

@@ -6,6 +6,7 @@ use Rattle.pbf_frame.specs.declared.device.Feed as feed
 use Rattle.pbf_frame.specs.declared.device.Drain as drain
 use Rattle.pbf_frame.specs.declared.stop.Stop.TheVariants as stop
 use Rattle.pbf_frame.specs.Verdict.{Verdict}
+use Rattle.pbf_pass.specs.declared.hashing.PassCheck.{PassCheck}
 use Rattle.pbf_unpack.specs.declared.drain.PackedDrain.{PackedDrain}
 use Rattle.pbf_unpack.specs.Packing.{HasPacked, frame_held}
 use Rattle.pbf_unpack.specs.Unpacked.{Unpacked}
@@ -34,14 +35,14 @@ module _ {F : Type 0} (f : feed.Ghosts F) (nothing none : Type 0) (n : nothing �
   ends_weaker program judge failed risen how olds news r e = (e.0, e.1, caused_weaker _ _ _ _ _ _ _ _ e.0 (λ x c. (c.0, n c.1)) (λ a. a) r (λ p c. change_weaker program p olds news c) e.2)
 
 -- a drain below may have taken other bytes for what a drain took, which mean the same
-pub works_weaker : (program : Program) (packs digests : Bool) {F : Type 0} (f : feed.Ghosts F) (task : Task) (olds news : List F) (took taken : List ℕ → Type 0) (failed risen : Type 0) (result : Result Report Halted)
-    → ((w : List ℕ) → took w → taken w) → (failed → risen) → Works (manner program packs digests) f task olds news took failed result → Works (manner program packs digests) f task olds news taken risen result
-works_weaker program packs digests f task olds news took taken failed risen result h12 h13 h14 = grind (arith, ends_weaker, unless_packed)
+pub works_weaker : (program : Program) (packs digests : Bool) (by : PassCheck) {F : Type 0} (f : feed.Ghosts F) (task : Task) (olds news : List F) (took taken : List ℕ → Type 0) (failed risen : Type 0) (result : Result Report Halted)
+    → ((w : List ℕ) → took w → taken w) → (failed → risen) → Works (manner program packs digests) by f task olds news took failed result → Works (manner program packs digests) by f task olds news taken risen result
+works_weaker program packs digests by f task olds news took taken failed risen result h12 h13 h14 = grind (arith, ends_weaker, unless_packed)
 
 -- raw blobs are what OUT gets
-pub works_raw : (program : Program) (packs digests : Bool) {F : Type 0} (f : feed.Ghosts F) (task : Task) (olds news : List F) (took : List ℕ → Type 0) (failed : Type 0) (result : Result Report Halted) → output_form packs program ≡ raw_file
-    → Works (manner program false digests) f task olds news took failed result → Works (manner program packs digests) f task olds news took failed result
-works_raw program packs digests f task olds news took failed result h10 h11 = grind arith
+pub works_raw : (program : Program) (packs digests : Bool) (by : PassCheck) {F : Type 0} (f : feed.Ghosts F) (task : Task) (olds news : List F) (took : List ℕ → Type 0) (failed : Type 0) (result : Result Report Halted) → output_form packs program ≡ raw_file
+    → Works (manner program false digests) by f task olds news took failed result → Works (manner program packs digests) by f task olds news took failed result
+works_raw program packs digests by f task olds news took failed result h10 h11 = grind arith
 
 -- ---- a drain that packs
 
@@ -53,7 +54,7 @@ first_none (x ∷ xs) ys is = (let bad : ⊥ = cc in absurd bad)
 none_packed : {D : Type 0} {d : drain.Ghosts D} (p : PackedDrain D d) (log : ℕ) → HasPacked p log [] → d.has_taken p.below.drain log []
 none_packed {d = d} p log has = grind (arith, packed_means has.done has.packed has.means, d.has_taken p.below.drain log, means_none 0 has.packed ((ap (λ (u : Unpacked). u.0) (packed_means has.done has.packed has.means)) ∙ first_none has.done (frame_held p.frame) has.split), first_none has.done (frame_held p.frame) has.split)
 
-module _ (digests : Bool) {F D : Type 0} (f : feed.Ghosts F) {d : drain.Ghosts D} (mid new : PackedDrain D d) (digest : Option (List ℕ)) (task : Task) (olds news : List F) (failed risen : Type 0) where
+module _ (digests : Bool) (by : PassCheck) {F D : Type 0} (f : feed.Ghosts F) {d : drain.Ghosts D} (mid new : PackedDrain D d) (digest : Option (List ℕ)) (task : Task) (olds news : List F) (failed risen : Type 0) where
   -- what a drain took that packs, and what OUT took once it was finished
   abbrev Above : List ℕ → Type 0
   Above w = HasPacked mid 0 w × IfSome digest (λ known. known ≡ sha256 w)
@@ -77,7 +78,7 @@ module _ (digests : Bool) {F D : Type 0} (f : feed.Ghosts F) {d : drain.Ghosts D
   same_packed how same h2 h3 h4 = grind (arith, ends_weaker, nothing_below, memory_packed)
 
   -- zlib blobs are what OUT gets, by a drain that was finished
-  pub works_packed : (packs : Bool) (returned result : Result Report Halted) → packs ≡ true → FinishesPacked mid new returned result → Works (manner Pbfcutz false digests) f task olds news Above failed returned → Works (manner Pbfcutz packs digests) f task olds news Below risen result
+  pub works_packed : (packs : Bool) (returned result : Result Report Halted) → packs ≡ true → FinishesPacked mid new returned result → Works (manner Pbfcutz false digests) by f task olds news Above failed returned → Works (manner Pbfcutz packs digests) by f task olds news Below risen result
   works_packed false returned result is fin works = (let bad : ⊥ = cc in absurd bad)
   works_packed true (Ok report) (Ok same) is fin works =
       let p = fin.1.logged 0 works.written works.took_them.0 in

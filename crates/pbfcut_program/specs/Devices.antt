@@ -12,6 +12,7 @@ use Rattle.pbf_published.specs.Published.{ChangedOf}
 use Rattle.pbf_unpack.specs.declared.drain.PackedDrain.{PackedDrain}
 use Rattle.pbf_unpack.specs.Packing.{GaveAll}
 use Rattle.pbf_wire.specs.declared.fault.Fault.{Fault}
+use Rattle.pbf_pass.specs.declared.hashing.PassCheck.{PassCheck}
 use Rattle.pbfcut.specs.Calls.{AllSupply, AnyFailed, FeedUse, fed}
 use Rattle.sha2.specs.Sha256.{sha256}
 use Rattle.pbfcut_cli.specs.declared.endings.Ending.{Ending}
@@ -24,7 +25,7 @@ use Rattle.pbfcut_program.specs.Events.{Event, read, wrote, then_one}
 use Rattle.pbfcut_program.specs.Fails.{EndsAsStop, FirstFault, UnlessPacked}
 use Rattle.pbfcut_program.specs.Manner.{AreDigests, Form, Manner, meant, of_input, of_output, output_form, packed_file}
 use Rattle.pbfcut_program.specs.Readings.{IsFaulty, IsOther}
-use Rattle.pbfcut_program.specs.Tasks.{Task, Holds, answer_of, hashes_in, judge_of, spares}
+use Rattle.pbfcut_program.specs.Tasks.{Task, Holds, answer_of, judge_of, spares}
 
 -- ---- devices of which nothing was read, and that took nothing
 
@@ -137,22 +138,22 @@ EndsFor program f judge olds news nothing failed how = (s : Stop) × EndsAsStop 
 
 -- ---- a call of the engine
 
--- what it reports of what went through its devices: its feeds gave files, its drain took these bytes, and what the task means holds of the raw files
+-- what it reports of what went through its devices: its feeds gave files, of one digest by its check; its drain took these bytes, and what the task means holds of the raw files
 -- that they mean
-pub record Reports {F : Type 0} (f : feed.Ghosts F) (m : Manner) (task : Task) (olds news : List F) (took : List ℕ → Type 0) (report : Report) : Type 0 where
+pub record Reports {F : Type 0} (f : feed.Ghosts F) (m : Manner) (by : PassCheck) (task : Task) (olds news : List F) (took : List ℕ → Type 0) (report : Report) : Type 0 where
   pub files : List (List ℕ)
   pub written : List ℕ
-  pub gave : GiveAll f (AreDigests m (hashes_in task m.digests) report.input report.raw) (spares task) olds news files
+  pub gave : GiveAll f (AreDigests m by report.input report.raw) (spares task) olds news files
   pub took_them : took written
   pub holds : Holds task (map (of_input m) files) report.counts (of_output m written)
 
-abbrev pub Works : {F : Type 0} → Manner → feed.Ghosts F → Task → (olds news : List F) → (took : List ℕ → Type 0) → (failed : Type 0) → Result Report Halted → Type 0
-Works m f task olds news took failed (Ok report) = Reports f m task olds news took report
-Works m f task olds news took failed (Err halted) = EndsFor m.program f (judge_of task) olds news (took []) (UnlessPacked (output_form m.packs m.program) failed) halted.ending
+abbrev pub Works : {F : Type 0} → Manner → PassCheck → feed.Ghosts F → Task → (olds news : List F) → (took : List ℕ → Type 0) → (failed : Type 0) → Result Report Halted → Type 0
+Works m by f task olds news took failed (Ok report) = Reports f m by task olds news took report
+Works m by f task olds news took failed (Err halted) = EndsFor m.program f (judge_of task) olds news (took []) (UnlessPacked (output_form m.packs m.program) failed) halted.ending
 
 -- if nothing was read of the feeds: by each log by which the drain had taken nothing
-abbrev pub WorksOn : {F D : Type 0} → Manner → feed.Ghosts F → drain.Ghosts D → Task → (olds news : List F) → (old new : D) → Result Report Halted → Type 0
-WorksOn m f d task olds news old new result = AreFresh f olds → (log : ℕ) → d.has_taken old log [] → Works m f task olds news (d.has_taken new log) (WriteFailed d old new) result
+abbrev pub WorksOn : {F D : Type 0} → Manner → PassCheck → feed.Ghosts F → drain.Ghosts D → Task → (olds news : List F) → (old new : D) → Result Report Halted → Type 0
+WorksOn m by f d task olds news old new result = AreFresh f olds → (log : ℕ) → d.has_taken old log [] → Works m by f task olds news (d.has_taken new log) (WriteFailed d old new) result
 
 -- a call stopped: if its feeds had the same bytes, a prefix of what the task makes of the raw file that they mean went out
 abbrev pub Fronts : {A : Type 0} → Form → Task → (has : List (Option (List ℕ))) → (before after : Option (List ℕ)) → Result A Halted → Type 0

@@ -26,8 +26,8 @@ pub data Event : Type 0 where
   -- IN is opened for this pass, and has these bytes, if the host reports them; or it isn't
   opened : (path : List ℕ) → (pass : ℕ) → (has : Option (List ℕ)) → Event
   not_opened : (path : List ℕ) → OpenFault → Event
-  -- a seed is drawn, if there is one
-  seeded : (there : Bool) → Event
+  -- a seed is drawn, with this key; or it isn't
+  seeded : (key : Option ℕ) → Event
   -- OUT is created, or isn't
   created : (path : List ℕ) → Event
   not_created : (path : List ℕ) → Event

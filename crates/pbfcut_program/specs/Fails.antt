@@ -1,5 +1,5 @@
 -- Why a command fails, by what happened.
-use Rattle.std.specs.Prelude.{◌≡◌, ◌⊎◌, ℕ, ◌+◌, ◌<◌, List, [], ◌∷◌, ◌++◌, length, true, false, Option, Err}
+use Rattle.std.specs.Prelude.{◌≡◌, ◌⊎◌, ℕ, ◌+◌, ◌<◌, List, [], ◌∷◌, ◌++◌, length, true, false, Option, None, Err}
 use Rattle.osm_polygon.specs.declared.fault.PolyFault.{PolyFault}
 use Rattle.osm_polygon.specs.Texts.{polygons_of_text}
 use Rattle.pbf_wire.specs.declared.fault.Fault.{Fault}
@@ -43,7 +43,7 @@ abbrev pub FailsToOpen : Event → Type 0
 FailsToOpen (text_not_read path) = Unit {0}
 FailsToOpen (not_opened path Failed) = Unit {0}
 FailsToOpen (not_created path) = Unit {0}
-FailsToOpen (seeded there) = there ≡ false
+FailsToOpen (seeded key) = key ≡ None
 FailsToOpen _ = ⊥
 
 abbrev pub FailsAsPipe : Event → Type 0

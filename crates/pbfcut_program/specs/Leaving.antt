@@ -1,6 +1,7 @@
 -- What a command that writes leaves in OUT if it fails.
 use Rattle.std.specs.Prelude.{◌≡◌, ◌⊎◌, ℕ, List, ◌∷◌, ◌++◌, map, take, true, Option}
 use Rattle.pbf_block.specs.declared.counts.Counts.{Counts}
+use Rattle.pbf_pass.specs.declared.hashing.PassCheck.{PassCheck}
 use Rattle.pbfcut_program.specs.Events.{Event, Reading, Writing, read, wrote}
 use Rattle.pbfcut_program.specs.Fails.{Each, Opens, UnlessPacked}
 use Rattle.pbfcut_program.specs.Manner.{Manner, of_input, output_form}
@@ -20,10 +21,11 @@ pub record IsWorked (m : Manner) (task : Task) (events : List Event) : Type 0 wh
   pub out : Writing
   pub after : List Event
   pub happened : events ≡ before ++ (map read rs ++ wrote out ∷ after)
+  pub by : PassCheck
   pub counts : Counts
   pub digest : List ℕ
   pub raw : Option (List ℕ)
-  pub work : IsWork m task rs out.bytes counts digest raw
+  pub work : IsWork m by task rs out.bytes counts digest raw
 
 -- OUT took a prefix of the answer, if IN has the same bytes for each pass, and raw blobs are written; or all of it
 abbrev pub Leaves : Manner → Task → (has : List (Option (List ℕ))) → List Event → Type 0

@@ -1,7 +1,9 @@
 -- How a program does a command, and what the bytes of IN and of OUT mean by that.
 use Rattle.std.specs.Prelude.{◌≡◌, ℕ, List, Bool, true, false, Option, Some, None}
 use Rattle.std.specs.Option.{option_map}
-use Rattle.pbf_pass.specs.Hashing.{IsDigestOf, digest_if}
+use Rattle.pbf_pass.specs.Hashing.{IsDigestOf, mark_by, raw_check}
+use Rattle.pbf_pass.specs.declared.hashing.PassCheck.{PassCheck}
+use Rattle.pbf_pass.specs.declared.hashing.PassCheck.TheVariants as check
 use Rattle.pbf_unpack.specs.Unpacked.{unpacked}
 use Rattle.pbfcut_cli.specs.declared.programs.Program.{Program}
 use Rattle.pbfcut_cli.specs.declared.programs.Program.TheVariants.{Pbfcut, Pbfcutz}
@@ -59,11 +61,29 @@ abbrev pub hashes_meaning : Form → (digests : Bool) → Bool
 hashes_meaning raw_file digests = false
 hashes_meaning packed_file digests = digests
 
--- the digest of the raw file that bytes mean, if it isn't those bytes, and is hashed
-abbrev pub IsMeaningDigest : Form → (hashes : Bool) → Option (List ℕ) → (bytes : List ℕ) → Type 0
-IsMeaningDigest raw_file hashes raw bytes = raw ≡ None
-IsMeaningDigest packed_file hashes raw bytes = (known : List ℕ) × (raw ≡ Some known) × IsDigestOf (digest_if hashes known) (unpacked bytes)
+-- what passes that have to read the same bytes are compared by: the digests that are printed; if none are, by pbfcutz the keyed hash of
+-- the key that was drawn
+abbrev pub check_by : (digests : Bool) → Program → (key : ℕ) → PassCheck
+check_by true program key = check.Sha256
+check_by false Pbfcut key = check.Sha256
+check_by false Pbfcutz key = check.Keyed key
 
--- the digests that are reported of a file: of its bytes, if they are hashed, and of the raw file that they mean
-abbrev pub AreDigests : Manner → (hashes : Bool) → (digest : List ℕ) → (raw : Option (List ℕ)) → (file : List ℕ) → Type 0
-AreDigests m hashes digest raw file = IsDigestOf (digest_if hashes digest) file × IsMeaningDigest (input_form m.program) m.digests raw file
+abbrev pub check_of : Manner → (key : ℕ) → PassCheck
+check_of m key = check_by m.digests m.program key
+
+abbrev pub check_in : Engine → (key : ℕ) → PassCheck
+check_in engine key = check_of (manner_of engine) key
+
+-- what one pass is hashed by: only for the digest that is printed
+abbrev pub once_check : (digests : Bool) → PassCheck
+once_check true = check.Sha256
+once_check false = check.None
+
+-- the digest of the raw file that bytes mean, if it isn't those bytes, by what says it of that
+abbrev pub IsMeaningDigest : Form → PassCheck → Option (List ℕ) → (bytes : List ℕ) → Type 0
+IsMeaningDigest raw_file by raw bytes = raw ≡ None
+IsMeaningDigest packed_file by raw bytes = (known : List ℕ) × (raw ≡ Some known) × IsDigestOf (mark_by (raw_check by) known) (unpacked bytes)
+
+-- the digests that are reported of a file by a check: of its bytes, and of the raw file that they mean
+abbrev pub AreDigests : Manner → PassCheck → (digest : List ℕ) → (raw : Option (List ℕ)) → (file : List ℕ) → Type 0
+AreDigests m by digest raw file = IsDigestOf (mark_by by digest) file × IsMeaningDigest (input_form m.program) by raw file

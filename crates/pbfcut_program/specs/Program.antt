@@ -37,7 +37,7 @@ use Rattle.pbfcut_program.specs.declared.host.Screen.TheVariants.{Output, Error}
 use Rattle.pbfcut_program.specs.Events.{Event, text_read, looked, opened, seeded, created, screened, read, wrote, printed, told, advised, Reading, Writing}
 use Rattle.pbfcut_program.specs.Fails.{Each, FailsFor, Judging, Quiet, judging, listing, printing}
 use Rattle.pbfcut_program.specs.Leaving.{LeavesFor}
-use Rattle.pbfcut_program.specs.Manner.{Manner, hashes_meaning, input_form, manner, meant_known, of_output, output_form, packed_file, to_raw}
+use Rattle.pbfcut_program.specs.Manner.{Manner, check_of, hashes_meaning, input_form, manner, meant_known, of_output, once_check, output_form, packed_file, to_raw}
 use Rattle.pbfcut_program.specs.Readings.{IsWork}
 use Rattle.pbfcut_program.specs.Tasks.{Task, checking, listing_frames, showing, converting, copying, extracting, extracting_parents, passes_of}
 
@@ -86,20 +86,26 @@ pub record Checks (m : Manner) (input : List ℕ) (events : List Event) : Type 0
   pub digest : List ℕ
   pub raw : Option (List ℕ)
   pub happened : events ≡ opened input 1 has ∷ read first ∷ prints Output (counts_text counts ∷ check_lines m.digests digest raw input)
-  pub work : IsWork m checking (first ∷ []) [] counts digest raw
+  pub work : IsWork m (once_check m.digests) checking (first ∷ []) [] counts digest raw
+
+-- pbfcutz draws a key also where it draws nothing else
+abbrev pub draws : Program → (key : ℕ) → List Event
+draws Pbfcut key = []
+draws Pbfcutz key = seeded (Some key) ∷ []
 
 -- `show`: two passes were made, and all of the text went to standard output
 pub record Shows (m : Manner) (dates : Bool) (input : List ℕ) (events : List Event) : Type 0 where
   pub has : List (Option (List ℕ))
+  pub key : ℕ
   pub rs : List Reading
   pub out : Writing
   pub counts : Counts
   pub digest : List ℕ
   pub raw : Option (List ℕ)
-  pub happened : events ≡ openings input 1 has ++ screened true ∷ map read rs ++ wrote out ∷ []
+  pub happened : events ≡ openings input 1 has ++ draws m.program key ++ screened true ∷ map read rs ++ wrote out ∷ []
   pub passes : length has ≡ 2
   pub whole : out.out ≡ true
-  pub work : IsWork (to_raw m) (showing dates) rs out.bytes counts digest raw
+  pub work : IsWork (to_raw m) (check_of m key) (showing dates) rs out.bytes counts digest raw
 
 -- what went out are the lines of the frames of the raw file that IN means, as far as the host reports what it has
 abbrev pub IsListing : Program → Option (List ℕ) → List ℕ → Type 0
@@ -142,25 +148,26 @@ screen_of false = Output
 abbrev pub is_empty : Counts → Bool
 is_empty counts = counts.nodes == 0 && (counts.ways == 0 && counts.relations == 0)
 
--- a command that writes: OUT was not there, IN was opened for each pass, OUT was made, all that it took went out, and then these counts were
+-- a command that writes: OUT was not there, IN was opened for each pass, a key was drawn, OUT was made, all that it took went out, and then these counts were
 -- printed, with `--digests` also the digests
 pub record WritesCounts (m : Manner) (task : Task) (files : Files) (counts : Counts) (events : List Event) : Type 0 where
   pub has : List (Option (List ℕ))
   pub rs : List Reading
   pub out : Writing
+  pub key : ℕ
   pub digest : List ℕ
   pub raw : Option (List ℕ)
   pub known : Option (List ℕ)
   pub meaning : Option (List ℕ)
   pub happened : events ≡ looks (is_screen m.program files.output.now) files.output.now ++ openings files.input.now 1 has
-      ++ seeded true ∷ makes (is_screen m.program files.output.now) files.output.now ∷ map read rs
+      ++ seeded (Some key) ∷ makes (is_screen m.program files.output.now) files.output.now ∷ map read rs
       ++ wrote out ∷ prints (screen_of (is_screen m.program files.output.now))
       (counts_text counts ∷ done_lines known meaning digest raw files.input.now files.output.now)
   pub passes : length has ≡ passes_of task
   pub whole : out.out ≡ true
   pub hashed : known ≡ digest_if_asked m.digests out.bytes
   pub meaning_hashed : meaning ≡ digest_if_asked (hashes_meaning (output_form m.packs m.program) m.digests) (of_output m out.bytes)
-  pub work : IsWork m task rs out.bytes counts digest raw
+  pub work : IsWork m (check_of m key) task rs out.bytes counts digest raw
 
 abbrev pub Writes : Manner → Task → Files → List Event → Type 0
 Writes m task files events = (counts : Counts) × WritesCounts m task files counts events

@@ -4,10 +4,11 @@ use Rattle.pbf_block.specs.declared.counts.Counts.{Counts}
 use Rattle.pbf_frame.specs.Devices.{IsAtEnd}
 use Rattle.pbf_frame.specs.Verdict.{Verdict}
 use Rattle.pbf_pass.specs.Stops.{FaultOf}
+use Rattle.pbf_pass.specs.declared.hashing.PassCheck.{PassCheck}
 use Rattle.pbf_wire.specs.declared.fault.Fault.{Fault}
 use Rattle.pbfcut_program.specs.Events.{Reading}
 use Rattle.pbfcut_program.specs.Manner.{AreDigests, Manner, of_input, of_output}
-use Rattle.pbfcut_program.specs.Tasks.{Task, Holds, hashes_in, spares}
+use Rattle.pbfcut_program.specs.Tasks.{Task, Holds, spares}
 
 -- a pass read this file: all of IN, of which this is known
 pub record IsWhole (known : List ℕ → Type 0) (r : Reading) (file : List ℕ) : Type 0 where
@@ -29,10 +30,10 @@ abbrev pub ReadAll : (List ℕ → Type 0) → Bool → List Reading → List (L
 ReadAll known may (r ∷ rs) (b ∷ bs) = IsWhole known r b × ReadLater known may b rs bs
 ReadAll known may _ _ = ⊥
 
--- the passes read files, of one digest if they are hashed, and what the task means holds of the raw files that they and OUT mean
-pub record IsWork (m : Manner) (task : Task) (readings : List Reading) (written : List ℕ) (counts : Counts) (digest : List ℕ) (raw : Option (List ℕ)) : Type 0 where
+-- the passes read files, of one digest by this check, and what the task means holds of the raw files that they and OUT mean
+pub record IsWork (m : Manner) (by : PassCheck) (task : Task) (readings : List Reading) (written : List ℕ) (counts : Counts) (digest : List ℕ) (raw : Option (List ℕ)) : Type 0 where
   pub files : List (List ℕ)
-  pub read : ReadAll (AreDigests m (hashes_in task m.digests) digest raw) (spares task) readings files
+  pub read : ReadAll (AreDigests m by digest raw) (spares task) readings files
   pub holds : Holds task (map (of_input m) files) counts (of_output m written)
 
 -- this has that fault first, whatever follows it; or by itself, and it is all of IN

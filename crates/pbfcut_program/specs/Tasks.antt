@@ -42,11 +42,6 @@ spares (extracting area) = true
 spares (extracting_parents area) = true
 spares _ = false
 
--- whether the bytes of IN are hashed: in one pass only for the digest, in more to compare them
-abbrev pub hashes_in : Task → (digests : Bool) → Bool
-hashes_in checking digests = digests
-hashes_in _ digests = true
-
 -- the verdict by which the first file is refused
 abbrev pub judge_of : Task → Option (List ℕ) → Option Verdict
 judge_of checking = judged_file
@@ -57,7 +52,7 @@ judge_of copying = judged_file
 judge_of (extracting area) = judged_writable
 judge_of (extracting_parents area) = judged_writable
 
--- what holds of the raw files that were read, one for each pass, and of the one that was written. The digests of what was read are the same; where a file
+-- what holds of the raw files that were read, one for each pass, and of the one that was written. The digests of what was read, by the check of the run, are the same; where a file
 -- that was read later has to be the first one, that is a premise
 abbrev pub Holds : Task → List (List ℕ) → Counts → (written : List ℕ) → Type 0
 Holds checking (b ∷ []) counts written = CountsFile (judged_file (Some b)) counts

@@ -10,14 +10,15 @@ ghost use Rattle.pbfcut_cli.specs.declared.endings.Ending.TheVariants as ending;
 ghost use Rattle.pbfcut_cli.specs.declared.programs.Program.TheVariants.{Pbfcutz};
 ghost use Rattle.pbfcut_program.specs.Devices.{AreFresh, EndsFor, Fronts, Works, WorksOn};
 ghost use Rattle.pbfcut_program.specs.Fails.{EndsAsStop};
-ghost use Rattle.pbfcut_program.specs.Manner.{input_form, manner_of, meant_known, output_form, packed_file, raw_file, to_raw};
+ghost use Rattle.pbfcut_program.specs.Manner.{check_in, input_form, manner_of, meant_known, once_check, output_form, packed_file, raw_file, to_raw};
 ghost use Rattle.pbfcut_program.specs.Outcomes.{ListsBy, ReportsPublished, ReportsRaw};
 ghost use Rattle.pbfcut_program.specs.Tasks.{checking, listing_frames, showing, converting, copying, extracting, extracting_parents};
 
+use crate::host::Seed;
 use crate::opening::{FourPasses, ThreePasses, TwoPasses};
 use osm_area::Area;
 use pbf_frame::{Drain, Feed, Stop};
-use pbf_pass::{Counts, Halt, InputReceipt, Passes, Refusal};
+use pbf_pass::{Counts, Halt, InputReceipt, PassCheck, Passes, Refusal};
 use pbf_published::{PublishedHalt, PublishedInput};
 use pbf_unpack::{Place, UnpackFault};
 use pbf_wire::{Fault, Reason};
@@ -144,29 +145,30 @@ pub(crate) struct Engine {
 impl Engine {
     /// How a call makes one pass: what it reads is hashed only for its digest.
     fn one_pass(self) -> Passes
-        ensures { result.hashes ≡ self.digests }
+        ensures { result.check ≡ once_check self.digests }
     {
         Passes {
             alloc: self.alloc,
-            hashes: self.digests,
+            check: if self.digests {
+                PassCheck::Sha256
+            } else {
+                PassCheck::None
+            },
         }
     }
 
-    /// How a call makes passes that have to read the same bytes.
-    fn raw_passes(self) -> Passes
-        ensures { result.hashes ≡ true }
+    /// How a call makes passes that have to read the same bytes: pbfcutz compares them by a keyed hash, unless their digests are printed.
+    fn many_passes(self, key: u128) -> Passes
+        ensures { result.check ≡ check_in self key }
     {
         Passes {
             alloc: self.alloc,
-            hashes: true,
+            check: if self.digests || self.program == Program::Pbfcut {
+                PassCheck::Sha256
+            } else {
+                PassCheck::Keyed(key)
+            },
         }
-    }
-
-    /// The same of a published file: it is the packed bytes that are compared, and the raw ones are hashed only for their digest.
-    fn packed_passes(self) -> Passes
-        ensures { result.hashes ≡ self.digests }
-    {
-        self.one_pass()
     }
 
     /// Whether OUT gets zlib blobs.
@@ -180,8 +182,8 @@ impl Engine {
 
 /// Judges IN, and counts its entities.
 pub(crate) fn check<F: Feed>(engine: Engine, pass: &mut F) -> Result<Report, Halted>
-    ensures { AreFresh F.Feed (pass.old ∷ []) → Works (manner_of engine) F.Feed checking
-        (pass.old ∷ []) (pass.new ∷ []) (λ took. took ≡ []) ⊥ result }
+    ensures { AreFresh F.Feed (pass.old ∷ []) → Works (manner_of engine)
+        (once_check engine.digests) F.Feed checking (pass.old ∷ []) (pass.new ∷ []) (λ took. took ≡ []) ⊥ result }
 {
     let how = engine.one_pass();
     match engine.program {
@@ -190,28 +192,36 @@ pub(crate) fn check<F: Feed>(engine: Engine, pass: &mut F) -> Result<Report, Hal
     }
 }
 
+/// How `show` writes, and with which key.
+#[derive(Clone, Copy)]
+pub(crate) struct Text {
+    pub(crate) dates: bool,
+    pub(crate) key: u128,
+}
+
 /// Writes the text of all that IN has.
 pub(crate) fn show<F: Feed, D: Drain>(
     engine: Engine,
     passes: &mut TwoPasses<F>,
     drain: &mut D,
-    dates: bool,
+    text: Text,
 ) -> Result<Report, Halted>
-    ensures works { WorksOn (to_raw (manner_of engine)) F.Feed D.Drain (showing dates)
+    ensures works { WorksOn (to_raw (manner_of engine)) (check_in engine text.key)
+        F.Feed D.Drain (showing text.dates)
         (passes.old.one ∷ passes.old.two ∷ []) (passes.new.one ∷ passes.new.two ∷ [])
         drain.old drain.new result }
-    ensures front { Fronts (input_form engine.program) (showing dates)
+    ensures front { Fronts (input_form engine.program) (showing text.dates)
         (F.remaining passes.old.one ∷ F.remaining passes.old.two ∷ [])
         (D.taken drain.old) (D.taken drain.new) result }
 {
     let TwoPasses { one, two } = passes;
+    let Text { dates, key } = text;
+    let how = engine.many_passes(key);
     match engine.program {
         Program::Pbfcut => {
-            let how = engine.raw_passes();
             reported(pbfcut::show_with_receipt(how, one, two, drain, dates))
         }
         Program::Pbfcutz => {
-            let how = engine.packed_passes();
             published(pbf_published::show_with_receipt(how, one, two, drain, dates))
         }
     }
@@ -222,10 +232,11 @@ pub(crate) fn convert<F: Feed, D: Drain, S: BuildHasher + Drop>(
     engine: Engine,
     passes: &mut TwoPasses<F>,
     drain: &mut D,
-    hasher: S,
+    seed: Seed<S>,
 ) -> Result<Report, Halted>
     requires { IfSome (D.taken drain.old) (λ taken. taken ≡ []) }
-    ensures works { WorksOn (to_raw (manner_of engine)) F.Feed D.Drain converting
+    ensures works { WorksOn (to_raw (manner_of engine)) (check_in engine seed.key)
+        F.Feed D.Drain converting
         (passes.old.one ∷ passes.old.two ∷ []) (passes.new.one ∷ passes.new.two ∷ [])
         drain.old drain.new result }
     ensures front { Fronts (input_form engine.program) converting
@@ -233,13 +244,13 @@ pub(crate) fn convert<F: Feed, D: Drain, S: BuildHasher + Drop>(
         (D.taken drain.old) (D.taken drain.new) result }
 {
     let TwoPasses { one, two } = passes;
+    let Seed { hasher, key } = seed;
+    let how = engine.many_passes(key);
     match engine.program {
         Program::Pbfcut => {
-            let how = engine.raw_passes();
             reported(pbfcut::convert_with_receipt(how, one, two, drain, hasher))
         }
         Program::Pbfcutz => {
-            let how = engine.packed_passes();
             published(pbf_published::convert_with_receipt(how, one, two, drain, hasher))
         }
     }
@@ -250,9 +261,11 @@ pub(crate) fn copy<F: Feed, D: Drain>(
     engine: Engine,
     passes: &mut TwoPasses<F>,
     drain: &mut D,
+    key: u128,
 ) -> Result<Report, Halted>
     requires { IfSome (D.taken drain.old) (λ taken. taken ≡ []) }
-    ensures works { WorksOn (to_raw (manner_of engine)) F.Feed D.Drain copying
+    ensures works { WorksOn (to_raw (manner_of engine)) (check_in engine key)
+        F.Feed D.Drain copying
         (passes.old.one ∷ passes.old.two ∷ []) (passes.new.one ∷ passes.new.two ∷ [])
         drain.old drain.new result }
     ensures front { Fronts (input_form engine.program) copying
@@ -260,13 +273,12 @@ pub(crate) fn copy<F: Feed, D: Drain>(
         (D.taken drain.old) (D.taken drain.new) result }
 {
     let TwoPasses { one, two } = passes;
+    let how = engine.many_passes(key);
     match engine.program {
         Program::Pbfcut => {
-            let how = engine.raw_passes();
             reported(pbfcut::copy_with_receipt(how, one, two, drain))
         }
         Program::Pbfcutz => {
-            let how = engine.packed_passes();
             published(pbf_published::copy_with_receipt(how, one, two, drain))
         }
     }
@@ -278,10 +290,11 @@ pub(crate) fn extract<A: Area + Copy, F: Feed, D: Drain, S: BuildHasher + Drop>(
     passes: &mut ThreePasses<F>,
     area: A,
     drain: &mut D,
-    hasher: S,
+    seed: Seed<S>,
 ) -> Result<Report, Halted>
     requires { IfSome (D.taken drain.old) (λ taken. taken ≡ []) }
-    ensures works { WorksOn (to_raw (manner_of engine)) F.Feed D.Drain (extracting (A.area area))
+    ensures works { WorksOn (to_raw (manner_of engine)) (check_in engine seed.key)
+        F.Feed D.Drain (extracting (A.area area))
         (passes.old.one ∷ passes.old.two ∷ passes.old.three ∷ [])
         (passes.new.one ∷ passes.new.two ∷ passes.new.three ∷ [])
         drain.old drain.new result }
@@ -290,13 +303,13 @@ pub(crate) fn extract<A: Area + Copy, F: Feed, D: Drain, S: BuildHasher + Drop>(
         (D.taken drain.old) (D.taken drain.new) result }
 {
     let ThreePasses { one, two, three } = passes;
+    let Seed { hasher, key } = seed;
+    let how = engine.many_passes(key);
     match engine.program {
         Program::Pbfcut => {
-            let how = engine.raw_passes();
             reported(pbfcut::extract_sorted_with_receipt(how, one, two, three, area, drain, hasher))
         }
         Program::Pbfcutz => {
-            let how = engine.packed_passes();
             published(pbf_published::extract_sorted_with_receipt(
                 how, one, two, three, area, drain, hasher,
             ))
@@ -310,11 +323,11 @@ pub(crate) fn extract_parents<A: Area + Copy, F: Feed, D: Drain, S: BuildHasher 
     passes: &mut FourPasses<F>,
     area: A,
     drain: &mut D,
-    hasher: S,
+    seed: Seed<S>,
 ) -> Result<Report, Halted>
     requires { IfSome (D.taken drain.old) (λ taken. taken ≡ []) }
-    ensures works { WorksOn (to_raw (manner_of engine)) F.Feed D.Drain
-        (extracting_parents (A.area area))
+    ensures works { WorksOn (to_raw (manner_of engine)) (check_in engine seed.key)
+        F.Feed D.Drain (extracting_parents (A.area area))
         (passes.old.one ∷ passes.old.two ∷ passes.old.three ∷ passes.old.four ∷ [])
         (passes.new.one ∷ passes.new.two ∷ passes.new.three ∷ passes.new.four ∷ [])
         drain.old drain.new result }
@@ -328,15 +341,15 @@ pub(crate) fn extract_parents<A: Area + Copy, F: Feed, D: Drain, S: BuildHasher 
         three,
         four,
     } = passes;
+    let Seed { hasher, key } = seed;
+    let how = engine.many_passes(key);
     match engine.program {
         Program::Pbfcut => {
-            let how = engine.raw_passes();
             reported(pbfcut::extract_parents_sorted_with_receipt(
                 how, one, two, three, four, area, drain, hasher,
             ))
         }
         Program::Pbfcutz => {
-            let how = engine.packed_passes();
             published(pbf_published::extract_parents_sorted_with_receipt(
                 how, one, two, three, four, area, drain, hasher,
             ))

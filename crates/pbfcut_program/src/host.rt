@@ -1,6 +1,6 @@
 //! The world of a command: files, the standard streams, and a terminal.
 
-ghost use Rattle.std.specs.Prelude.{◌≡◌, ℕ, List, [], Option, IfOk, IfErr, IfSome, OnErr, is_ok, string_bytes};
+ghost use Rattle.std.specs.Prelude.{◌≡◌, ℕ, List, [], Option, Some, None, IfOk, IfErr, IfSome, OnErr, is_ok, string_bytes};
 ghost use Rattle.std.specs.Option.{is_some};
 ghost use Rattle.pbfcut_program.specs.Events.{Event, Reading, Writing, text_read, text_not_read, looked, opened, not_opened, seeded, created, not_created, screened, read, wrote, printed, told, advised, then_one};
 
@@ -66,6 +66,15 @@ pub struct Turn {
     pub progress: bool,
 }
 
+/// What is drawn for a run, so that nobody can know it before.
+#[derive(Drop)]
+pub struct Seed<S> {
+    /// Strings of IN, which is untrusted, are hashed by this.
+    pub hasher: S,
+    /// The passes of pbfcutz are compared by a hash that has this key.
+    pub key: u128,
+}
+
 /// Files and the standard streams, as a command sees them. What each call did is one event of the log.
 pub trait Host {
     /// IN, opened for a pass.
@@ -74,7 +83,7 @@ pub trait Host {
     /// OUT, or standard output, as it is written.
     type Out: Drain + Drop;
 
-    /// What hashes with a seed of this run's own.
+    /// What hashes by a seed.
     type Hasher: BuildHasher + Drop;
 
     /// What happened so far, if the host reports it.
@@ -111,9 +120,11 @@ pub trait Host {
             → log self.new ≡ then_one (log self.old) (read (record
             { bytes = bytes; left = Self.In.remaining feed; failures = Self.In.failures feed })) };
 
-    /// A seed of this run's own.
-    fn seed(&mut self) -> Result<Self::Hasher, NotDone>
-        ensures { log self.new ≡ then_one (log self.old) (seeded (is_ok result)) };
+    /// Draws a seed.
+    fn seed(&mut self) -> Result<Seed<Self::Hasher>, NotDone>
+        ensures drawn { IfOk result (λ seed. log self.new
+            ≡ then_one (log self.old) (seeded (Some seed.key))) }
+        ensures failed { OnErr result (log self.new ≡ then_one (log self.old) (seeded None)) };
 
     /// Makes OUT. With `overwrite` it takes the place of a plain file; otherwise there must be none. It took nothing, and no write has failed.
     fn create(&mut self, path: &str, overwrite: bool) -> Result<Self::Out, CreateFault>

@@ -9,12 +9,12 @@ ghost use Rattle.pbfcut_program.specs.Devices.{AreFresh, CloseAll, Fronts, Works
 ghost use Rattle.pbfcut_program.specs.Events.{Event, text_read, then_all};
 ghost use Rattle.pbfcut_program.specs.Fails.{FailsOpening};
 ghost use Rattle.pbfcut_program.specs.Jobs.{area_of, feeds_of, plan_of, task_of};
-ghost use Rattle.pbfcut_program.specs.Manner.{input_form, manner_of, to_raw};
+ghost use Rattle.pbfcut_program.specs.Manner.{check_in, input_form, manner_of, to_raw};
 ghost use Rattle.pbfcut_program.specs.Program.{MeansArea, openings};
 ghost use Rattle.pbfcut_program.specs.Tasks.{extracting, extracting_parents, passes_of};
 
 use crate::engine::{Engine, Halted, Report, convert, copy, extract, extract_parents};
-use crate::host::{Host, TextFault};
+use crate::host::{Host, Seed, TextFault};
 use crate::opening::{FourPasses, Input, ThreePasses, TwoPasses, open_four, open_three, open_two};
 use osm_box::BoundingBox;
 use osm_polygon::{MultiPolygon, read_polygons};
@@ -138,11 +138,12 @@ fn cut_out<F: Feed, D: Drain, S: BuildHasher + Drop>(
     engine: Engine,
     cutting: &mut Cutting<ThreePasses<F>>,
     drain: &mut D,
-    hasher: S,
+    seed: Seed<S>,
 ) -> Result<Report, Halted>
     requires { IfSome (D.taken drain.old) (λ taken. taken ≡ []) }
     ensures works { let old = cutting.old.passes in let now = cutting.new.passes in
-        WorksOn (to_raw (manner_of engine)) F.Feed D.Drain (extracting (area_of cutting.old.cut))
+        WorksOn (to_raw (manner_of engine)) (check_in engine seed.key)
+        F.Feed D.Drain (extracting (area_of cutting.old.cut))
         (old.one ∷ old.two ∷ old.three ∷ []) (now.one ∷ now.two ∷ now.three ∷ [])
         drain.old drain.new result }
     ensures front { let old = cutting.old.passes in
@@ -152,8 +153,8 @@ fn cut_out<F: Feed, D: Drain, S: BuildHasher + Drop>(
 {
     let Cutting { passes, cut } = cutting;
     match &*cut {
-        Cut::Box(area) => extract(engine, passes, area, drain, hasher),
-        Cut::Polygon(area) => extract(engine, passes, area, drain, hasher),
+        Cut::Box(area) => extract(engine, passes, area, drain, seed),
+        Cut::Polygon(area) => extract(engine, passes, area, drain, seed),
     }
 }
 
@@ -162,11 +163,12 @@ fn cut_out_parents<F: Feed, D: Drain, S: BuildHasher + Drop>(
     engine: Engine,
     cutting: &mut Cutting<FourPasses<F>>,
     drain: &mut D,
-    hasher: S,
+    seed: Seed<S>,
 ) -> Result<Report, Halted>
     requires { IfSome (D.taken drain.old) (λ taken. taken ≡ []) }
     ensures works { let old = cutting.old.passes in let now = cutting.new.passes in
-        WorksOn (to_raw (manner_of engine)) F.Feed D.Drain (extracting_parents (area_of cutting.old.cut))
+        WorksOn (to_raw (manner_of engine)) (check_in engine seed.key)
+        F.Feed D.Drain (extracting_parents (area_of cutting.old.cut))
         (old.one ∷ old.two ∷ old.three ∷ old.four ∷ [])
         (now.one ∷ now.two ∷ now.three ∷ now.four ∷ [])
         drain.old drain.new result }
@@ -177,8 +179,8 @@ fn cut_out_parents<F: Feed, D: Drain, S: BuildHasher + Drop>(
 {
     let Cutting { passes, cut } = cutting;
     match &*cut {
-        Cut::Box(area) => extract_parents(engine, passes, area, drain, hasher),
-        Cut::Polygon(area) => extract_parents(engine, passes, area, drain, hasher),
+        Cut::Box(area) => extract_parents(engine, passes, area, drain, seed),
+        Cut::Polygon(area) => extract_parents(engine, passes, area, drain, seed),
     }
 }
 
@@ -187,19 +189,20 @@ pub(crate) fn do_job<F: Feed, D: Drain, S: BuildHasher + Drop>(
     engine: Engine,
     job: &mut Job<F>,
     drain: &mut D,
-    hasher: S,
+    seed: Seed<S>,
 ) -> Result<Report, Halted>
     requires { IfSome (D.taken drain.old) (λ taken. taken ≡ []) }
-    ensures works { WorksOn (to_raw (manner_of engine)) F.Feed D.Drain (task_of job.old)
+    ensures works { WorksOn (to_raw (manner_of engine)) (check_in engine seed.key)
+        F.Feed D.Drain (task_of job.old)
         (feeds_of job.old) (feeds_of job.new) drain.old drain.new result }
     ensures front { Fronts (input_form engine.program) (task_of job.old)
         (map F.remaining (feeds_of job.old)) (D.taken drain.old) (D.taken drain.new) result }
 {
     match job {
-        Job::Convert(passes) => convert(engine, passes, drain, hasher),
-        Job::Copy(passes) => copy(engine, passes, drain),
-        Job::Extract(cutting) => cut_out(engine, cutting, drain, hasher),
-        Job::ExtractParents(cutting) => cut_out_parents(engine, cutting, drain, hasher),
+        Job::Convert(passes) => convert(engine, passes, drain, seed),
+        Job::Copy(passes) => copy(engine, passes, drain, seed.key),
+        Job::Extract(cutting) => cut_out(engine, cutting, drain, seed),
+        Job::ExtractParents(cutting) => cut_out_parents(engine, cutting, drain, seed),
     }
 }
 

@@ -13,5 +13,5 @@ mod reading;
 mod writing;
 
 pub use ending::report;
-pub use host::{CreateFault, FinishFault, Host, NotDone, OpenFault, Screen, TextFault, Turn};
+pub use host::{CreateFault, FinishFault, Host, NotDone, OpenFault, Screen, Seed, TextFault, Turn};
 pub use program::run;

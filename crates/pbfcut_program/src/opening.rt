@@ -1,13 +1,14 @@
 //! What is opened before a command begins.
 
-ghost use Rattle.std.specs.Prelude.{◌≡◌, ◌∷◌, [], ℕ, List, IfOk, IfErr, true};
-ghost use Rattle.pbfcut_program.specs.Events.{Event, opened, screened, then_all, then_one};
+ghost use Rattle.std.specs.Prelude.{◌≡◌, ◌∷◌, [], ℕ, List, IfOk, IfErr, Some, true};
+ghost use Rattle.pbfcut_program.specs.Events.{Event, opened, screened, seeded, then_all, then_one};
 ghost use Rattle.pbfcut_program.specs.Devices.{IsFresh, IsFreshOut};
 ghost use Rattle.pbfcut_program.specs.Fails.{FailsOpening};
+ghost use Rattle.pbfcut_program.specs.Program.{draws};
 
-use crate::host::{Host, OpenFault, Turn};
+use crate::host::{Host, OpenFault, Seed, Turn};
 use pbf_frame::Stop;
-use pbfcut_cli::Ending;
+use pbfcut_cli::{Ending, Program};
 
 /// IN, opened for each of two passes.
 #[derive(Drop)]
@@ -131,5 +132,35 @@ pub(crate) fn open_screen<H: Host>(host: &mut H) -> Result<H::Out, Ending>
     match host.screen() {
         Ok(out) => Ok(out),
         Err(_) => Err(Ending::Stopped(Stop::Memory)),
+    }
+}
+
+/// Draws a seed: IN is untrusted, its strings are hashed, and it may change between two passes.
+pub(crate) fn draw_seed<H: Host>(host: &mut H) -> Result<Seed<H::Hasher>, Ending>
+    ensures ok { IfOk result (λ seed. H.log host.new
+        ≡ then_one (H.log host.old) (seeded (Some seed.key))) }
+    ensures err { IfErr result (λ how. (events : List Event)
+        × (H.log host.new ≡ then_all (H.log host.old) events) × FailsOpening how events) }
+{
+    match host.seed() {
+        Ok(seed) => Ok(seed),
+        Err(_) => Err(Ending::CannotOpen),
+    }
+}
+
+/// Draws the key by which pbfcutz compares its passes, where nothing else is drawn. pbfcut needs none.
+#[tactic(auto, using(crate::proofs::Logging::then_none))]
+pub(crate) fn draw_key<H: Host>(host: &mut H, program: Program) -> Result<u128, Ending>
+    ensures ok { IfOk result (λ key. H.log host.new
+        ≡ then_all (H.log host.old) (draws program key)) }
+    ensures err { IfErr result (λ how. (events : List Event)
+        × (H.log host.new ≡ then_all (H.log host.old) events) × FailsOpening how events) }
+{
+    if program == Program::Pbfcut {
+        return Ok(0);
+    }
+    match draw_seed(host) {
+        Ok(seed) => Ok(seed.key),
+        Err(how) => Err(how),
     }
 }

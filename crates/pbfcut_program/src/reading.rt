@@ -7,16 +7,16 @@ ghost use Rattle.pbfcut_program.specs.Devices.{Finishes};
 ghost use Rattle.pbfcut_program.specs.Events.{Event, Reading, opened, read, then_all};
 ghost use Rattle.pbfcut_program.specs.Fails.{FailsFor, judging, listing};
 ghost use Rattle.pbfcut_program.specs.Leaving.{LeavesFor};
-ghost use Rattle.pbfcut_program.specs.Manner.{manner, manner_of, to_raw};
+ghost use Rattle.pbfcut_program.specs.Manner.{manner, manner_of, once_check, to_raw};
 ghost use Rattle.pbfcut_program.specs.Outcomes.{EndsAs};
 ghost use Rattle.pbfcut_program.specs.Program.{Checks, IsHeaderText, IsListing, Lists, Shows};
 ghost use Rattle.pbfcut_program.specs.Readings.{IsWork};
 ghost use Rattle.pbfcut_program.specs.Tasks.{checking, listing_frames, showing};
 
-use crate::engine::{Engine, Halted, Report, check, list_blobs, show, show_header};
+use crate::engine::{Engine, Halted, Report, Text, check, list_blobs, show, show_header};
 use crate::host::Host;
 use crate::jobs::close_two;
-use crate::opening::{Input, open_pass, open_screen, open_two};
+use crate::opening::{Input, draw_key, open_pass, open_screen, open_two};
 use crate::printing::{print_checked, tell_refusal};
 use pbf_frame::Stop;
 use pbfcut_cli::Ending;
@@ -30,8 +30,8 @@ fn read_once<H: Host>(
 ) -> Result<Report, Ending>
     ensures ok { IfOk result (λ report. (has : Option (List ℕ)) × (first : Reading)
         × (H.log host.new ≡ then_all (H.log host.old) (opened path.now 1 has ∷ read first ∷ []))
-        × IsWork (manner_of engine) checking (first ∷ []) [] report.counts
-        report.input report.raw) }
+        × IsWork (manner_of engine) (once_check engine.digests) checking (first ∷ []) []
+        report.counts report.input report.raw) }
     ensures err { IfErr result (λ how. (events : List Event)
         × (H.log host.new ≡ then_all (H.log host.old) events)
         × FailsFor (manner_of engine) (judging judged_file) how events) }
@@ -104,8 +104,9 @@ pub(crate) fn run_show<H: Host>(
         × LeavesFor (to_raw (manner_of engine)) (showing dates) events) }
 {
     let mut passes = open_two(host, input)?;
+    let key = draw_key(host, engine.program)?;
     let mut out = open_screen(host)?;
-    let outcome = show(engine, &mut passes, &mut out, dates);
+    let outcome = show(engine, &mut passes, &mut out, Text { dates, key });
     close_two(host, passes);
     ended(host, out, outcome)
 }

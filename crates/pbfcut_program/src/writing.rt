@@ -1,7 +1,7 @@
 //! The commands that write a file. Before anything is written it is settled that OUT is new, IN is opened once for each pass, and there is
 //! a seed.
 
-ghost use Rattle.std.specs.Prelude.{◌≡◌, ◌⊎◌, ◌∷◌, ◌++◌, ◌<◌, [], List, length, map, is_ok, IfErr, IfOk, IfSome, None, OnOk, true, false};
+ghost use Rattle.std.specs.Prelude.{◌≡◌, ◌⊎◌, ◌∷◌, ◌++◌, ◌<◌, [], List, length, map, is_ok, IfErr, IfOk, IfSome, Some, None, OnOk, true, false};
 ghost use Rattle.pbf_frame.specs.declared.stop.Stop.TheVariants as stop;
 ghost use Rattle.pbfcut_cli.specs.declared.endings.Ending.TheVariants as ending;
 ghost use Rattle.pbf_pass.specs.HeaderLimit.{judged_writable};
@@ -13,15 +13,15 @@ ghost use Rattle.pbfcut_program.specs.Fails.{Each, Fails, FailsFor, FailsOpening
 ghost use Rattle.pbfcut_program.specs.Jobs.{area_of, feeds_of, plan_of, task_of};
 ghost use Rattle.pbfcut_program.specs.Leaving.{Leaves, LeavesFor};
 ghost use Rattle.pbfcut_program.specs.Program.{Extracts, LeavesCut, WritesCounts, advice, digest_if_asked, extract_task, is_empty, is_screen, looks, makes, openings, screen_of};
-ghost use Rattle.pbfcut_program.specs.Manner.{hashes_meaning, input_form, manner_of, of_output, output_form, packed_file, to_raw};
+ghost use Rattle.pbfcut_program.specs.Manner.{check_in, hashes_meaning, input_form, manner_of, of_output, output_form, packed_file, to_raw};
 ghost use Rattle.pbfcut_program.specs.Readings.{IsWork};
 ghost use Rattle.pbfcut_program.specs.Tasks.{judge_of, passes_of};
 
 use crate::engine::{Engine, Halted, Report};
-use crate::host::{CreateFault, FinishFault, Host, Screen};
+use crate::host::{CreateFault, FinishFault, Host, Screen, Seed};
 use crate::jobs::{Cut, Job, Plan, close_job, do_job, open_job, read_region};
 use crate::linked::LinkedDrain;
-use crate::opening::open_screen;
+use crate::opening::{draw_seed, open_screen};
 use crate::printing::{Done, print_done, tell_refusal};
 use pbf_frame::{Drain, Feed, Stop};
 use pbf_pass::{Counts, HashedDrain};
@@ -81,24 +81,12 @@ fn make_out<H: Host>(host: &mut H, is_screen: bool, files: &Files<'_>) -> Result
     }
 }
 
-/// A seed of this run's own: IN is untrusted, and its strings are hashed.
-fn draw_seed<H: Host>(host: &mut H) -> Result<H::Hasher, Ending>
-    ensures ok { OnOk result (H.log host.new ≡ then_one (H.log host.old) (seeded true)) }
-    ensures err { IfErr result (λ how. (events : List Event)
-        × (H.log host.new ≡ then_all (H.log host.old) events) × FailsOpening how events) }
-{
-    match host.seed() {
-        Ok(hasher) => Ok(hasher),
-        Err(_) => Err(Ending::CannotOpen),
-    }
-}
-
 /// All that is needed before a command writes.
 #[derive(Drop)]
 struct Ready<F, D, S> {
     job: Job<F>,
     out: D,
-    hasher: S,
+    seed: Seed<S>,
 }
 
 /// Settles that OUT is new, opens IN for each pass, draws a seed, and makes OUT.
@@ -112,7 +100,7 @@ fn prepare<H: Host>(
     ensures ok { IfOk result (λ r. H.log host.new ≡ then_all (H.log host.old)
         (looks is_screen files.now.output.now
         ++ openings files.now.input.now 1 (map H.In.remaining (feeds_of r.job))
-        ++ seeded true ∷ makes is_screen files.now.output.now ∷ [])) }
+        ++ seeded (Some r.seed.key) ∷ makes is_screen files.now.output.now ∷ [])) }
     ensures fresh { IfOk result (λ r. AreFresh H.In.Feed (feeds_of r.job)
         × IsFreshOut H.Out.Drain r.out) }
     ensures planned { IfOk result (λ r. (task_of r.job ≡ plan_of plan)
@@ -122,9 +110,9 @@ fn prepare<H: Host>(
 {
     refuse_existing(host, is_screen, files)?;
     let job = open_job(host, files.input, progress, plan)?;
-    let hasher = draw_seed(host)?;
+    let seed = draw_seed(host)?;
     let out = make_out(host, is_screen, files)?;
-    Ok(Ready { job, out, hasher })
+    Ok(Ready { job, out, seed })
 }
 
 /// What a job came to, and the drain that took what it wrote. If these are hashed, the digest of what was taken, and that of the raw file
@@ -142,17 +130,18 @@ fn run_raw<F: Feed, D: Drain + Drop, S: BuildHasher + Drop>(
     engine: Engine,
     job: &mut Job<F>,
     out: D,
-    hasher: S,
+    seed: Seed<S>,
 ) -> Ran<D>
     requires { IfSome (D.taken out) (λ taken. taken ≡ []) }
-    ensures works { WorksOn (to_raw (manner_of engine)) F.Feed D.Drain (task_of job.old)
+    ensures works { WorksOn (to_raw (manner_of engine)) (check_in engine seed.key)
+        F.Feed D.Drain (task_of job.old)
         (feeds_of job.old) (feeds_of job.new) out result.out result.result }
     ensures front { Fronts (input_form engine.program) (task_of job.old)
         (map F.remaining (feeds_of job.old)) (D.taken out) (D.taken result.out) result.result }
     ensures unhashed { (result.output ≡ None) × (result.meaning ≡ None) }
 {
     let mut out = out;
-    let result = do_job(engine, job, &mut out, hasher);
+    let result = do_job(engine, job, &mut out, seed);
     Ran {
         result,
         out,
@@ -166,17 +155,17 @@ fn run_raw_hashed<F: Feed, D: Drain + Drop, S: BuildHasher + Drop>(
     engine: Engine,
     job: &mut Job<F>,
     out: D,
-    hasher: S,
+    seed: Seed<S>,
 ) -> Ran<D>
     requires { IfSome (D.taken out) (λ taken. taken ≡ []) }
     ensures works { AreFresh F.Feed (feeds_of job.old) → D.has_taken out 0 []
-        → Works (to_raw (manner_of engine)) F.Feed (task_of job.old) (feeds_of job.old)
-        (feeds_of job.new) (TakenBy D.Drain result.out result.output)
+        → Works (to_raw (manner_of engine)) (check_in engine seed.key) F.Feed (task_of job.old)
+        (feeds_of job.old)         (feeds_of job.new) (TakenBy D.Drain result.out result.output)
         (WriteFailed D.Drain out result.out) result.result }
     ensures hashed { IsAsked true result.output }
 {
     let linked = LinkedDrain::new(HashedDrain::new(out));
-    let ran = run_raw(engine, job, linked, hasher);
+    let ran = run_raw(engine, job, linked, seed);
     let mut hashed = ran.out.into_inner();
     let digest = hashed.digest();
     Ran {
@@ -192,19 +181,19 @@ fn run_raw_into<F: Feed, D: Drain + Drop, S: BuildHasher + Drop>(
     engine: Engine,
     job: &mut Job<F>,
     out: D,
-    hasher: S,
+    seed: Seed<S>,
 ) -> Ran<D>
     requires { IfSome (D.taken out) (λ taken. taken ≡ []) }
     ensures works { AreFresh F.Feed (feeds_of job.old) → D.has_taken out 0 []
-        → Works (to_raw (manner_of engine)) F.Feed (task_of job.old) (feeds_of job.old)
-        (feeds_of job.new) (TakenBy D.Drain result.out result.output)
+        → Works (to_raw (manner_of engine)) (check_in engine seed.key) F.Feed (task_of job.old)
+        (feeds_of job.old)         (feeds_of job.new) (TakenBy D.Drain result.out result.output)
         (WriteFailed D.Drain out result.out) result.result }
     ensures hashed { IsAsked engine.digests result.output }
 {
     if engine.digests {
-        run_raw_hashed(engine, job, out, hasher)
+        run_raw_hashed(engine, job, out, seed)
     } else {
-        run_raw(engine, job, out, hasher)
+        run_raw(engine, job, out, seed)
     }
 }
 
@@ -251,12 +240,13 @@ fn run_packed<F: Feed, D: Drain + Drop, S: BuildHasher + Drop>(
     engine: Engine,
     job: &mut Job<F>,
     out: D,
-    hasher: S,
+    seed: Seed<S>,
 ) -> Ran<D>
     requires fresh { IfSome (D.taken out) (λ taken. taken ≡ []) }
     requires packs { (engine.program ≡ Pbfcutz) × (engine.packs ≡ true) }
     ensures works { AreFresh F.Feed (feeds_of job.old) → D.has_taken out 0 []
-        → Works (manner_of engine) F.Feed (task_of job.old) (feeds_of job.old) (feeds_of job.new)
+        → Works (manner_of engine) (check_in engine seed.key) F.Feed (task_of job.old)
+        (feeds_of job.old) (feeds_of job.new)
         (λ w. D.has_taken result.out 0 w × MeansBy packed_file result.meaning w)
         (WriteFailed D.Drain out result.out) result.result }
     ensures hashed { IfOk result.result (λ _. IsAsked engine.digests result.meaning) }
@@ -271,7 +261,7 @@ fn run_packed<F: Feed, D: Drain + Drop, S: BuildHasher + Drop>(
         };
     };
     let packed = PackedDrain::new(engine.alloc, deflater, out);
-    let ran = run_raw_into(engine, job, packed, hasher);
+    let ran = run_raw_into(engine, job, packed, seed);
     let mut packed = ran.out;
     let result = finish(ran.result, &mut packed);
     Ran {
@@ -287,11 +277,12 @@ fn run_unhashed<F: Feed, D: Drain + Drop, S: BuildHasher + Drop>(
     engine: Engine,
     job: &mut Job<F>,
     out: D,
-    hasher: S,
+    seed: Seed<S>,
 ) -> Ran<D>
     requires { IfSome (D.taken out) (λ taken. taken ≡ []) }
     ensures works { AreFresh F.Feed (feeds_of job.old) → D.has_taken out 0 []
-        → Works (manner_of engine) F.Feed (task_of job.old) (feeds_of job.old) (feeds_of job.new)
+        → Works (manner_of engine) (check_in engine seed.key) F.Feed (task_of job.old)
+        (feeds_of job.old) (feeds_of job.new)
         (λ w. D.has_taken result.out 0 w
         × MeansBy (output_form engine.packs engine.program) result.meaning w)
         (WriteFailed D.Drain out result.out) result.result }
@@ -303,9 +294,9 @@ fn run_unhashed<F: Feed, D: Drain + Drop, S: BuildHasher + Drop>(
     ensures unhashed { result.output ≡ None }
 {
     if engine.gives_packed() {
-        run_packed(engine, job, out, hasher)
+        run_packed(engine, job, out, seed)
     } else {
-        run_raw(engine, job, out, hasher)
+        run_raw(engine, job, out, seed)
     }
 }
 
@@ -314,11 +305,11 @@ fn run_hashed<F: Feed, D: Drain + Drop, S: BuildHasher + Drop>(
     engine: Engine,
     job: &mut Job<F>,
     out: D,
-    hasher: S,
+    seed: Seed<S>,
 ) -> Ran<D>
     requires { IsFreshOut D.Drain out }
-    ensures works { AreFresh F.Feed (feeds_of job.old) → Works (manner_of engine) F.Feed
-        (task_of job.old) (feeds_of job.old) (feeds_of job.new)
+    ensures works { AreFresh F.Feed (feeds_of job.old)
+        → Works (manner_of engine) (check_in engine seed.key) F.Feed (task_of job.old) (feeds_of job.old) (feeds_of job.new)
         (λ w. TakenBy D.Drain result.out result.output w
         × MeansBy (output_form engine.packs engine.program) result.meaning w)
         (0 < D.failures result.out) result.result }
@@ -330,7 +321,7 @@ fn run_hashed<F: Feed, D: Drain + Drop, S: BuildHasher + Drop>(
         (hashes_meaning (output_form engine.packs engine.program) engine.digests) result.meaning) }
 {
     let linked = LinkedDrain::new(HashedDrain::new(out));
-    let ran = run_unhashed(engine, job, linked, hasher);
+    let ran = run_unhashed(engine, job, linked, seed);
     let mut hashed = ran.out.into_inner();
     let digest = hashed.digest();
     Ran {
@@ -346,11 +337,11 @@ fn run_into<F: Feed, D: Drain + Drop, S: BuildHasher + Drop>(
     engine: Engine,
     job: &mut Job<F>,
     out: D,
-    hasher: S,
+    seed: Seed<S>,
 ) -> Ran<D>
     requires { IsFreshOut D.Drain out }
-    ensures works { AreFresh F.Feed (feeds_of job.old) → Works (manner_of engine) F.Feed
-        (task_of job.old) (feeds_of job.old) (feeds_of job.new)
+    ensures works { AreFresh F.Feed (feeds_of job.old)
+        → Works (manner_of engine) (check_in engine seed.key) F.Feed (task_of job.old) (feeds_of job.old) (feeds_of job.new)
         (λ w. TakenBy D.Drain result.out result.output w
         × MeansBy (output_form engine.packs engine.program) result.meaning w)
         (0 < D.failures result.out) result.result }
@@ -362,9 +353,9 @@ fn run_into<F: Feed, D: Drain + Drop, S: BuildHasher + Drop>(
         (hashes_meaning (output_form engine.packs engine.program) engine.digests) result.meaning) }
 {
     if engine.digests {
-        run_hashed(engine, job, out, hasher)
+        run_hashed(engine, job, out, seed)
     } else {
-        run_unhashed(engine, job, out, hasher)
+        run_unhashed(engine, job, out, seed)
     }
 }
 
@@ -395,8 +386,8 @@ fn run_job<H: Host>(
         × (done.meaning ≡ digest_if_asked
         (hashes_meaning (output_form engine.packs engine.program) engine.digests)
         (of_output (manner_of engine) out.bytes))
-        × IsWork (manner_of engine) (task_of ready.job) rs out.bytes done.report.counts
-        done.report.input done.report.raw) }
+        × IsWork (manner_of engine) (check_in engine ready.seed.key)
+        (task_of ready.job) rs out.bytes done.report.counts done.report.input done.report.raw) }
     ensures err { IfErr result (λ how. (events : List Event)
         × (H.log host.new ≡ then_all (H.log host.old) events)
         × Fails (manner_of engine) (judging (judge_of (task_of ready.job)))
@@ -404,14 +395,14 @@ fn run_job<H: Host>(
         × Leaves (manner_of engine) (task_of ready.job)
         (map H.In.remaining (feeds_of ready.job)) events) }
 {
-    let Ready { job, out, hasher } = ready;
+    let Ready { job, out, seed } = ready;
     let mut job = job;
     let Ran {
         result,
         out,
         output,
         meaning,
-    } = run_into(engine, &mut job, out, hasher);
+    } = run_into(engine, &mut job, out, seed);
     close_job(host, job);
     let finished = host.finish(out, result.is_ok());
     match result {

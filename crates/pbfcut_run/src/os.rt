@@ -10,9 +10,9 @@ use pbfcut_files::{
     is_taken, open_pass, open_screen, plain_file_at, plain_screen, read_polygon_text, tell_box,
     tell_empty, tell_form, tell_hint, tell_left, tell_spoiled,
 };
-use pbfcut_program::{CreateFault, FinishFault, Host, NotDone, OpenFault, Screen, TextFault, Turn};
+use pbfcut_program::{CreateFault, FinishFault, Host, NotDone, OpenFault, Screen, Seed, TextFault, Turn};
 use std::fs::File;
-use std::hash::RandomState;
+use std::hash::{BuildHasher, RandomState};
 use std::io::{self, IsTerminal, Write};
 
 /// Files by their paths, and the standard streams.
@@ -112,11 +112,17 @@ impl Host for Os<'_> {
         feed.end(self.rt);
     }
 
-    fn seed(&mut self) -> Result<RandomState, NotDone> {
-        match RandomState::new(self.rt) {
-            Ok(hasher) => Ok(hasher),
-            Err(_) => Err(NotDone),
-        }
+    fn seed(&mut self) -> Result<Seed<RandomState>, NotDone> {
+        let Ok(hasher) = RandomState::new(self.rt) else {
+            return Err(NotDone);
+        };
+        // Two words that nobody knows who doesn't know the seed.
+        let high = u128::from(hasher.hash_one(0_u64));
+        let low = u128::from(hasher.hash_one(1_u64));
+        Ok(Seed {
+            hasher,
+            key: high << 64 | low,
+        })
     }
 
     fn create(&mut self, path: &str, overwrite: bool) -> Result<OutFile, CreateFault> {

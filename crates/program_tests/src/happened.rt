@@ -13,7 +13,8 @@ pub enum Happened {
     /// A path, the number of the pass, and the bytes of the file.
     Opened(Vec<u8>, u8, Vec<u8>),
     NotOpened(Vec<u8>, OpenFault),
-    Seeded(bool),
+    /// The key that was drawn.
+    Seeded(u128),
     Created(Vec<u8>),
     NotCreated(Vec<u8>),
     Screened(bool),

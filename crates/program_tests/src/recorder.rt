@@ -7,9 +7,12 @@ ghost use Rattle.pbfcut_program.specs.Events.{then_one};
 use crate::happened::Happened;
 use crate::tape::{Reel, Tape};
 use pbfcut_cli::{Command, Ending, Region};
-use pbfcut_program::{CreateFault, FinishFault, Host, NotDone, OpenFault, Screen, TextFault, Turn};
+use pbfcut_program::{CreateFault, FinishFault, Host, NotDone, OpenFault, Screen, Seed, TextFault, Turn};
 use std::hash::{BuildHasherDefault, FoldHasher};
 use std::process::Abort;
+
+/// The key of each run.
+pub(crate) const KEY: u128 = 7;
 
 /// A file by its path.
 #[derive(Clone, Copy)]
@@ -124,9 +127,12 @@ impl<'a, R: Abort + AllocGlobal> Host for Recorder<'a, R> {
         self.record(Happened::Read(bytes, left, 0));
     }
 
-    fn seed(&mut self) -> Result<BuildHasherDefault<FoldHasher>, NotDone> {
-        self.record(Happened::Seeded(true));
-        Ok(BuildHasherDefault::new())
+    fn seed(&mut self) -> Result<Seed<BuildHasherDefault<FoldHasher>>, NotDone> {
+        self.record(Happened::Seeded(KEY));
+        Ok(Seed {
+            hasher: BuildHasherDefault::new(),
+            key: KEY,
+        })
     }
 
     fn create(&mut self, path: &str, _overwrite: bool) -> Result<Reel, CreateFault> {

@@ -2,7 +2,7 @@
 
 use crate::blobs::THREE_DENSE_NODES;
 use crate::happened::Happened;
-use crate::recorder::{File, Recorder, copy};
+use crate::recorder::{File, KEY, Recorder, copy};
 use crate::words::owned;
 use pbfcut_cli::Program;
 use pbfcut_program::{Screen, run};
@@ -32,7 +32,7 @@ fn prepared<R: Abort + AllocGlobal>(rt: &R, file: &[u8]) -> Result<Vec<Happened>
     events.push(opened(rt, 1, file))?;
     events.push(opened(rt, 2, file))?;
     events.push(opened(rt, 3, file))?;
-    events.push(Happened::Seeded(true))?;
+    events.push(Happened::Seeded(KEY))?;
     events.push(Happened::Created(copy(rt, b"b")))?;
     Ok(events)
 }

@@ -5,7 +5,7 @@ use crate::check::counts;
 use osm_entity::BoundingBox;
 use osm_ways::{NodePhase, RelationPhase, WayPhase};
 use pbf_frame::{FrameReader, Pieces, Stop};
-use pbf_pass::Passes;
+use pbf_pass::{PassCheck, Passes};
 use pbfcut::{
     Counts, Nothing, Pass, gather_unjudged, step_count, step_nodes, step_relations, step_unjudged,
     step_ways,
@@ -124,7 +124,7 @@ fn steps_that_read(rt: HostRuntime) -> Result<(), Fail> {
 fn digest_of_a_later_pass(rt: HostRuntime) -> Result<(), Fail> {
     let passes = Passes {
         alloc: rt.alloc(),
-        hashes: true,
+        check: PassCheck::Sha256,
     };
     let digest = gather_unjudged(passes, &mut small(), &mut Nothing, 2)?;
     assert!(rt; digest == DIGEST);

@@ -5,7 +5,7 @@ use crate::steps::AREA;
 use osm_pack::Packer;
 use osm_ways::{ChosenParents, NodePhase};
 use pbf_frame::{FrameReader, Pieces, Sink};
-use pbf_pass::{Halt, Judged, Passes, judge, writable_header};
+use pbf_pass::{Halt, Judged, PassCheck, Passes, judge, writable_header};
 use pbfcut::{Nothing, Pass, step_pack, step_write, step_write_parents};
 use std::alloc::{AllocError, Global};
 use std::hash::{BuildHasherDefault, FoldHasher};
@@ -26,7 +26,7 @@ fn small() -> Pieces<'static> {
 fn judged(alloc: Global) -> Result<Judged, Halt> {
     let passes = Passes {
         alloc,
-        hashes: false,
+        check: PassCheck::None,
     };
     judge(passes, &mut small(), &mut Nothing)
 }

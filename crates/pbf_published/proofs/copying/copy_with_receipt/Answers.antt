@@ -8,10 +8,10 @@ pub returns-clause-receipt : goal.returns-clause-receipt
 returns-clause-receipt g c =
     let digest = c.in_ok-input.input in
     let from_first = outcome_receipt _ _ c.copy_with_receipt-outcome.ensures.receipt _ _ c.in_ok-receipt.was _ c.published_outcome-outcome.ensures in
-    published_of g.F.Feed c.args.first.now _ from_first true _ c.open-one.ensures.remaining c.open-one.ensures.opened (closed_below g.F.Feed c.close-one.result.1.now _ _ _ _ (search rules) c.close-one.ensures.closed) digest c.in_ok-input.ensures.there _ (λ b holds. (
+    rw (sym c.of_raw.ensures.check) (published_of g.F.Feed c.args.first.now _ from_first c.args.passes.check _ c.open-one.ensures.remaining c.open-one.ensures.opened (closed_below g.F.Feed c.close-one.result.1.now _ _ _ _ (search rules) c.close-one.ensures.closed) digest c.in_ok-input.ensures.there _ (λ b holds. (
       holds.0,
-      published_of g.G.Feed c.args.second.now _ holds.1 true _ c.open-two.ensures.remaining c.open-two.ensures.opened (closed_below g.G.Feed c.close-two.result.1.now _ _ _ _ (search rules) c.close-two.ensures.closed) digest c.in_ok-compare.ensures.same _ (λ d took. took),
-    ))
+      published_of g.G.Feed c.args.second.now _ holds.1 c.args.passes.check _ c.open-two.ensures.remaining c.open-two.ensures.opened (closed_below g.G.Feed c.close-two.result.1.now _ _ _ _ (search rules) c.close-two.ensures.closed) digest c.in_ok-compare.ensures.same _ (λ d took. took),
+    )))
 
 pub returns-in_err-receipt-clause-beginning : goal.returns-in_err-receipt-clause-beginning
 returns-in_err-receipt-clause-beginning g c =
@@ -33,10 +33,10 @@ pub returns-in_err-input-clause-stops : goal.returns-in_err-input-clause-stops
 returns-in_err-input-clause-stops g c =
     let p = err_from_is_err_and c.from_residual-in_err-input.result c.from_residual-in_err-input.ensures.1 in
     let from_first = outcome_receipt _ _ c.copy_with_receipt-outcome.ensures.receipt _ _ c.in_ok-receipt.was _ c.published_outcome-outcome.ensures in
-    rw p.1 (changed_stop _ _ _ _ _ _ 1 p.2 c.in_err-input.ensures.stops.0 (inl (refl, first_unknown _ _ (digest_told g.F.Feed c.args.first.now c.close-one.result.1.now from_first true _ c.open-one.ensures.remaining c.open-one.ensures.opened c.close-one.ensures.closed refl) c.in_err-input.ensures.stops.1)))
+    rw p.1 (changed_stop _ _ _ _ _ _ 1 p.2 c.in_err-input.ensures.stops.0 (inl (refl, first_unknown c.args.passes.check _ _ (digest_told g.F.Feed c.args.first.now c.close-one.result.1.now from_first c.args.passes.check _ c.open-one.ensures.remaining c.open-one.ensures.opened c.close-one.ensures.closed) c.in_err-input.ensures.stops.1)))
 
 pub returns-in_err-compare-clause-stops : goal.returns-in_err-compare-clause-stops
 returns-in_err-compare-clause-stops g c =
     let p = err_from_is_err_and c.from_residual-in_err-compare.result c.from_residual-in_err-compare.ensures.1 in
     let from_first = outcome_receipt _ _ c.copy_with_receipt-outcome.ensures.receipt _ _ c.in_ok-receipt.was _ c.published_outcome-outcome.ensures in
-    rw p.1 (changed_stop _ _ _ _ _ _ 2 p.2 c.in_err-compare.ensures.stops.0 (inr (inl (refl, later_differ _ _ _ _ _ (digest_told g.F.Feed c.args.first.now c.close-one.result.1.now from_first true _ c.open-one.ensures.remaining c.open-one.ensures.opened c.close-one.ensures.closed refl) c.in_ok-input.ensures.there (digest_told g.G.Feed c.args.second.now c.close-two.result.1.now from_first.holding.1 true _ c.open-two.ensures.remaining c.open-two.ensures.opened c.close-two.ensures.closed refl) c.in_err-compare.ensures.stops.1))))
+    rw p.1 (changed_stop _ _ _ _ _ _ 2 p.2 c.in_err-compare.ensures.stops.0 (inr (inl (refl, later_differ c.args.passes.check _ _ _ _ _ (digest_told g.F.Feed c.args.first.now c.close-one.result.1.now from_first c.args.passes.check _ c.open-one.ensures.remaining c.open-one.ensures.opened c.close-one.ensures.closed) c.in_ok-input.ensures.there (digest_told g.G.Feed c.args.second.now c.close-two.result.1.now from_first.holding.1 c.args.passes.check _ c.open-two.ensures.remaining c.open-two.ensures.opened c.close-two.ensures.closed) c.in_err-compare.ensures.stops.1))))

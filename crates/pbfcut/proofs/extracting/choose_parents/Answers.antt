@@ -3,7 +3,7 @@ use Rattle.std.proofs.lemmas.Result.{IfErr-weaker, IfOk-weaker, err_from_is_err_
 use Rattle.pbf_frame.specs.Frames.{FrameSpec}
 use Rattle.pbf_frame.specs.Verdict.{Says}
 use Rattle.pbf_pass.specs.declared.receipt.Passes.{Passes}
-use Rattle.pbf_pass.specs.Hashing.{digest_if}
+use Rattle.pbf_pass.specs.Hashing.{mark_by}
 use Rattle.pbf_pass.specs.HeaderLimit.{judged_writable}
 use Rattle.pbf_pass.specs.Judged.{judged_file}
 use Rattle.pbf_pass.specs.Refused.{stop_of}
@@ -29,7 +29,7 @@ returns-clause-ends g c =
     let said : (frames : List FrameSpec) × Says (judged_file (Some one.file)) (frames, None) =
     gave_or_not second _ choice.spared one.file _ _ (λ file choice. (choice.chosen.frames, choice.chosen.judged)) one.holding in
     let is = c.in_ok-choice.ensures.ends.next in
-    let same = ap (λ (p : Passes). digest_if p.hashes choice.next.digest) is.1 in
+    let same = ap (λ (p : Passes). mark_by p.check choice.next.digest) is.1 in
     record {
       next = search rules;
       halts = IfErr-weaker c.with_parents.result _ _ (λ h stops. record {

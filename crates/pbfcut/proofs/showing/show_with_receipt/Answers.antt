@@ -29,7 +29,7 @@ returns-in_err-compare-in-Ok-clause-ends g c =
     let p = err_from_is_err_and c.from_residual-in_err-compare-in-Ok.result c.from_residual-in_err-compare-in-Ok.ensures.1 in
     let one = c.in_ok-judged.ensures.judged in
     let last : LaterPass = record { number = 2; digest = c.in_ok-judged.judged.digest; passes = c.args.passes } in
-    let stops = digest_as_change g.G.Feed last c.args.second.now c.write_text.new.feed ⊥ c.args.passes.hashes c.in-Ok.digest _ _ refl c.in-Ok.ensures.shown c.in_err-compare-in-Ok.ensures.other in
+    let stops = digest_as_change g.G.Feed last c.args.second.now c.write_text.new.feed ⊥ c.in-Ok.digest _ _ c.in-Ok.ensures.shown c.in_err-compare-in-Ok.ensures.other in
     rw (p.1, p.2) (record {
       refused = search rules;
       stops = search rules;

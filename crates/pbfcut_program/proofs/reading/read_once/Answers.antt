@@ -2,7 +2,7 @@ use Rattle.std.proofs.Common.{[], ◌∷◌, ◌++◌, ◌≡◌, List, inl, ref
 use Rattle.pbf_pass.specs.Judged.{judged_file}
 use Rattle.pbfcut_program.specs.Events.{Event, opened, read}
 use Rattle.pbfcut_program.specs.Fails.{judging}
-use Rattle.pbfcut_program.specs.Manner.{manner_of}
+use Rattle.pbfcut_program.specs.Manner.{manner_of, once_check}
 use Rattle.pbfcut_program.specs.Tasks.{checking}
 use Rattle.pbfcut_program.proofs.Closing.{ends_with_none, work_fails, work_read_once}
 use Rattle.pbfcut_program.proofs.FailLemmas.{opened_fails, told_fails}
@@ -14,7 +14,7 @@ returns-in-Err-clause-err g c =
     let log = g.H.Host.log in
     let one = c.in_ok-pass.pass in
     let now = c.check-outcome.new.pass in
-    let fail = work_fails c.args.engine.program c.args.engine.packs c.args.engine.digests g.H.In.Feed checking (λ took. took ≡ []) ⊥ (λ answer. ⊥) (log c.open_pass.new.host) (log c.close.new.self) (log c.close.new.self)
+    let fail = work_fails c.args.engine.program c.args.engine.packs c.args.engine.digests (once_check c.args.engine.digests) g.H.In.Feed checking (λ took. took ≡ []) ⊥ (λ answer. ⊥) (log c.open_pass.new.host) (log c.close.new.self) (log c.close.new.self)
     (one ∷ []) (now ∷ []) c.in-Err.halted (ends_with_none (log c.close.new.self) (λ took. took ≡ [])) (c.in_ok-pass.ensures.fresh, tt) (log c.close.new.self, (c.close.ensures.some, c.close.ensures.logged), refl) (c.in-Err.ensures (c.in_ok-pass.ensures.fresh, tt)) in
     let has = g.H.In.Feed.remaining one in
     let m = manner_of c.args.engine in
@@ -29,5 +29,5 @@ pub returns-in-Ok-clause-ok : goal.returns-in-Ok-clause-ok
 returns-in-Ok-clause-ok g c =
     let log = g.H.Host.log in
     let one = c.in_ok-pass.pass in
-    let done = work_read_once g.H.In.Feed (manner_of c.args.engine) checking ⊥ (log c.open_pass.new.host) (log c.close.new.self) one c.check-outcome.new.pass c.in-Ok.report c.in_ok-pass.ensures.fresh (c.close.ensures.some, c.close.ensures.logged) (c.in-Ok.ensures (c.in_ok-pass.ensures.fresh, tt)) in
+    let done = work_read_once g.H.In.Feed (manner_of c.args.engine) (once_check c.args.engine.digests) checking ⊥ (log c.open_pass.new.host) (log c.close.new.self) one c.check-outcome.new.pass c.in-Ok.report c.in_ok-pass.ensures.fresh (c.close.ensures.some, c.close.ensures.logged) (c.in-Ok.ensures (c.in_ok-pass.ensures.fresh, tt)) in
     (g.H.In.Feed.remaining one, done.0, and_then (log c.args.host.now) _ _ (opened c.args.path.now 1 (g.H.In.Feed.remaining one) ∷ []) (read done.0 ∷ []) c.in_ok-pass.ensures.opened done.1, done.2)

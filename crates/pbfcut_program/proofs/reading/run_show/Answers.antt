@@ -1,4 +1,4 @@
-use Rattle.std.proofs.Common.{◌≡◌, [], ◌∷◌, ◌++◌, List, OnOk, map, Bool, true, inl, inr, refl, subst}
+use Rattle.std.proofs.Common.{◌≡◌, [], ◌∷◌, ◌++◌, List, OnOk, map, Bool, true, inl, inr, refl, ap, subst}
 use Rattle.std.proofs.lemmas.Result.{err_from_is_err_and, IfErr-weaker, on_ok_weaker}
 use Rattle.pbf_pass.specs.Judged.{judged_file}
 use Rattle.pbf_pass.specs.Stops.{WriteFailed}
@@ -6,10 +6,13 @@ use Rattle.pbfcut_program.specs.declared.engine.Report.{Report}
 use Rattle.pbfcut_program.specs.Devices.{AreFresh}
 use Rattle.pbfcut_program.specs.Events.{Event, Reading, Writing, opened, read, screened, wrote, then_all}
 use Rattle.pbfcut_program.specs.Fails.{Each, Opens, Quiet, judging}
-use Rattle.pbfcut_program.specs.Manner.{manner_of, to_raw}
+use Rattle.pbfcut_program.specs.Manner.{check_in, manner_of, to_raw}
 use Rattle.pbfcut_program.specs.Readings.{IsWork}
 use Rattle.pbfcut_program.specs.Tasks.{showing}
+use Rattle.pbfcut_program.specs.Program.{draws}
+use Rattle.pbfcut_program.proofs.Beginning.{quiet_draws, shown_events}
 use Rattle.pbfcut_program.proofs.Closing.{if_done, text_fails}
+use Rattle.pbfcut_program.proofs.EventLemmas.{each_both}
 use Rattle.pbfcut_program.proofs.FailLemmas.{opened_fails, opening_after, opening_fails, opens_before, text_ok}
 use Rattle.pbfcut_program.proofs.LeavingLemmas.{leaves_after, opening_leaves}
 use Rattle.pbfcut_program.proofs.Logging.{and_then}
@@ -23,6 +26,18 @@ returns-in_err-passes-clause-err g c =
     let how = c.in_err-passes.field-0.0 in
     rw (p.1, p.2) (f.0, f.1, opening_fails m (judging judged_file) how f.0 f.2, opening_leaves m (showing c.args.dates) how f.0 f.2)
 
+pub returns-in_err-key-clause-err : goal.returns-in_err-key-clause-err
+returns-in_err-key-clause-err g c =
+    let p = err_from_is_err_and c.from_residual-in_err-key.result c.from_residual-in_err-key.ensures.1 in
+    let f = c.in_err-key.ensures.err in
+    let input = c.args.input.now.path.now in
+    let ps = c.in_ok-passes.passes in
+    let first : List Event = opened input 1 (g.H.In.Feed.remaining ps.one) ∷ opened input 2 (g.H.In.Feed.remaining ps.two) ∷ [] in
+    let how = c.in_err-key.field-0.0 in
+    let m = to_raw (manner_of c.args.engine) in
+    let fails = opening_after how first f.0 (tt, (tt, tt)) f.2 in
+    rw (p.1, p.2) (first ++ f.0, and_then (g.H.Host.log c.args.host.now) _ _ first f.0 c.in_ok-passes.ensures.opened f.1, opening_fails m (judging judged_file) how (first ++ f.0) fails, opening_leaves m (showing c.args.dates) how (first ++ f.0) fails)
+
 pub returns-in_err-out-clause-err : goal.returns-in_err-out-clause-err
 returns-in_err-out-clause-err g c =
     let p = err_from_is_err_and c.from_residual-in_err-out.result c.from_residual-in_err-out.ensures.1 in
@@ -32,8 +47,11 @@ returns-in_err-out-clause-err g c =
     let first : List Event = opened input 1 (g.H.In.Feed.remaining ps.one) ∷ opened input 2 (g.H.In.Feed.remaining ps.two) ∷ [] in
     let how = c.in_err-out.field-0.0 in
     let m = to_raw (manner_of c.args.engine) in
-    let fails = opening_after how first f.0 (tt, (tt, tt)) f.2 in
-    rw (p.1, p.2) (first ++ f.0, and_then (g.H.Host.log c.args.host.now) _ _ first f.0 c.in_ok-passes.ensures.opened f.1, opening_fails m (judging judged_file) how (first ++ f.0) fails, opening_leaves m (showing c.args.dates) how (first ++ f.0) fails)
+    let drawn = draws c.args.engine.program c.in_ok-key.key in
+    let before = and_then (g.H.Host.log c.args.host.now) _ _ first drawn c.in_ok-passes.ensures.opened c.in_ok-key.ensures.ok in
+    let begun = first ++ drawn in
+    let fails = opening_after how begun f.0 (tt, (tt, quiet_draws c.args.engine.program c.in_ok-key.key)) f.2 in
+    rw (p.1, p.2) (begun ++ f.0, and_then (g.H.Host.log c.args.host.now) _ _ begun f.0 before f.1, opening_fails m (judging judged_file) how (begun ++ f.0) fails, opening_leaves m (showing c.args.dates) how (begun ++ f.0) fails)
 
 pub returns-clause-ok : goal.returns-clause-ok
 returns-clause-ok g c =
@@ -44,17 +62,31 @@ returns-clause-ok g c =
     let old = c.in_ok-out.out in
     let out = c.show-outcome.new.drain in
     let has = g.H.In.Feed.remaining in
-    let first : List Event = opened input 1 (has ps.one) ∷ opened input 2 (has ps.two) ∷ screened true ∷ [] in
-    let begun = and_then (log c.args.host.now) _ _ (opened input 1 (has ps.one) ∷ opened input 2 (has ps.two) ∷ []) (screened true ∷ []) c.in_ok-passes.ensures.opened c.in_ok-out.ensures.opened.0 in
+    let drawn = draws c.args.engine.program c.in_ok-key.key in
+    let last = drawn ++ screened true ∷ [] in
+    let first : List Event = opened input 1 (has ps.one) ∷ opened input 2 (has ps.two) ∷ last in
+    let begun = and_then (log c.args.host.now) _ _ (opened input 1 (has ps.one) ∷ opened input 2 (has ps.two) ∷ []) last c.in_ok-passes.ensures.opened (and_then _ _ _ drawn (screened true ∷ []) c.in_ok-key.ensures.ok c.in_ok-out.ensures.opened.0) in
     let e = c.ended.ensures in
     let done : OnOk c.ended.result ((report : Report) × (rs : List Reading) × (w : Writing) × (log c.ended.new.host ≡ then_all (log c.open_screen.new.host) (map (λ r. read r) rs ++ wrote w ∷ []))
-    × (w.out ≡ true) × IsWork (to_raw (manner_of c.args.engine)) (showing c.args.dates) rs w.bytes report.counts report.input report.raw) = text_ok e.0 c.show-outcome.result c.ended.result _ e.2 (λ went. subst (λ (b : Bool). OnOk c.show-outcome.result ((report : Report) × (rs : List Reading) × (w : Writing) × (log c.ended.new.host ≡ then_all (log c.open_screen.new.host) (map (λ r. read r) rs ++ wrote w ∷ []))
-    × (w.out ≡ b) × IsWork (to_raw (manner_of c.args.engine)) (showing c.args.dates) rs w.bytes report.counts report.input report.raw)) went (if_done g.H.In.Feed g.H.Out.Drain out e.0 (to_raw (manner_of c.args.engine)) (showing c.args.dates) (g.H.Out.Drain.has_taken out 0) (WriteFailed g.H.Out.Drain old out)
+    × (w.out ≡ true) × IsWork (to_raw (manner_of c.args.engine)) (check_in c.args.engine c.in_ok-key.key) (showing c.args.dates) rs w.bytes report.counts report.input report.raw) = text_ok e.0 c.show-outcome.result c.ended.result _ e.2 (λ went. subst (λ (b : Bool). OnOk c.show-outcome.result ((report : Report) × (rs : List Reading) × (w : Writing) × (log c.ended.new.host ≡ then_all (log c.open_screen.new.host) (map (λ r. read r) rs ++ wrote w ∷ []))
+    × (w.out ≡ b) × IsWork (to_raw (manner_of c.args.engine)) (check_in c.args.engine c.in_ok-key.key) (showing c.args.dates) rs w.bytes report.counts report.input report.raw)) went (if_done g.H.In.Feed g.H.Out.Drain out e.0 (to_raw (manner_of c.args.engine)) (check_in c.args.engine c.in_ok-key.key) (showing c.args.dates) (g.H.Out.Drain.has_taken out 0) (WriteFailed g.H.Out.Drain old out)
     (log c.open_screen.new.host) (log c.close_two.new.host) (log c.ended.new.host) (ps.one ∷ ps.two ∷ []) (now.one ∷ now.two ∷ []) c.show-outcome.result (c.in_ok-passes.ensures.fresh.0, (c.in_ok-passes.ensures.fresh.1, tt)) c.close_two.ensures e.1 (λ w t. t) (c.show-outcome.ensures.works (c.in_ok-passes.ensures.fresh.0, (c.in_ok-passes.ensures.fresh.1, tt)) 0 c.in_ok-out.ensures.opened.1.0))) in
     on_ok_weaker c.ended.result (λ d. (
       _,
       and_then (log c.args.host.now) _ _ first _ begun d.3,
-      record { has = has ps.one ∷ has ps.two ∷ []; rs = d.1; out = d.2; counts = d.0.counts; digest = d.0.input; raw = d.0.raw; happened = refl; passes = refl; whole = d.4; work = d.5 },
+      record {
+        has = has ps.one ∷ has ps.two ∷ [];
+        key = c.in_ok-key.key;
+        rs = d.1;
+        out = d.2;
+        counts = d.0.counts;
+        digest = d.0.input;
+        raw = d.0.raw;
+        happened = ap (λ es. opened input 1 (has ps.one) ∷ opened input 2 (has ps.two) ∷ es) (shown_events drawn (map (λ r. read r) d.1) (wrote d.2 ∷ []) (screened true));
+        passes = refl;
+        whole = d.4;
+        work = d.5;
+      },
     )) done
 
 pub returns-clause-err : goal.returns-clause-err
@@ -64,13 +96,15 @@ returns-clause-err g c =
     let ps = c.in_ok-passes.passes in
     let now = c.show-outcome.new.passes in
     let has = g.H.In.Feed.remaining in
-    let first : List Event = opened input 1 (has ps.one) ∷ opened input 2 (has ps.two) ∷ screened true ∷ [] in
-    let begun = and_then (log c.args.host.now) _ _ (opened input 1 (has ps.one) ∷ opened input 2 (has ps.two) ∷ []) (screened true ∷ []) c.in_ok-passes.ensures.opened c.in_ok-out.ensures.opened.0 in
+    let drawn = draws c.args.engine.program c.in_ok-key.key in
+    let last = drawn ++ screened true ∷ [] in
+    let first : List Event = opened input 1 (has ps.one) ∷ opened input 2 (has ps.two) ∷ last in
+    let begun = and_then (log c.args.host.now) _ _ (opened input 1 (has ps.one) ∷ opened input 2 (has ps.two) ∷ []) last c.in_ok-passes.ensures.opened (and_then _ _ _ drawn (screened true ∷ []) c.in_ok-key.ensures.ok c.in_ok-out.ensures.opened.0) in
     let e = c.ended.ensures in
     let fresh = c.in_ok-out.ensures.opened.1 in
     let m = to_raw (manner_of c.args.engine) in
     let hs = has ps.one ∷ has ps.two ∷ [] in
-    let quiet : Each Quiet first = (tt, (tt, (tt, tt))) in
+    let quiet : Each Quiet first = (tt, (tt, each_both Quiet drawn (screened true ∷ []) (quiet_draws c.args.engine.program c.in_ok-key.key) (tt, tt))) in
     let opens : Opens 1 hs first = (inl (refl, refl), (inr (inl (refl, refl)), tt)) in
     let feeds : AreFresh g.H.In.Feed (ps.one ∷ ps.two ∷ []) = (c.in_ok-passes.ensures.fresh.0, (c.in_ok-passes.ensures.fresh.1, tt)) in
     IfErr-weaker c.ended.result _ _ (λ how f. (
@@ -79,5 +113,5 @@ returns-clause-err g c =
       opened_fails m (judging judged_file) hs how first f.0 quiet opens f.2,
       record { has = hs; opens = opens_before 1 hs first f.0 opens; leaves = leaves_after m (showing c.args.dates) hs first f.0 quiet f.3 },
     ))
-    (text_fails c.args.engine.program c.args.engine.digests g.H.In.Feed g.H.Out.Drain (showing c.args.dates) c.in_ok-out.out c.show-outcome.new.drain e.0 (log c.open_screen.new.host) (log c.close_two.new.host) (log c.ended.new.host) (ps.one ∷ ps.two ∷ []) (now.one ∷ now.two ∷ []) c.show-outcome.result c.ended.result
+    (text_fails c.args.engine.program c.args.engine.digests (check_in c.args.engine c.in_ok-key.key) g.H.In.Feed g.H.Out.Drain (showing c.args.dates) c.in_ok-out.out c.show-outcome.new.drain e.0 (log c.open_screen.new.host) (log c.close_two.new.host) (log c.ended.new.host) (ps.one ∷ ps.two ∷ []) (now.one ∷ now.two ∷ []) c.show-outcome.result c.ended.result
     fresh feeds c.close_two.ensures e.1 (c.show-outcome.ensures.works feeds 0 fresh.0) c.show-outcome.ensures.front e.2)

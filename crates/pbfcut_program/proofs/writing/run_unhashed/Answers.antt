@@ -6,5 +6,5 @@ pub returns-else-gives_packed-clause-works : goal.returns-else-gives_packed-clau
 returns-else-gives_packed-clause-works g c = λ fresh start.
     let engine = c.args.engine in
     let job = feeds_of c.args.job.now in
-    let works = works_raw engine.program engine.packs engine.digests g.F.Feed (task_of c.args.job.now) job (feeds_of c.run_raw.new.job) _ _ c.run_raw.result.result (c.gives_packed.ensures.raw c.if-gives_packed.false) (c.run_raw.ensures.works fresh 0 start) in
-    rw c.run_raw.ensures.unhashed.1 (works_weaker engine.program engine.packs engine.digests g.F.Feed (task_of c.args.job.now) job (feeds_of c.run_raw.new.job) _ _ _ _ c.run_raw.result.result (λ w t. (t, tt)) (λ risen. risen) works)
+    let works = works_raw engine.program engine.packs engine.digests _ g.F.Feed (task_of c.args.job.now) job (feeds_of c.run_raw.new.job) _ _ c.run_raw.result.result (c.gives_packed.ensures.raw c.if-gives_packed.false) (c.run_raw.ensures.works fresh 0 start) in
+    rw c.run_raw.ensures.unhashed.1 (works_weaker engine.program engine.packs engine.digests _ g.F.Feed (task_of c.args.job.now) job (feeds_of c.run_raw.new.job) _ _ _ _ c.run_raw.result.result (λ w t. (t, tt)) (λ risen. risen) works)

@@ -1,4 +1,4 @@
-use Rattle.std.proofs.Common.{◌≡◌, ◌∙◌, [], ◌∷◌, ◌++◌, List, append_assoc, inr, map, true, refl, ap, subst}
+use Rattle.std.proofs.Common.{◌≡◌, ◌∙◌, [], ◌∷◌, ◌++◌, List, append_assoc, inr, map, true, Some, refl, ap, subst}
 use Rattle.std.proofs.lemmas.Result.{err_from_is_err_and}
 use Rattle.pbfcut_program.specs.declared.host.Screen.{Screen}
 use Rattle.pbfcut_program.specs.Events.{Event, read, seeded, wrote, then_all}
@@ -6,7 +6,7 @@ use Rattle.pbfcut_program.specs.Fails.{Fails, judging}
 use Rattle.pbfcut_program.specs.Jobs.{feeds_of, plan_of}
 use Rattle.pbfcut_program.specs.Leaving.{Leaves}
 use Rattle.pbfcut_program.specs.Program.{counts_text, done_lines, is_screen, looks, makes, openings, prints, screen_of}
-use Rattle.pbfcut_program.specs.Manner.{manner_of}
+use Rattle.pbfcut_program.specs.Manner.{check_in, check_of, manner_of}
 use Rattle.pbfcut_program.specs.Readings.{IsWork}
 use Rattle.pbfcut_program.specs.Tasks.{judge_of}
 use Rattle.pbfcut_program.proofs.Beginning.{all_events, begun, length_has, opens_begun, quiet_begun}
@@ -32,13 +32,14 @@ returns-in_err-done-clause-err g c =
     let files = c.args.files.now in
     let is = is_screen c.args.engine.program files.output.now in
     let has = map g.H.In.Feed.remaining (feeds_of c.in_ok-ready.ready.job) in
+    let key = c.in_ok-ready.ready.seed.key in
     let m = manner_of c.args.engine in
     let fails = subst (λ t. Fails m (judging (judge_of t)) has how f.0) c.in_ok-ready.ensures.planned.0 f.2 in
     let leaves = subst (λ t. Leaves m t has f.0) c.in_ok-ready.ensures.planned.0 f.3 in
     let opened = rw c.is_screen-to_screen.ensures at c.in_ok-ready.ensures.ok in
-    let first = begun is files.input.now files.output.now has in
-    let quiet = quiet_begun is files.input.now files.output.now has in
-    let opens = opens_begun is files.input.now files.output.now has in
+    let first = begun is files.input.now files.output.now has key in
+    let quiet = quiet_begun is files.input.now files.output.now has key in
+    let opens = opens_begun is files.input.now files.output.now has key in
     rw (p.1, p.2) (
       first ++ f.0,
       and_then log _ _ first f.0 opened f.1,
@@ -54,8 +55,9 @@ returns-in_err-print_done-clause-err g c =
     let files = c.args.files.now in
     let is = is_screen c.args.engine.program files.output.now in
     let has = map g.H.In.Feed.remaining (feeds_of c.in_ok-ready.ready.job) in
+    let key = c.in_ok-ready.ready.seed.key in
     let opened = rw c.is_screen-to_screen.ensures at c.in_ok-ready.ensures.ok in
-    let first = begun is files.input.now files.output.now has in
+    let first = begun is files.input.now files.output.now has key in
     let rs : List Event = map (λ r. read r) d.0 in
     let done = and_then log _ _ first (rs ++ wrote d.1 ∷ []) opened d.2 in
     let m = manner_of c.args.engine in
@@ -77,10 +79,11 @@ returns-in_err-print_done-clause-err g c =
           out = d.1;
           after = lines.0;
           happened = append_assoc first (rs ++ wrote d.1 ∷ []) lines.0 ∙ ap (λ es. first ++ es) (append_assoc rs (wrote d.1 ∷ []) lines.0);
+          by = check_of m key;
           counts = report.counts;
           digest = report.input;
           raw = report.raw;
-          work = subst (λ t. IsWork m t d.0 d.1.bytes report.counts report.input report.raw) c.in_ok-ready.ensures.planned.0 d.6;
+          work = subst (λ t. IsWork m (check_of m key) t d.0 d.1.bytes report.counts report.input report.raw) c.in_ok-ready.ensures.planned.0 d.6;
         });
       },
     )
@@ -93,20 +96,22 @@ returns-clause-ok g c =
     let files = c.args.files.now in
     let is = is_screen c.args.engine.program files.output.now in
     let has = map g.H.In.Feed.remaining (feeds_of c.in_ok-ready.ready.job) in
+    let key = c.in_ok-ready.ready.seed.key in
     let rs : List Event = map (λ r. read r) d.0 in
     let lines = prints (screen_of is) (counts_text r.report.counts ∷ done_lines r.output r.meaning r.report.input r.report.raw files.input.now files.output.now) in
     let opened = rw c.is_screen-to_screen.ensures at c.in_ok-ready.ensures.ok in
-    let done = and_then log _ _ (begun is files.input.now files.output.now has) (rs ++ wrote d.1 ∷ []) opened d.2 in
+    let done = and_then log _ _ (begun is files.input.now files.output.now has key) (rs ++ wrote d.1 ∷ []) opened d.2 in
     let same_screen = c.screen_of.ensures ∙ ap screen_of c.is_screen-to_screen.ensures in
     let printed = subst (λ (s : Screen). g.H.Host.log c.print_done.new.host ≡ then_all (g.H.Host.log c.run_job.new.host) (prints s (counts_text r.report.counts ∷ done_lines r.output r.meaning r.report.input r.report.raw files.input.now files.output.now))) same_screen c.in_ok-print_done.ensures in
-    let all = and_then log _ _ (begun is files.input.now files.output.now has ++ (rs ++ wrote d.1 ∷ [])) lines done printed in
-    let same = all_events (looks is files.output.now ++ openings files.input.now 1 has) rs lines (seeded true) (makes is files.output.now) (wrote d.1) in (
+    let all = and_then log _ _ (begun is files.input.now files.output.now has key ++ (rs ++ wrote d.1 ∷ [])) lines done printed in
+    let same = all_events (looks is files.output.now ++ openings files.input.now 1 has) rs lines (seeded (Some key)) (makes is files.output.now) (wrote d.1) in (
       _,
       all ∙ ap (λ es. then_all log es) same,
       record {
         has = has;
         rs = d.0;
         out = d.1;
+        key = key;
         digest = r.report.input;
         raw = r.report.raw;
         known = r.output;
@@ -116,6 +121,6 @@ returns-clause-ok g c =
         whole = d.3;
         hashed = d.4;
         meaning_hashed = d.5;
-        work = subst (λ t. IsWork (manner_of c.args.engine) t d.0 d.1.bytes r.report.counts r.report.input r.report.raw) c.in_ok-ready.ensures.planned.0 d.6;
+        work = subst (λ t. IsWork (manner_of c.args.engine) (check_in c.args.engine key) t d.0 d.1.bytes r.report.counts r.report.input r.report.raw) c.in_ok-ready.ensures.planned.0 d.6;
       },
     )

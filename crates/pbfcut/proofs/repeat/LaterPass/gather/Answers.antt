@@ -8,7 +8,7 @@ use Rattle.pbfcut.proofs.repeat.LaterPass.gather.Goals as goal
 pub returns-in-Ok : goal.returns-in-Ok
 returns-in-Ok g c = record {
   gathered = search rules;
-  stops = IfErr-weaker c.compare.result _ (StopsLater g.F.Feed c.args.self c.args.feed.now c.gather_unjudged.new.feed ⊥) (λ s other. digest_as_change g.F.Feed c.args.self c.args.feed.now c.gather_unjudged.new.feed ⊥ c.args.self.passes.hashes c.in-Ok.digest _ s refl c.in-Ok.ensures.gathered other) c.compare.ensures.other;
+  stops = IfErr-weaker c.compare.result _ (StopsLater g.F.Feed c.args.self c.args.feed.now c.gather_unjudged.new.feed ⊥) (λ s other. digest_as_change g.F.Feed c.args.self c.args.feed.now c.gather_unjudged.new.feed ⊥ c.in-Ok.digest _ s c.in-Ok.ensures.gathered other) c.compare.ensures.other;
   keeps = search rules;
 }
 

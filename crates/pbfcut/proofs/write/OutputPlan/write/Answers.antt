@@ -18,7 +18,7 @@ returns-in_err-compare-in-Ok g c =
       packed = tt;
       beginning = packed_front (take_of c.args.self.chosen) (header_of c.args.self.header.now) _ _ _ _ took.written
           (packed_told _ _ _ _ given.file took.written (tells_file g.F.Feed _ _ _ _ given) took.holding) took.added.told;
-      stops = digest_as_change g.F.Feed c.args.self.pass c.args.feed.now c.write_unjudged.new.feed (WriteFailed g.D.Drain c.args.drain.now c.write_unjudged.new.drain) c.args.self.pass.passes.hashes c.in-Ok.wrote.input _ _ refl given c.in_err-compare-in-Ok.ensures.other;
+      stops = digest_as_change g.F.Feed c.args.self.pass c.args.feed.now c.write_unjudged.new.feed (WriteFailed g.D.Drain c.args.drain.now c.write_unjudged.new.drain) c.in-Ok.wrote.input _ _ given c.in_err-compare-in-Ok.ensures.other;
       keeps = search rules;
       out = search rules;
     })
