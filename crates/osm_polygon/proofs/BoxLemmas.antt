@@ -69,7 +69,7 @@ module _ (area : BoundingBox) (p : Point) where
       let two : ((area.bottom -ℤ area.top) *ℤ (p.lon -ℤ area.left)) ≡ pos 0 = times_zero (area.bottom -ℤ area.top) (p.lon -ℤ area.left) nothing in
       on_by p west (omega (arith, ints, one, two)) (downward area.top area.bottom p.lat has.south has.north) (upward area.left area.left p.lon has.west far)
 
-  -- from the others the ray crosses the eastern edge alone
+  -- from the others the ray crosses only the eastern edge
   one_crossed : Has area p → p.lon <ℤ area.right → p.lat <ℤ area.top → area.left <ℤ p.lon → is_odd_of (crosses p) sides ≡ true
   one_crossed has right top left =
       odd_cons (crosses p) south (east ∷ north ∷ west ∷ []) ∙ ap (differ (crosses p south)) (odd_cons (crosses p) east (north ∷ west ∷ []))

@@ -1,7 +1,6 @@
 //! A pass over a whole file: it is judged, its entities are counted and gathered, and its bytes are hashed.
 #![tactic(auto)]
 
-
 mod checking;
 mod hashed;
 mod hashing;
@@ -12,9 +11,9 @@ mod receipt;
 mod unjudged;
 mod visit;
 
-pub use hashing::{PassCheck, PassHasher};
 pub use checking::{check, check_with_receipt};
 pub use hashed::{HashedDrain, PassFeed};
+pub use hashing::{PassCheck, PassHasher};
 pub use header_limit::writable_header;
 pub use pass::{
     Gather, Judged, Judging, Nothing, Pass, judge, step_count, step_gather, step_nodes,

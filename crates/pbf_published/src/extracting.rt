@@ -58,7 +58,13 @@ pub fn extract_sorted_with_receipt<
     let mut two = open(alloc, another, &mut *second, passes.check);
     let mut three = open(alloc, last, &mut *third, passes.check);
     let outcome = pbfcut::extract_sorted_with_receipt(
-        passes.of_raw(), &mut one, &mut two, &mut three, area, drain, hasher,
+        passes.of_raw(),
+        &mut one,
+        &mut two,
+        &mut three,
+        area,
+        drain,
+        hasher,
     );
     let is_memory = lacks_memory(&one) | lacks_memory(&two) | lacks_memory(&three);
     let outcome = published_outcome(outcome, &one, is_memory);

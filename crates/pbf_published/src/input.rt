@@ -61,7 +61,12 @@ impl From<AllocError> for PublishedHalt {
 pub type PublishedFeed<F> = UnpackedFeed<TracedFeed<PassFeed<F>>>;
 
 /// A published file from its start.
-pub fn open<F: Feed>(alloc: Global, inflater: Inflater, feed: F, check: PassCheck) -> PublishedFeed<F>
+pub fn open<F: Feed>(
+    alloc: Global,
+    inflater: Inflater,
+    feed: F,
+    check: PassCheck,
+) -> PublishedFeed<F>
     ensures remaining { ⟦<PublishedFeed<F> as Feed>⟧.remaining result
         ≡ raw_of (F.remaining feed) }
     ensures opened { Opened (F.remaining feed) (F.has_passed feed) check

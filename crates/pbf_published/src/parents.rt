@@ -53,7 +53,14 @@ pub fn extract_parents_sorted_with_receipt<
     let mut three = open(alloc, more, &mut *third, passes.check);
     let mut four = open(alloc, last, &mut *fourth, passes.check);
     let outcome = pbfcut::extract_parents_sorted_with_receipt(
-        passes.of_raw(), &mut one, &mut two, &mut three, &mut four, area, drain, hasher,
+        passes.of_raw(),
+        &mut one,
+        &mut two,
+        &mut three,
+        &mut four,
+        area,
+        drain,
+        hasher,
     );
     let is_memory = lacks_memory(&one)
         | lacks_memory(&two)

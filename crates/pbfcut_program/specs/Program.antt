@@ -88,7 +88,7 @@ pub record Checks (m : Manner) (input : List ℕ) (events : List Event) : Type 0
   pub happened : events ≡ opened input 1 has ∷ read first ∷ prints Output (counts_text counts ∷ check_lines m.digests digest raw input)
   pub work : IsWork m (once_check m.digests) checking (first ∷ []) [] counts digest raw
 
--- pbfcutz draws a key also where it draws nothing else
+-- pbfcutz draws a key, even if it draws nothing else
 abbrev pub draws : Program → (key : ℕ) → List Event
 draws Pbfcut key = []
 draws Pbfcutz key = seeded (Some key) ∷ []

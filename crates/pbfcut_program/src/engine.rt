@@ -218,9 +218,7 @@ pub(crate) fn show<F: Feed, D: Drain>(
     let Text { dates, key } = text;
     let how = engine.many_passes(key);
     match engine.program {
-        Program::Pbfcut => {
-            reported(pbfcut::show_with_receipt(how, one, two, drain, dates))
-        }
+        Program::Pbfcut => reported(pbfcut::show_with_receipt(how, one, two, drain, dates)),
         Program::Pbfcutz => {
             published(pbf_published::show_with_receipt(how, one, two, drain, dates))
         }
@@ -247,9 +245,7 @@ pub(crate) fn convert<F: Feed, D: Drain, S: BuildHasher + Drop>(
     let Seed { hasher, key } = seed;
     let how = engine.many_passes(key);
     match engine.program {
-        Program::Pbfcut => {
-            reported(pbfcut::convert_with_receipt(how, one, two, drain, hasher))
-        }
+        Program::Pbfcut => reported(pbfcut::convert_with_receipt(how, one, two, drain, hasher)),
         Program::Pbfcutz => {
             published(pbf_published::convert_with_receipt(how, one, two, drain, hasher))
         }
@@ -275,12 +271,8 @@ pub(crate) fn copy<F: Feed, D: Drain>(
     let TwoPasses { one, two } = passes;
     let how = engine.many_passes(key);
     match engine.program {
-        Program::Pbfcut => {
-            reported(pbfcut::copy_with_receipt(how, one, two, drain))
-        }
-        Program::Pbfcutz => {
-            published(pbf_published::copy_with_receipt(how, one, two, drain))
-        }
+        Program::Pbfcut => reported(pbfcut::copy_with_receipt(how, one, two, drain)),
+        Program::Pbfcutz => published(pbf_published::copy_with_receipt(how, one, two, drain)),
     }
 }
 

@@ -160,7 +160,7 @@ fn run_raw_hashed<F: Feed, D: Drain + Drop, S: BuildHasher + Drop>(
     requires { IfSome (D.taken out) (λ taken. taken ≡ []) }
     ensures works { AreFresh F.Feed (feeds_of job.old) → D.has_taken out 0 []
         → Works (to_raw (manner_of engine)) (check_in engine seed.key) F.Feed (task_of job.old)
-        (feeds_of job.old)         (feeds_of job.new) (TakenBy D.Drain result.out result.output)
+        (feeds_of job.old) (feeds_of job.new) (TakenBy D.Drain result.out result.output)
         (WriteFailed D.Drain out result.out) result.result }
     ensures hashed { IsAsked true result.output }
 {
@@ -186,7 +186,7 @@ fn run_raw_into<F: Feed, D: Drain + Drop, S: BuildHasher + Drop>(
     requires { IfSome (D.taken out) (λ taken. taken ≡ []) }
     ensures works { AreFresh F.Feed (feeds_of job.old) → D.has_taken out 0 []
         → Works (to_raw (manner_of engine)) (check_in engine seed.key) F.Feed (task_of job.old)
-        (feeds_of job.old)         (feeds_of job.new) (TakenBy D.Drain result.out result.output)
+        (feeds_of job.old) (feeds_of job.new) (TakenBy D.Drain result.out result.output)
         (WriteFailed D.Drain out result.out) result.result }
     ensures hashed { IsAsked engine.digests result.output }
 {

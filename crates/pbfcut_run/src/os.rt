@@ -10,7 +10,9 @@ use pbfcut_files::{
     is_taken, open_pass, open_screen, plain_file_at, plain_screen, read_polygon_text, tell_box,
     tell_empty, tell_form, tell_hint, tell_left, tell_spoiled,
 };
-use pbfcut_program::{CreateFault, FinishFault, Host, NotDone, OpenFault, Screen, Seed, TextFault, Turn};
+use pbfcut_program::{
+    CreateFault, FinishFault, Host, NotDone, OpenFault, Screen, Seed, TextFault, Turn,
+};
 use std::fs::File;
 use std::hash::{BuildHasher, RandomState};
 use std::io::{self, IsTerminal, Write};

@@ -7,7 +7,9 @@ ghost use Rattle.pbfcut_program.specs.Events.{then_one};
 use crate::happened::Happened;
 use crate::tape::{Reel, Tape};
 use pbfcut_cli::{Command, Ending, Region};
-use pbfcut_program::{CreateFault, FinishFault, Host, NotDone, OpenFault, Screen, Seed, TextFault, Turn};
+use pbfcut_program::{
+    CreateFault, FinishFault, Host, NotDone, OpenFault, Screen, Seed, TextFault, Turn,
+};
 use std::hash::{BuildHasherDefault, FoldHasher};
 use std::process::Abort;
 
