@@ -19,7 +19,7 @@ import sys
 import tempfile
 import time
 
-from published import SAMPLE, frame_at, packed, unpacked
+from published import SAMPLE, Folder, frame_at, packed, unpacked
 
 TOP = os.path.dirname(os.path.dirname(os.path.abspath(__file__)))
 CUT = ["extract", "--box=9.997,49.999,10.003,50.003"]
@@ -70,11 +70,12 @@ def expect(what: str, wanted, found):
         sys.exit(f"tests/outputs.py: {what}: expected {shown(wanted)}, found {shown(found)}")
 
 
-class Bench:
+class Bench(Folder):
     """A folder with a raw file, a compressed one and a polygon, and the program under its other name."""
 
     def __init__(self, program: str, folder: str, elsewhere: str):
-        self.folder, self.count = folder, 0
+        super().__init__(folder)
+        self.count = 0
         self.pbfcutz = os.path.join(elsewhere, "pbfcutz")
         os.symlink(os.path.abspath(program), self.pbfcutz)
         with open(SAMPLE, "rb") as file:
@@ -90,17 +91,6 @@ class Bench:
         self.start_files = set(os.listdir(folder))
         # what OUT has to be
         self.cut = self.made(["--raw", "in", "out"], CUT)
-
-    def path(self, name: str) -> str:
-        return os.path.join(self.folder, name)
-
-    def read(self, name: str) -> bytes:
-        with open(self.path(name), "rb") as file:
-            return file.read()
-
-    def write(self, name: str, content: bytes):
-        with open(self.path(name), "wb") as file:
-            file.write(content)
 
     def start(self, words: list, most: int = 0, **pipes):
         def limit():
