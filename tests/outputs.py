@@ -184,6 +184,14 @@ def options(bench: Bench):
                   ["-o", "out", "-b", box, "--", "in"], ["-p", "ring.poly", "in", "out"], ["--polygon=ring.poly", "in", "-o", "out"],
                   ["-p", "ring.geojson", "in", "out"], ["-p", "feature.geojson", "in", "out"]]:
         expect(f"{words}", bench.cut, bench.made(["--raw", *words], ["extract"]))
+    # Osmium's words for what is done anyway
+    for words in [["-s", "complete_ways", "--set-bounds", "--fsync", "--no-progress", "-f", "pbf", "-F", "pbf"], ["-scomplete_ways", "-fpbf", "-Fpbf"],
+                  ["--strategy=complete_ways", "--output-format=pbf", "--input-format=pbf", "--progress", "--no-progress"],
+                  ["--strategy", "complete_ways", "--output-format", "pbf", "--input-format", "pbf"]]:
+        expect(f"{words}", bench.cut, bench.made(["--raw", *words, "in", "out"], CUT))
+    for command in ["convert", "--raw"], ["pack"], ["unpack"]:
+        words = ["in", "--fsync", "--no-progress", "-f", "pbf", "-F", "pbf", "out"]
+        expect(f"{command} with {words}", bench.made(["in", "out"], command, ALL), bench.made(words, command, ALL))
     for text in UNIONS:
         bench.write("union.geojson", text.encode())
         expect(text, bench.cut, bench.made(["--raw", "-p", "union.geojson", "in", "out"], ["extract"]))
