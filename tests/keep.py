@@ -21,7 +21,7 @@ sys.dont_write_bytecode = True
 sys.path.insert(0, HERE)
 
 from faults import build
-from published import SAMPLE, packed
+from published import SAMPLE, Folder, packed
 from suite import own_lines
 from terminal import run as on_terminal
 
@@ -33,11 +33,12 @@ AREA = b"town\n1\n9.997 49.999\n10.003 49.999\n10 50.003\nEND\nEND\n"
 ORDINARY = 65_534
 
 
-class Bench:
+class Bench(Folder):
     """A folder with a compressed file, and the program by both of its names."""
 
     def __init__(self, program: str, folder: str, elsewhere: str):
-        self.folder, self.elsewhere, self.count = folder, elsewhere, 0
+        super().__init__(folder)
+        self.elsewhere, self.count = elsewhere, 0
         self.names = {}
         # another user runs it too
         os.chmod(elsewhere, 0o755)
@@ -53,17 +54,6 @@ class Bench:
         self.start_files = set(os.listdir(folder))
         # what OUT has to be
         self.cut = {name: self.made(name) for name in self.names}
-
-    def path(self, name: str) -> str:
-        return os.path.join(self.folder, name)
-
-    def read(self, name: str) -> bytes:
-        with open(self.path(name), "rb") as file:
-            return file.read()
-
-    def write(self, name: str, content: bytes):
-        with open(self.path(name), "wb") as file:
-            file.write(content)
 
     def start(self, words: list, name: str = "pbfcutz", fault: str = "", **how):
         how = {"stdin": subprocess.DEVNULL, "stdout": subprocess.PIPE, "stderr": subprocess.PIPE, "cwd": self.folder, **how}

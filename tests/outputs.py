@@ -19,7 +19,7 @@ import sys
 import tempfile
 import time
 
-from published import SAMPLE, frame_at, packed, unpacked
+from published import SAMPLE, Folder, frame_at, packed, unpacked
 
 TOP = os.path.dirname(os.path.dirname(os.path.abspath(__file__)))
 CUT = ["extract", "--box=9.997,49.999,10.003,50.003"]
@@ -70,11 +70,12 @@ def expect(what: str, wanted, found):
         sys.exit(f"tests/outputs.py: {what}: expected {shown(wanted)}, found {shown(found)}")
 
 
-class Bench:
+class Bench(Folder):
     """A folder with a raw file, a compressed one and a polygon, and the program under its other name."""
 
     def __init__(self, program: str, folder: str, elsewhere: str):
-        self.folder, self.count = folder, 0
+        super().__init__(folder)
+        self.count = 0
         self.pbfcutz = os.path.join(elsewhere, "pbfcutz")
         os.symlink(os.path.abspath(program), self.pbfcutz)
         with open(SAMPLE, "rb") as file:
@@ -90,17 +91,6 @@ class Bench:
         self.start_files = set(os.listdir(folder))
         # what OUT has to be
         self.cut = self.made(["--raw", "in", "out"], CUT)
-
-    def path(self, name: str) -> str:
-        return os.path.join(self.folder, name)
-
-    def read(self, name: str) -> bytes:
-        with open(self.path(name), "rb") as file:
-            return file.read()
-
-    def write(self, name: str, content: bytes):
-        with open(self.path(name), "wb") as file:
-            file.write(content)
 
     def start(self, words: list, most: int = 0, **pipes):
         def limit():
@@ -194,6 +184,14 @@ def options(bench: Bench):
                   ["-o", "out", "-b", box, "--", "in"], ["-p", "ring.poly", "in", "out"], ["--polygon=ring.poly", "in", "-o", "out"],
                   ["-p", "ring.geojson", "in", "out"], ["-p", "feature.geojson", "in", "out"]]:
         expect(f"{words}", bench.cut, bench.made(["--raw", *words], ["extract"]))
+    # Osmium's words for what is done anyway
+    for words in [["-s", "complete_ways", "--set-bounds", "--fsync", "--no-progress", "-f", "pbf", "-F", "pbf"], ["-scomplete_ways", "-fpbf", "-Fpbf"],
+                  ["--strategy=complete_ways", "--output-format=pbf", "--input-format=pbf", "--progress", "--no-progress"],
+                  ["--strategy", "complete_ways", "--output-format", "pbf", "--input-format", "pbf"]]:
+        expect(f"{words}", bench.cut, bench.made(["--raw", *words, "in", "out"], CUT))
+    for command in ["convert", "--raw"], ["pack"], ["unpack"]:
+        words = ["in", "--fsync", "--no-progress", "-f", "pbf", "-F", "pbf", "out"]
+        expect(f"{command} with {words}", bench.made(["in", "out"], command, ALL), bench.made(words, command, ALL))
     for text in UNIONS:
         bench.write("union.geojson", text.encode())
         expect(text, bench.cut, bench.made(["--raw", "-p", "union.geojson", "in", "out"], ["extract"]))

@@ -738,6 +738,8 @@ def extracts(bench: Bench):
 
     cuts("an empty header", EMPTY_HEADER, (0, 0, 0), BOX_HEADER)
     cuts("three dense nodes", THREE_DENSE, (2, 0, 0), THREE_DENSE_CUT)
+    cuts("three dense nodes", THREE_DENSE, (2, 0, 0), THREE_DENSE_CUT, "-s", "complete_ways", "--set-bounds", "--fsync", "-fpbf", "-Fpbf",
+         "--progress", "--no-progress")
     cuts("three dense nodes whose ids are in three pieces", THREE_DENSE_IN_PIECES, (2, 0, 0), THREE_DENSE_CUT)
     made = cuts("a way before its nodes", WAY_BEFORE_NODES, (2, 1, 0), BOX_HEADER + WAY_FRAME + NODE_FRAME)
     if made:

@@ -180,6 +180,24 @@ def damaged_place(place: str, offset: int, pieces: list) -> str:
     return f"refused at {piece.data_at}" if piece.is_damaged else place
 
 
+class Folder:
+    """A folder, and the files in it by their names."""
+
+    def __init__(self, folder: str):
+        self.folder = folder
+
+    def path(self, name: str) -> str:
+        return os.path.join(self.folder, name)
+
+    def read(self, name: str) -> bytes:
+        with open(self.path(name), "rb") as file:
+            return file.read()
+
+    def write(self, name: str, content: bytes):
+        with open(self.path(name), "wb") as file:
+            file.write(content)
+
+
 class Bench:
     """Both programs, and files for one worker at a time."""
 

@@ -1,6 +1,8 @@
 -- The program's commands, as `clap` sees them.
-use Rattle.std.specs.Prelude.{◌≡◌, ◌⊎◌, Bool, true, false, codes, List, [], ◌∷◌, Option, Some, None, Result, Ok, Err, IsSome, IsSomeAnd, MatchResult, map, unwrap_or}
+use Rattle.std.specs.Prelude.{◌≡◌, ◌⊎◌, ◌&&◌, ℕ, Bool, true, false, codes, List, [], ◌∷◌, Option, Some, None, Result, Ok, Err, IsSome, IsSomeAnd, MatchResult, map, unwrap_or}
 use Rattle.std.specs.Borrow.{Bor}
+use Rattle.std.specs.Option.{option_map_or}
+use Rattle.std.specs.Str.{bytes_eq}
 use Rattle.clap.specs.Words.{App, Row, Rule, Shape, Text, first_of, new_app, new_rule, one_of, subcommand_of, with_rule, with_subcommand}
 use Rattle.clap.specs.Simple.{on_top}
 use Rattle.clap.specs.declared.builder.ArgAction.TheVariants.{SetTrue}
@@ -11,7 +13,7 @@ use Rattle.pbfcut_cli.specs.declared.words.Region.TheVariants as region
 use Rattle.pbfcut_cli.specs.declared.words.Command.{Command}
 use Rattle.pbfcut_cli.specs.declared.words.Command.TheVariants.{Blobs, Info, Show, Check, Convert, Pack, Unpack, Extract, Help}
 use Rattle.pbfcut_cli.specs.declared.words.ChoiceFault.{ChoiceFault}
-use Rattle.pbfcut_cli.specs.declared.words.ChoiceFault.TheVariants.{NoRegion, TwoRegions, NoOutput, TwoOutputs}
+use Rattle.pbfcut_cli.specs.declared.words.ChoiceFault.TheVariants.{NoRegion, TwoRegions, NoOutput, TwoOutputs, OtherFormat, OtherStrategy}
 use Rattle.pbfcut_cli.specs.declared.programs.Program.{Program}
 use Rattle.pbfcut_cli.specs.declared.programs.Program.TheVariants.{Pbfcut, Pbfcutz}
 use Rattle.pbfcut_cli.specs.declared.words.CliFault.{CliFault}
@@ -67,6 +69,14 @@ option_rule = record (new_rule (codes "output")) { long = Some (codes "output");
 abbrev pub overwrite_rule : Rule
 overwrite_rule = record (new_rule (codes "overwrite")) { long = Some (codes "overwrite"); short = Some 79; action = Some SetTrue }
 
+-- a flag of Osmium's
+abbrev pub flag_rule : Text → Rule
+flag_rule name = record (new_rule name) { long = Some name; action = Some SetTrue }
+
+-- an option of Osmium's with a value, by its name or a letter
+abbrev pub named_rule : Text → (letter : ℕ) → Rule
+named_rule name letter = record (new_rule name) { long = Some name; short = Some letter; value_names = 1 }
+
 -- ---- commands
 
 abbrev pub blobs_app : App
@@ -95,13 +105,21 @@ with_raw Pbfcutz app = with_rule app raw_rule
 abbrev pub with_file_options : App → App
 with_file_options app = with_rule (with_rule app option_rule) overwrite_rule
 
+-- `--output-format` and `--input-format`, or `-f` and `-F`
+abbrev pub with_formats : App → App
+with_formats app = with_rule (with_rule app (named_rule (codes "output-format") 102)) (named_rule (codes "input-format") 70)
+
+-- also the flags for no progress, and for an OUT that is on the disk in the end
+abbrev pub with_accepted : App → App
+with_accepted app = with_formats (with_rule (with_rule app (flag_rule (codes "no-progress"))) (flag_rule (codes "fsync")))
+
 -- a command of pbfcutz that writes a file
 abbrev pub with_any_files : App → App
-with_any_files app = with_rule (with_rule (with_file_options app) input_rule) last_rule
+with_any_files app = with_rule (with_rule (with_accepted (with_file_options app)) input_rule) last_rule
 
 -- one of pbfcut, of which both are arguments
 abbrev pub with_both_files : App → App
-with_both_files app = with_rule (with_rule app input_rule) output_rule
+with_both_files app = with_rule (with_rule (with_accepted app) input_rule) output_rule
 
 abbrev pub with_files : Program → App → App
 with_files Pbfcut app = with_both_files app
@@ -124,8 +142,12 @@ options_app = with_rule (with_told (new_app (codes "extract"))) parents_rule
 abbrev pub with_region : App → App
 with_region app = with_rule (with_rule app box_rule) polygon_rule
 
+-- `--set-bounds`, and `--strategy` or `-s`
+abbrev pub with_strategy : App → App
+with_strategy app = with_rule (with_rule app (flag_rule (codes "set-bounds"))) (named_rule (codes "strategy") 115)
+
 abbrev pub extract_app : Program → App
-extract_app program = with_files program (with_region (with_raw program options_app))
+extract_app program = with_files program (with_strategy (with_region (with_raw program options_app)))
 
 abbrev pub versioned : Shape → Shape
 versioned s = record s { has_version = true }
@@ -169,6 +191,19 @@ ReadsFlag flag id rows = (one_of id rows ≡ None → flag ≡ false)
     × (one_of id rows ≡ Some (codes "true") → flag ≡ true)
     × (one_of id rows ≡ Some (codes "false") → flag ≡ false)
 
+-- the argument is absent, or has this value
+abbrev pub is_or_absent : (value : Text) → Option Text → Bool
+is_or_absent value given = option_map_or (λ text. bytes_eq text value) given true
+
+-- each format that is named is that of PBF files
+abbrev pub names_pbf : List Row → Bool
+names_pbf rows = is_or_absent (codes "pbf") (first_of (codes "output-format") rows)
+    && is_or_absent (codes "pbf") (first_of (codes "input-format") rows)
+
+-- the strategy, if one is named, is the one there is
+abbrev pub names_complete_ways : List Row → Bool
+names_complete_ways rows = is_or_absent (codes "complete_ways") (first_of (codes "strategy") rows)
+
 -- the path of OUT: one of the two arguments that may have it
 abbrev pub ReadsOutput : List Row → Bor Text → Type 0
 ReadsOutput rows path = ((first_of (codes "OUT") rows ≡ Some path.now) × (first_of (codes "output") rows ≡ None))
@@ -181,12 +216,15 @@ ReadsRegion rows (region.Box area) = (first_of (codes "polygon") rows ≡ None)
 ReadsRegion rows (region.Polygon path) = (first_of (codes "box") rows ≡ None)
     × (first_of (codes "polygon") rows ≡ Some path.now)
 
+-- the files and flags of a command that writes a file; nothing is read of `--fsync`, and the formats have one value
 pub record ReadsFiles (rows : List Row) (files : Files) : Type 0 where
+  pub formats : names_pbf rows ≡ true
   pub input : files.input.now ≡ argument_value (codes "IN") rows
   pub output : ReadsOutput rows files.output
   pub overwrite : ReadsFlag files.overwrite (codes "overwrite") rows
   pub raw : ReadsFlag files.raw (codes "raw") rows
   pub progress : ReadsFlag files.progress (codes "progress") rows
+  pub quiet : ReadsFlag files.quiet (codes "no-progress") rows
   pub digests : ReadsFlag files.digests (codes "digests") rows
 
 -- the command has this name, and its values are those of the rows
@@ -203,24 +241,27 @@ ReadsAs name rows (Convert files) = (name ≡ codes "convert") × ReadsFiles row
 ReadsAs name rows (Pack files) = (name ≡ codes "pack") × ReadsFiles rows files
 ReadsAs name rows (Unpack files) = (name ≡ codes "unpack") × ReadsFiles rows files
 ReadsAs name rows (Extract region parents files) = (name ≡ codes "extract")
-    × ReadsRegion rows region × ReadsFlag parents (codes "parents") rows × ReadsFiles rows files
+    × (names_complete_ways rows ≡ true) × ReadsRegion rows region
+    × ReadsFlag parents (codes "parents") rows × ReadsFiles rows files
 ReadsAs name rows (Help text) = ⊥
 
 abbrev pub IsRead : Option (Text × List Row) → Command → Type 0
 IsRead None c = ⊥
 IsRead (Some p) c = ReadsAs p.0 p.1 c
 
--- OUT is nowhere, or twice
+-- OUT is nowhere, or twice, or a format is another one
 abbrev pub HasOutputFault : List Row → ChoiceFault → Type 0
 HasOutputFault rows NoOutput = (first_of (codes "OUT") rows ≡ None) × (first_of (codes "output") rows ≡ None)
 HasOutputFault rows TwoOutputs = IsSome (first_of (codes "OUT") rows) × IsSome (first_of (codes "output") rows)
+HasOutputFault rows OtherFormat = names_pbf rows ≡ false
 HasOutputFault rows _ = ⊥
 
--- there is neither a box nor a polygon, or both, or the box has this fault
+-- there is neither a box nor a polygon, or both, or the box has this fault, or the strategy is another one
 abbrev pub HasRegionFault : List Row → CliFault → Type 0
 HasRegionFault rows (fault.Box f) = IsSomeAnd (first_of (codes "box") rows) (λ text. box_of_text text ≡ Err f)
 HasRegionFault rows (fault.Choice NoRegion) = (first_of (codes "box") rows ≡ None) × (first_of (codes "polygon") rows ≡ None)
 HasRegionFault rows (fault.Choice TwoRegions) = IsSome (first_of (codes "box") rows) × IsSome (first_of (codes "polygon") rows)
+HasRegionFault rows (fault.Choice OtherStrategy) = names_complete_ways rows ≡ false
 HasRegionFault rows _ = ⊥
 
 -- `clap` takes the words, but they have this fault: one of what `extract` cuts out, or of a file that is written

@@ -13,10 +13,12 @@ ghost use Rattle.pbfcut_cli.specs.Words.{
   dates_rule,
   digests_rule,
   extract_app,
+  flag_rule,
   info_app,
   input_rule,
   last_rule,
   lone_box_rule,
+  named_rule,
   option_rule,
   options_app,
   output_rule,
@@ -30,14 +32,17 @@ ghost use Rattle.pbfcut_cli.specs.Words.{
   show_app,
   unpack_app,
   versioned,
+  with_accepted,
   with_any_files,
   with_both_files,
   with_file_options,
   with_files,
+  with_formats,
   with_info,
   with_packing,
   with_raw,
   with_region,
+  with_strategy,
   with_told,
   writers_app,
 };
@@ -163,6 +168,27 @@ fn polygon<'a>(alloc: Global) -> Arg<'a>
         .help(help::POLYGON)
 }
 
+/// A flag of Osmium's, which help leaves out.
+fn osmium_flag<'a>(alloc: Global, name: &'a str) -> Arg<'a>
+    ensures { IsArgument (flag_rule name.now) result }
+{
+    Arg::new(alloc, name)
+        .long(name)
+        .action(ArgAction::SetTrue)
+        .hide(true)
+}
+
+/// An option of Osmium's with a value, which help leaves out.
+fn osmium_option<'a>(alloc: Global, name: &'a str, letter: char) -> Arg<'a>
+    ensures { IsArgument (named_rule name.now letter) result }
+{
+    Arg::new(alloc, name)
+        .long(name)
+        .short(letter)
+        .value_name("NAME")
+        .hide(true)
+}
+
 /// A command of this name, with no argument yet.
 fn named<'a>(alloc: Global, name: &'a str, about: &'a str, after_help: &'a str) -> Command<'a>
     ensures { IsCommand (new_app name.now) result }
@@ -215,12 +241,31 @@ fn with_file_options<'a>(command: Made<'a>, alloc: Global) -> Made<'a>
     with_arg(command, overwrite(alloc))
 }
 
+/// The command with the formats of its files, as Osmium takes them.
+fn with_formats<'a>(command: Made<'a>, alloc: Global) -> Made<'a>
+    requires local { IfOk command HasNoGlobals }
+    ensures { IfOk result (IsWith with_formats command.entry) }
+{
+    let command = with_arg(command, osmium_option(alloc, "output-format", 'f'));
+    with_arg(command, osmium_option(alloc, "input-format", 'F'))
+}
+
+/// The command with the words of Osmium's that say how a file is written.
+fn with_accepted<'a>(command: Made<'a>, alloc: Global) -> Made<'a>
+    requires local { IfOk command HasNoGlobals }
+    ensures { IfOk result (IsWith with_accepted command.entry) }
+{
+    let command = with_arg(command, osmium_flag(alloc, "no-progress"));
+    let command = with_arg(command, osmium_flag(alloc, "fsync"));
+    with_formats(command, alloc)
+}
+
 /// A command of pbfcutz with its files.
 fn with_any_files<'a>(command: Made<'a>, alloc: Global, help: &'a Help) -> Made<'a>
     requires local { IfOk command HasNoGlobals }
     ensures { IfOk result (IsWith with_any_files command.entry) }
 {
-    let command = with_file_options(command, alloc);
+    let command = with_accepted(with_file_options(command, alloc), alloc);
     let command = with_arg(command, input(alloc, help));
     with_arg(command, last(alloc))
 }
@@ -230,7 +275,7 @@ fn with_both_files<'a>(command: Made<'a>, alloc: Global, help: &'a Help) -> Made
     requires local { IfOk command HasNoGlobals }
     ensures { IfOk result (IsWith with_both_files command.entry) }
 {
-    let command = with_arg(command, input(alloc, help));
+    let command = with_arg(with_accepted(command, alloc), input(alloc, help));
     with_arg(command, output(alloc))
 }
 
@@ -335,11 +380,21 @@ fn with_region<'a>(command: Made<'a>, alloc: Global) -> Made<'a>
     with_arg(command, polygon(alloc))
 }
 
+/// The command with the words of Osmium's that say how it cuts.
+fn with_strategy<'a>(command: Made<'a>, alloc: Global) -> Made<'a>
+    requires local { IfOk command HasNoGlobals }
+    ensures { IfOk result (IsWith with_strategy command.entry) }
+{
+    let command = with_arg(command, osmium_flag(alloc, "set-bounds"));
+    with_arg(command, osmium_option(alloc, "strategy", 's'))
+}
+
 fn extract<'a>(alloc: Global, program: Program, help: &'a Help) -> Made<'a>
     ensures { IfOk result (IsCommand (extract_app program)) }
 {
     let command = with_raw(options(alloc, help), alloc, program);
-    with_files(with_region(command, alloc), alloc, program, help)
+    let command = with_strategy(with_region(command, alloc), alloc);
+    with_files(command, alloc, program, help)
 }
 
 /// The command line with what it says of itself.

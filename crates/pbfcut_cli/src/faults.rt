@@ -1,4 +1,4 @@
-//! What is said of arguments that are missing or too many, and of the file of a polygon.
+//! What is said of arguments that are missing or too many, or have another value than the one they take, and of the file of a polygon.
 
 ghost use Rattle.std.specs.Prelude.{◌≡◌, ◌++◌, IfOk, codes, string_bytes};
 ghost use Rattle.pbfcut_cli.specs.Endings.{choice_error, choice_text, choice_usage, line_text, poly_place_text, poly_reason_text, polygon_text, ring_text};
@@ -20,6 +20,12 @@ fn choice_error(fault: ChoiceFault) -> &'static str
         }
         ChoiceFault::NoOutput => "the following required arguments were not provided:\n  <OUT>",
         ChoiceFault::TwoOutputs => "the argument '--output <OUT>' cannot be used with '[OUT]'",
+        ChoiceFault::OtherFormat => {
+            "the only format of IN and OUT is 'pbf'\n\n  tip: leave it out: IN and OUT are PBF files, whatever their names are"
+        }
+        ChoiceFault::OtherStrategy => {
+            "the only strategy is 'complete_ways'\n\n  tip: leave it out: ways are always complete; 'osmium extract -s smart' has the other strategy"
+        }
     }
 }
 
@@ -28,10 +34,12 @@ fn choice_usage(fault: ChoiceFault) -> &'static str
     ensures { result.now ≡ choice_usage fault }
 {
     match fault {
-        ChoiceFault::NoRegion | ChoiceFault::TwoRegions => {
-            "extract [OPTIONS] --box=<WEST,SOUTH,EAST,NORTH> <IN> <OUT>"
+        ChoiceFault::NoRegion | ChoiceFault::TwoRegions | ChoiceFault::OtherStrategy => {
+            "extract [OPTIONS] <--box=W,S,E,N|--polygon=FILE> <IN> <OUT>"
         }
-        ChoiceFault::NoOutput | ChoiceFault::TwoOutputs => "<COMMAND> [OPTIONS] <IN> <OUT>",
+        ChoiceFault::NoOutput | ChoiceFault::TwoOutputs | ChoiceFault::OtherFormat => {
+            "<COMMAND> [OPTIONS] <IN> <OUT>"
+        }
     }
 }
 
@@ -46,7 +54,7 @@ fn error_lines(alloc: Global, program: &str, error: &str, usage: &str) -> Result
     )
 }
 
-/// All that is said of a choice that was not made, or made twice.
+/// All that is said of a choice that was not made, made twice, or made otherwise.
 pub(crate) fn choice_message(
     alloc: Global,
     program: &str,

@@ -218,7 +218,7 @@ pub(crate) const POLYGON: &str = "Cut out a polygon: a .poly or GeoJSON file";
 
 pub(crate) const ANY_OUTPUT: &str = "The file to write, or - for standard output";
 
-pub(crate) const OPTION: &str = "The file to write, in place of the last argument";
+pub(crate) const OPTION: &str = "The file to write, instead of the last argument";
 
 pub(crate) const OVERWRITE: &str = "Replace OUT if it exists";
 

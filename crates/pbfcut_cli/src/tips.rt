@@ -3,7 +3,7 @@
 
 use std::alloc::{AllocError, Global};
 
-/// What to do in place of an option that says what is cut out, or how.
+/// What to do instead of an option that says what is cut out, or how.
 fn tip_of_area(option: &str) -> Option<&'static str> {
     match option {
         "-B" | "--bounding-box" | "--bounds" => Some("the box is --box=WEST,SOUTH,EAST,NORTH"),
@@ -24,7 +24,7 @@ fn tip_of_area(option: &str) -> Option<&'static str> {
     }
 }
 
-/// What to do in place of an option that names a file, or says what it has.
+/// What to do instead of an option that names a file, or says what it has.
 fn tip_of_file(option: &str) -> Option<&'static str> {
     match option {
         "-i" | "--input" => Some("IN is an argument without an option, before OUT"),
@@ -53,7 +53,7 @@ fn tip_of_file(option: &str) -> Option<&'static str> {
     }
 }
 
-/// What to do in place of an option that says how a program runs.
+/// What to do instead of an option that says how a program runs.
 fn tip_of_run(option: &str) -> Option<&'static str> {
     match option {
         "-v" | "--verbose" => Some("what a run does is shown by --progress"),
@@ -145,7 +145,7 @@ fn tip_of_command(command: &str) -> Option<&'static str> {
 }
 
 /// The tip for a word that is no command, as a file's name in the command's place, unless `clap` has one for a word that is spelled alike.
-fn tip_of_word(word: &str, has_tip: bool) -> Option<&'static str> {
+fn tip_of_word(word: &str, usage: &str, has_tip: bool) -> Option<&'static str> {
     let is_file = word.ends_with(".pbf") || word.ends_with(".osm") || word.starts_with("/");
     match tip_of_command(word) {
         Some(tip) => Some(tip),
@@ -155,6 +155,11 @@ fn tip_of_word(word: &str, has_tip: bool) -> Option<&'static str> {
             )
         }
         None if has_tip => None,
+        None if usage.starts_with("Usage: pbfcutz ") => {
+            Some(
+                "the commands are extract, convert, pack, unpack, check, show, blobs and info: '--help' says what they do",
+            )
+        }
         None => Some(
             "the commands are extract, convert, check, show and blobs: '--help' says what they do",
         ),
@@ -209,7 +214,7 @@ fn tipped(text: &str) -> Option<(Said<'_>, &'static str)> {
     }
     let said = parts_of(text, "error: unrecognized subcommand '", "'")?;
     let has_tip = text.contains("\n\n  tip: ");
-    Some((said, tip_of_word(said.argument, has_tip)?))
+    Some((said, tip_of_word(said.argument, said.usage, has_tip)?))
 }
 
 /// The text of `clap`, with our tip for an argument that it did not expect if there is one. Any other text stays as it is.

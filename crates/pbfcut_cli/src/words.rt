@@ -19,6 +19,9 @@ ghost use Rattle.pbfcut_cli.specs.Words.{
   ReadsRegion,
   argument_value,
   command_words,
+  is_or_absent,
+  names_complete_ways,
+  names_pbf,
   program_app,
   word_texts,
 };
@@ -51,6 +54,8 @@ pub struct Files<'a> {
     /// Whether the blobs that are written are raw ones.
     pub raw: bool,
     pub progress: bool,
+    /// Whether no progress is shown, not even on a terminal.
+    pub quiet: bool,
     pub digests: bool,
 }
 
@@ -94,7 +99,7 @@ pub enum Command<'a> {
     Help(String),
 }
 
-/// A choice between two arguments that was not made, or made twice.
+/// A choice between two arguments that was not made, or made twice, or one of Osmium's that was made otherwise.
 #[derive(Clone, Copy, Debug, PartialEq, Eq)]
 pub enum ChoiceFault {
     /// `extract` has neither a box nor a polygon.
@@ -105,6 +110,10 @@ pub enum ChoiceFault {
     NoOutput,
     /// OUT is there twice: as an option, and as the last argument.
     TwoOutputs,
+    /// A format that is not `pbf`.
+    OtherFormat,
+    /// A strategy that is not `complete_ways`.
+    OtherStrategy,
 }
 
 /// Why the command line is no command.
@@ -114,7 +123,7 @@ pub enum CliFault {
     Line(String),
     /// The box of `extract` is invalid.
     Box(BoxFault),
-    /// An argument is missing, or there is one too many.
+    /// An argument is missing, or there is one too many, or one has another value than the one it takes.
     Choice(ChoiceFault),
     /// A request for memory was refused.
     Memory,
@@ -165,6 +174,35 @@ fn flag(matches: &ArgMatches<'_>, id: &str) -> bool
     matches.get_flag(id)
 }
 
+/// Whether an argument is absent, or has this value.
+fn is_or_absent(matches: &ArgMatches<'_>, id: &str, value: &str) -> bool
+    ensures { result ≡ is_or_absent value.now (first_of id.now (rows_of (found_of matches.now))) }
+{
+    match value_of(matches, id) {
+        Some(given) => given == value,
+        None => true,
+    }
+}
+
+/// Whether the formats that are named are those of PBF files.
+fn names_pbf(matches: &ArgMatches<'_>) -> bool
+    ensures { result ≡ names_pbf (rows_of (found_of matches.now)) }
+{
+    is_or_absent(matches, "output-format", "pbf") && is_or_absent(matches, "input-format", "pbf")
+}
+
+/// Nothing, if the strategy is not named or is the one there is.
+fn strategy_in(matches: &ArgMatches<'_>) -> Result<(), CliFault>
+    ensures { MatchResult result (λ _. names_complete_ways (rows_of (found_of matches.now)) ≡ true)
+        (HasRegionFault (rows_of (found_of matches.now))) }
+{
+    if is_or_absent(matches, "strategy", "complete_ways") {
+        Ok(())
+    } else {
+        Err(CliFault::Choice(ChoiceFault::OtherStrategy))
+    }
+}
+
 /// The path of the file that is written: that of the last argument, or of the option.
 fn output_in<'a>(matches: &ArgMatches<'a>) -> Result<&'a str, ChoiceFault>
     ensures { MatchResult result (ReadsOutput (rows_of (found_of matches.now)))
@@ -183,6 +221,9 @@ fn files_in<'a>(matches: &ArgMatches<'a>) -> Result<Files<'a>, ChoiceFault>
     ensures { MatchResult result (ReadsFiles (rows_of (found_of matches.now)))
         (HasOutputFault (rows_of (found_of matches.now))) }
 {
+    if !names_pbf(matches) {
+        return Err(ChoiceFault::OtherFormat);
+    }
     let output = output_in(matches)?;
     Ok(Files {
         input: value(matches, "IN"),
@@ -190,6 +231,7 @@ fn files_in<'a>(matches: &ArgMatches<'a>) -> Result<Files<'a>, ChoiceFault>
         overwrite: flag(matches, "overwrite"),
         raw: flag(matches, "raw"),
         progress: flag(matches, "progress"),
+        quiet: flag(matches, "no-progress"),
         digests: flag(matches, "digests"),
     })
 }
@@ -242,6 +284,7 @@ fn command_in<'a>(matches: &ArgMatches<'a>) -> Result<Command<'a>, CliFault>
         "pack" => Ok(Command::Pack(files_in(inner)?)),
         "unpack" => Ok(Command::Unpack(files_in(inner)?)),
         _ => {
+            strategy_in(inner)?;
             let region = region_in(inner)?;
             let parents = flag(inner, "parents");
             let files = files_in(inner)?;
@@ -277,7 +320,8 @@ fn refused<'a>(alloc: Global, error: &Error) -> Result<Command<'a>, CliFault>
 /// # Errors
 ///
 /// `Line` if `clap` refuses the words, `Box` with the fault of the box of an `extract`, `Choice` if one of two arguments is needed and there
-/// is none or both, `Memory` if a request for memory was refused. Words that `clap` takes give neither `Line` nor `Help`.
+/// is none or both, or if a format or a strategy is not the one that there is, `Memory` if a request for memory was refused. Words that
+/// `clap` takes give neither `Line` nor `Help`.
 pub fn read_words<'a>(
     alloc: Global,
     program: Program,

@@ -192,6 +192,8 @@ fn of_read(rt: &HostRuntime, asked: Asked<'_>) -> Option<String> {
 /// What to do about a write that failed.
 fn of_write(asked: Asked<'_>, failed: FailedWrite) -> Option<&'static str> {
     match (failed.target, failed.code) {
+        // A listing that ends early, as by `head`, needs no next step.
+        (Target::StandardOutput, BROKEN_PIPE) if asked.output.is_none() => None,
         (Target::StandardOutput, BROKEN_PIPE) => {
             Some("the program that read standard output has ended")
         }
@@ -207,7 +209,8 @@ fn of_write(asked: Asked<'_>, failed: FailedWrite) -> Option<&'static str> {
 /// What the text of a polygon should be.
 fn of_polygon_fault(fault: &PolyFault) -> &'static str {
     match (fault.reason, fault.place) {
-        (PolyReason::Name, _) => "a name is missing: put a line with one before this line",
+        (PolyReason::Name, _) =>
+            "the file and each ring begin with a line that names them: put one before this line",
         (PolyReason::Json, _) => "'python3 -m json.tool FILE' says where",
         (PolyReason::Long, _) => {
             "an edge has at most 180 degrees of longitude: use two rings, one on each side of the antimeridian, or add a corner between"

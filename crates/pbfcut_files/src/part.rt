@@ -106,7 +106,7 @@ pub(crate) fn open_part(
 }
 
 impl Part {
-    /// Gives the file OUT's name, in place of a plain file that has it. It has no other name then: the one that it had may be another file's by now.
+    /// Gives the file OUT's name, instead of a plain file that has it. It has no other name then: the one that it had may be another file's by now.
     fn replace(&self, rt: &HostRuntime) -> Result<(), NotKept> {
         match fs::rename(rt, self.name.as_str(), self.output.as_str()) {
             Ok(()) => Ok(()),

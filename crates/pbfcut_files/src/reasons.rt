@@ -1,4 +1,5 @@
-//! What the reasons of refusals mean, in words. The manual page has the same list.
+//! What the reasons of refusals mean, in words. The manual page has the same list. The numbers in them are those of `HEADER_LIMIT`, `LARGEST_SIZE`,
+//! `RAW_LIMIT` and `MOST_TEXTS`, spelled once more: no constant text can be made of a constant number.
 
 use osm_polygon::PolyReason;
 use pbf_unpack::{InflateFault, UnpackReason};
@@ -89,6 +90,6 @@ pub(crate) fn words_of_polygon(reason: PolyReason) -> &'static str {
         PolyReason::Shape => "it is not GeoJSON of polygons",
         PolyReason::Open => "a ring does not end as it begins",
         PolyReason::Long => "an edge goes round more than half of the earth",
-        PolyReason::Name => "numbers stand there, and the name of the file or of a ring should",
+        PolyReason::Name => "a name is missing here: this line has numbers",
     }
 }

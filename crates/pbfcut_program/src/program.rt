@@ -52,6 +52,11 @@ fn shows_progress<H: Host>(host: &H, program: Program, asked: bool, path: &str) 
     asked || program == Program::Pbfcutz && host.shows_progress(path)
 }
 
+/// The same of a command that writes a file, which `--no-progress` may forbid.
+fn shows_writing<H: Host>(host: &H, program: Program, files: &Files<'_>) -> bool {
+    !files.quiet && shows_progress(host, program, files.progress, files.input)
+}
+
 /// Converts or copies.
 fn run_writing<H: Host>(
     engine: Engine,
@@ -67,7 +72,7 @@ fn run_writing<H: Host>(
         × FailsFor (manner_of engine) (judging (judge_of (plan_of plan))) how events
         × LeavesFor (manner_of engine) (plan_of plan) events) }
 {
-    let progress = shows_progress(&*host, engine.program, files.progress, files.input);
+    let progress = shows_writing(&*host, engine.program, files);
     write(engine, host, files, plan, progress)?;
     Ok(())
 }
@@ -128,7 +133,7 @@ fn run_command<H: Host>(engine: Engine, host: &mut H, command: &Command<'_>) -> 
             parents,
             files,
         } => {
-            let progress = shows_progress(&*host, engine.program, files.progress, files.input);
+            let progress = shows_writing(&*host, engine.program, files);
             run_extract(engine, host, region, *parents, files, progress)
         }
     }

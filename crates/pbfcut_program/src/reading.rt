@@ -68,7 +68,7 @@ pub(crate) fn run_check<H: Host>(
     print_checked(engine, host, &report, path)
 }
 
-/// Hands standard output back after a call whose text goes to it. A text that can't be written is reported in place of a later refusal,
+/// Hands standard output back after a call whose text goes to it. A text that can't be written is reported instead of a later refusal,
 /// since it came first.
 fn ended<H: Host, T: Drop>(
     host: &mut H,

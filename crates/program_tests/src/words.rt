@@ -60,6 +60,7 @@ fn are_files(files: &Files<'_>, asked: (bool, bool)) -> bool {
         && files.output == "b"
         && !files.raw
         && !files.overwrite
+        && !files.quiet
         && (files.progress, files.digests) == asked
 }
 
@@ -199,6 +200,47 @@ fn output_as_an_option(rt: HostRuntime) {
     assert!(rt; is_choice(alloc, pbfcutz, &["convert", "a"], ChoiceFault::NoOutput));
     let twice = ["convert", "a", "b", "-o", "c"];
     assert!(rt; is_choice(alloc, pbfcutz, &twice, ChoiceFault::TwoOutputs));
+}
+
+/// Whether these words are a command to convert `a` to `b`, without progress.
+fn is_quiet_convert(alloc: Global, program: Program, words: &[&str]) -> bool {
+    let read = read_words(alloc, program, words);
+    match &read {
+        Ok(Command::Convert(files)) => files.input == "a" && files.output == "b" && files.quiet,
+        _ => false,
+    }
+}
+
+#[test]
+fn words_of_osmium(rt: HostRuntime) {
+    let alloc = rt.alloc();
+    for program in [Program::Pbfcut, Program::Pbfcutz] {
+        assert!(rt; is_quiet_convert(alloc, program, &["convert", "--no-progress", "a", "b"]));
+        let words = ["extract", "-p", "p", "-s", "complete_ways", "a", "b"];
+        assert!(rt; is_polygon(alloc, program, &words));
+        let words = ["extract", "--strategy=complete_ways", "-pp", "a", "b"];
+        assert!(rt; is_polygon(alloc, program, &words));
+        let words = ["extract", "--set-bounds", "--fsync", "-pp", "a", "b"];
+        assert!(rt; is_polygon(alloc, program, &words));
+        let words = ["extract", "-f", "pbf", "-Fpbf", "-pp", "a", "b"];
+        assert!(rt; is_polygon(alloc, program, &words));
+        let words = [
+            "extract",
+            "--output-format=pbf",
+            "--input-format",
+            "pbf",
+            "-pp",
+            "a",
+            "b",
+        ];
+        assert!(rt; is_polygon(alloc, program, &words));
+        let words = ["extract", "-s", "smart", "-pp", "a", "b"];
+        assert!(rt; is_choice(alloc, program, &words, ChoiceFault::OtherStrategy));
+        let words = ["convert", "-f", "osm.pbf", "a", "b"];
+        assert!(rt; is_choice(alloc, program, &words, ChoiceFault::OtherFormat));
+        let words = ["convert", "--input-format=xml", "a", "b"];
+        assert!(rt; is_choice(alloc, program, &words, ChoiceFault::OtherFormat));
+    }
 }
 
 /// Whether these words are a command of pbfcutz, and none of pbfcut.

@@ -146,7 +146,7 @@ fn a_raw_size_that_is_too_small_for_a_fault(rt: HostRuntime) -> Result<(), Fail>
 #[test]
 fn other_compressed_data(rt: HostRuntime) -> Result<(), Fail> {
     let mut file = PACKED;
-    // The field lzma_data in place of zlib_data.
+    // The field lzma_data instead of zlib_data.
     file[46] = 0x22;
     let run = read_all(rt.alloc(), file.as_slice(), 100, 0)?;
     assert!(rt; means(&run, &RAW[..RAW_HEADER], &file[PACKED_HEADER..], None));
