@@ -460,6 +460,23 @@ fn up_and_down(alloc: Global, count: u32) -> Result<Ring, AllocError> {
     Ok(Ring { places })
 }
 
+/// A ring of so many short edges, which lie close together, and two long ones to a place far away.
+fn stairs_and_a_far_place(alloc: Global, count: u32) -> Result<Ring, AllocError> {
+    let mut places = Vec::new(alloc);
+    for corner in 0..count {
+        if let Some(place) = Place::of(
+            i128::from(corner) * 2_000_000 + i128::from(corner % 3) * 3_000_000,
+            i128::from(corner) * 100_000_000 - 20_000_000_000,
+        ) {
+            places.push(place)?;
+        }
+    }
+    if let Some(place) = Place::of(-89_000_000_000, 179_000_000_000) {
+        places.push(place)?;
+    }
+    Ok(Ring { places })
+}
+
 /// Whether the polygon of the ring has those of so many places that it is defined to have.
 fn is_as_defined(alloc: Global, ring: Ring, count: u32) -> Result<bool, AllocError> {
     let rings = [ring];
@@ -481,6 +498,15 @@ fn is_as_defined(alloc: Global, ring: Ring, count: u32) -> Result<bool, AllocErr
 fn many_edges_in_each_band(rt: HostRuntime) -> Result<(), Fail> {
     let zigzag = up_and_down(rt.alloc(), 401)?;
     assert!(rt; is_as_defined(rt.alloc(), zigzag, 2000)?);
+    Ok(())
+}
+
+#[test]
+fn many_edges_in_one_belt(rt: HostRuntime) -> Result<(), Fail> {
+    for count in [40, 401] {
+        let stairs = stairs_and_a_far_place(rt.alloc(), count)?;
+        assert!(rt; is_as_defined(rt.alloc(), stairs, 5000)?);
+    }
     Ok(())
 }
 
