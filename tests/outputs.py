@@ -19,7 +19,7 @@ import sys
 import tempfile
 import time
 
-from published import SAMPLE, Folder, frame_at, packed, unpacked
+from published import SAMPLE, Folder, frame, frame_at, packed, pieces_of, unpacked
 
 TOP = os.path.dirname(os.path.dirname(os.path.abspath(__file__)))
 CUT = ["extract", "--box=9.997,49.999,10.003,50.003"]
@@ -156,20 +156,42 @@ def copies(bench: Bench):
     os.unlink(bench.path("bad"))
 
 
+def told(lines: str, stored: str, blocks: int, others: int = 0) -> str:
+    """What `info` prints of a file with these lines of its header."""
+    return f'{lines}H stored "{stored}"\nH frames OSMHeader 1 OSMData {blocks} other {others}\n'
+
+
 def headers(bench: Bench):
     """What a file says of itself."""
     shown = subprocess.run([bench.pbfcutz, "show", "in"], cwd=bench.folder, capture_output=True, check=True).stdout.decode()
     lines = "".join(line for line in shown.splitlines(True) if line.startswith("H "))
-    bench.case(["info", "in"], out=lines + 'H stored "zlib"\n')
-    bench.case(["info", "raw"], out=lines + 'H stored "raw"\n')
-    # Nothing after the header is read.
+    blocks = len(list(pieces_of(bench.raw))) - 1
+    bench.case(["info", "in"], out=told(lines, "zlib", blocks))
+    bench.case(["info", "raw"], out=told(lines, "raw", blocks))
+    # The header may stand behind frames of other types, whose blobs don't count.
     header, _, end = frame_at(bench.raw, 0)
     expect("the first frame", (b"OSMHeader", True), (header, end < len(bench.raw) // 4))
+    other = frame(b"OSMOther", b"\xff\xff")
+    bench.write("cut", other + bench.raw[:end] + other + bench.raw[end:] + other)
+    bench.case(["info", "cut"], out=told(lines, "raw", blocks, 3))
     bench.write("cut", bench.raw[:end])
-    bench.case(["info", "cut"], out=lines + 'H stored "raw"\n')
+    bench.case(["info", "cut"], out=told(lines, "raw", 0))
+    # Some blobs are zlib data, and some are raw.
+    packed = bench.read("in")
+    bench.write("cut", packed[:frame_at(packed, 0)[2]] + bench.raw[end:])
+    bench.case(["info", "cut"], out=told(lines, "mixed", blocks))
+    bench.write("cut", bench.raw[:end] + packed[frame_at(packed, 0)[2]:])
+    bench.case(["info", "cut"], out=told(lines, "mixed", blocks))
+    # All frames are read, and nothing is printed of a file that is refused.
+    bench.write("cut", bench.raw[:-1])
+    bench.case(["info", "cut"], status=1, said="pbfcutz: refused at")
+    bench.write("cut", bench.raw + bench.raw[:end])
+    bench.case(["info", "cut"], status=1, said=f"pbfcutz: refused at {len(bench.raw)}: ")
+    bench.write("cut", other)
+    bench.case(["info", "cut"], status=1, said=f"pbfcutz: refused at {len(other)}: ")
     bench.write("cut", bench.raw[:end - 1])
     bench.case(["info", "cut"], status=1, said="pbfcutz: refused at")
-    bench.case(["info", "/dev/stdin"], out=lines + 'H stored "raw"\n', stdin=open(bench.path("raw"), "rb"))
+    bench.case(["info", "/dev/stdin"], out=told(lines, "raw", blocks), stdin=open(bench.path("raw"), "rb"))
     bench.write("cut", b"<osm>")
     bench.case(["info", "cut"], status=1, said="pbfcutz: refused at 0: ")
     bench.write("cut", b"")

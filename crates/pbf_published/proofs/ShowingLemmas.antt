@@ -1,13 +1,46 @@
--- The lines of a header, and how it is stored.
-use Rattle.std.proofs.Common.{arith, ◌≡◌, Bool, false, Option}
-use Rattle.pbf_frame.specs.declared.device.Drain as drain
-use Rattle.pbf_frame.specs.Transfers.{Added}
-use Rattle.pbf_frame.specs.Verdict.{Verdict}
-use Rattle.pbf_frame.proofs.KnownBytes.{append_append}
-use Rattle.pbf_frame.proofs.Passed.{passes_more}
-use Rattle.pbfcut.specs.Showing.{ShowsFirst, frame_text}
-use Rattle.pbf_published.specs.Showing.{ShowsHeader, storage_line}
+-- What is said of a published file.
+use Rattle.std.proofs.Common.{◌≡◌, ◌++◌, arith, ℕ, suc, false, List, [], Option, Some, None, Result, IfErr, IfSome, refl, sym, ap, subst, ◌∙◌}
+use Rattle.pbf_frame.specs.declared.device.Feed as feed
+use Rattle.pbf_frame.specs.declared.stop.Stop.{Stop}
+use Rattle.pbf_frame.specs.Devices.{IsAtEnd, prepend}
+use Rattle.pbf_frame.specs.Verdict.{Says, Verdict, judged_known}
+use Rattle.pbf_frame.proofs.Parting.{some_same}
+use Rattle.pbf_pass.specs.Given.{GaveFile}
+use Rattle.pbf_pass.proofs.GivenLemmas.{Tells, tells_file}
+use Rattle.pbf_unpack.specs.declared.stored.Stored.{Stored}
+use Rattle.pbf_unpack.specs.declared.feed.UnpackedFeed.{UnpackedFeed}
+use Rattle.pbf_unpack.specs.Reports.{GavePacked}
+use Rattle.pbf_unpack.specs.Stored.{stored_from}
+use Rattle.pbf_unpack.specs.Unpacked.{unpacked}
+use Rattle.pbfcut.specs.declared.summary.Summary.{Summary}
+use Rattle.pbfcut.specs.Summary.{IsSummary, counts_line}
+use Rattle.pbf_published.specs.Published.{HasTraced, log_number, raw_of}
+use Rattle.pbf_published.specs.Showing.{TellsInfo, storage_line}
+use Rattle.pbf_published.proofs.TracedLemmas.{traced_all}
 
--- the first frame was shown, and then the line was written
-pub header_shown : {D : Type 0} (d : drain.Ghosts D) (old mid new : D) (known raw : Option Verdict) (is_packed : Bool) → known ≡ raw → ShowsFirst d old mid known → Added d mid (storage_line is_packed) new → ShowsHeader d old new raw
-header_shown d old mid new known raw is_packed same first line = grind (arith, append_append (d.taken old) (frame_text false first.frame) (storage_line is_packed), passes_more (d.has_taken old) (d.has_taken mid) (d.has_taken new) (frame_text false first.frame) (storage_line is_packed) first.shows.added.logged line.logged)
+says_frames : (known : Option (List ℕ)) (file : List ℕ) (v : Verdict) → Tells known file → Says (judged_known false 0 (Some file)) v → Says (judged_known false 0 known) v
+says_frames None file v tells says = tt
+says_frames (Some b) file v tells says = subst (λ (l : List ℕ). Says (judged_known false 0 (Some l)) v) (tells b refl) says
+
+none_left : (old new : Option (List ℕ)) (file all : List ℕ) → old ≡ prepend file new → IsAtEnd new → old ≡ Some all → new ≡ Some []
+none_left old new file all h4 h5 h6 = grind arith
+
+-- a summary of the file that a feed gave, whose blobs are stored so if it reports its bytes, is what is to be said of it
+pub tells_info : {U : Type 0} (u : feed.Ghosts U) (old new : U) (digest : Option (List ℕ)) (s : Summary) (stored : Stored) (has : Option (List ℕ)) (text : List ℕ) → u.remaining old ≡ raw_of has → GaveFile u old new digest (λ file. IsSummary (judged_known false 0 (Some file)) s)
+    → ((packed : List ℕ) → has ≡ Some packed → u.remaining new ≡ Some [] → stored ≡ stored_from 0 packed) → text ≡ s.lines.items ++ storage_line stored ++ counts_line s.headers s.blocks s.others → TellsInfo has text
+tells_info u old new digest s stored has text is given stores text_is =
+    let sum = given.holding in
+    record {
+      frames = sum.frames;
+      stored = stored;
+      says = subst (λ (k : Option (List ℕ)). Says (judged_known false 0 k) (sum.frames, None)) is (says_frames (u.remaining old) given.file (sum.frames, None) (tells_file u old new digest _ given) sum.says);
+      stores = of has is stores;
+      is = grind (arith, text_is, sum.lines, sum.headers, sum.blocks, sum.others);
+    } where
+      of : (has : Option (List ℕ)) → u.remaining old ≡ raw_of has → ((packed : List ℕ) → has ≡ Some packed → u.remaining new ≡ Some [] → stored ≡ stored_from 0 packed) → IfSome has (λ packed. stored ≡ stored_from 0 packed)
+      of None is stores = tt
+      of (Some packed) is stores = stores packed refl (none_left (u.remaining old) (u.remaining new) given.file (unpacked packed) given.supplied.gave.told given.supplied.end is)
+
+-- what is stored in the bytes that were read is stored in the ones that are reported
+pub stored_told : (has : Option (List ℕ)) (packed read : List ℕ) (stored : Stored) → has ≡ Some packed → has ≡ Some read → stored ≡ stored_from 0 read → stored ≡ stored_from 0 packed
+stored_told has packed read stored is all stores = stores ∙ ap (stored_from 0) (some_same read packed (sym all ∙ is))

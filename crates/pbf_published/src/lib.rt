@@ -20,5 +20,5 @@ pub use input::{
     first_digest, lacks_memory, open, published_outcome, stopped,
 };
 pub use parents::extract_parents_sorted_with_receipt;
-pub use showing::{list_blobs, show_header, show_with_receipt};
+pub use showing::{list_blobs, show_info, show_with_receipt};
 pub use traced::TracedFeed;

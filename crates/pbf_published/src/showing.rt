@@ -1,6 +1,6 @@
-//! `show` and `blobs` of published files.
+//! `show`, `info` and `blobs` of published files.
 
-ghost use Rattle.std.specs.Prelude.{◌≡◌, ◌∷◌, [], IfOk, IfErr, OnErr, OnOk, Some, false};
+ghost use Rattle.std.specs.Prelude.{◌≡◌, ◌∷◌, ◌++◌, [], IfOk, IfErr, OnErr, OnOk, Some, false};
 ghost use Rattle.pbf_frame.specs.Verdict.{judged_known};
 ghost use Rattle.pbf_pass.specs.Given.{Took};
 ghost use Rattle.pbf_pass.specs.Judged.{judged_file};
@@ -8,10 +8,11 @@ ghost use Rattle.pbf_pass.specs.Pass.{CountsFile};
 ghost use Rattle.pbf_pass.specs.Hashing.{mark_by, raw_check};
 ghost use Rattle.pbfcut.specs.Calls.{drained, fed};
 ghost use Rattle.pbfcut.specs.Listing.{Lists, ListsFront, ListsToFault};
-ghost use Rattle.pbfcut.specs.Showing.{RefusedAtOnce, Shown, ShowsFront};
-ghost use Rattle.pbf_pass.specs.Stops.{Caused, ReadFailed, WriteFailed, unchanged};
-ghost use Rattle.pbf_published.specs.Showing.{ShowsHeader, storage_line};
-ghost use Rattle.pbf_published.specs.Published.{GavePublished, StopsPublished, UnlessChanged, raw_of};
+ghost use Rattle.pbfcut.specs.Showing.{Shown, ShowsFront};
+ghost use Rattle.pbfcut.specs.Summary.{counts_line, judged_headings};
+ghost use Rattle.pbf_pass.specs.Stops.{Caused, FaultOf, ReadFailed, WriteFailed, unchanged};
+ghost use Rattle.pbf_published.specs.Showing.{TellsInfo, storage_line};
+ghost use Rattle.pbf_published.specs.Published.{GavePublished, RefusedRaw, StopsPublished, UnlessChanged, raw_of};
 
 use crate::input::{
     PublishedHalt, PublishedInput, close, compare, first_digest, lacks_memory, open,
@@ -19,8 +20,9 @@ use crate::input::{
 };
 use pbf_frame::{Drain, Feed, Stop, write_all};
 use pbf_pass::{PassCheck, Passes};
-use pbf_unpack::Inflater;
-use std::alloc::Global;
+use pbf_unpack::{Inflater, Stored};
+use pbfcut::{Summary, put_counts};
+use std::alloc::{AllocError, Global};
 
 /// Writes the text of the raw file that a published one means, as `show_with_receipt` of pbfcut does that of a raw file.
 ///
@@ -74,45 +76,74 @@ pub fn show_with_receipt<F: Feed, G: Feed, D: Drain>(
     })
 }
 
-/// The line that says how a header is stored.
-fn storage_line(is_packed: bool) -> &'static [u8]
-    ensures { result.now ≡ storage_line is_packed }
+/// The line that says how blobs are stored.
+fn storage_line(stored: Stored) -> &'static [u8]
+    ensures { result.now ≡ storage_line stored }
 {
-    if is_packed {
-        b"H stored \"zlib\"\n"
+    if !stored.packed {
+        return b"H stored \"raw\"\n";
+    }
+    if stored.raw {
+        b"H stored \"mixed\"\n"
     } else {
-        b"H stored \"raw\"\n"
+        b"H stored \"zlib\"\n"
     }
 }
 
-/// Writes the lines of the header of a published file, and then whether it is packed, and reads no further.
+/// What is said of a file.
+fn info_text(alloc: Global, summary: &Summary, stored: Stored) -> Result<Vec<u8>, AllocError>
+    ensures { IfOk result (λ text. text.items ≡ summary.now.lines.items ++ storage_line stored
+        ++ counts_line summary.now.headers summary.now.blocks summary.now.others) }
+{
+    let mut text = Vec::new(alloc);
+    text.extend_from_slice(&summary.lines)?;
+    text.extend_from_slice(storage_line(stored))?;
+    put_counts(&mut text, summary)?;
+    Ok(text)
+}
+
+/// Reads a published file, and returns what is said of it.
+fn read_info<F: Feed>(alloc: Global, feed: &mut F) -> Result<Vec<u8>, PublishedHalt>
+    ensures told { IfOk result (λ text. TellsInfo (F.remaining feed.old) text.items) }
+    ensures stops { IfErr result (λ h. Caused
+        (FaultOf (judged_headings (raw_of (F.remaining feed.old))))
+        (ReadFailed F.Feed feed.old feed.new) ⊥ unchanged h.stop) }
+{
+    let mut input = open(alloc, Inflater::new(alloc)?, &mut *feed, PassCheck::None);
+    let outcome = pbfcut::read_summary(alloc, &mut input);
+    let stored = input.stored();
+    match outcome {
+        Ok(summary) => Ok(info_text(alloc, &summary, stored)?),
+        Err(stop) => {
+            let halt = stopped(stop, &input, lacks_memory(&input));
+            // What is known of the feed comes back with the reference itself.
+            let (_digest, _feed) = close(input);
+            Err(halt)
+        }
+    }
+}
+
+/// Writes the lines of the first header of a published file, how its blobs are stored, and how many frames it has of each type.
 ///
-/// A refusal has the place of the fault in the published file. Holds one packed frame and a raw one.
-pub fn show_header<F: Feed, D: Drain>(
+/// Nothing is written of a file that is refused: by the first fault of its frames or of its header, whose place is that in the
+/// published file. What other frames hold is not judged. Reads once, and holds one packed frame and two raw ones.
+pub fn show_info<F: Feed, D: Drain>(
     alloc: Global,
     feed: &mut F,
     drain: &mut D,
 ) -> Result<(), PublishedHalt>
-    // The drain took the lines of the first frame of the raw file that the feed's bytes mean, and how it is stored.
-    ensures shown { OnOk result (ShowsHeader D.Drain drain.old drain.new
-        (judged_known false 0 (raw_of (F.remaining feed.old)))) }
-    // Each stop has its cause. What is refused is that frame, for the first fault of the raw file, of any phase, and the drain took
+    // The drain took what is to be said of the frames of the raw file that the feed's bytes mean, and of how their blobs are stored.
+    ensures shown { OnOk result (Took D.Drain drain.old drain.new
+        (TellsInfo (F.remaining feed.old))) }
+    // Each stop has its cause. What is refused is that raw file, for the first fault of its frames and its header, and the drain took
     // nothing. `Read` and `Write` come only if a count of failures rose: of the feed, of the drain; `Changed` never comes.
-    ensures stops { IfErr result (λ h. Caused (RefusedAtOnce
-        (judged_file (raw_of (F.remaining feed.old))) D.Drain drain.old drain.new)
+    ensures stops { IfErr result (λ h. Caused (RefusedRaw
+        (judged_headings (raw_of (F.remaining feed.old))) D.Drain drain.old drain.new)
         (ReadFailed F.Feed feed.old feed.new) (WriteFailed D.Drain drain.old drain.new)
         unchanged h.stop) }
 {
-    let mut input = open(alloc, Inflater::new(alloc)?, &mut *feed, PassCheck::None);
-    let outcome = pbfcut::show_first(alloc, &mut input, drain);
-    let is_packed = input.has_packed_header();
-    if let Err(stop) = outcome {
-        let halt = stopped(stop, &input, lacks_memory(&input));
-        // What is known of the feed comes back with the reference itself.
-        let (_digest, _feed) = close(input);
-        return Err(halt);
-    }
-    match write_all(drain, storage_line(is_packed)) {
+    let text = read_info(alloc, feed)?;
+    match write_all(drain, &text) {
         Ok(()) => Ok(()),
         Err(_) => Err(PublishedHalt::from(Stop::Write)),
     }

@@ -100,8 +100,9 @@ fn is_same(one: &[u8], other: &[u8]) -> bool
 pub struct TableOut<S: BuildHasher> {
     texts: IndexSet<Vec<u8>, S>,
     /// The indexes of texts that were looked up recently, each in its slot, and 0 in a slot that no text was looked up in; a text
-    /// that isn't there is looked up by its hash.
-    recent: [u32; SLOTS],
+    /// that isn't there is looked up by its hash. There are no slots before the first text. They are not an array, since that would
+    /// be copied over the stack wherever the table is moved.
+    recent: Vec<u32>,
     alloc: Global,
 }
 
@@ -120,7 +121,7 @@ impl<S: BuildHasher> TableOut<S> {
     {
         TableOut {
             texts: IndexSet::with_hasher(alloc, hasher),
-            recent: [0; SLOTS],
+            recent: Vec::new(alloc),
             alloc,
         }
     }
@@ -144,17 +145,33 @@ impl<S: BuildHasher> TableOut<S> {
         ensures { self.new ≡ [] }
     {
         self.texts.truncate(0);
-        self.recent = [0; SLOTS];
+        self.recent.clear();
+    }
+
+    /// The index in a slot, and 0 if no text was looked up in it.
+    fn in_slot(&self, slot: usize) -> u32 {
+        match self.recent.get(slot) {
+            Some(index) => *index,
+            None => 0,
+        }
+    }
+
+    /// Keeps an index in its slot.
+    fn keep(&mut self, slot: usize, index: u32)
+        ensures { self.new ≡ self.old }
+    {
+        if let Some(place) = self.recent.get_mut(slot) {
+            *place = index;
+        }
     }
 
     /// The index of a text by its slot, `None` if another text is there.
     fn recent_index(&self, slot: usize, text: &[u8]) -> Option<u32>
         requires room { length self.now < MOST_USED_TEXTS }
-        requires slot { slot < SLOTS }
         ensures { IfSome result
             (λ index. (has_text self.now text.now ≡ true) × (index ≡ index_in self.now text.now)) }
     {
-        let index = self.recent[slot];
+        let index = self.in_slot(slot);
         let place = index.checked_sub(1)?;
         let known = self.texts.as_slice().get(place as usize)?;
         if is_same(known.as_slice(), text) {
@@ -169,7 +186,7 @@ impl<S: BuildHasher> TableOut<S> {
         requires { length self.old < MOST_USED_TEXTS }
         ensures { GivesIndex text.now self.old self.new result }
     {
-        let Ok(copy) = Vec::from_slice(self.alloc, text) else {
+        let Ok(copy) = copied(&mut self.recent, self.alloc, text) else {
             return match self.texts.get_index_of(text) {
                 Some(place) => Ok(place as u32 + 1),
                 None => Err(AllocError),
@@ -196,11 +213,10 @@ impl<S: BuildHasher> TableOut<S> {
 
     /// Like [`TableOut::index_of`], of a text that isn't in its slot. A slot that no text was looked up in shows that the text is new.
     fn index_elsewhere(&mut self, slot: usize, text: &[u8]) -> Result<u32, AllocError>
-        requires room { length self.old < MOST_USED_TEXTS }
-        requires slot { slot < SLOTS }
+        requires { length self.old < MOST_USED_TEXTS }
         ensures { GivesIndex text.now self.old self.new result }
     {
-        if self.recent[slot] == 0 {
+        if self.in_slot(slot) == 0 {
             return self.index_of_new(text);
         }
         self.index_by_hash(text)
@@ -218,7 +234,7 @@ impl<S: BuildHasher> TableOut<S> {
             return Ok(index);
         }
         let index = self.index_elsewhere(slot, text)?;
-        self.recent[slot] = index;
+        self.keep(slot, index);
         Ok(index)
     }
 
@@ -256,6 +272,16 @@ impl<S: BuildHasher> TableOut<S> {
         put_texts(out, self.texts.as_slice())?;
         Ok(())
     }
+}
+
+/// A copy of a text that is new. The first one makes the slots.
+fn copied(slots: &mut Vec<u32>, alloc: Global, text: &[u8]) -> Result<Vec<u8>, AllocError>
+    ensures items { IfOk result (λ copy. copy.items ≡ text.now) }
+{
+    if slots.is_empty() {
+        slots.resize(SLOTS, 0)?;
+    }
+    Vec::from_slice(alloc, text)
 }
 
 /// Appends each text as a field of a StringTable.

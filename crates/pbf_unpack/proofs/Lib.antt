@@ -1,4 +1,5 @@
 pub mod UnpackedLemmas
+pub mod StoredLemmas
 pub mod WholeLemmas
 pub mod PayloadLemmas
 pub mod SupplyLemmas

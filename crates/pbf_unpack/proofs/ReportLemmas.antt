@@ -9,6 +9,7 @@ use Rattle.pbf_unpack.specs.declared.feed.UnpackedFeed.{UnpackedFeed}
 use Rattle.pbf_unpack.specs.Reports.{stop_in, has_all, GavePacked}
 use Rattle.pbf_unpack.specs.Supplying.{more, unless_failed, IsEndBelow, left_in, remaining_in, HasSupplied}
 use Rattle.pbf_unpack.specs.Unpacked.{unpacked_frame, unpacked_from}
+use Rattle.pbf_unpack.proofs.StoredLemmas.{nothing_stored, together_none}
 use Rattle.pbf_unpack.proofs.SupplyLemmas.{frame_some}
 use Rattle.pbf_unpack.proofs.UnpackedLemmas.{joined_end, nothing_more, unfit, whole_long, whole_then}
 
@@ -45,4 +46,8 @@ pub all_supplied : {F : Type 0} (remaining : F → Option (List ℕ)) (u : Unpac
 all_supplied remaining u is = all_by u.state u.place (left_in u) (remaining u.feed) is
 
 pub gave_packed : {F : Type 0} (remaining : F → Option (List ℕ)) (has_passed : F → ℕ → List ℕ → Type 0) (u : UnpackedFeed F) (log : ℕ) (raw : List ℕ) → stop_in u.state ≡ None → left_in u ≡ [] → HasSupplied remaining has_passed u log raw → GavePacked remaining has_passed u log raw
-gave_packed remaining has_passed u log raw none spent has = grind (arith, append-nil has.packed, joined_end ((raw ++ left_in u, u.fault)), append-nil raw, ended_below u.state u.place (left_in u) (remaining u.feed) has.ended, nothing_more)
+gave_packed remaining has_passed u log raw none spent has = grind (arith, append-nil has.packed, joined_end ((raw ++ left_in u, u.fault)), append-nil raw, ended_below u.state u.place (left_in u) (remaining u.feed) has.ended, nothing_more, nothing_stored, together_none u.stored)
+
+-- and so they are what the packed bytes mean
+pub gave_reported : {F : Type 0} (remaining : F → Option (List ℕ)) (has_passed : F → ℕ → List ℕ → Type 0) (u : UnpackedFeed F) (log : ℕ) (raw : List ℕ) → remaining_in remaining u ≡ Some [] → HasSupplied remaining has_passed u log raw → GavePacked remaining has_passed u log raw
+gave_reported remaining has_passed u log raw is has = grind (arith, all_supplied remaining u is, nothing_left (left_in u), gave_packed remaining has_passed u log raw)

@@ -15,7 +15,9 @@ use Rattle.pbf_frame.proofs.FrameLemmas.{head_parts}
 use Rattle.pbf_frame.proofs.KnownBytes.{prepend_more}
 use Rattle.pbf_frame.proofs.Passed.{passes_more}
 use Rattle.pbf_unpack.specs.Unpacked.{then_unpacked, unpacked_frame, is_whole, unpacked_from}
+use Rattle.pbf_unpack.specs.Stored.{none_stored, stored_from, stored_in, together}
 use Rattle.pbf_unpack.specs.Whole.{TookBytes, IsUnfit, IsCut, HasHead}
+use Rattle.pbf_unpack.proofs.StoredLemmas.{unfit_stored, whole_stored}
 use Rattle.pbf_unpack.proofs.UnpackedLemmas.{without_prefix, with_long_header, without_header, without_head, too_far, without_blob, whole_parts, unfit, whole_then}
 
 -- these bytes were read in two parts
@@ -46,6 +48,9 @@ module _ (place : ℕ) (read : List ℕ) (left : Option (List ℕ)) where
   pub cut_prefix : length read < 4 → IsAtEnd left → IsCut place read left
   cut_prefix short ended = grind (arith, nat_tests, take_all 4 read, unfit place read, without_prefix f)
 
+  pub cut_prefix_stored : length read < 4 → stored_from place read ≡ none_stored
+  cut_prefix_stored short = grind (arith, nat_tests, take_all 4 read, unfit_stored place read, without_prefix f)
+
 pub long_header : (place : ℕ) (read : List ℕ) → length read ≡ 4 → HEADER_LIMIT ≤ big_number 4 read → IsUnfit place read
 long_header place read four long = grind (arith, nat_tests, with_long_header, long, unfit place, at_prefix place read)
 
@@ -54,6 +59,17 @@ cut_header place prefix header left four small short ended = grind (arith, nat_t
 
 pub no_head : (place : ℕ) (prefix header : List ℕ) (e : Fault) → length prefix ≡ 4 → length header ≡ big_number 4 prefix → head_of (place + 4) header ≡ Err e → IsUnfit place (prefix ++ header)
 no_head place prefix header e four counted says = grind (arith, length-append prefix header, without_head, append_assoc prefix header, unfit place, at_header place prefix header)
+
+-- the same of how they are stored
+
+pub long_header_stored : (place : ℕ) (read : List ℕ) → length read ≡ 4 → HEADER_LIMIT ≤ big_number 4 read → (rest : List ℕ) → stored_from place (read ++ rest) ≡ none_stored
+long_header_stored place read four long rest = grind (arith, nat_tests, with_long_header, long, unfit_stored place, at_prefix place read)
+
+pub cut_header_stored : (place : ℕ) (prefix header : List ℕ) → length prefix ≡ 4 → big_number 4 prefix < HEADER_LIMIT → length header < big_number 4 prefix → stored_from place (prefix ++ header) ≡ none_stored
+cut_header_stored place prefix header four small short = grind (arith, nat_tests, take_all (big_number 4 prefix) header, without_header (from_prefix place prefix header), unfit_stored place (prefix ++ header), at_prefix place prefix header four)
+
+pub no_head_stored : (place : ℕ) (prefix header : List ℕ) (e : Fault) → length prefix ≡ 4 → length header ≡ big_number 4 prefix → head_of (place + 4) header ≡ Err e → (rest : List ℕ) → stored_from place ((prefix ++ header) ++ rest) ≡ none_stored
+no_head_stored place prefix header e four counted says rest = grind (arith, length-append prefix header, without_head, append_assoc prefix header, unfit_stored place, at_header place prefix header)
 
 -- ---- a header that says where its frame ends
 
@@ -81,6 +97,19 @@ module _ (place : ℕ) (read header : List ℕ) (head : Head) (has : HasHead pla
 
   pub cut_blob : (blob : List ℕ) (left : Option (List ℕ)) → length blob < head.size → IsAtEnd left → IsCut place (read ++ blob) left
   cut_blob blob left short ended = grind (arith, nat_tests, take_all (head_says (place + 4) header).size blob, size_is, unfit place (read ++ blob), begins blob, without_blob (parts blob))
+
+  pub ends_too_far_stored : 2 ^ 62 < place + length read + head.size → (rest : List ℕ) → stored_from place ((read ++ []) ++ rest) ≡ none_stored
+  ends_too_far_stored far rest = grind (arith, nat_tests, long, length-append read [], too_far, size_is, append-nil read, unfit_stored place, begins)
+
+  pub cut_blob_stored : (blob : List ℕ) → length blob < head.size → stored_from place (read ++ blob) ≡ none_stored
+  cut_blob_stored blob short = grind (arith, nat_tests, take_all (head_says (place + 4) header).size blob, size_is, unfit_stored place (read ++ blob), begins blob, without_blob (parts blob))
+
+  pub whole_stores : (blob : List ℕ) → length blob ≡ head.size → (at end : ℕ) → at ≡ place + length read → end ≡ place + length read + head.size → end ≤ 2 ^ 62
+      → (rest : List ℕ) → stored_from place ((read ++ blob) ++ rest) ≡ together (stored_in head.kind at blob) (stored_from end rest)
+  whole_stores blob sized at end at_is end_is fits rest =
+      let f : FrameSpec = record { offset = place; prefix = has.prefix; header = header; blob = blob } in
+      let whole : is_whole f ≡ true = whole_parts f has.four has.small has.counted (ap (λ (r : Result Head Fault). is_ok r) has.says) (omega (arith, fits, end_is, long, size_is)) (sized ∙ size_is) in
+      grind (arith, append_assoc read blob rest, take_at blob rest (head_says (place + 4) header).size, begins (blob ++ rest), whole_stored place (read ++ (blob ++ rest)), drop_at (read ++ blob) rest (length (read ++ blob)), size_is, kind_is, long)
 
   whole_frame : (blob : List ℕ) → length blob ≡ head.size → place + length read + head.size ≤ 2 ^ 62 → (rest : List ℕ)
       → unpacked_from place ((read ++ blob) ++ rest) ≡ then_unpacked (unpacked_frame head.kind (place + length read) (read ++ blob) blob) (unpacked_from (place + length read + head.size) rest)

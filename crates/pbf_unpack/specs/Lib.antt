@@ -1,5 +1,6 @@
 pub mod Packed
 pub mod Unpacked
+pub mod Stored
 pub mod Whole
 pub mod Payloads
 pub mod Supplying

@@ -9,6 +9,8 @@ use Rattle.pbf_frame.specs.Devices.{HasRisen, IsAtEnd}
 use Rattle.pbf_unpack.specs.declared.feed.State.{State}
 use Rattle.pbf_unpack.specs.declared.feed.State.TheVariants.{Reading, PassingOn, Ended, Failed, Refused}
 use Rattle.pbf_unpack.specs.declared.feed.UnpackedFeed.{UnpackedFeed}
+use Rattle.pbf_unpack.specs.declared.stored.Stored.{Stored}
+use Rattle.pbf_unpack.specs.Stored.{none_stored, stored_from, together}
 use Rattle.pbf_unpack.specs.Unpacked.{Unpacked, then_unpacked, as_they_stand, unpacked_from}
 
 -- what the bytes that follow at this place mean: frames, or bytes as they are, or nothing more
@@ -30,6 +32,18 @@ CanFollow Refused rest = ⊥
 -- bytes that were read from one place up to another mean this, and then what those that follow mean
 abbrev pub Carries : (start : ℕ) → State → (place : ℕ) → List ℕ → Unpacked → Type 0
 Carries start state place read meaning = (rest : List ℕ) → CanFollow state rest → unpacked_from start (read ++ rest) ≡ then_unpacked meaning (more state place rest)
+
+-- how blobs are stored that follow at this place
+abbrev pub more_stored : State → ℕ → List ℕ → Stored
+more_stored Reading place rest = stored_from place rest
+more_stored PassingOn place rest = none_stored
+more_stored Ended place rest = none_stored
+more_stored Failed place rest = none_stored
+more_stored Refused place rest = none_stored
+
+-- the blobs of bytes that were read from one place up to another are stored so
+abbrev pub CarriesStored : (start : ℕ) → State → (place : ℕ) → List ℕ → Stored → Type 0
+CarriesStored start state place read stored = (rest : List ℕ) → CanFollow state rest → stored_from start (read ++ rest) ≡ together stored (more_stored state place rest)
 
 -- the bytes in the buffers that are still to supply
 abbrev pub left_in : {F : Type 0} → UnpackedFeed F → List ℕ
@@ -56,11 +70,12 @@ IsEndBelow Failed known = Unit {0}
 IsEndBelow Refused known = Unit {0}
 
 -- these bytes were supplied: by a log of the feed below packed bytes have passed, and they mean these bytes, those in the buffers, and then what
--- those that follow mean; and the fault that is kept is the first of them
+-- those that follow mean; the fault that is kept is the first of them, and their blobs are stored as it is kept
 pub record HasSupplied {F : Type 0} (remaining : F → Option (List ℕ)) (has_passed : F → ℕ → List ℕ → Type 0) (u : UnpackedFeed F) (log : ℕ) (bytes : List ℕ) : Type 0 where
   pub packed : List ℕ
   pub passed : has_passed u.feed log packed
   pub carries : Carries 0 u.state u.place packed (bytes ++ left_in u, u.fault)
+  pub stores : CarriesStored 0 u.state u.place packed u.stored
   pub ended : IsEndBelow u.state (remaining u.feed)
 
 -- ---- failures

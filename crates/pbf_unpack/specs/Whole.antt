@@ -10,6 +10,7 @@ use Rattle.pbf_unpack.specs.declared.whole.Found.{Found}
 use Rattle.pbf_unpack.specs.declared.whole.Found.TheVariants as found
 use Rattle.pbf_unpack.specs.declared.whole.Front.{Front}
 use Rattle.pbf_unpack.specs.declared.whole.Front.TheVariants as front
+use Rattle.pbf_unpack.specs.Stored.{none_stored, stored_from, stored_in, together}
 use Rattle.pbf_unpack.specs.Unpacked.{then_unpacked, as_they_stand, unpacked_frame, unpacked_from}
 use Rattle.pbf_frame.specs.declared.frame.TheConstants.{FILE_LIMIT}
 
@@ -50,6 +51,18 @@ abbrev pub Means : ℕ → (read blob : List ℕ) → Option (List ℕ) → Foun
 Means place read blob left (found.Whole w) = MeansWhole place read blob w
 Means place read blob left found.Unfit = IsUnfit place read
 Means place read blob left found.Cut = IsCut place read left
+
+-- the blobs of bytes that begin no whole frame, whatever follows or as all that there is, don't count
+abbrev pub StoresFront : ℕ → (read : List ℕ) → Front → Type 0
+StoresFront place read (front.Says head) = Unit {0}
+StoresFront place read front.Unfit = (rest : List ℕ) → stored_from place (read ++ rest) ≡ none_stored
+StoresFront place read front.Cut = stored_from place read ≡ none_stored
+
+-- and that of a whole frame counts, whatever follows
+abbrev pub Stores : ℕ → (read blob : List ℕ) → Found → Type 0
+Stores place read blob (found.Whole w) = (rest : List ℕ) → stored_from place (read ++ rest) ≡ together (stored_in w.kind w.blob_at blob) (stored_from w.end rest)
+Stores place read blob found.Unfit = (rest : List ℕ) → stored_from place (read ++ rest) ≡ none_stored
+Stores place read blob found.Cut = stored_from place read ≡ none_stored
 
 -- the blob and the frame end within the limit of a file
 abbrev pub IsPlaced : List ℕ → Found → Type 0

@@ -5,6 +5,7 @@ ghost use Rattle.pbf_frame.specs.declared.frame.TheConstants.{FILE_LIMIT};
 
 use crate::buffers::Buffers;
 use crate::fault::UnpackFault;
+use crate::stored::Stored;
 use pbf_frame::Feed;
 use std::alloc::{AllocError, Global};
 use zlib::Inflater;
@@ -55,6 +56,8 @@ pub struct UnpackedFeed<F> {
     pub(crate) state: State,
     // The first fault of zlib data.
     pub(crate) fault: Option<UnpackFault>,
+    // How the blobs are stored that were read.
+    pub(crate) stored: Stored,
     // Of the frame in the buffers, and of the first one that is a header.
     pub(crate) origin: Origin,
     pub(crate) header: Option<Origin>,

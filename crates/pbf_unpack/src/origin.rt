@@ -1,8 +1,5 @@
 //! From a place in the raw file back to the packed one.
 
-ghost use Rattle.std.specs.Prelude.{◌≡◌};
-ghost use Rattle.pbf_unpack.specs.Reports.{has_packed_header};
-
 use crate::feed::{Origin, UnpackedFeed};
 use crate::reports::Place;
 use pbf_frame::Feed;
@@ -20,16 +17,6 @@ fn place_in(origin: Origin, offset: u64) -> Place {
 }
 
 impl<F: Feed> UnpackedFeed<F> {
-    /// Whether the first header frame was packed, once it was read.
-    pub fn has_packed_header(&self) -> bool
-        ensures { result ≡ has_packed_header self.now }
-    {
-        match self.header {
-            Some(header) => header.payload.is_some(),
-            None => false,
-        }
-    }
-
     /// Where a byte of the raw file comes from that lies in the frame that was supplied last or, if it is before that, in the first
     /// header frame.
     pub fn place_of(&self, offset: u64) -> Place {

@@ -1,6 +1,6 @@
 //! What a feed of unpacked bytes says of itself.
 
-ghost use Rattle.std.specs.Prelude.{◌≡◌, ◌+◌, ◌*◌, ◌≤◌, ℕ, List, [], None, true};
+ghost use Rattle.std.specs.Prelude.{◌≡◌, ◌+◌, ◌*◌, ◌≤◌, ℕ, List, [], None, Some, true};
 ghost use Rattle.std.specs.Option.{option_map};
 ghost use Rattle.pbf_frame.specs.declared.header.TheConstants.{HEADER_LIMIT, LARGEST_SIZE};
 ghost use Rattle.pbf_unpack.specs.Reports.{stop_in, has_all, GavePacked, held_by_feed};
@@ -10,6 +10,7 @@ ghost use Rattle.pbf_unpack.specs.Unpacked.{unpacked};
 use crate::buffers::Buffers;
 use crate::fault::UnpackFault;
 use crate::feed::{Origin, State, UnpackedFeed};
+use crate::stored::Stored;
 use pbf_frame::{Feed, Stop};
 use std::alloc::Global;
 use zlib::Inflater;
@@ -45,6 +46,7 @@ impl<F: Feed> UnpackedFeed<F> {
             place: 0,
             state: State::Reading,
             fault: None,
+            stored: Stored::none(),
             origin: Origin {
                 packed: 0,
                 raw: 0,
@@ -59,6 +61,16 @@ impl<F: Feed> UnpackedFeed<F> {
         ensures { result ≡ self.now.fault }
     {
         self.fault
+    }
+
+    /// How the blobs are stored that were read. Once nothing is reported to be left these are those of the file.
+    pub fn stored(&self) -> Stored
+        ensures value { result ≡ self.now.stored }
+        ensures gave { (log : ℕ) (raw : List ℕ) → remaining_in F.remaining self.now ≡ Some []
+            → HasSupplied F.remaining F.has_passed self.now log raw
+            → GavePacked F.remaining F.has_passed self.now log raw }
+    {
+        self.stored
     }
 
     /// Why a read failed, once one did: `Read` if one of the feed below did, `Memory` if memory was refused.

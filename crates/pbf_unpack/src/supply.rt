@@ -4,6 +4,7 @@ ghost use Rattle.std.specs.Prelude.{◌≡◌, ◌+◌, ◌-◌, ◌<◌, ◌≤
 ghost use Rattle.pbf_frame.specs.Devices.{prepend, Passes, IsAtEnd};
 ghost use Rattle.pbf_frame.specs.Reads.{FillsFrom};
 ghost use Rattle.pbf_unpack.specs.declared.feed.State.TheVariants as states;
+ghost use Rattle.pbf_unpack.specs.Stored.{stored_by, together};
 ghost use Rattle.pbf_unpack.specs.Supplying.{left_in, remaining_in, refusals, HasSupplied, GoesOn, HasSupply, IsSameBut, SuppliesFrom};
 
 use crate::buffers::Buffers;
@@ -63,12 +64,14 @@ impl<F: Feed> UnpackedFeed<F> {
     /// Keeps where the frame in the buffers comes from.
     fn come_from(&mut self, from: Origin, frame: WholeFrame, outcome: Outcome)
         ensures same { IsSameBut self.old self.new }
+        ensures stored { self.new.stored ≡ together self.old.stored (stored_by frame.kind outcome) }
     {
         let mut origin = from;
         if outcome == Outcome::Unpacked {
             origin.payload = Some(from.raw.saturating_add(self.buffers.front.len() as u64));
         }
         self.origin = origin;
+        self.stored = self.stored.with(frame.kind, outcome);
         if frame.kind == FrameKind::Header && self.header.is_none() {
             self.header = Some(origin);
         }
@@ -130,6 +133,7 @@ impl<F: Feed> UnpackedFeed<F> {
         ensures state { self.new.state ≡ self.old.state }
         ensures place { self.new.place ≡ self.old.place }
         ensures fault { self.new.fault ≡ self.old.fault }
+        ensures stored { self.new.stored ≡ self.old.stored }
     {
         let count = copy_left(&self.buffers, self.done, buf);
         self.done += count;
@@ -154,6 +158,7 @@ impl<F: Feed> UnpackedFeed<F> {
         ensures state { self.new.state ≡ self.old.state }
         ensures place { self.new.place ≡ self.old.place }
         ensures fault { self.new.fault ≡ self.old.fault }
+        ensures stored { self.new.stored ≡ self.old.stored }
     {
         self.buffers.free();
         self.done = 0;

@@ -4,7 +4,7 @@ ghost use Rattle.std.specs.Prelude.{◌≡◌, ◌+◌, ◌-◌, ◌<◌, ◌≤
 ghost use Rattle.pbf_frame.specs.declared.header.Head.{Head};
 ghost use Rattle.pbf_frame.specs.declared.header.TheConstants.{HEADER_LIMIT};
 ghost use Rattle.pbf_frame.specs.Reads.{FillsFrom};
-ghost use Rattle.pbf_unpack.specs.Whole.{TookBytes, BeginsWith, Means, MeansWhole, IsPlaced, IsPlacedAt};
+ghost use Rattle.pbf_unpack.specs.Whole.{TookBytes, BeginsWith, Means, MeansWhole, IsPlaced, IsPlacedAt, Stores, StoresFront};
 ghost use Rattle.pbf_frame.specs.declared.frame.TheConstants.{FILE_LIMIT};
 
 use crate::buffers::Buffers;
@@ -82,6 +82,7 @@ fn read_front<F: Feed>(
         (F.has_passed feed.new) (F.remaining feed.old) (F.remaining feed.new)) }
     ensures means { IfOk result
         (BeginsWith place front.new.items header.new.items (F.remaining feed.new)) }
+    ensures stores { IfOk result (StoresFront place front.new.items) }
     ensures front_held { vec_len front.new ≤ max (HEADER_LIMIT + 3) (vec_len front.old) }
     ensures header_held { vec_len header.new ≤ max (HEADER_LIMIT - 1) (vec_len header.old) }
     ensures feed { FillsFrom F.Feed feed.old feed.new result }
@@ -117,6 +118,8 @@ pub(crate) fn read_whole<F: Feed>(
         (F.remaining feed.old) (F.remaining feed.new)) }
     ensures means { IfOk result (Means place (buffers.new.front.items ++ buffers.new.packed.items)
         buffers.new.packed.items (F.remaining feed.new)) }
+    ensures stores { IfOk result (Stores place (buffers.new.front.items ++ buffers.new.packed.items)
+        buffers.new.packed.items) }
     ensures placed { IfOk result (IsPlaced buffers.new.packed.items) }
     ensures raw { buffers.new.raw ≡ buffers.old.raw }
     ensures feed { FillsFrom F.Feed feed.old feed.new result }

@@ -2,6 +2,7 @@ pub mod ListingLemmas
 pub mod TheoremLemmas
 pub mod FaultLemmas
 pub mod ShowingLemmas
+pub mod SummaryLemmas
 pub mod FileLaw
 pub mod PickingLemmas
 pub mod PackingLemmas

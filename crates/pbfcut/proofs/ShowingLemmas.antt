@@ -1,5 +1,5 @@
 -- The text of frames, and why its writing stops.
-use Rattle.std.proofs.Common.{◌≡◌, ◌≤◌, ◌⊎◌, arith, ℕ, List, [], ◌∷◌, ◌++◌, append_assoc, Bool, false, Option, Some, None, Result, Err, subst, inl, inr, refl, sym, ap, ◌∙◌}
+use Rattle.std.proofs.Common.{◌≡◌, ◌≤◌, ◌⊎◌, arith, ℕ, List, [], ◌∷◌, ◌++◌, append_assoc, Bool, false, Option, Some, None, Result, subst, inl, inr, refl, sym, ap, ◌∙◌}
 use Rattle.std.specs.List.{flat_map}
 use Rattle.std.proofs.lemmas.Grind.{flat_map-append}
 use Rattle.osm_entity.specs.Entity.{EntitySpec}
@@ -7,12 +7,9 @@ use Rattle.pbf_wire.specs.declared.fault.Fault.{Fault}
 use Rattle.pbf_wire.specs.declared.fault.ReadFault.{ReadFault}
 use Rattle.pbf_wire.specs.declared.fault.ReadFault.TheVariants as read
 use Rattle.pbf_frame.specs.Devices.{append, HasRisen, IsFront}
-use Rattle.pbf_frame.specs.Next.{VerdictGoesOn, verdict}
-use Rattle.pbf_frame.specs.Reads.{IsReaderStop}
-use Rattle.pbf_frame.specs.declared.reader.FrameReader.{FrameReader}
 use Rattle.pbf_frame.specs.Frames.{FrameSpec}
 use Rattle.pbf_frame.specs.Stops.{stop_of_fault}
-use Rattle.pbf_frame.specs.Verdict.{Verdict, VerdictAfter, judged_known, with_first_known}
+use Rattle.pbf_frame.specs.Verdict.{Verdict, judged_known, with_first_known}
 use Rattle.pbf_frame.specs.declared.device.Drain as drain
 use Rattle.pbf_frame.specs.declared.device.Feed as feed
 use Rattle.pbf_frame.specs.declared.stop.Stop.{Stop}
@@ -28,15 +25,15 @@ use Rattle.pbf_pass.specs.Refused.{RefusesRest}
 use Rattle.pbf_pass.proofs.UnjudgedLemmas.{refuses_less}
 use Rattle.pbf_pass.specs.Visit.{Takes, Fails, Visited, VisitsAll, StopsVisit, RefusesVisit}
 use Rattle.pbfcut.specs.declared.showing.LineWriter.{LineWriter}
-use Rattle.pbfcut.specs.Showing.{frame_text, file_text, RefusedAtOnce, Shown, ShowsFront, StopsShowing, WritesFront, WritesLines, ShowsNext, FailsToShowNext}
-use Rattle.pbf_pass.specs.Stops.{Caused, FaultOf, Only, ReadFailed, unchanged, WriteFailed}
+use Rattle.pbfcut.specs.Showing.{frame_text, file_text, Shown, ShowsFront, StopsShowing, WritesFront, WritesLines, ShowsNext, FailsToShowNext}
+use Rattle.pbf_pass.specs.Stops.{Caused, FaultOf, Only, unchanged, WriteFailed}
 use Rattle.pbf_frame.specs.Keeps.{KeepsDrain}
 use Rattle.pbf_frame.proofs.Beginnings.{front_whole, front_longer, front_then}
 use Rattle.osm_text.specs.EntityText.{entity_line}
 use Rattle.pbfcut.proofs.ListingLemmas.{StoppedWithin, text_one, texts_added, texts_front}
 use Rattle.pbfcut.proofs.PickingLemmas.{fails_since}
 use Rattle.pbf_pass.proofs.GivenLemmas.{Tells, says_told}
-use Rattle.pbf_pass.proofs.StepLemmas.{StoppedStep, fully_first, gone_fault, gone_payload}
+use Rattle.pbf_pass.proofs.StepLemmas.{fully_first}
 use Rattle.pbf_pass.proofs.SoundLemmas.{fully_gone}
 use Rattle.pbf_pass.proofs.JudgingLemmas.{sound_visited, says_visited, stops_judging}
 use Rattle.pbf_pass.proofs.VisitLemmas.{visited_to}
@@ -145,41 +142,3 @@ module _ {D : Type 0} (d : drain.Ghosts D) where
   -- a stop after what was written is one of all
   pub stopped_since : (a b c : D) (s : Stop) → KeepsDrain d a b → Caused (Only None) ⊥ (WriteFailed d b c) unchanged s → Caused (Only None) ⊥ (WriteFailed d a c) unchanged s
   stopped_since a b c s keeps stops = fails_since None _ _ _ s keeps.counts stops
-
--- ---- of the first frame
-
--- a step over it stopped
-pub stops_first : {F D : Type 0} (f : feed.Ghosts F) (d : drain.Ghosts D) (old new : FrameReader F) (dates : Bool) (before now : D) (same : Type 0) (stop : Stop) → (same → now ≡ before) → StoppedStep f old new (FailsToShowNext d dates before now) same stop
-    → Caused (RefusedAtOnce (fully_known (verdict f.remaining old)) d before now) (ReadFailed f old.feed new.feed) (WriteFailed d before now) unchanged stop
-stops_first f d old new dates before now same stop stays s = of s.where_it_stopped where
-  known : Option Verdict
-  known = verdict f.remaining old
-
-  none_gone : (k : Option Verdict) → VerdictAfter k [] k
-  none_gone None = refl
-  none_gone (Some v) = refl
-
-  Cause : Stop → Type 0
-  Cause = Caused (RefusedAtOnce (fully_known known) d before now) (ReadFailed f old.feed new.feed) (WriteFailed d before now) unchanged
-
-  by_reader : (t : Stop) → VerdictGoesOn known (Err t) (verdict f.remaining new) → IsReaderStop (f.failures old.feed) (f.failures new.feed) t → now ≡ before → Cause t
-  by_reader (why.Refused e) gave is kept = (gone_fault (fully_known known) [] known e (none_gone (fully_known known)) gave, subst (λ x. Added d before [] x) (sym kept) (added_none d before))
-  by_reader why.Read gave is kept = is
-  by_reader why.Write gave is kept = absurd is
-  by_reader why.Memory gave is kept = tt
-  by_reader (why.Changed n) gave is kept = absurd is
-
-  at_frame : (x : FrameSpec) (t : Stop) → known ≡ with_first_known x (verdict f.remaining new) → StopsShowing d (payload_fault x) (frame_text dates x) before now t → Cause t
-  at_frame x (why.Refused e) is fails = (gone_payload (fully_known known) [] known (verdict f.remaining new) x e (none_gone (fully_known known)) is fails.cause, nothing fails.front) where
-    nothing : (Added d before [] now ⊎ ((payload_fault x ≡ None) × IsFront (d.taken before) (d.taken now) (frame_text dates x))) → Added d before [] now
-    nothing (inl none) = none
-    nothing (inr (sound, front)) = absurd (none_some _ _ sound fails.cause)
-  at_frame x why.Read is fails = absurd fails.cause
-  at_frame x why.Write is fails = fails.cause
-  at_frame x why.Memory is fails = tt
-  at_frame x (why.Changed n) is fails = absurd fails.cause
-
-  of : ((VerdictGoesOn known (Err stop) (verdict f.remaining new) × IsReaderStop (f.failures old.feed) (f.failures new.feed) stop × same)
-      ⊎ ((x : FrameSpec) × (known ≡ with_first_known x (verdict f.remaining new)) × FailsToShowNext d dates before now x stop)) → Cause stop
-  of (inl (gave, is, kept)) = by_reader stop gave is (stays kept)
-  of (inr (x, is, failing)) = at_frame x stop is failing.fails

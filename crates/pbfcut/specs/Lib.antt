@@ -6,6 +6,7 @@ pub mod Many
 pub mod Write
 pub mod Repeat
 pub mod Showing
+pub mod Summary
 pub mod Converting
 pub mod Extracting
 pub mod Kept

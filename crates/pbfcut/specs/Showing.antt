@@ -1,5 +1,5 @@
 -- The text of `show`, what a call does to its drain, and why it stops.
-use Rattle.std.specs.Prelude.{◌≡◌, ◌≤◌, ◌⊎◌, ℕ, List, [], Bool, false, Option, Some, None, Result, OnOk, OnErr, IfOk, IfErr}
+use Rattle.std.specs.Prelude.{◌≡◌, ◌≤◌, ◌⊎◌, ℕ, List, [], Bool, Option, Some, None, Result, OnOk, OnErr, IfOk, IfErr}
 use Rattle.std.specs.List.{flat_map}
 use Rattle.pbf_wire.specs.declared.fault.Fault.{Fault}
 use Rattle.pbf_header.specs.Header.{header_in}
@@ -9,7 +9,7 @@ use Rattle.pbf_frame.specs.declared.stop.Stop.{Stop}
 use Rattle.pbf_frame.specs.Devices.{IsFront}
 use Rattle.pbf_frame.specs.Transfers.{Added}
 use Rattle.pbf_frame.specs.Frames.{FrameSpec}
-use Rattle.pbf_frame.specs.Verdict.{Verdict, Says, with_first_known}
+use Rattle.pbf_frame.specs.Verdict.{Verdict, Says}
 use Rattle.osm_text.specs.EntityText.{entity_line}
 use Rattle.osm_text.specs.HeaderText.{header_text}
 use Rattle.pbfcut.specs.declared.showing.LineWriter.{LineWriter}
@@ -104,16 +104,3 @@ pub record ShowsNext {D : Type 0} (d : drain.Ghosts D) (dates : Bool) (old new :
 pub record FailsToShowNext {D : Type 0} (d : drain.Ghosts D) (dates : Bool) (old new : D) (f : FrameSpec) (stop : Stop) : Type 0 where
   pub fails : StopsShowing d (payload_fault f) (frame_text dates f) old new stop
   pub counts : d.failures old ≤ d.failures new
-
--- ---- the first frame
-
--- the verdict begins with a frame without a fault, and the drain took its text
-pub record ShowsFirst {D : Type 0} (d : drain.Ghosts D) (old new : D) (known : Option Verdict) : Type 0 where
-  pub frame : FrameSpec
-  pub rest : Option Verdict
-  pub begins : known ≡ with_first_known frame rest
-  pub shows : ShowsText d (payload_fault frame) (frame_text false frame) old new
-
--- what is refused is the first frame, by the first fault of the file, and then the drain took nothing
-abbrev pub RefusedAtOnce : {D : Type 0} → Option Verdict → drain.Ghosts D → (old new : D) → Fault → Type 0
-RefusedAtOnce known d old new e = Says known ([], Some e) × Added d old [] new

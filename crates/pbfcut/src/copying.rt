@@ -16,8 +16,8 @@ use crate::repeat::LaterPass;
 use pbf_frame::{Drain, FILE_LIMIT, Feed, Stop, write_all};
 use pbf_pass::{Halt, InputReceipt, Nothing, PassFeed, Passes, judge};
 
-/// How many bytes are read at once.
-const ROOM: usize = 65_536;
+/// How many bytes are read at once: few enough for a thread with a small stack.
+const ROOM: usize = 16_384;
 
 /// Copies what a feed has. Returns false once it has given more than the longest file has.
 fn copy_rest<F: Feed, D: Drain>(feed: &mut F, drain: &mut D) -> Result<bool, Stop>
@@ -64,7 +64,7 @@ fn copy_again<F: Feed, D: Drain>(again: LaterPass, feed: &mut F, drain: &mut D) 
 ///
 /// Both feeds have to supply the same bytes. The first is judged as a whole before anything is written: `Refused` names its first fault,
 /// of any phase. The second is copied. `Changed(2)` says that it had another digest, or more bytes than any file has. Holds one frame at a
-/// time, with the places of its texts, or 65,536 bytes.
+/// time, with the places of its texts, or 16,384 bytes.
 pub fn copy_with_receipt<F: Feed, G: Feed, D: Drain>(
     passes: Passes,
     first: &mut F,

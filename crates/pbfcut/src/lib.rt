@@ -10,6 +10,7 @@ mod pick;
 mod repeat;
 mod showing;
 mod sorted;
+mod summary;
 mod write;
 
 pub use blobs::list_blobs;
@@ -23,7 +24,8 @@ pub use pbf_pass::{
     gather_unjudged, step_count, step_gather, step_nodes, step_relations, step_unjudged, step_ways,
 };
 pub use pick::{step_pack, step_write, step_write_parents};
-pub use showing::{show, show_first, show_with_receipt};
+pub use showing::{show, show_with_receipt};
 pub use sorted::{
     extract_parents_sorted_with_receipt, extract_sorted, extract_sorted_with_receipt,
 };
+pub use summary::{Summary, put_counts, read_summary};

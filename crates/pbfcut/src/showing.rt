@@ -1,8 +1,6 @@
 //! `show`: a line for each field of the header and for each entity.
 
-ghost use Rattle.std.specs.Prelude.{[], ◌∷◌, ◌≡◌, false, Some, IfOk, IfErr, OnOk, OnErr};
-ghost use Rattle.pbf_frame.specs.Keeps.{KeepsDrain, KeepsFeed};
-ghost use Rattle.pbf_frame.specs.Verdict.{judged_known};
+ghost use Rattle.std.specs.Prelude.{[], ◌∷◌, ◌≡◌, Some, IfOk, IfErr, OnOk, OnErr};
 ghost use Rattle.std.specs.List.{flat_map};
 ghost use Rattle.osm_entity.specs.Views.{entity_of};
 ghost use Rattle.pbf_block.specs.Runs.{entities_left};
@@ -12,9 +10,8 @@ ghost use Rattle.pbf_pass.specs.Hashing.{mark_by};
 ghost use Rattle.pbf_pass.specs.Judged.{judged_file};
 ghost use Rattle.pbf_pass.specs.Pass.{CountsFile};
 ghost use Rattle.pbf_pass.specs.Payload.{header_block, primitive_block, lent_by};
-ghost use Rattle.pbf_pass.specs.Stops.{Caused, ReadFailed, WriteFailed, unchanged};
 ghost use Rattle.pbfcut.specs.Repeat.{SameDigest};
-ghost use Rattle.pbfcut.specs.Showing.{RefusedAtOnce, Shown, ShowsFirst, ShowsFront, WritesLines, WritesPayload, ShowsNext, FailsToShowNext, ShowsAgain};
+ghost use Rattle.pbfcut.specs.Showing.{Shown, ShowsFront, WritesLines, WritesPayload, ShowsNext, FailsToShowNext, ShowsAgain};
 ghost use Rattle.pbfcut.specs.Calls.{drained, fed, StopsPasses};
 ghost use Rattle.pbfcut.specs.Ends.{EndsPasses};
 
@@ -22,9 +19,9 @@ use crate::repeat::LaterPass;
 use osm_entity::EntityRef;
 use osm_text::{put_entity, put_header};
 use pbf_block::{Block, Counts, Entities};
-use pbf_frame::{Drain, Feed, Frame, FrameKind, FrameReader, Stop, write_all};
+use pbf_frame::{Drain, Feed, Frame, FrameKind, Stop, write_all};
 use pbf_header::Header;
-use pbf_pass::{Halt, InputReceipt, Nothing, PassCheck, Passes, Visit, judge, pass_over, step};
+use pbf_pass::{Halt, InputReceipt, Nothing, PassCheck, Passes, Visit, judge, pass_over};
 use std::alloc::Global;
 
 /// Writes lines into a drain.
@@ -153,35 +150,6 @@ fn write_text<F: Feed, D: Drain>(
         drain,
     };
     Ok(pass_over(passes, feed, &mut showing)?.digest)
-}
-
-/// Writes the lines of the first frame of a file, which is its header, and reads no further. A first frame of another type has no lines.
-pub fn show_first<F: Feed, D: Drain>(alloc: Global, feed: &mut F, drain: &mut D) -> Result<(), Stop>
-    // The drain took exactly the lines of the first frame, which has no fault.
-    ensures shown { OnOk result (ShowsFirst D.Drain drain.old drain.new
-        (judged_known false 0 (F.remaining feed.old))) }
-    // Each stop has its cause. What is refused is the first frame, for the first fault of the file, of any phase, and the drain took
-    // nothing. `Read` and `Write` come only if the count of failures of the feed, of the drain, rose; `Changed` never comes.
-    ensures stops { IfErr result (Caused
-        (RefusedAtOnce (judged_file (F.remaining feed.old)) D.Drain drain.old drain.new)
-        (ReadFailed F.Feed feed.old feed.new) (WriteFailed D.Drain drain.old drain.new) unchanged) }
-    // The devices keep their references, and their counts of failures don't fall.
-    ensures keeps { KeepsFeed F.Feed feed.old feed.new × KeepsDrain D.Drain drain.old drain.new }
-{
-    let mut reader = FrameReader::new(alloc, &mut *feed);
-    let mut lines = LineWriter {
-        text: Vec::new(alloc),
-        dates: false,
-    };
-    let mut showing = Showing {
-        lines: &mut lines,
-        drain,
-    };
-    let outcome = step(alloc, &mut reader, &mut showing);
-    // What is known of the feed comes back with the reference itself.
-    let _feed = reader.into_feed();
-    outcome?;
-    Ok(())
 }
 
 /// Writes a line for each field of the header and for each entity, and returns the numbers of entities. With `dates` times

@@ -191,9 +191,11 @@ pub(crate) const AFTER_UNPACK: &str = after_arguments_of_writer!(
 
 /// The same of `info`.
 pub(crate) const AFTER_INFO: &str = after_arguments_of_reader!(
-    "The command prints a line for each field of the header, as 'pbfcutz show' does,\n\
-    and last how the header is stored. It reads no further than the header: the\n\
-    box and the features are what the file says of itself. IN may be a pipe.\n",
+    "The command prints a line for each field of the header, as 'pbfcutz show' does:\n\
+    the box and the features are what the file says of itself. Then it prints how\n\
+    blobs are stored, as 'H stored \"zlib\"', \"raw\" or \"mixed\", and how many frames\n\
+    IN has, as 'H frames OSMHeader 1 OSMData 25 other 0'. It reads all frames, and\n\
+    validates them and the header, but not the entities. IN may be a pipe.\n",
     "IN has zlib or raw blobs.\n",
     "Example:\n  \
       pbfcutz info england.osm.pbf\n"
@@ -231,7 +233,7 @@ pub(crate) const PACK: &str = "Write the bytes of IN to OUT with compressed blob
 
 pub(crate) const UNPACK: &str = "Write the bytes of IN to OUT with raw blobs";
 
-pub(crate) const INFO: &str = "Print the header of IN, without reading the rest";
+pub(crate) const INFO: &str = "Print the header of IN, and count its frames";
 
 pub(crate) const CHECK: &str = "Validate all of IN, and count its nodes, ways and relations";
 

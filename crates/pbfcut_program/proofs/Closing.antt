@@ -190,7 +190,7 @@ module _ {F : Type 0} (f : feed.Ghosts F) (packs digests : Bool) (judge : Option
     by_last (inl last) = told tail.0.0 tail.0.1 tail.0.2 (inl (none_left rest.2.2 (length news) stops.at last rest.2.6)) (front_after (one ∷ rest.0) tail.0.0 tail.0.4)
     by_last (inr nothing) = (let end = tail.1 nothing in told end.0 end.1 end.2 (inr (each_both _ (reads (one ∷ rest.0)) end.0 (nothing_read (one ∷ rest.0)) end.3)) (nothing_after (one ∷ rest.0) end.0 end.3))
 
-  stop_told : (program : Program) (s : Stop) (olds news : List F) → AreFresh f olds → CloseAll f news l m → StopsFor program f judge olds news (took []) (UnlessPacked (output_form packs program) failed) s → StopFails program s olds
+  pub stop_told : (program : Program) (s : Stop) (olds news : List F) → AreFresh f olds → CloseAll f news l m → StopsFor program f judge olds news (took []) (UnlessPacked (output_form packs program) failed) s → StopFails program s olds
   stop_told Pbfcut (stop.Refused e) (old ∷ olds) (now ∷ news) fresh c stops =
       let rest = close_rest f news c.0 m c.2 in
       let end = tail.1 stops.1 in

@@ -7,10 +7,11 @@ use Rattle.pbf_frame.specs.declared.stop.Stop.TheVariants as stop
 use Rattle.pbf_frame.specs.Transfers.{Added}
 use Rattle.pbf_frame.specs.Verdict.{Says, Verdict, judged_known}
 use Rattle.pbf_frame.proofs.Beginnings.{front_whole}
-use Rattle.pbf_pass.specs.Judged.{judged_file}
+use Rattle.pbf_pass.specs.Given.{Took}
 use Rattle.pbf_pass.specs.Stops.{WriteFailed}
-use Rattle.pbf_published.specs.Showing.{ShowsHeader}
+use Rattle.pbf_published.specs.Showing.{TellsInfo}
 use Rattle.pbfcut.specs.Blobs.{lines}
+use Rattle.pbfcut.specs.Summary.{judged_headings}
 use Rattle.pbfcut_cli.specs.declared.endings.Ending.{Ending}
 use Rattle.pbfcut_cli.specs.declared.endings.Ending.TheVariants as ending
 use Rattle.pbfcut_cli.specs.declared.programs.Program.{Program}
@@ -20,11 +21,11 @@ use Rattle.pbfcut_program.specs.Devices.{Closes, EndsFor, Finishes, Fronts, IsFr
 use Rattle.pbfcut_program.specs.Events.{Event, Reading, Writing, opened, screened, read, wrote, then_all}
 use Rattle.pbfcut_program.specs.Fails.{Fails, FailsFor, Judging, judging, listing}
 use Rattle.pbfcut_program.specs.Outcomes.{ListsBy}
-use Rattle.pbfcut_program.specs.Manner.{Manner, input_form, manner, once_check, meant, meant_known, of_input, packed_file, to_raw}
-use Rattle.pbfcut_program.specs.Program.{IsHeaderText, IsListing}
+use Rattle.pbfcut_program.specs.Manner.{Manner, input_form, manner, meant, of_input, to_raw}
+use Rattle.pbfcut_program.specs.Program.{IsListing}
 use Rattle.pbfcut_program.specs.Leaving.{LeavesFor}
-use Rattle.pbfcut_program.specs.Tasks.{answer_of, checking, listing_frames}
-use Rattle.pbfcut_program.proofs.Closing.{ends_with_out, has_failed, reading, work_fails}
+use Rattle.pbfcut_program.specs.Tasks.{answer_of, listing_frames}
+use Rattle.pbfcut_program.proofs.Closing.{ends_with_out, has_failed, reading, stop_told}
 use Rattle.pbfcut_program.proofs.FailLemmas.{caused_weaker, opened_fails, stop_fails, write_stops}
 use Rattle.pbfcut_program.proofs.FrontLemmas.{meant_is}
 use Rattle.pbfcut_program.proofs.LeavingLemmas.{TakenFront, front_taken, taken_front}
@@ -46,17 +47,17 @@ module _ {F D : Type 0} (f : feed.Ghosts F) (d : drain.Ghosts D) (now : F) (out 
       (reading f now c.0.0, record { bytes = _; reports = is_some (d.taken out); failures = d.failures out; out = went }, and_then l m n (read (reading f now c.0.0) ∷ []) (wrote (record { bytes = _; reports = is_some (d.taken out); failures = d.failures out; out = went }) ∷ []) c.0.1 end, refl, (lists.frames, lists.says, refl))
   list_done program old before (Err halted) fresh lists = tt
 
-  pub header_done : {T : Type 0} (has : Option (List ℕ)) (before : D) (outcome : Result T Halted) → IsFreshOut d before → OnOk outcome (ShowsHeader d before out (judged_known false 0 (meant_known packed_file has)))
-      → OnOk outcome ((r : Reading) × (w : Writing) × (n ≡ then_all l (read r ∷ wrote w ∷ [])) × (w.out ≡ went) × IsHeaderText has w.bytes)
-  header_done has before (Ok t) fresh shows =
+  pub info_done : {T : Type 0} (has : Option (List ℕ)) (before : D) (outcome : Result T Halted) → IsFreshOut d before → OnOk outcome (Took d before out (TellsInfo has))
+      → OnOk outcome ((r : Reading) × (w : Writing) × (n ≡ then_all l (read r ∷ wrote w ∷ [])) × (w.out ≡ went) × TellsInfo has w.bytes)
+  info_done has before (Ok t) fresh shows =
       let end = fin.1 _ (shows.added.logged 0 [] fresh.0) in (
         reading f now c.0.0,
         record { bytes = _; reports = is_some (d.taken out); failures = d.failures out; out = went },
         and_then l m n (read (reading f now c.0.0) ∷ []) (wrote (record { bytes = _; reports = is_some (d.taken out); failures = d.failures out; out = went }) ∷ []) c.0.1 end,
         refl,
-        (shows.frame, shows.rest, shows.is_packed, shows.begins, refl),
+        shows.holding,
       )
-  header_done has before (Err halted) fresh shows = tt
+  info_done has before (Err halted) fresh shows = tt
 
   -- with what came before
   abbrev all : (input : List ℕ) → Option (List ℕ) → List Event
@@ -95,15 +96,16 @@ module _ {F D : Type 0} (f : feed.Ghosts F) (d : drain.Ghosts D) (now : F) (out 
       (caused_weaker _ _ _ _ _ _ _ _ ends.0 (λ x fault. fault) (λ risen. inr (inr (inl (has_failed _ _ fresh.1 risen)))) (λ risen. inr (inr (inr (inl (inl (has_failed _ _ start.2 risen)))))) (λ p c. c) ends.2))
   list_fails m old before (Ok count) k input fresh start e ends = tt
 
-  pub header_fails : {T : Type 0} (digests : Bool) (old : F) (before : D) (outcome : Result T Halted) (k : Option (List Event)) (input : List ℕ) → IsFresh f old → IsFreshOut d before → l ≡ then_all k (opened input 1 (f.remaining old) ∷ screened true ∷ [])
-      → IfErr outcome (λ halted. EndsFor Pbfcutz f judged_file (old ∷ []) (now ∷ []) (Added d before [] out) (WriteFailed d before out) halted.ending)
-      → IfErr outcome (λ halted. (events : List Event) × (n ≡ then_all k events) × FailsFor (manner Pbfcutz false digests) (judging judged_file) halted.ending events)
-  header_fails digests old before (Err halted) k input fresh start e ends =
+  pub info_fails : {T : Type 0} (digests : Bool) (old : F) (before : D) (outcome : Result T Halted) (k : Option (List Event)) (input : List ℕ) → IsFresh f old → IsFreshOut d before → l ≡ then_all k (opened input 1 (f.remaining old) ∷ screened true ∷ [])
+      → IfErr outcome (λ halted. EndsFor Pbfcutz f judged_headings (old ∷ []) (now ∷ []) (Added d before [] out) (WriteFailed d before out) halted.ending)
+      → IfErr outcome (λ halted. (events : List Event) × (n ≡ then_all k events) × FailsFor (manner Pbfcutz false digests) (judging judged_headings) halted.ending events)
+  info_fails digests old before (Err halted) k input fresh start e ends =
       let took = d.has_taken out 0 in
       let failed = WriteFailed d before out in
       let first : List Event = opened input 1 (f.remaining old) ∷ screened true ∷ [] in
-      let works = ends_weaker f (Added d before [] out) (took []) (λ none. none.logged 0 [] start.0) Pbfcutz judged_file failed failed halted.ending (old ∷ []) (now ∷ []) (λ w. w) ends in
+      let works = ends_weaker f (Added d before [] out) (took []) (λ none. none.logged 0 [] start.0) Pbfcutz judged_headings failed failed halted.ending (old ∷ []) (now ∷ []) (λ w. w) ends in
       let tail = ends_with_out d out went took failed m n (λ w t. t) (λ risen. has_failed _ _ start.2 risen) fin in
-      let why = work_fails Pbfcutz false digests (once_check digests) f checking took failed (TakenFront (d.taken out)) l m n (old ∷ []) (now ∷ []) halted tail (fresh, tt) (m, c, refl) works in
-      (_, and_then k l n first why.0 e why.1, opened_fails (manner Pbfcutz false digests) (judging judged_file) (f.remaining old ∷ []) halted.ending first why.0 (tt, (tt, tt)) (inl (refl, refl), tt) why.2)
-  header_fails digests old before (Ok t) k input fresh start e ends = tt
+      let end = stop_told f false digests judged_headings took failed (TakenFront (d.taken out)) l m n tail Pbfcutz works.0 (old ∷ []) (now ∷ []) (fresh, tt) (m, c, refl) works.2 in
+      let why = stop_fails (manner Pbfcutz false digests) (judging judged_headings) (f.remaining old ∷ []) halted.ending end.0 works.0 works.1 end.2 in
+      (_, and_then k l n first end.0 e end.1, opened_fails (manner Pbfcutz false digests) (judging judged_headings) (f.remaining old ∷ []) halted.ending first end.0 (tt, (tt, tt)) (inl (refl, refl), tt) why)
+  info_fails digests old before (Ok t) k input fresh start e ends = tt

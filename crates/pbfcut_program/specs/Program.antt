@@ -12,13 +12,13 @@ use Rattle.osm_text.specs.Digests.{digest_line, hex_byte}
 use Rattle.sha2.specs.Sha256.{sha256}
 use Rattle.pbf_block.specs.declared.counts.Counts.{Counts}
 use Rattle.pbf_frame.specs.Frames.{FrameSpec}
-use Rattle.pbf_frame.specs.Verdict.{Says, Verdict, judged_known, with_first_known}
+use Rattle.pbf_frame.specs.Verdict.{Says, judged_known}
 use Rattle.pbf_frame.specs.declared.stop.Stop.TheVariants as stop
 use Rattle.pbf_pass.specs.HeaderLimit.{judged_writable}
 use Rattle.pbf_pass.specs.Judged.{judged_file}
-use Rattle.pbf_published.specs.Showing.{storage_line}
+use Rattle.pbf_published.specs.Showing.{TellsInfo}
 use Rattle.pbfcut.specs.Blobs as blobs
-use Rattle.pbfcut.specs.Showing.{frame_text}
+use Rattle.pbfcut.specs.Summary.{judged_headings}
 use Rattle.pbfcut_cli.specs.Endings.{message_of, ending_status, program_name}
 use Rattle.pbfcut_cli.specs.Joined.{normalized}
 use Rattle.pbfcut_cli.specs.Words.{FitsFault, IsHelp, IsRead, program_app}
@@ -37,7 +37,7 @@ use Rattle.pbfcut_program.specs.declared.host.Screen.TheVariants.{Output, Error}
 use Rattle.pbfcut_program.specs.Events.{Event, text_read, looked, opened, seeded, created, screened, read, wrote, printed, told, advised, Reading, Writing}
 use Rattle.pbfcut_program.specs.Fails.{Each, FailsFor, Judging, Quiet, judging, listing, printing}
 use Rattle.pbfcut_program.specs.Leaving.{LeavesFor}
-use Rattle.pbfcut_program.specs.Manner.{Manner, check_of, hashes_meaning, input_form, manner, meant_known, of_output, once_check, output_form, packed_file, to_raw}
+use Rattle.pbfcut_program.specs.Manner.{Manner, check_of, hashes_meaning, input_form, manner, meant_known, of_output, once_check, output_form, to_raw}
 use Rattle.pbfcut_program.specs.Readings.{IsWork}
 use Rattle.pbfcut_program.specs.Tasks.{Task, checking, listing_frames, showing, converting, copying, extracting, extracting_parents, passes_of}
 
@@ -110,11 +110,6 @@ pub record Shows (m : Manner) (dates : Bool) (input : List ℕ) (events : List E
 -- what went out are the lines of the frames of the raw file that IN means, as far as the host reports what it has
 abbrev pub IsListing : Program → Option (List ℕ) → List ℕ → Type 0
 IsListing program has written = (frames : List FrameSpec) × Says (judged_known false 0 (meant_known (input_form program) has)) (frames, None) × (written ≡ blobs.lines frames)
-
--- what went out is the text of the first of these frames, and whether it is stored as zlib data
-abbrev pub IsHeaderText : Option (List ℕ) → List ℕ → Type 0
-IsHeaderText has written = (frame : FrameSpec) × (rest : Option Verdict) × (is_packed : Bool) × (judged_known false 0 (meant_known packed_file has) ≡ with_first_known frame rest)
-    × (written ≡ frame_text false frame ++ storage_line is_packed)
 
 -- `blobs`, and `info`: one pass was made, and all of the text went to standard output, which is the right one for what IN has
 pub record Lists (is_text : Option (List ℕ) → List ℕ → Type 0) (input : List ℕ) (events : List Event) : Type 0 where
@@ -218,7 +213,7 @@ manner_in program command = manner program (packs_of command) (digests_of comman
 abbrev pub Does : Manner → Command → List Event → Type 0
 Does m (Help text) events = events ≡ printed Output (string_bytes text) true ∷ []
 Does m (Blobs input) events = Lists (IsListing m.program) input.now events
-Does m (Info input) events = Lists IsHeaderText input.now events
+Does m (Info input) events = Lists TellsInfo input.now events
 Does m (Show input dates progress) events = Shows m dates input.now events
 Does m (Check input progress digests) events = Checks m input.now events
 Does m (Convert files) events = Writes m converting files events
@@ -231,7 +226,7 @@ Does m (Extract region parents files) events = Extracts m region parents files e
 abbrev pub judging_of : Command → Judging
 judging_of (Help text) = printing
 judging_of (Blobs input) = listing
-judging_of (Info input) = judging judged_file
+judging_of (Info input) = judging judged_headings
 judging_of (Show input dates progress) = judging judged_file
 judging_of (Check input progress digests) = judging judged_file
 judging_of (Convert files) = judging judged_writable

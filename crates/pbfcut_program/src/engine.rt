@@ -2,15 +2,15 @@
 
 ghost use Rattle.std.specs.Prelude.{◌≡◌, [], ◌∷◌, IfSome, IfErr, OnOk, false, true};
 ghost use Rattle.pbf_frame.specs.Transfers.{Added};
-ghost use Rattle.pbf_frame.specs.Verdict.{judged_known};
-ghost use Rattle.pbf_pass.specs.Judged.{judged_file};
+ghost use Rattle.pbf_pass.specs.Given.{Took};
 ghost use Rattle.pbf_pass.specs.Stops.{WriteFailed};
-ghost use Rattle.pbf_published.specs.Showing.{ShowsHeader};
+ghost use Rattle.pbf_published.specs.Showing.{TellsInfo};
+ghost use Rattle.pbfcut.specs.Summary.{judged_headings};
 ghost use Rattle.pbfcut_cli.specs.declared.endings.Ending.TheVariants as ending;
 ghost use Rattle.pbfcut_cli.specs.declared.programs.Program.TheVariants.{Pbfcutz};
 ghost use Rattle.pbfcut_program.specs.Devices.{AreFresh, EndsFor, Fronts, Works, WorksOn};
 ghost use Rattle.pbfcut_program.specs.Fails.{EndsAsStop};
-ghost use Rattle.pbfcut_program.specs.Manner.{check_in, input_form, manner_of, meant_known, once_check, output_form, packed_file, raw_file, to_raw};
+ghost use Rattle.pbfcut_program.specs.Manner.{check_in, input_form, manner_of, once_check, output_form, raw_file, to_raw};
 ghost use Rattle.pbfcut_program.specs.Outcomes.{ListsBy, ReportsPublished, ReportsRaw};
 ghost use Rattle.pbfcut_program.specs.Tasks.{checking, listing_frames, showing, converting, copying, extracting, extracting_parents};
 
@@ -373,19 +373,19 @@ pub(crate) fn list_blobs<F: Feed, D: Drain>(
     }
 }
 
-/// Writes the lines of the header, and how it is stored.
-pub(crate) fn show_header<F: Feed, D: Drain>(
+/// Writes the lines of the header, how blobs are stored, and how many frames there are.
+pub(crate) fn show_info<F: Feed, D: Drain>(
     engine: Engine,
     pass: &mut F,
     drain: &mut D,
 ) -> Result<(), Halted>
-    ensures shown { OnOk result (ShowsHeader D.Drain drain.old drain.new
-        (judged_known false 0 (meant_known packed_file (F.remaining pass.old)))) }
-    ensures ends { IfErr result (λ halted. EndsFor Pbfcutz F.Feed judged_file
+    ensures shown { OnOk result (Took D.Drain drain.old drain.new
+        (TellsInfo (F.remaining pass.old))) }
+    ensures ends { IfErr result (λ halted. EndsFor Pbfcutz F.Feed judged_headings
         (pass.old ∷ []) (pass.new ∷ []) (Added D.Drain drain.old [] drain.new)
         (WriteFailed D.Drain drain.old drain.new) halted.ending) }
 {
-    match pbf_published::show_header(engine.alloc, pass, drain) {
+    match pbf_published::show_info(engine.alloc, pass, drain) {
         Ok(()) => Ok(()),
         Err(halt) => Err(Halted::from(halt)),
     }

@@ -2,6 +2,8 @@
 
 ghost use Rattle.std.specs.Prelude.{◌≡◌, ◌∷◌, [], ℕ, Bool, false, List, Option, IfErr, IfOk, OnOk};
 ghost use Rattle.pbf_pass.specs.Judged.{judged_file};
+ghost use Rattle.pbf_published.specs.Showing.{TellsInfo};
+ghost use Rattle.pbfcut.specs.Summary.{judged_headings};
 ghost use Rattle.pbfcut_cli.specs.declared.programs.Program.TheVariants as program;
 ghost use Rattle.pbfcut_program.specs.Devices.{Finishes};
 ghost use Rattle.pbfcut_program.specs.Events.{Event, Reading, opened, read, then_all};
@@ -9,11 +11,11 @@ ghost use Rattle.pbfcut_program.specs.Fails.{FailsFor, judging, listing};
 ghost use Rattle.pbfcut_program.specs.Leaving.{LeavesFor};
 ghost use Rattle.pbfcut_program.specs.Manner.{manner, manner_of, once_check, to_raw};
 ghost use Rattle.pbfcut_program.specs.Outcomes.{EndsAs};
-ghost use Rattle.pbfcut_program.specs.Program.{Checks, IsHeaderText, IsListing, Lists, Shows};
+ghost use Rattle.pbfcut_program.specs.Program.{Checks, IsListing, Lists, Shows};
 ghost use Rattle.pbfcut_program.specs.Readings.{IsWork};
 ghost use Rattle.pbfcut_program.specs.Tasks.{checking, listing_frames, showing};
 
-use crate::engine::{Engine, Halted, Report, Text, check, list_blobs, show, show_header};
+use crate::engine::{Engine, Halted, Report, Text, check, list_blobs, show, show_info};
 use crate::host::Host;
 use crate::jobs::close_two;
 use crate::opening::{Input, draw_key, open_pass, open_screen, open_two};
@@ -132,7 +134,8 @@ pub(crate) fn run_blobs<H: Host>(
     ended(host, out, outcome)
 }
 
-/// `info IN`: the lines of the header go to standard output. Nothing is written of a file that is refused.
+/// `info IN`: the lines of the header, how blobs are stored and how many frames there are go to standard output. Nothing is written of a
+/// file that is refused.
 pub(crate) fn run_info<H: Host>(
     engine: Engine,
     host: &mut H,
@@ -140,15 +143,15 @@ pub(crate) fn run_info<H: Host>(
 ) -> Result<(), Ending>
     ensures ok { OnOk result ((events : List Event)
         × (H.log host.new ≡ then_all (H.log host.old) events)
-        × Lists IsHeaderText input.now.path.now events) }
+        × Lists TellsInfo input.now.path.now events) }
     ensures err { IfErr result (λ how. (events : List Event)
         × (H.log host.new ≡ then_all (H.log host.old) events)
         × FailsFor (manner program.Pbfcutz false engine.digests)
-        (judging judged_file) how events) }
+        (judging judged_headings) how events) }
 {
     let mut pass = open_pass(host, input, 1)?;
     let mut out = open_screen(host)?;
-    let outcome = show_header(engine, &mut pass, &mut out);
+    let outcome = show_info(engine, &mut pass, &mut out);
     host.close(pass);
     ended(host, out, outcome)
 }

@@ -1,4 +1,4 @@
-use Rattle.std.proofs.Common.{◌≡◌, ◌+◌, ap, sym, ◌∙◌, subst, refl, map, true, Some, slice_get, slice_index_or, arith}
+use Rattle.std.proofs.Common.{◌≡◌, ◌+◌, ap, sym, ◌∙◌, subst, refl, map, true, Some, slice_get, arith}
 use Rattle.std.specs.List.{IsDistinct}
 use Rattle.std.specs.Str.{bytes_eq}
 use Rattle.std.proofs.lemmas.Option.{slice_get_read}
@@ -9,7 +9,7 @@ use Rattle.pbf_strings.proofs.table_out.TableOut.recent_index.Goals as goal
 pub returns-then-is_same : goal.returns-then-is_same
 returns-then-is_same g c =
     let texts = c.as_slice.result.now in
-    let index = slice_index_or c.self.inside.recent c.args.slot 0 in
+    let index = c.in_slot-index.result in
     let place = c.in_ok-place.place in
     let next : place + 1 ≡ index = omega (arith, c.in_ok-place.ensures) in
     let key = c.in_ok-known.known.now in

@@ -1,0 +1,87 @@
+-- What `info` says of the frames of a file: its first header, and how many there are of each type.
+use Rattle.std.specs.Prelude.{◌≡◌, ℕ, ◌+◌, ◌==◌, ◌&&◌, if◌then◌else◌, List, [], ◌∷◌, ◌++◌, codes, decimal, Bool, true, false, Option, Some, None}
+use Rattle.std.specs.Option.{option_map}
+use Rattle.pbf_wire.specs.declared.fault.Fault.{Fault}
+use Rattle.pbf_frame.specs.declared.frame.FrameKind.{FrameKind}
+use Rattle.pbf_frame.specs.declared.frame.FrameKind.TheVariants as kind
+use Rattle.pbf_frame.specs.Frames.{FrameSpec, frame_kind, is_header, is_data}
+use Rattle.pbf_frame.specs.Verdict.{Verdict, Says, judged_known}
+use Rattle.pbf_header.specs.HeaderFaults.{header_fault}
+use Rattle.pbf_block.specs.Numbers.{capped}
+use Rattle.pbf_pass.specs.Judged.{sound_first}
+use Rattle.pbf_pass.specs.Payload.{Payload, header_block, payload_of}
+use Rattle.pbfcut.specs.declared.summary.Summary.{Summary}
+use Rattle.pbfcut.specs.Showing.{frame_text, text_in}
+
+-- ---- frames
+
+abbrev pub is_other : FrameKind → Bool
+is_other kind.Other = true
+is_other _ = false
+
+-- the first of them that is a header
+abbrev pub first_header : List FrameSpec → Option FrameSpec
+first_header [] = None
+first_header (f ∷ fs) = if is_header (frame_kind f) then Some f else first_header fs
+
+-- its lines
+abbrev pub header_lines : Option FrameSpec → List ℕ
+header_lines None = []
+header_lines (Some f) = frame_text false f
+
+-- how many of them are of a kind
+abbrev pub count_of : (FrameKind → Bool) → List FrameSpec → ℕ
+count_of is [] = 0
+count_of is (f ∷ fs) = if is (frame_kind f) then count_of is fs + 1 else count_of is fs
+
+-- the line of these numbers
+abbrev pub counts_line : (headers blocks others : ℕ) → List ℕ
+counts_line headers blocks others = codes "H frames OSMHeader " ++ decimal headers ++ codes " OSMData " ++ decimal blocks ++ codes " other " ++ decimal others ++ codes "\n"
+
+abbrev pub frames_line : List FrameSpec → List ℕ
+frames_line frames = counts_line (count_of is_header frames) (count_of is_data frames) (count_of is_other frames)
+
+-- ---- the verdict on frames and headers
+
+-- the first fault of a header; what other frames hold isn't read
+abbrev pub fault_of_header : Payload → Option Fault
+fault_of_header (header_block at message) = header_fault at message
+fault_of_header _ = None
+
+abbrev pub heading_fault : FrameSpec → Option Fault
+heading_fault f = fault_of_header (payload_of f)
+
+-- the frames before the first header that has a fault, and that fault; if none has one, all of them and what follows them
+abbrev pub headings_front : List FrameSpec → Option Fault → Verdict
+headings_front [] ending = ([], ending)
+headings_front (f ∷ fs) ending = sound_first (heading_fault f) f (headings_front fs ending)
+
+abbrev pub headings_known : Option Verdict → Option Verdict
+headings_known known = option_map (λ (v : Verdict). headings_front v.0 v.1) known
+
+-- the verdict on a file of its frames, and of its header
+abbrev pub judged_headings : Option (List ℕ) → Option Verdict
+judged_headings known = headings_known (judged_known false 0 known)
+
+-- ---- a summary
+
+-- one more is counted, if it is of the kind
+abbrev pub counted : (FrameKind → Bool) → FrameKind → ℕ → ℕ
+counted is k n = if is k then capped (n + 1) else n
+
+-- what a frame with this payload, which has no fault if it is a header, adds
+pub record Sums (k : FrameKind) (p : Payload) (old new : Summary) : Type 0 where
+  pub sound : fault_of_header p ≡ None
+  pub lines : new.lines.items ≡ (if old.headers == 0 && is_header k then text_in false p else old.lines.items)
+  pub headers : new.headers ≡ counted is_header k old.headers
+  pub blocks : new.blocks ≡ counted is_data k old.blocks
+  pub others : new.others ≡ counted is_other k old.others
+
+-- it is that of the frames of a file
+pub record IsSummary (known : Option Verdict) (s : Summary) : Type 0 where
+  pub frames : List FrameSpec
+  pub says : Says known (frames, None)
+  pub lines : s.lines.items ≡ header_lines (first_header frames)
+  pub headers : s.headers ≡ count_of is_header frames
+  pub blocks : s.blocks ≡ count_of is_data frames
+  pub others : s.others ≡ count_of is_other frames
