@@ -329,7 +329,7 @@ pub fn read_words<'a>(
 ) -> Result<Command<'a>, CliFault>
     // A command is help, or what `clap` reads in the words.
     ensures read { IfOk result (λ c. IsHelp c ⊎ IsRead (command_words program words.now) c) }
-    // The fault of a box comes only for a box that has it, and that of a choice only for one that was not made, or made twice.
+    // The fault of a box comes only for a box that has it, and that of a choice only for one not made, made twice, or made otherwise.
     ensures fault { IfErr result (FitsFault (command_words program words.now)) }
     // Words that `clap` takes give a command that is not help, or a fault other than `Line`.
     ensures taken { takes (program_app program) (word_texts words.now) ≡ true → IsTaken result }
