@@ -6,6 +6,7 @@ use Rattle.pbf_frame.specs.Devices.{IsAtEnd, prepend}
 use Rattle.pbf_frame.specs.Verdict.{Says, Verdict, judged_known}
 use Rattle.pbf_frame.proofs.Parting.{some_same}
 use Rattle.pbf_pass.specs.Given.{GaveFile}
+use Rattle.pbf_pass.specs.Hashing.{Mark}
 use Rattle.pbf_pass.proofs.GivenLemmas.{Tells, tells_file}
 use Rattle.pbf_unpack.specs.declared.stored.Stored.{Stored}
 use Rattle.pbf_unpack.specs.declared.feed.UnpackedFeed.{UnpackedFeed}
@@ -26,7 +27,7 @@ none_left : (old new : Option (List ℕ)) (file all : List ℕ) → old ≡ prep
 none_left old new file all h4 h5 h6 = grind arith
 
 -- a summary of the file that a feed gave, whose blobs are stored so if it reports its bytes, is what is to be said of it
-pub tells_info : {U : Type 0} (u : feed.Ghosts U) (old new : U) (digest : Option (List ℕ)) (s : Summary) (stored : Stored) (has : Option (List ℕ)) (text : List ℕ) → u.remaining old ≡ raw_of has → GaveFile u old new digest (λ file. IsSummary (judged_known false 0 (Some file)) s)
+pub tells_info : {U : Type 0} (u : feed.Ghosts U) (old new : U) (digest : Mark) (s : Summary) (stored : Stored) (has : Option (List ℕ)) (text : List ℕ) → u.remaining old ≡ raw_of has → GaveFile u old new digest (λ file. IsSummary (judged_known false 0 (Some file)) s)
     → ((packed : List ℕ) → has ≡ Some packed → u.remaining new ≡ Some [] → stored ≡ stored_from 0 packed) → text ≡ s.lines.items ++ storage_line stored ++ counts_line s.headers s.blocks s.others → TellsInfo has text
 tells_info u old new digest s stored has text is given stores text_is =
     let sum = given.holding in
