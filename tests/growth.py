@@ -451,9 +451,10 @@ COMMANDS = {
     "extract --polygon": (["extract", "--polygon=ring", "in", "out"], 3),
     "pack": (["pack", "in", "out"], 2),
     "unpack": (["unpack", "in", "out"], 2),
+    "info": (["info", "in"], 1),
 }
 # those of any file, and those that only pbfcutz has
-ANY, ZLIB_ONLY = ("check", "show", "convert", "extract", "extract --parents"), ("pack", "unpack")
+ANY, ZLIB_ONLY = ("check", "show", "convert", "extract", "extract --parents"), ("pack", "unpack", "info")
 # what these say in full is longer than the file by far
 NOT_SHOWN = {nodes_of_a_long_user, a_long_key_in_each_node, a_long_key_in_each_way}
 
