@@ -5,6 +5,7 @@ use Rattle.std.specs.FinSet as set
 use Rattle.osm_ways.specs.Selection.{Seen, a_node, a_way, a_relation}
 use Rattle.osm_ways.specs.Phases.{Ids, WaySets, PassesOver, sets_of, start_ways, node_step, way_step, node_pass, way_pass}
 use Rattle.osm_ways.specs.First.{FirstSets, IsWayless, start_first, before_node, first_step, first_pass}
+use Rattle.osm_ways.specs.Sorted.{without_ways}
 use Rattle.osm_ways.proofs.Shown.{shown_start}
 
 -- ---- the nodes
@@ -12,7 +13,7 @@ use Rattle.osm_ways.proofs.Shown.{shown_start}
 -- ---- the ways
 
 -- a node came after a way
-abbrev broken : Bool → Ids → FirstSets
+abbrev pub broken : Bool → Ids → FirstSets
 broken has_ways ids = record { has_ways = has_ways; in_order = false; ways = start_ways ids }
 
 pub broken_stays : (has_ways : Bool) (ids : Ids) (seen : List Seen) → ((fold first_step (broken has_ways ids) seen).in_order ≡ false) × ((fold first_step (broken has_ways ids) seen).ways ≡ start_ways (fold node_step ids seen))
@@ -22,7 +23,7 @@ broken_stays has_ways ids (a_way id refs ∷ seen) = broken_stays true ids seen
 broken_stays has_ways ids (a_relation id members ∷ seen) = broken_stays has_ways ids seen
 
 -- there were ways, and no node after one
-abbrev going : WaySets → FirstSets
+abbrev pub going : WaySets → FirstSets
 going ways = record { has_ways = true; in_order = true; ways = ways }
 
 pub going_on : (ways : WaySets) (ids : Ids) (seen : List Seen) → (fold first_step (going ways) seen).in_order ≡ true → ((fold first_step (going ways) seen).ways ≡ fold way_step ways seen) × (fold node_step ids seen ≡ ids)
@@ -32,7 +33,7 @@ going_on ways ids (a_way id refs ∷ seen) e = going_on (way_step ways (a_way id
 going_on ways ids (a_relation id members ∷ seen) e = going_on ways ids seen e
 
 -- there was no way
-abbrev fresh : Ids → FirstSets
+abbrev pub fresh : Ids → FirstSets
 fresh ids = record { has_ways = false; in_order = true; ways = start_ways ids }
 
 fresh_on : (ids : Ids) (seen : List Seen) → (fold first_step (fresh ids) seen).in_order ≡ true → (fold first_step (fresh ids) seen).ways ≡ fold way_step (start_ways (fold node_step ids seen)) seen
@@ -73,8 +74,9 @@ fresh_first box refs ways e f g = ap (λ (w : WaySets). first_of false true w) (
 pub before_same : (h o : Bool) (box refs ways : Ids) → IsWayless h o refs ways → (h && o) ≡ false → first_of h o (sets_of box refs ways) ≡ before_node (first_of h o (sets_of box refs ways))
 before_same h o box refs ways none e = grind (arith, none, e, shown_start box box refs ways refl)
 
-pub before_new : (h o : Bool) (box refs ways new newer : Ids) → h ≡ true → new ≡ set.empty → newer ≡ set.empty → first_of h false (sets_of box new newer) ≡ before_node (first_of h o (sets_of box refs ways))
-before_new h o box refs ways new newer e f g = grind (arith, e, f, g, shown_start box box new newer refl)
+-- the ways are forgotten
+pub shown_dropped : (h o : Bool) (box refs ways new newer : Ids) → new ≡ set.empty → newer ≡ set.empty → first_of h false (sets_of box new newer) ≡ without_ways (first_of h o (sets_of box refs ways))
+shown_dropped h o box refs ways new newer f g = ap (λ (w : WaySets). first_of h false w) (shown_start box box new newer refl f g)
 
 -- a node comes, and then another: that is as one
 once : (h o : Bool) → ((o && not h) && not h) ≡ (o && not h)

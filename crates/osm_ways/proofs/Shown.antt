@@ -1,5 +1,5 @@
 -- What the phases' fields show: of the nodes that are kept, those of the box and the other refs apart.
-use Rattle.std.proofs.Common.{arith, ◌≡◌, ℕ, zero, suc, ℤ, Bool, true, ◌||◌, List, [], ◌∷◌, map, drop, take, refl, ap}
+use Rattle.std.proofs.Common.{arith, ◌≡◌, ℕ, zero, suc, ℤ, Bool, true, false, ◌||◌, List, [], ◌∷◌, map, drop, take, refl, ap}
 use Rattle.std.specs.List.{list_any}
 use Rattle.std.specs.FinSet as set
 use Rattle.std.proofs.lemmas.Bool.Decides.{Decides-int_eq}
@@ -19,6 +19,14 @@ union-insert s t new = same_ids _ _ (λ id. grind (arith, set.members))
 -- what the one part has is there
 pub insert_known : (s t : Ids) (id : ℤ) → set.contains s id ≡ true → set.insert (set.union s t) id ≡ set.union s t
 insert_known s t id h = same_ids _ _ (λ x. grind (arith, set.members, h, Decides-int_eq x id))
+
+-- what the one part has, the union has
+pub in_union : (s t : Ids) (id : ℤ) → set.contains s id ≡ true → set.contains (set.union s t) id ≡ true
+in_union s t id there = grind (arith, set.members)
+
+-- what the one part lacks, the union has if the other does
+pub in_other : (s t : Ids) (id : ℤ) → set.contains s id ≡ false → set.contains (set.union s t) id ≡ set.contains t id
+in_other s t id lacks = grind (arith, set.members)
 
 -- ---- the phase of ways
 

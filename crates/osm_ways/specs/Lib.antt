@@ -4,3 +4,4 @@ pub mod Phases
 pub mod First
 pub mod InArea
 pub mod Seen
+pub mod Sorted

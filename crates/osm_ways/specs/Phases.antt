@@ -34,6 +34,11 @@ pub record RelationSets : Type 0 where
   pub start : Ids
   pub links : LinkSet
 
+-- what relations gave: those that nodes and ways select, and their links
+pub record Found : Type 0 where
+  pub start : Ids
+  pub links : LinkSet
+
 -- all that selects: those of all parents besides, if they are kept
 pub record KeptSets : Type 0 where
   pub ways : WaySets
@@ -47,6 +52,15 @@ relation_sets_code = code_by (WaySets × (Ids × LinkSet)) (coded× way_sets_cod
 
 abbrev pub kept_sets_code : Coded KeptSets
 kept_sets_code = code_by (WaySets × Ids) (coded× way_sets_code ids_code) (λ s. (s.ways, s.relation_ids)) (λ p. record { ways = p.0; relation_ids = p.1 }) (λ _. refl)
+
+abbrev pub found_code : Coded Found
+found_code = code_by (Ids × LinkSet) (coded× ids_code (set.code link_code)) (λ f. (f.start, f.links)) (λ p. record { start = p.0; links = p.1 }) (λ _. refl)
+
+abbrev pub nothing_found : Found
+nothing_found = record { start = set.empty; links = set.empty }
+
+abbrev pub relations_from : WaySets → Found → RelationSets
+relations_from sets found = record { ways = sets; start = found.start; links = found.links }
 
 -- no parents besides
 abbrev pub without_parents : WaySets → KeptSets
@@ -78,9 +92,15 @@ with_link _ links _ = links
 abbrev pub is_start : WaySets → List MemberSeen → Bool
 is_start sets members = is_kept_relation (set.contains sets.node_ids) (set.contains sets.way_ids) no_ids members
 
+-- by whether a node or a way selects it
+abbrev pub found_if : Bool → Found → ℤ → List MemberSeen → Found
+found_if starts found id members = record { start = if starts then set.insert found.start id else found.start; links = fold (with_link id) found.links members }
+
+abbrev pub found_with : WaySets → Found → ℤ → List MemberSeen → Found
+found_with sets found id members = found_if (is_start sets members) found id members
+
 abbrev pub sets_with_relation : RelationSets → ℤ → List MemberSeen → RelationSets
-sets_with_relation sets id members =
-    record { ways = sets.ways; start = if is_start sets.ways members then set.insert sets.start id else sets.start; links = fold (with_link id) sets.links members }
+sets_with_relation sets id members = relations_from sets.ways (found_with sets.ways (record { start = sets.start; links = sets.links }) id members)
 
 -- ---- the passes
 
@@ -101,6 +121,10 @@ pub record PassesOver {S : Type 0} (step : S → Seen → S) : Type 0 where
 -- ways change nothing unless they are taken
 abbrev pub TakesWays : {S : Type 0} → Bool → (S → Seen → S) → Type 0
 TakesWays {S} takes step = takes ≡ false → (s : S) (id : ℤ) (refs : List ℤ) → step s (a_way id refs) ≡ s
+
+-- relations likewise
+abbrev pub TakesRelations : {S : Type 0} → Bool → (S → Seen → S) → Type 0
+TakesRelations {S} takes step = takes ≡ false → (s : S) (id : ℤ) (members : List MemberSeen) → step s (a_relation id members) ≡ s
 
 abbrev pub way_step : WaySets → Seen → WaySets
 way_step sets (a_way id refs) = sets_with_way sets id refs
@@ -126,11 +150,15 @@ way_pass seen = fold way_step (start_ways (node_pass seen)) seen
 abbrev pub relation_pass : List Seen → RelationSets
 relation_pass seen = fold relation_step (start_relations (way_pass seen)) seen
 
--- a first phase, which takes nodes and maybe ways: if it has all ways, it ends as the second pass does, and otherwise as the first; relations change nothing
+-- a first phase, which takes nodes and maybe more: if it has all ways, it ends as the second pass does, and otherwise as the first
 pub record TakesFirst {S : Type 0} (start : S) (step : S → Seen → S) (has_ways : S → Bool) (ended : S → WaySets) : Type 0 where
   pub all : (seen : List Seen) → has_ways (fold step start seen) ≡ true → ended (fold step start seen) ≡ way_pass seen
   pub nodes : (seen : List Seen) → has_ways (fold step start seen) ≡ false → ended (fold step start seen) ≡ start_ways (node_pass seen)
-  pub relations : (s : S) (id : ℤ) (members : List MemberSeen) → step s (a_relation id members) ≡ s
+
+-- one that takes relations too: if it has all ways, it has what the third pass gathers, and otherwise nothing
+pub record TakesAll {S : Type 0} (start : S) (step : S → Seen → S) (has_ways : S → Bool) (ended : S → WaySets) (found : S → Found) : Type 0 where
+  pub all : (seen : List Seen) → has_ways (fold step start seen) ≡ true → relations_from (ended (fold step start seen)) (found (fold step start seen)) ≡ relation_pass seen
+  pub nothing : (seen : List Seen) → has_ways (fold step start seen) ≡ false → found (fold step start seen) ≡ nothing_found
 
 -- ---- what they keep
 

@@ -1,11 +1,16 @@
 //! The phase of nodes that takes ways too, as long as no node comes after one. What it does for a node is inlined into the loop over nodes.
 
-ghost use Rattle.std.specs.Prelude.{◌≡◌};
+ghost use Rattle.std.specs.Prelude.{◌≡◌, map};
+ghost use Rattle.osm_entity.specs.Views.{relation_of};
 ghost use Rattle.osm_ways.specs.First.{start_first, before_node, first_step};
+ghost use Rattle.osm_ways.specs.Phases.{is_start, sets_of};
+ghost use Rattle.osm_ways.specs.Seen.{seen_member};
+ghost use Rattle.osm_ways.specs.Sorted.{without_ways};
 
 use crate::in_area::NodeTaker;
 use crate::phases::{SeenWay, WayPhase, add_refs_of, sealed};
-use osm_ids::{IdSet, Window};
+use osm_entity::{MemberKind, RelationRef};
+use osm_ids::{IdLookup, IdSet, Window};
 use std::alloc::{AllocError, Global};
 use std::marker::Model;
 
@@ -59,10 +64,57 @@ impl FirstPhase {
         if !self.in_order {
             return;
         }
+        self.drop_ways();
+    }
+
+    /// From here on only nodes are taken. The ways are dropped.
+    pub(crate) fn drop_ways(&mut self)
+        ensures { self.new ≡ without_ways self.old }
+    {
         self.refs = IdSet::new(self.alloc);
         self.way_ids = IdSet::new(self.alloc);
         self.in_order = false;
     }
+
+    /// All ids are looked up alike from here on. The sets stay the same.
+    pub(crate) fn settle(&mut self) -> Result<(), AllocError>
+        ensures { self.new ≡ self.old }
+    {
+        self.box_ids.settle()?;
+        self.refs.settle()?;
+        self.way_ids.settle()
+    }
+
+    /// Whether a node or a way among its members selects the relation.
+    pub(crate) fn selects(&self, relation: &RelationRef<'_>) -> bool
+        ensures { result
+            ≡ is_start self.now.ways (map seen_member (relation_of relation.now).members) }
+    {
+        is_selected(&self.box_ids, &self.refs, &self.way_ids, relation)
+    }
+}
+
+/// Whether a node among the area's or the refs, or a way, selects the relation.
+fn is_selected(box_ids: &IdSet, refs: &IdSet, way_ids: &IdSet, relation: &RelationRef<'_>) -> bool
+    ensures { result ≡ is_start (sets_of box_ids.now refs.now way_ids.now)
+        (map seen_member (relation_of relation.now).members) }
+{
+    let mut in_box = Window::new();
+    let mut in_refs = Window::new();
+    let mut in_ways = Window::new();
+    for member in relation.members() {
+        let is_selecting = match member.kind {
+            MemberKind::Node => {
+                box_ids.has_near(&mut in_box, member.id) || refs.has_near(&mut in_refs, member.id)
+            }
+            MemberKind::Way => way_ids.has_near(&mut in_ways, member.id),
+            MemberKind::Relation => false,
+        };
+        if is_selecting {
+            return true;
+        }
+    }
+    false
 }
 
 impl NodeTaker for FirstPhase {
@@ -121,6 +173,14 @@ impl NodeTaker for FirstPhase {
         if is_kept {
             self.way_ids.add(way.id)?;
         }
+        Ok(())
+    }
+
+    fn takes_relations() -> bool {
+        false
+    }
+
+    fn take_relation(&mut self, _relation: &RelationRef<'_>) -> Result<(), AllocError> {
         Ok(())
     }
 

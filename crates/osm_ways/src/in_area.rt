@@ -1,18 +1,19 @@
 //! Phases that take nodes, and the area in which these have to lie. To take a place is inlined into the loop over nodes.
 
 ghost use Rattle.std.specs.Prelude.{◌≡◌, Bool, ℤ, false, true, IfOk, OnOk};
-ghost use Rattle.osm_entity.specs.Views.{node_of};
+ghost use Rattle.osm_entity.specs.Views.{node_of, relation_of};
 ghost use Rattle.osm_ways.specs.InArea.{stepped};
-ghost use Rattle.osm_ways.specs.Phases.{PassesOver, TakesFirst, TakesNode, TakesWays, WaySets};
-ghost use Rattle.osm_ways.specs.Seen.{seen_node, seen_refs};
+ghost use Rattle.osm_ways.specs.Phases.{Found, PassesOver, TakesAll, TakesFirst, TakesNode, TakesRelations, TakesWays, WaySets};
+ghost use Rattle.osm_ways.specs.Seen.{seen_node, seen_refs, seen_relation};
 ghost use Rattle.osm_ways.specs.Selection.{Seen, a_node};
 
+use crate::parents::FoundRelations;
 use crate::phases::{NodeIds, SeenWay, WayPhase};
 use osm_area::Area;
-use osm_entity::{BoundingBox, NodeRef};
+use osm_entity::{BoundingBox, NodeRef, RelationRef};
 use std::alloc::{AllocError, Global};
 
-/// The first phase, which takes nodes, and maybe ways. It takes ids, and knows of no area.
+/// The first phase, which takes nodes, and maybe ways and relations. It takes ids, and knows of no area.
 pub trait NodeTaker {
     /// What it is before any entity.
     ghost start: { Self };
@@ -56,6 +57,19 @@ pub trait NodeTaker {
     fn take_refs(&mut self, way: SeenWay<'_>) -> Result<(), AllocError>
         ensures { OnOk result (self.new ≡ step self.old (seen_refs way.entry)) };
 
+    /// Whether it takes relations.
+    fn takes_relations() -> bool
+        ensures { TakesRelations result step };
+
+    /// Takes a relation.
+    ///
+    /// # Errors
+    ///
+    /// If memory is refused, the phase may only be dropped.
+    fn take_relation(&mut self, relation: &RelationRef<'_>) -> Result<(), AllocError>
+        ensures { OnOk result
+            (self.new ≡ step self.old (seen_relation (relation_of relation.now))) };
+
     /// Whether all ways were taken too. Otherwise the phase of ways takes them.
     fn has_all_ways(&self) -> bool
         ensures { result ≡ has_ways self.now };
@@ -67,6 +81,22 @@ pub trait NodeTaker {
     /// If memory is refused, the phase is gone.
     fn end(self) -> Result<WayPhase, AllocError>
         ensures { IfOk result (λ phase. phase ≡ ended self) };
+}
+
+/// A first phase that has all relations too if it has all ways, and otherwise none.
+pub trait RelationTaker: NodeTaker {
+    /// What relations gave.
+    ghost found: { Self → Found };
+
+    /// All entities are taken: the phase of ways follows, and what relations gave is for that of relations.
+    ///
+    /// # Errors
+    ///
+    /// If memory is refused, the phase is gone.
+    fn end_all(self) -> Result<(WayPhase, FoundRelations), AllocError>
+        ensures ways { IfOk result (λ both. both.0 ≡ Self.ended self) }
+        ensures found { IfOk result (λ both. both.1 ≡ found self) }
+        ensures takes { TakesAll Self.start Self.step Self.has_ways Self.ended found };
 }
 
 /// A phase, and the area in which the nodes that it takes have to lie.

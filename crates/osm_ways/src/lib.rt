@@ -7,9 +7,11 @@ mod in_area;
 pub mod laws;
 mod parents;
 mod phases;
+mod sorted;
 
 pub use choosing::Chooser;
 pub use first::FirstPhase;
-pub use in_area::{InArea, NodePhase, NodeTaker};
-pub use parents::{ChosenParents, RelationPhase};
+pub use in_area::{InArea, NodePhase, NodeTaker, RelationTaker};
+pub use parents::{ChosenParents, FoundRelations, RelationPhase};
 pub use phases::{Chosen, NodeIds, SeenWay, WayPhase};
+pub use sorted::SortedPhase;

@@ -7,12 +7,12 @@ ghost use Rattle.osm_ids.specs.Links.{IsLeast};
 ghost use Rattle.osm_entity.specs.Sources.{members_left};
 ghost use Rattle.osm_entity.specs.Views.{relation_of};
 ghost use Rattle.osm_ways.specs.Seen.{seen_member, seen_relation};
-ghost use Rattle.osm_ways.specs.Phases.{start_relations, is_start, with_link, relation_step};
+ghost use Rattle.osm_ways.specs.Phases.{found_if, is_start, nothing_found, relation_step, relations_from, start_relations, with_link};
 
 use crate::phases::{Chosen, sealed};
 use osm_entity::{MemberKind, Members, RelationRef};
 use osm_ids::{IdSet, Links};
-use std::alloc::AllocError;
+use std::alloc::{AllocError, Global};
 use std::marker::Model;
 
 impl Chosen {
@@ -20,15 +20,70 @@ impl Chosen {
     pub fn with_parents(self) -> RelationPhase
         ensures { result ≡ start_relations self.ways }
     {
-        let alloc = self.alloc;
+        let found = FoundRelations::new(self.alloc);
+        self.with_found(found)
+    }
+
+    /// The same with what relations gave in an earlier phase.
+    pub fn with_found(self, found: FoundRelations) -> RelationPhase
+        ensures { result ≡ relations_from self.ways found }
+    {
         RelationPhase {
             chosen: Chosen {
                 relation_ids: None,
                 ..self
             },
+            found,
+        }
+    }
+}
+
+/// What relations gave: the ids of those that nodes and ways select, and a link from each relation member to its relation.
+#[derive(Drop)]
+pub struct FoundRelations {
+    start: IdSet,
+    links: Links,
+}
+
+impl Model for FoundRelations {
+    ghost use Rattle.osm_ways.specs.Phases.{Found, found_code};
+
+    ghost Value = { Found };
+
+    ghost coded = { found_code };
+
+    ghost view = { λ a. record { start = a.start; links = a.links } };
+}
+
+impl FoundRelations {
+    /// Nothing yet. It allocates nothing.
+    pub(crate) fn new(alloc: Global) -> FoundRelations
+        ensures { result ≡ nothing_found }
+    {
+        FoundRelations {
             start: IdSet::new(alloc),
             links: Links::new(alloc),
         }
+    }
+
+    /// Adds a relation, and whether a node or a way selects it.
+    ///
+    /// # Errors
+    ///
+    /// If memory is refused, it may only be dropped.
+    pub(crate) fn add(
+        &mut self,
+        relation: &RelationRef<'_>,
+        starts: bool,
+    ) -> Result<(), AllocError>
+        ensures { OnOk result (self.new ≡ found_if starts self.old (relation_of relation.now).id
+            (map seen_member (relation_of relation.now).members)) }
+    {
+        if starts {
+            self.start.add(relation.id())?;
+        }
+        add_links(&mut self.links, relation.id(), relation.members())?;
+        Ok(())
     }
 }
 
@@ -37,20 +92,19 @@ impl Chosen {
 #[derive(Drop)]
 pub struct RelationPhase {
     chosen: Chosen,
-    start: IdSet,
-    links: Links,
+    found: FoundRelations,
 }
 
 impl Model for RelationPhase {
     ghost use Rattle.std.specs.Prelude.{◌≡◌};
     ghost use Rattle.std.specs.FinSet as set;
-    ghost use Rattle.osm_ways.specs.Phases.{RelationSets, relation_sets_code};
+    ghost use Rattle.osm_ways.specs.Phases.{RelationSets, relation_sets_code, relations_from};
 
     ghost Value = { RelationSets };
 
     ghost coded = { relation_sets_code };
 
-    ghost view = { λ a. record { ways = a.chosen.ways; start = a.start; links = a.links } };
+    ghost view = { λ a. relations_from a.chosen.ways a.found };
 
     ghost invariant = { λ a. a.chosen.relation_ids ≡ set.empty };
 }
@@ -66,11 +120,8 @@ impl RelationPhase {
         ensures { OnOk result
             (self.new ≡ relation_step self.old (seen_relation (relation_of relation.now))) }
     {
-        if is_start(&self.chosen, relation) {
-            self.start.add(relation.id())?;
-        }
-        add_links(&mut self.links, relation.id(), relation.members())?;
-        Ok(())
+        let starts = is_start(&self.chosen, relation);
+        self.found.add(relation, starts)
     }
 
     /// All relations are taken: the ids of those that are kept are the least set that has what nodes and ways select, and with
@@ -84,11 +135,8 @@ impl RelationPhase {
         ensures least { IfOk result
             (λ chosen. IsLeast (set.contains self.links) self.start chosen.relation_ids) }
     {
-        let RelationPhase {
-            chosen,
-            start,
-            links,
-        } = self;
+        let RelationPhase { chosen, found } = self;
+        let FoundRelations { start, links } = found;
         let ids = links.close(start)?;
         let relation_ids = Some(sealed(ids)?);
         Ok(ChosenParents {

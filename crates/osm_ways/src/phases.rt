@@ -8,10 +8,11 @@ ghost use Rattle.osm_entity.specs.Views.{way_of};
 ghost use Rattle.osm_ids.specs.Windows.{IsOf};
 ghost use Rattle.osm_ways.specs.Selection.{is_kept_way};
 ghost use Rattle.osm_ways.specs.Seen.{seen_way, seen_refs};
-ghost use Rattle.osm_ways.specs.Phases.{node_step, start_ways, way_step, refs_if, without_parents};
+ghost use Rattle.osm_ways.specs.Phases.{node_step, nothing_found, start_ways, way_step, refs_if, without_parents};
 
-use crate::in_area::NodeTaker;
-use osm_entity::{Refs, WayRef};
+use crate::in_area::{NodeTaker, RelationTaker};
+use crate::parents::FoundRelations;
+use osm_entity::{Refs, RelationRef, WayRef};
 use osm_ids::{IdLookup, IdSet, SealedIds, Window};
 use std::alloc::{AllocError, Global};
 use std::marker::Model;
@@ -64,6 +65,14 @@ impl NodeTaker for NodeIds {
         Ok(())
     }
 
+    fn takes_relations() -> bool {
+        false
+    }
+
+    fn take_relation(&mut self, _relation: &RelationRef<'_>) -> Result<(), AllocError> {
+        Ok(())
+    }
+
     fn has_all_ways(&self) -> bool {
         false
     }
@@ -77,6 +86,15 @@ impl NodeTaker for NodeIds {
             way_ids: IdSet::new(alloc),
             alloc,
         })
+    }
+}
+
+impl RelationTaker for NodeIds {
+    ghost found = { λ _. nothing_found };
+
+    fn end_all(self) -> Result<(WayPhase, FoundRelations), AllocError> {
+        let found = FoundRelations::new(self.alloc);
+        Ok((self.end()?, found))
     }
 }
 

@@ -1,7 +1,8 @@
 use Rattle.std.proofs.Common.{arith}
 use Rattle.std.proofs.Common.{◌≡◌, Bool, true, false, ◌&&◌, refl, subst, ap, ◌∙◌, rules}
 use Rattle.osm_ways.specs.First.{FirstSets, before_node}
-use Rattle.osm_ways.proofs.FirstLemmas.{before_same, before_new}
+use Rattle.osm_ways.proofs.FirstLemmas.{before_same}
+use Rattle.osm_ways.proofs.SortedLemmas.{dropped_before}
 use Rattle.osm_ways.proofs.first.FirstPhase.begin_node.Goals as goal
 
 pub returns-then-not-self : goal.returns-then-not-self
@@ -20,4 +21,4 @@ returns-then-not-self-2 c =
       and_false false = refl
 
 pub returns : goal.returns
-returns c = grind (arith, before_new c.self.inside.has_ways c.self.inside.in_order c.self.inside.box_ids c.self.inside.refs c.self.inside.way_ids)
+returns c = grind (arith, dropped_before c.args.self.now, c.drop_ways.ensures)

@@ -1,0 +1,39 @@
+-- Nodes, ways and relations in one pass: if no node comes after a way, and neither after a relation, the sets are those of the three passes.
+use Rattle.std.specs.Prelude.{Bool, true, false, if◌then◌else◌, List, refl}
+use Rattle.std.specs.Coded.{Coded, code_by, coded×, coded_bool}
+use Rattle.std.specs.List.{fold}
+use Rattle.osm_ways.specs.First.{FirstSets, first_sets_code, first_step, start_first}
+use Rattle.osm_ways.specs.Phases.{Found, found_code, found_with, nothing_found, start_ways}
+use Rattle.osm_ways.specs.Selection.{Seen, a_node, a_way, a_relation}
+
+-- whether there was a relation; what nodes and ways gave; and what relations did, which is nothing if the order was broken
+pub record SortedSets : Type 0 where
+  pub has_relations : Bool
+  pub first : FirstSets
+  pub found : Found
+
+abbrev pub sorted_sets_code : Coded SortedSets
+sorted_sets_code = code_by (Bool × (FirstSets × Found)) (coded× coded_bool (coded× first_sets_code found_code)) (λ s. (s.has_relations, (s.first, s.found))) (λ p. record { has_relations = p.0; first = p.1.0; found = p.1.1 }) (λ _. refl)
+
+abbrev pub start_sorted : SortedSets
+start_sorted = record { has_relations = false; first = start_first; found = nothing_found }
+
+-- only the nodes are kept
+abbrev pub without_ways : FirstSets → FirstSets
+without_ways sets = record { has_ways = sets.has_ways; in_order = false; ways = start_ways sets.ways.box_ids }
+
+-- relations that came before a node or a way are dropped, and the ways with them: it may be among their members
+abbrev pub before_more : SortedSets → SortedSets
+before_more sets = if sets.has_relations then record { has_relations = false; first = without_ways sets.first; found = nothing_found } else sets
+
+abbrev pub with_more : SortedSets → Seen → SortedSets
+with_more sets one = record sets { first = first_step sets.first one }
+
+abbrev pub sorted_step : SortedSets → Seen → SortedSets
+sorted_step sets (a_node id inside) = with_more (before_more sets) (a_node id inside)
+sorted_step sets (a_way id refs) = with_more (before_more sets) (a_way id refs)
+sorted_step sets (a_relation id members) =
+    if sets.first.in_order then record { has_relations = true; first = sets.first; found = found_with sets.first.ways sets.found id members } else sets
+
+abbrev pub sorted_pass : List Seen → SortedSets
+sorted_pass seen = fold sorted_step start_sorted seen
