@@ -17,6 +17,7 @@ Exit status: that of the check.
 import argparse
 import hashlib
 import os
+import re
 import shutil
 import subprocess
 import sys
@@ -78,6 +79,17 @@ def words_of(kit, tree, name, jobs):
     return words + ["--jobs", str(jobs), "--short-goals", "--allow-holes", "--progress"]
 
 
+def show(lines, name):
+    """Prints what is said of the crate itself, and not of the stubs."""
+    is_shown = True
+    for line in lines:
+        text = re.sub("^so far: ", "", line)
+        if not text.startswith((" ", "\t", "\n")):
+            is_shown = not text.startswith((KEPT, "statements ", "crate ")) and (not text.startswith("fn ") or text.startswith(f"fn {name}::"))
+        if is_shown:
+            print(line, end="", flush=True)
+
+
 def main():
     arguments = argparse.ArgumentParser(usage="tools/over_stubs.py [--jobs N] [--tree FOLDER] CRATE [PATH..]")
     arguments.add_argument("--jobs", type=int, default=1)
@@ -92,7 +104,11 @@ def main():
     build.TOP = tree
     os.makedirs(KEPT, exist_ok=True)
     only = [word for path in given.paths or [""] for word in ("--only", f"{given.crate}::{path}" if path else "")]
-    return subprocess.run(words_of(kit, tree, given.crate, given.jobs) + only, cwd=os.path.join(tree, "crates", given.crate)).returncode
+    folder = os.path.join(tree, "crates", given.crate)
+    how = {"cwd": folder, "stdout": subprocess.PIPE, "stderr": subprocess.STDOUT, "text": True, "errors": "replace"}
+    with subprocess.Popen(words_of(kit, tree, given.crate, given.jobs) + only, **how) as check:
+        show(check.stdout, given.crate)
+    return check.returncode
 
 
 if __name__ == "__main__":
