@@ -1,10 +1,11 @@
 #!/usr/bin/env python3
 """Checks a part of a crate over stubs of the crates below it: while one writes a proof, in seconds instead of minutes.
 
-usage: tools/over_stubs.py [--jobs N] [--tree FOLDER] CRATE [PATH..]
+usage: tools/over_stubs.py [--jobs N] [--tree FOLDER] [--alone] CRATE [PATH..]
 
 PATH is a function or a module by its path below the crate, as `rt check --only` takes it; with none the clauses and definitions are read
-and nothing is proved. FOLDER is a checkout, this one where nothing else is said.
+and nothing is proved. FOLDER is a checkout, this one where nothing else is said. The functions of the crate that those of PATH call are
+checked too, or, with --alone, stand as stubs.
 
 A stub is a crate whose functions are endless loops with holes as their proofs, so its contracts, definitions and lemmas are all that is
 left of it. What a lemma of it rests on may be wrong: the gate proves every crate over the real ones. The stubs are kept in
@@ -21,6 +22,7 @@ import re
 import shutil
 import subprocess
 import sys
+import tempfile
 
 import build
 import planted
@@ -37,25 +39,34 @@ def digest_of(crate):
     return digest.hexdigest()[:12]
 
 
-def make_stub(crate, name):
-    """The folder of a crate's stub, which is made where it isn't kept."""
-    made = os.path.join(KEPT, f"{name}-{digest_of(crate)}")
-    if os.path.isdir(made):
-        return made
-    room = f"{made}.{os.getpid()}"
+def copy_stubbed(crate, name, room, asked=()):
+    """Copies a crate into a room, with stubs for all functions but those that are asked for, by the folders of their proofs."""
     for part in PARTS:
         if os.path.isdir(os.path.join(crate, part)):
             shutil.copytree(os.path.join(crate, part), os.path.join(room, part))
     for file in [file for file in files_in(room) if file.startswith("src/")]:
         text = text_of(room, file)
         for function, folder, place in reversed(list(functions_of(file, text))):
+            if any(f"{folder}/".startswith(f"{path}/") for path in asked):
+                continue
             text = without_body(text, place)
             proof = os.path.join(room, "proofs", folder)
             shutil.rmtree(proof, ignore_errors=True)
             module = f"Rattle.{name}.proofs.{folder.replace('/', '.')}"
             write(os.path.join(proof, "Proof.antt"), HOLE.format(module=module, name=function))
         write(os.path.join(room, file), text)
-    os.rename(room, made)
+
+
+def make_stub(crate, name):
+    """The folder of a crate's stub, which is made where it isn't kept."""
+    made = os.path.join(KEPT, f"{name}-{digest_of(crate)}")
+    if not os.path.isdir(made):
+        room = f"{made}.{os.getpid()}"
+        copy_stubbed(crate, name, room)
+        try:
+            os.rename(room, made)
+        except OSError:  # another run has made it meanwhile
+            shutil.rmtree(room)
     return made
 
 
@@ -80,20 +91,22 @@ def words_of(kit, tree, name, jobs):
 
 
 def show(lines, name):
-    """Prints what is said of the crate itself, and not of the stubs."""
+    """Prints what is said of the crate itself, and not of stubs."""
+    of_stubs = re.compile(rf"{KEPT}|statements |crate |fn (?!{name}::)|\./proofs/\S+/Proof\.antt:.*(has-holes|goal \? in)")
     is_shown = True
     for line in lines:
         text = re.sub("^so far: ", "", line)
         if not text.startswith((" ", "\t", "\n")):
-            is_shown = not text.startswith((KEPT, "statements ", "crate ")) and (not text.startswith("fn ") or text.startswith(f"fn {name}::"))
+            is_shown = not of_stubs.match(text)
         if is_shown:
             print(line, end="", flush=True)
 
 
 def main():
-    arguments = argparse.ArgumentParser(usage="tools/over_stubs.py [--jobs N] [--tree FOLDER] CRATE [PATH..]")
+    arguments = argparse.ArgumentParser(usage="tools/over_stubs.py [--jobs N] [--tree FOLDER] [--alone] CRATE [PATH..]")
     arguments.add_argument("--jobs", type=int, default=1)
     arguments.add_argument("--tree", default=build.TOP)
+    arguments.add_argument("--alone", action="store_true")
     arguments.add_argument("crate")
     arguments.add_argument("paths", nargs="*", metavar="PATH")
     given = arguments.parse_args()
@@ -105,9 +118,14 @@ def main():
     os.makedirs(KEPT, exist_ok=True)
     only = [word for path in given.paths or [""] for word in ("--only", f"{given.crate}::{path}" if path else "")]
     folder = os.path.join(tree, "crates", given.crate)
-    how = {"cwd": folder, "stdout": subprocess.PIPE, "stderr": subprocess.STDOUT, "text": True, "errors": "replace"}
-    with subprocess.Popen(words_of(kit, tree, given.crate, given.jobs) + only, **how) as check:
-        show(check.stdout, given.crate)
+    with tempfile.TemporaryDirectory(prefix="alone-") as room:
+        if given.alone:
+            asked = [path.replace("::", "/") for path in given.paths]
+            copy_stubbed(folder, given.crate, room, asked)
+            folder = room
+        how = {"cwd": folder, "stdout": subprocess.PIPE, "stderr": subprocess.STDOUT, "text": True, "errors": "replace"}
+        with subprocess.Popen(words_of(kit, tree, given.crate, given.jobs) + only, **how) as check:
+            show(check.stdout, given.crate)
     return check.returncode
 
 

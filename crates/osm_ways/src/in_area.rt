@@ -135,6 +135,22 @@ impl<A: Area, P: NodeTaker> InArea<A, P> {
         self.phase.end()
     }
 
+    /// All entities are taken: what nodes and ways gave, and what relations did.
+    ///
+    /// # Errors
+    ///
+    /// If memory is refused, the phase is gone.
+    pub fn end_all(self) -> Result<(WayPhase, FoundRelations), AllocError>
+    where
+        A: Drop,
+        P: RelationTaker,
+        ensures ways { IfOk result (λ both. both.0 ≡ P.ended self.phase) }
+        ensures found { IfOk result (λ both. both.1 ≡ P.found self.phase) }
+        ensures takes { TakesAll P.start P.step P.has_ways P.ended P.found }
+    {
+        self.phase.end_all()
+    }
+
     /// Takes a node. Of those that do not lie in the area the phase learns only that there are some.
     ///
     /// # Errors

@@ -78,11 +78,11 @@ TakesPayload p old new = TakesSome p (entities_in p) old new
 abbrev pub as_it_was : {S : Type 0} → S → EntitySpec → S
 as_it_was sets e = sets
 
--- what a phase takes of nodes and ways, by what is seen of them in an area
+-- what a phase takes of entities, by what is seen of them in an area
 abbrev pub with_seen : {S : Type 0} → AreaSpec → (S → Seen → S) → S → EntitySpec → S
 with_seen area step sets (node n) = step sets (seen_node area n)
 with_seen area step sets (way w) = step sets (seen_way w)
-with_seen area step sets (relation r) = sets
+with_seen area step sets (relation r) = step sets (seen_relation r)
 
 -- the same beside its area
 abbrev pub with_seen_in : {A S : Type 0} → (A → AreaSpec) → (S → Seen → S) → InArea A S → EntitySpec → InArea A S

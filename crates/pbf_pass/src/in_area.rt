@@ -1,4 +1,4 @@
-//! Gathers the nodes that lie in an area, and maybe the ways.
+//! Gathers the nodes that lie in an area, and maybe the ways and the relations.
 
 ghost use Rattle.std.specs.Prelude.{◌≡◌, ⊤, MatchOption, OnOk, map};
 ghost use Rattle.std.specs.List.{fold};
@@ -23,7 +23,7 @@ impl<A: Area, P: NodeTaker> Gather for InArea<A, P> {
         Kinds {
             nodes: true,
             ways: P::takes_ways(),
-            relations: false,
+            relations: P::takes_relations(),
         }
     }
 
@@ -31,7 +31,7 @@ impl<A: Area, P: NodeTaker> Gather for InArea<A, P> {
         match entity {
             EntityRef::Node(node) => self.take_node(node),
             EntityRef::Way(way) => self.phase.take_refs(SeenWay::of(way)),
-            EntityRef::Relation(_) => Ok(()),
+            EntityRef::Relation(relation) => self.phase.take_relation(relation),
         }
     }
 

@@ -40,9 +40,14 @@ pub record GavePublished {F : Type 0} (f : feed.Ghosts F) (old new : F) (digest 
   pub logged : (log : ℕ) → f.has_passed old log [] → PassedAs (f.has_passed new) log digest (unpacked packed)
   pub holding : holds (unpacked packed)
 
--- a later feed did so; or nothing was read of it, and this holds of the file before
+-- a later feed did so; or nothing was read of it, and this holds of the first raw file
 abbrev pub GaveOrNone : {F : Type 0} → feed.Ghosts F → (old new : F) → (digest raw_digest : Mark) → (raw : List ℕ) → (List ℕ → Type 0) → Type 0
 GaveOrNone f old new digest raw_digest raw holds = GavePublished f old new digest raw_digest holds ⊎ ((new ≡ old) × holds raw)
+
+-- the same of each of these feeds
+abbrev pub GaveEachOrNone : List FeedUse → (digest raw_digest : Mark) → (raw : List ℕ) → (List (List ℕ) → Type 0) → Type 0
+GaveEachOrNone [] digest raw_digest raw holds = holds []
+GaveEachOrNone (one ∷ more) digest raw_digest raw holds = GaveOrNone one.ghosts one.old one.new digest raw_digest raw (λ given. GaveEachOrNone more digest raw_digest raw (λ raws. holds (given ∷ raws)))
 
 -- each of these feeds did, and this holds of the raw files
 abbrev pub GavePublishedEach : List FeedUse → (digest raw_digest : Mark) → (List (List ℕ) → Type 0) → Type 0

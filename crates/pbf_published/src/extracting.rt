@@ -48,8 +48,7 @@ pub fn extract_sorted_with_receipt<
     // packed bytes than the first, as far as both report them. After any other stop a prefix of the extract went out, if all feeds mean one
     // raw file.
     ensures { ExtractsPublished (ways_in (A.area area)) (fed F.Feed first.old first.new)
-        (fed G.Feed second.old second.new)
-        (fed H.Feed third.old third.new ∷ [])
+        (fed G.Feed second.old second.new ∷ []) (fed H.Feed third.old third.new ∷ [])
         (drained D.Drain drain.old drain.new) passes.check result }
 {
     let alloc = passes.alloc;
@@ -75,7 +74,7 @@ pub fn extract_sorted_with_receipt<
     let receipt = outcome?;
     let raw = receipt.input;
     let input = first_digest(one)?;
-    compare_unless_spared(&receipt, input, two)?;
+    compare_unless_spared(&receipt, input, two, 2)?;
     compare(input, three, 3)?;
     Ok(PublishedInput {
         counts: receipt.counts,

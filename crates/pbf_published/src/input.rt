@@ -118,20 +118,21 @@ pub fn compare(digest: [u8; 32], later: Option<[u8; 32]>, pass: u8) -> Result<()
     }
 }
 
-/// The same of the second pass of a call that may spare it.
+/// The same of a pass that may have been spared.
 pub fn compare_unless_spared(
     receipt: &InputReceipt,
     digest: [u8; 32],
-    second: Option<[u8; 32]>,
+    later: Option<[u8; 32]>,
+    pass: u8,
 ) -> Result<(), Stop>
-    ensures same { OnOk result (receipt.now.spared ≡ false → second ≡ Some digest) }
-    ensures stops { IfErr result (λ s. (s ≡ stop.Changed 2)
-        × (receipt.now.spared ≡ false) × (second ≡ Some digest → ⊥)) }
+    ensures same { OnOk result (receipt.now.spared ≡ false → later ≡ Some digest) }
+    ensures stops { IfErr result (λ s. (s ≡ stop.Changed pass)
+        × (receipt.now.spared ≡ false) × (later ≡ Some digest → ⊥)) }
 {
     if receipt.spared {
         return Ok(());
     }
-    compare(digest, second, 2)
+    compare(digest, later, pass)
 }
 
 /// What a stop of a call over raw files says of published ones: of the first of them, and of a feed that was refused memory.

@@ -36,14 +36,14 @@ pub fn extract_parents_sorted_with_receipt<
     hasher: S,
 ) -> Result<PublishedInput, PublishedHalt>
     // Each feed gave packed bytes of the digest `input`, which mean a raw file, of the SHA-256 digest `raw` if that is the check, or
-    // nothing was read of the second. If the raw files are the same, the drain took exactly its complete-ways extract with all parents, in
-    // canonical form. What is refused is the raw file that the first feed's bytes mean, by its first fault, and then the drain took
+    // nothing was read of the second and the third. If the raw files are the same, the drain took exactly its complete-ways extract with all
+    // parents, in canonical form. What is refused is the raw file that the first feed's bytes mean, by its first fault, and then the drain took
     // nothing. `Read` and `Write` come only if a count of failures rose: of a feed, of the drain. `Changed` has the number of the pass
     // whose feed has other packed bytes than the first, as far as both report them. After any other stop a prefix of the extract went out,
     // if all feeds mean one raw file.
     ensures { ExtractsPublished (parents_in (A.area area)) (fed F.Feed first.old first.new)
-        (fed G.Feed second.old second.new)
-        (fed H.Feed third.old third.new ∷ fed I.Feed fourth.old fourth.new ∷ [])
+        (fed G.Feed second.old second.new ∷ fed H.Feed third.old third.new ∷ [])
+        (fed I.Feed fourth.old fourth.new ∷ [])
         (drained D.Drain drain.old drain.new) passes.check result }
 {
     let alloc = passes.alloc;
@@ -75,8 +75,8 @@ pub fn extract_parents_sorted_with_receipt<
     let receipt = outcome?;
     let raw = receipt.input;
     let input = first_digest(one)?;
-    compare_unless_spared(&receipt, input, two)?;
-    compare(input, three, 3)?;
+    compare_unless_spared(&receipt, input, two, 2)?;
+    compare_unless_spared(&receipt, input, three, 3)?;
     compare(input, four, 4)?;
     Ok(PublishedInput {
         counts: receipt.counts,

@@ -7,7 +7,7 @@ use Rattle.osm_ways.specs.Parents.{extract_with_parents}
 use Rattle.osm_ways.specs.Phases.{KeptSets}
 use Rattle.osm_ways.specs.Seen.{seen_decoded}
 use Rattle.osm_ways.specs.Selection.{extract}
-use Rattle.pbf_header.specs.Header.{HeaderSpec, header_of}
+use Rattle.pbf_header.specs.Header.{HeaderSpec}
 use Rattle.pbf_frame.specs.Devices.{IsFront}
 use Rattle.pbf_pass.specs.declared.receipt.Halt.{Halt}
 use Rattle.pbf_pass.specs.declared.receipt.InputReceipt.{InputReceipt}
@@ -15,18 +15,17 @@ use Rattle.pbf_pass.specs.declared.receipt.Passes.{Passes}
 use Rattle.pbf_pass.specs.Hashing.{Mark, mark_by}
 use Rattle.pbf_pass.specs.Judged.{judged_file}
 use Rattle.pbf_pass.proofs.GivenLemmas.{gave_file_less}
-use Rattle.pbfcut.specs.declared.extracting.Choice.{Choice as Choosing}
 use Rattle.pbfcut.specs.declared.repeat.LaterPass.{LaterPass}
 use Rattle.pbfcut.specs.Calls.{DrainUse, FeedUse, GaveBy, GaveOrNot, TookBy, supply_of, taken_after, taken_before}
-use Rattle.pbfcut.specs.Extracting.{Choice, complete_ways, all_parents, AddsParents, IsChoice, IsChoiceWithParents}
+use Rattle.pbfcut.specs.Extracting.{Choice, complete_ways, all_parents, IsChoice, IsChoiceWithParents}
 use Rattle.pbfcut.specs.Kept.{IsWritable, extract_of}
 use Rattle.pbfcut.specs.Pick.{taken_by}
-use Rattle.pbfcut.specs.Repeat.{IsPass, digest_of}
+use Rattle.pbfcut.specs.Repeat.{digest_of}
 use Rattle.pbfcut.specs.Receipts.{Wrote}
 use Rattle.pbfcut.specs.Theorem.{IsExtraction}
 use Rattle.pbfcut.specs.Write.{WritesChoice}
 use Rattle.pbfcut.proofs.KeptLaw.{IsSelection, complete_ways_select, all_parents_select}
-use Rattle.pbfcut.proofs.ExtractingLemmas.{Selects, selects_chosen, selects_parents, chooses_parents, extracted, extracts_front, chosen_sound}
+use Rattle.pbfcut.proofs.ExtractingLemmas.{Selects, selects_chosen, selects_parents, extracted, extracts_front, chosen_sound}
 use Rattle.pbfcut.proofs.TheoremLemmas.{gave_or_less, gave_or_not, took_weaker}
 
 -- two things that hold of a result
@@ -52,7 +51,7 @@ module _ {D : Type 0} (last : FeedUse) (out : DrainUse D) (choose : Choice) (sel
 -- of a call without parents
 module _ {D : Type 0} (first second last : FeedUse) (out : DrainUse D) (area : AreaSpec) (passes : Passes) (again : LaterPass) (is : again.passes ≡ passes) (sets : KeptSets) (h : HeaderSpec) (spared : Bool) (r : Result InputReceipt Halt) (wrote : WritesChoice last out again sets h spared r) where
   pub extract_receipt : GaveBy first (mark_by passes.check again.digest) (λ b. GaveOrNot second spared (mark_by passes.check again.digest) b (λ c. IsChoice area b c sets h))
-      → IfOk r (λ receipt. Wrote first second (last ∷ []) out (mark_by passes.check receipt.input) receipt.spared (λ b written. IsExtraction (complete_ways area) (λ meant. extract (seen_decoded area) meant) area b receipt.counts written))
+      → IfOk r (λ receipt. Wrote first (second ∷ []) (last ∷ []) out (mark_by passes.check receipt.input) receipt.spared (λ b written. IsExtraction (complete_ways area) (λ meant. extract (seen_decoded area) meant) area b receipt.counts written))
   extract_receipt chosen = if_ok_both r _ _ _ (λ receipt input wrote.
       let digest = mark_by passes.check receipt.input in
       gave_file_less first.ghosts first.old first.new digest (λ b. GaveOrNot second receipt.spared digest b (λ c. IsChoice area b c sets h)) _ (λ b two. (
@@ -62,32 +61,17 @@ module _ {D : Type 0} (first second last : FeedUse) (out : DrainUse D) (area : A
       (wrote_extract last out (complete_ways area) (λ meant. extract (seen_decoded area) meant) (complete_ways_select area) area again sets h spared r wrote passes is)
 
   -- with all parents, by a third feed
-  pub parents_receipt : (third : FeedUse) → GaveBy first (mark_by passes.check again.digest) (λ b. GaveOrNot second spared (mark_by passes.check again.digest) b (λ c. GaveBy third (mark_by passes.check again.digest) (λ e. IsChoiceWithParents area b c e sets h)))
-      → IfOk r (λ receipt. Wrote first second (third ∷ last ∷ []) out (mark_by passes.check receipt.input) receipt.spared (λ b written. IsExtraction (all_parents area) (λ meant. extract_with_parents (seen_decoded area) meant) area b receipt.counts written))
+  abbrev GaveParents : FeedUse → (spared : Bool) → Mark → Type 0
+  GaveParents third spared digest = GaveBy first digest (λ b. GaveOrNot second spared digest b (λ c. GaveOrNot third spared digest b (λ e. IsChoiceWithParents area b c e sets h)))
+
+  pub parents_receipt : (third : FeedUse) → GaveParents third spared (mark_by passes.check again.digest)
+      → IfOk r (λ receipt. Wrote first (second ∷ third ∷ []) (last ∷ []) out (mark_by passes.check receipt.input) receipt.spared (λ b written. IsExtraction (all_parents area) (λ meant. extract_with_parents (seen_decoded area) meant) area b receipt.counts written))
   parents_receipt third chosen = if_ok_both r _ _ _ (λ receipt input wrote.
       let digest = mark_by passes.check receipt.input in
       let judged = λ (l : List ℕ). judged_file (Some l) in
-      gave_file_less first.ghosts first.old first.new digest (λ b. GaveOrNot second receipt.spared digest b (λ c. GaveBy third digest (λ e. IsChoiceWithParents area b c e sets h))) _ (λ b two. (
-        gave_or_not second digest receipt.spared b _ (IsWritable b) (λ c three. chosen_sound area b _ _ h three.holding.chosen.chosen) two,
-        gave_or_less second digest receipt.spared b _ _ (λ c three. gave_file_less third.ghosts third.old third.new digest _ _ (λ e choice. gave_file_less last.ghosts last.old last.new digest _ _ (λ n took. took_weaker out.ghosts out.old out.new _ _ (λ written is same more fourth.
+      gave_file_less first.ghosts first.old first.new digest (λ b. GaveOrNot second receipt.spared digest b (λ c. GaveOrNot third receipt.spared digest b (λ e. IsChoiceWithParents area b c e sets h))) _ (λ b two. (
+        gave_or_not second digest receipt.spared b _ (IsWritable b) (λ c three. gave_or_not third digest receipt.spared b _ (IsWritable b) (λ e choice. chosen_sound area b _ _ h choice.chosen.chosen) three) two,
+        gave_or_less second digest receipt.spared b _ _ (λ c three. gave_or_less third digest receipt.spared b _ _ (λ e choice. gave_file_less last.ghosts last.old last.new digest _ _ (λ n took. took_weaker out.ghosts out.old out.new _ _ (λ written is same more fourth.
             is b (selects_parents sets area b _ _ _ h refl (ap judged (sym same)) (ap judged (sym more)) choice.chosen) fourth) took) wrote) three) two,
-      )) (subst (λ (s : Bool). GaveBy first digest (λ b. GaveOrNot second s digest b (λ c. GaveBy third digest (λ e. IsChoiceWithParents area b c e sets h)))) (sym input.1) (subst (λ (l : List ℕ). GaveBy first (mark_by passes.check l) (λ b. GaveOrNot second spared (mark_by passes.check l) b (λ c. GaveBy third (mark_by passes.check l) (λ e. IsChoiceWithParents area b c e sets h)))) (sym input.0) chosen))) wrote.input
+      )) (subst (λ (s : Bool). GaveParents third s digest) (sym input.1) (subst (λ (l : List ℕ). GaveParents third spared (mark_by passes.check l)) (sym input.0) chosen))) wrote.input
       (wrote_extract last out (all_parents area) (λ meant. extract_with_parents (seen_decoded area) meant) (all_parents_select area) area again sets h spared r wrote passes is)
-
--- ---- the pass that takes relations
-
-pub parents_chosen : (first second third : FeedUse) (area : AreaSpec) (passes : Passes) (before : Choosing) (is : IsPass 3 passes before.next) (r : Result Choosing Halt)
-    → GaveBy first (mark_by passes.check before.next.digest) (λ b. GaveOrNot second before.spared (mark_by passes.check before.next.digest) b (λ c. IsChoice area b c before.chosen (header_of before.header)))
-    → IfOk r (λ choice. GaveBy third (digest_of before.next) (λ file. AddsParents (judged_file (Some file)) before.chosen choice.chosen))
-    → IfOk r (λ choice. (choice.header ≡ before.header) × (choice.next.digest ≡ before.next.digest) × (choice.spared ≡ before.spared))
-    → IfOk r (λ choice. GaveBy first (mark_by passes.check choice.next.digest) (λ b. GaveOrNot second choice.spared (mark_by passes.check choice.next.digest) b (λ c. GaveBy third (mark_by passes.check choice.next.digest) (λ e. IsChoiceWithParents area b c e choice.chosen (header_of choice.header)))))
-parents_chosen first second third area passes before is r chosen parents same = if_ok_both r _ _ _ (λ choice three same.
-    let digest = mark_by passes.check choice.next.digest in
-    let h = header_of choice.header in
-    let s = choice.spared in
-    let hashed : digest_of before.next ≡ digest = ap (λ (p : Passes). mark_by p.check before.next.digest) is.1 ∙ ap (λ (l : List ℕ). mark_by passes.check l) (sym same.1) in
-    let here = subst (λ (s : Bool). GaveBy first (mark_by passes.check before.next.digest) (λ b. GaveOrNot second s (mark_by passes.check before.next.digest) b (λ c. IsChoice area b c before.chosen (header_of before.header)))) (sym same.2) chosen in
-    let one = subst (λ (l : List ℕ). GaveBy first (mark_by passes.check l) (λ b. GaveOrNot second s (mark_by passes.check l) b (λ c. IsChoice area b c before.chosen h))) (sym same.1)
-    (subst (λ (g : HeaderSpec). GaveBy first (mark_by passes.check before.next.digest) (λ b. GaveOrNot second s (mark_by passes.check before.next.digest) b (λ c. IsChoice area b c before.chosen g))) (ap header_of (sym same.0)) here) in
-    let more = subst (λ (dg : Mark). GaveBy third dg (λ file. AddsParents (judged_file (Some file)) before.chosen choice.chosen)) hashed three in
-    gave_file_less first.ghosts first.old first.new digest _ _ (λ b two. gave_or_less second digest s b _ _ (λ c chosen. gave_file_less third.ghosts third.old third.new digest _ _ (λ e adds. chooses_parents area b c e before.chosen choice.chosen h chosen adds) more) two) one) parents same

@@ -11,7 +11,7 @@ use Rattle.std.specs.Int.Signed.{mag}
 use Rattle.osm_entity.specs.Entity.{EntitySpec, Decoded, node, way, relation}
 use Rattle.osm_ids.specs.Links.{IsLeast}
 use Rattle.osm_ways.specs.Parents.{keeps_with_parents}
-use Rattle.osm_ways.specs.Phases.{TakesFirst, WaySets, RelationSets, KeptSets, way_step, relation_step, start_ways, start_relations, node_pass, without_parents, way_pass, relation_pass, is_chosen, is_taken}
+use Rattle.osm_ways.specs.Phases.{Found, TakesAll, TakesFirst, WaySets, RelationSets, KeptSets, nothing_found, relations_from, way_step, relation_step, start_ways, start_relations, node_pass, without_parents, way_pass, relation_pass, is_chosen, is_taken}
 use Rattle.osm_ways.specs.Seen.{seen_entity, seen_member}
 use Rattle.osm_ways.specs.Selection.{MemberSeen, Seen, a_relation, keeps}
 use Rattle.osm_ways.proofs.Passes.{chosen_is_kept, chosen_with_parents, ways_stay}
@@ -30,7 +30,7 @@ use Rattle.pbf_pass.specs.HeaderLimit.{HasShortTexts, header_limit, judged_writa
 use Rattle.pbf_pass.specs.Counting.{stored_entities}
 use Rattle.pbfcut.specs.Calls.{FeedUse, GaveOrNot}
 use Rattle.pbfcut.specs.Theorem.{IsExtraction}
-use Rattle.pbfcut.specs.Extracting.{Choice, complete_ways, all_parents, extraction, extract_bytes, Begins, Chooses, ChoosesParents, AddsParents, IsChoice, IsChoiceWithParents}
+use Rattle.pbfcut.specs.Extracting.{Choice, complete_ways, all_parents, extraction, extract_bytes, Begins, Chooses, ChoosesParents, IsChoice, IsChoiceWithParents}
 use Rattle.pbfcut.specs.Kept.{verdict_on, extract_of, IsWritable}
 use Rattle.pbf_pass.proofs.GivenLemmas.{gave_file_less}
 use Rattle.pbfcut.proofs.KeptLaw.{IsSelection, same_verdict, extract_kept}
@@ -51,11 +51,11 @@ beside : {A S : Type 0} (area : A → AreaSpec) (step : S → Seen → S) (of : 
 beside area step of [] = refl
 beside area step of (e ∷ es) = beside area step (with_seen_in area step of e) es
 
-seen_folded : {S : Type 0} (area : AreaSpec) (step : S → Seen → S) → ((s : S) (id : ℤ) (members : List MemberSeen) → step s (a_relation id members) ≡ s) → (sets : S) (es : List EntitySpec) → fold (with_seen area step) sets es ≡ fold step sets (map (seen_entity area) es)
-seen_folded area step same sets [] = refl
-seen_folded area step same sets (node n ∷ es) = seen_folded area step same (with_seen area step sets (node n)) es
-seen_folded area step same sets (way w ∷ es) = seen_folded area step same (with_seen area step sets (way w)) es
-seen_folded {S} area step same sets (relation r ∷ es) = seen_folded area step same sets es ∙ ap (λ (s : S). fold step s (map (seen_entity area) es)) (sym (same sets r.id (map seen_member r.members)))
+seen_folded : {S : Type 0} (area : AreaSpec) (step : S → Seen → S) (sets : S) (es : List EntitySpec) → fold (with_seen area step) sets es ≡ fold step sets (map (seen_entity area) es)
+seen_folded area step sets [] = refl
+seen_folded area step sets (node n ∷ es) = seen_folded area step (with_seen area step sets (node n)) es
+seen_folded area step sets (way w ∷ es) = seen_folded area step (with_seen area step sets (way w)) es
+seen_folded area step sets (relation r ∷ es) = seen_folded area step (with_seen area step sets (relation r)) es
 
 ways_folded : (area : AreaSpec) (sets : WaySets) (es : List EntitySpec) → fold with_way sets es ≡ fold way_step sets (map (seen_entity area) es)
 ways_folded area sets [] = refl
@@ -195,30 +195,7 @@ selects_parents sets area b first second third h is too more p =
     selects area b first second _ h is too c (all_parents area) (taken_by sets)
     (parents_are area es sets (p.kept ∙ ap (λ (r : RelationSets). r.ways) relations) (subst (λ (r : RelationSets). IsLeast (set.contains r.links) r.start sets.relation_ids) relations p.least))
 
--- what the pass that takes relations reports
-pub adds_parents : (known : Option Verdict) (before given now : KeptSets) (begun relations : RelationSets) → begun ≡ start_relations before.ways → GathersFile with_relation known begun relations → given.ways ≡ relations.ways
-    → IsLeast (set.contains relations.links) relations.start given.relation_ids → now ≡ given → AddsParents known before now
-adds_parents known before given now begun relations starts more kept least handed = record {
-  relations = relations;
-  gathered = λ frames is. more frames is ∙ ap (λ (s : RelationSets). fold with_relation s (stored_entities frames)) starts;
-  kept = ap (λ (s : KeptSets). s.ways) handed ∙ kept;
-  least = subst (λ (s : KeptSets). IsLeast (set.contains relations.links) relations.start s.relation_ids) (sym handed) least;
-}
-
-pub chooses_parents : (area : AreaSpec) (b c e : List ℕ) (before now : KeptSets) (h : HeaderSpec) → IsChoice area b c before h → AddsParents (judged_file (Some e)) before now → IsChoiceWithParents area b c e now h
-chooses_parents area b c e before now h choice adds = record {
-  chosen = record {
-    ways = choice.ways;
-    chosen = choice.chosen;
-    relations = adds.relations;
-    gathered = λ frames is. adds.gathered frames is ∙ ap (λ (s : KeptSets). fold with_relation (start_relations s.ways) (stored_entities frames)) choice.kept;
-    kept = adds.kept;
-    least = adds.least;
-  };
-  short = choice.short;
-}
-
--- ---- if the second pass may be left out
+-- ---- if passes may be left out
 
 -- the nodes of a list, as the first pass of two takes them
 abbrev nodes_of : AreaSpec → List EntitySpec → WaySets
@@ -229,27 +206,78 @@ same_frames b one two e f = grind arith
 
 -- what the first pass took, and a second one if it hadn't all ways
 module _ {S : Type 0} (start : S) (step : S → Seen → S) (has_ways : S → Bool) (ended : S → WaySets) (takes : TakesFirst start step has_ways ended) (second : FeedUse) (digest : Mark) (area : AreaSpec) (b : List ℕ) (h : HeaderSpec) (begun phase : S) (started ways : WaySets) (sets : KeptSets) where
-  pub chooses : (taken_in : AreaSpec) (spared : Bool) → taken_in ≡ area → Begins taken_in step b begun phase h → begun ≡ start → spared ≡ has_ways phase → started ≡ ended phase → GathersRest second.ghosts with_way spared second.old second.new digest started ways → sets ≡ without_parents ways → GaveOrNot second spared digest b (λ c. IsChoice area b c sets h)
-  chooses taken_in spared same begins fresh all starts rest kept = of spared all rest where
+  module _ (taken_in : AreaSpec) (same : taken_in ≡ area) (begins : Begins taken_in step b begun phase h) (fresh : begun ≡ start) (starts : started ≡ ended phase) (kept : sets ≡ without_parents ways) where
     p : Begins area step b begun phase h
     p = subst (λ (a : AreaSpec). Begins a step b begun phase h) same begins
 
-    es : List EntitySpec
+    abbrev es : List EntitySpec
     es = stored_entities p.frames
 
-    seen : List Seen
+    abbrev seen : List Seen
     seen = map (seen_entity area) es
 
     taken : phase ≡ fold step start seen
-    taken = p.taken ∙ seen_folded area step takes.relations begun es ∙ ap (λ (s : S). fold step s seen) fresh
+    taken = p.taken ∙ seen_folded area step begun es ∙ ap (λ (s : S). fold step s seen) fresh
+
+    here : (frames : List FrameSpec) → judged_file (Some b) ≡ Some (frames, None) → p.frames ≡ frames
+    here frames known = same_frames b p.frames frames (known_says b (p.frames, None) p.judged) known
 
     chosen : (c : List ℕ) → GathersFile with_way (judged_file (Some c)) (nodes_of area es) ways → IsChoice area b c sets h
     chosen c more = record { ways = ways; kept = kept; chosen = record { frames = p.frames; judged = p.judged; within = p.within; header = p.header; typed = p.typed; chosen = more }; short = p.short }
 
-    of : (spared : Bool) → spared ≡ has_ways phase → GathersRest second.ghosts with_way spared second.old second.new digest started ways → GaveOrNot second spared digest b (λ c. IsChoice area b c sets h)
-    of true all rest =
+    -- it had all ways
+    all_ways : true ≡ has_ways phase → ways ≡ started → GathersFile with_way (judged_file (Some b)) (nodes_of area es) ways
+    all_ways all rest frames known =
         let came = takes.all seen (ap has_ways (sym taken) ∙ sym all) ∙ sym (sets_are area es) in
-        (rest.0, chosen b (λ frames known. rest.1 ∙ starts ∙ ap ended taken ∙ came ∙ ap (λ (l : List FrameSpec). fold with_way (nodes_of area es) (stored_entities l)) (same_frames b p.frames frames (known_says b (p.frames, None) p.judged) known)))
-    of false all rest =
-        let wait = takes.nodes seen (ap has_ways (sym taken) ∙ sym all) in
-        gave_file_less second.ghosts second.old second.new digest (λ file. GathersFile with_way (judged_file (Some file)) started ways) _ (λ c more. chosen c (λ frames known. more frames known ∙ ap (λ (s : WaySets). fold with_way s (stored_entities frames)) (starts ∙ ap ended taken ∙ wait))) rest
+        rest ∙ starts ∙ ap ended taken ∙ came ∙ ap (λ (l : List FrameSpec). fold with_way (nodes_of area es) (stored_entities l)) (here frames known)
+
+    -- it hadn't
+    more_ways : false ≡ has_ways phase → (c : List ℕ) → GathersFile with_way (judged_file (Some c)) started ways → GathersFile with_way (judged_file (Some c)) (nodes_of area es) ways
+    more_ways all c more frames known = more frames known ∙ ap (λ (s : WaySets). fold with_way s (stored_entities frames)) (starts ∙ ap ended taken ∙ takes.nodes seen (ap has_ways (sym taken) ∙ sym all))
+
+    pub chooses : (spared : Bool) → spared ≡ has_ways phase → GathersRest second.ghosts with_way spared second.old second.new digest started ways → GaveOrNot second spared digest b (λ c. IsChoice area b c sets h)
+    chooses true all rest = (rest.0, chosen b (all_ways all rest.1))
+    chooses false all rest = gave_file_less second.ghosts second.old second.new digest (λ file. GathersFile with_way (judged_file (Some file)) started ways) _ (λ c more. chosen c (more_ways all c more)) rest
+
+    -- and a third one, for relations
+    module _ (found_of : S → Found) (takes_all : TakesAll start step has_ways ended found_of) (third : FeedUse) (found : Found) (founds : found ≡ found_of phase) (begun_relations relations : RelationSets) (begins_with : begun_relations ≡ relations_from sets.ways found)
+        (last now : KeptSets) (keeps : last.ways ≡ relations.ways) (least : IsLeast (set.contains relations.links) relations.start last.relation_ids) (handed : now ≡ last) where
+      sets_ways : sets.ways ≡ ways
+      sets_ways = ap (λ (s : KeptSets). s.ways) kept
+
+      with_parents : (c e : List ℕ) → GathersFile with_way (judged_file (Some c)) (nodes_of area es) ways → GathersFile with_relation (judged_file (Some e)) (start_relations ways) relations → IsChoiceWithParents area b c e now h
+      unfolding chosen
+      with_parents c e more gathered = record {
+        chosen = record {
+          ways = ways;
+          chosen = (chosen c more).chosen;
+          relations = relations;
+          gathered = gathered;
+          kept = ap (λ (s : KeptSets). s.ways) handed ∙ keeps;
+          least = subst (λ (s : KeptSets). IsLeast (set.contains relations.links) relations.start s.relation_ids) (sym handed) least;
+        };
+        short = p.short;
+      }
+
+      -- the first pass had all relations
+      all_relations : true ≡ has_ways phase → ways ≡ started → relations ≡ begun_relations → GathersFile with_relation (judged_file (Some b)) (start_relations ways) relations
+      all_relations all rest same frames known =
+          let has : has_ways (fold step start seen) ≡ true = ap has_ways (sym taken) ∙ sym all in
+          let were : ways ≡ ended (fold step start seen) = rest ∙ starts ∙ ap ended taken in
+          let got : found ≡ found_of (fold step start seen) = founds ∙ ap found_of taken in
+          let whole : relations ≡ relation_pass seen = same ∙ begins_with ∙ ap (λ (w : WaySets). relations_from w found) (sets_ways ∙ were) ∙ ap (λ (f : Found). relations_from (ended (fold step start seen)) f) got ∙ takes_all.all seen has in
+          let pass : fold with_relation (start_relations ways) es ≡ relation_pass seen = ap (λ (w : WaySets). fold with_relation (start_relations w) es) (were ∙ takes.all seen has) ∙ relations_folded area (start_relations (way_pass seen)) es in
+          whole ∙ sym pass ∙ ap (λ (l : List FrameSpec). fold with_relation (start_relations ways) (stored_entities l)) (here frames known)
+
+      -- it had none
+      more_relations : false ≡ has_ways phase → (e : List ℕ) → GathersFile with_relation (judged_file (Some e)) begun_relations relations → GathersFile with_relation (judged_file (Some e)) (start_relations ways) relations
+      more_relations all e more frames known =
+          let none : found ≡ nothing_found = founds ∙ ap found_of taken ∙ takes_all.nothing seen (ap has_ways (sym taken) ∙ sym all) in
+          more frames known ∙ ap (λ (r : RelationSets). fold with_relation r (stored_entities frames)) (begins_with ∙ ap (λ (w : WaySets). relations_from w found) sets_ways ∙ ap (λ (f : Found). relations_from ways f) none)
+
+      pub chooses_parents : (spared : Bool) → spared ≡ has_ways phase → GathersRest second.ghosts with_way spared second.old second.new digest started ways → GathersRest third.ghosts with_relation spared third.old third.new digest begun_relations relations
+          → GaveOrNot second spared digest b (λ c. GaveOrNot third spared digest b (λ e. IsChoiceWithParents area b c e now h))
+      chooses_parents true all two three = (two.0, (three.0, with_parents b b (all_ways all two.1) (all_relations all two.1 three.1)))
+      chooses_parents false all two three =
+          gave_file_less second.ghosts second.old second.new digest (λ file. GathersFile with_way (judged_file (Some file)) started ways) _ (λ c ways.
+          gave_file_less third.ghosts third.old third.new digest (λ file. GathersFile with_relation (judged_file (Some file)) begun_relations relations) _ (λ e more. with_parents c e (more_ways all c ways) (more_relations all e more)) three) two

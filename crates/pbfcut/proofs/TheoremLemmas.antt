@@ -1,7 +1,7 @@
 -- What a call promises for a file that all its feeds supply, from what went through its devices.
-use Rattle.std.proofs.Common.{arith, Bool, true, false, ◌≡◌, ◌⊎◌, inl, inr, ℕ, List, [], ◌∷◌, Option, Some, map, subst, refl, sym, ◌∙◌}
+use Rattle.std.proofs.Common.{arith, Bool, true, false, ◌≡◌, ◌⊎◌, inl, inr, ℕ, List, [], ◌∷◌, ◌++◌, Option, Some, map, subst, refl, sym, ◌∙◌}
 use Rattle.pbf_frame.specs.declared.device.Drain as drain
-use Rattle.pbfcut.specs.Calls.{AllSupply, DrainUse, FeedUse, GaveBy, GaveEach, GaveOrNot, IfSame, TookBy, supply_of}
+use Rattle.pbfcut.specs.Calls.{AllSupply, DrainUse, FeedUse, GaveBy, GaveEach, GaveEachOrNot, GaveOrNot, IfSame, TookBy, supply_of}
 use Rattle.pbf_pass.specs.Given.{Took}
 use Rattle.pbfcut.specs.Receipts.{Wrote}
 use Rattle.pbfcut.specs.Repeat.{SameDigest}
@@ -52,14 +52,21 @@ took_each [] out digest b holds supply given = given
 took_each (one ∷ more) out digest b holds supply given =
     took_each more out digest b holds supply.1 (each_less more digest _ _ (λ files took. took_weaker out.ghosts out.old out.new _ _ (λ written same. same (sym (tells_file one.ghosts one.old one.new digest _ given b supply.0))) took) given.holding)
 
-pub took_of : {D : Type 0} (first second : FeedUse) (later : List FeedUse) (out : DrainUse D) (digest : Mark) (spared : Bool) (holds : List ℕ → List ℕ → Type 0) (b : List ℕ) → Wrote first second later out digest spared holds → AllSupply b (supply_of first ∷ supply_of second ∷ map supply_of later) → TookBy out (holds b)
-took_of first second later out digest spared holds b one supply =
-    let tells = tells_file first.ghosts first.old first.new digest _ one in
-    let is = tells b supply.0 in
-    let rest = subst (λ (file : List ℕ). GaveOrNot second spared digest file (λ c. GaveEach later digest (λ files. TookBy out (λ written. IfSame file (c ∷ files) (holds file written))))) is one.holding.1 in
-    let both = told_or_not second digest spared (supply_of first) b b _ (λ c known. is_some b c supply.0 known) supply.0 supply.1.0 rest in
-    took_each later out digest b (holds b) supply.1.1 (each_less later digest _ _ (λ files took. took_weaker out.ghosts out.old out.new _ _ (λ written same. same refl) took) both) where
-      is_some : (b c : List ℕ) → supply_of first ≡ Some b → supply_of first ≡ Some c → b ≡ c
-      is_some b c e f = some_same (sym e ∙ f) where
-        some_same : Some b ≡ Some c → b ≡ c
-        some_same e = cc
+some_same : (b c : List ℕ) → Some b ≡ Some c → b ≡ c
+some_same b c e = cc
+
+-- feeds that may have been spared, and that have the bytes of the first to give, count as ones that gave them
+told_each : (spare : List FeedUse) (digest : Mark) (spared : Bool) (b : List ℕ) (holds : List (List ℕ) → Type 0) → AllSupply b (map supply_of spare) → GaveEachOrNot spare spared digest b holds → holds (map (λ _. b) spare)
+told_each [] digest spared b holds supply given = given
+told_each (one ∷ more) digest spared b holds supply given =
+    told_each more digest spared b (λ files. holds (b ∷ files)) supply.1 (told_or_not one digest spared (Some b) b b (λ file. GaveEachOrNot more spared digest b (λ files. holds (file ∷ files))) (λ c is. some_same b c is) refl supply.0 given)
+
+all_same : (spare : List FeedUse) (files : List (List ℕ)) (b : List ℕ) (holds : Type 0) → IfSame b (map (λ _. b) spare ++ files) holds → IfSame b files holds
+all_same [] files b holds same = same
+all_same (one ∷ more) files b holds same = all_same more files b holds (same refl)
+
+pub took_of : {D : Type 0} (first : FeedUse) (spare later : List FeedUse) (out : DrainUse D) (digest : Mark) (spared : Bool) (holds : List ℕ → List ℕ → Type 0) (b : List ℕ) → Wrote first spare later out digest spared holds
+    → supply_of first ≡ Some b → AllSupply b (map supply_of spare) → AllSupply b (map supply_of later) → TookBy out (holds b)
+took_of first spare later out digest spared holds b one is some more =
+    let rest = subst (λ (file : List ℕ). GaveEachOrNot spare spared digest file (λ some. GaveEach later digest (λ files. TookBy out (λ written. IfSame file (some ++ files) (holds file written))))) (tells_file first.ghosts first.old first.new digest _ one b is) one.holding.1 in
+    took_each later out digest b (holds b) more (each_less later digest _ _ (λ files took. took_weaker out.ghosts out.old out.new _ _ (λ written same. all_same spare files b (holds b written) same) took) (told_each spare digest spared b _ some rest))

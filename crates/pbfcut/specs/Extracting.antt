@@ -66,13 +66,6 @@ pub record Chooses (area : AreaSpec) (first second : Option Verdict) (sets : Way
   pub typed : EdgesTyped (edges_of area.bounds)
   pub chosen : GathersFile with_way second (start_ways (node_pass (map (seen_entity area) (stored_entities frames)))) sets
 
--- the pass that takes relations: what was chosen before, and the relations of this file, if it has no fault, with all parents
-pub record AddsParents (known : Option Verdict) (before now : KeptSets) : Type 0 where
-  pub relations : RelationSets
-  pub gathered : GathersFile with_relation known (start_relations before.ways) relations
-  pub kept : now.ways ≡ relations.ways
-  pub least : IsLeast (set.contains relations.links) relations.start now.relation_ids
-
 -- and the relations of a third file, with all parents
 pub record ChoosesParents (area : AreaSpec) (first second third : Option Verdict) (sets : KeptSets) (h : HeaderSpec) : Type 0 where
   pub ways : WaySets

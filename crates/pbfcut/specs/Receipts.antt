@@ -1,5 +1,5 @@
 -- What a call with a receipt says of what it wrote.
-use Rattle.std.specs.Prelude.{Bool, ℕ, List, ◌∷◌, Option, Result, IfOk}
+use Rattle.std.specs.Prelude.{Bool, ℕ, List, ◌∷◌, ◌++◌, Option, Result, IfOk}
 use Rattle.osm_area.specs.Area.{AreaSpec}
 use Rattle.osm_entity.specs.Entity.{Decoded}
 use Rattle.osm_ways.specs.Parents.{extract_with_parents}
@@ -9,18 +9,18 @@ use Rattle.pbf_pass.specs.declared.receipt.Halt.{Halt}
 use Rattle.pbf_pass.specs.declared.receipt.InputReceipt.{InputReceipt}
 use Rattle.pbf_pass.specs.Hashing.{Mark, mark_by}
 use Rattle.pbf_pass.specs.HeaderLimit.{judged_writable}
-use Rattle.pbfcut.specs.Calls.{DrainUse, FeedUse, GaveBy, GaveEach, GaveOrNot, IfSame, TookBy}
+use Rattle.pbfcut.specs.Calls.{DrainUse, FeedUse, GaveBy, GaveEach, GaveEachOrNot, IfSame, TookBy}
 use Rattle.pbfcut.specs.Ends.{EndsInFront, EndsPasses}
 use Rattle.pbfcut.specs.Extracting.{Choice, all_parents, complete_ways}
 use Rattle.pbfcut.specs.Kept.{IsWritable, extract_of}
 use Rattle.pbfcut.specs.Theorem.{IsExtraction}
 use Rattle.pbf_pass.specs.declared.hashing.PassCheck.{PassCheck}
 
--- each feed gave a file of this digest by the check, or the second was spared; the first file has no fault, and its header can be written.
--- The drain took bytes, and if the files are the same, this holds of the first and of them
-abbrev pub Wrote : {D : Type 0} → (first second : FeedUse) (later : List FeedUse) → DrainUse D → (digest : Mark) → (spared : Bool) → (List ℕ → List ℕ → Type 0) → Type 0
-Wrote first second later out digest spared holds =
-    GaveBy first digest (λ b. IsWritable b × GaveOrNot second spared digest b (λ c. GaveEach later digest (λ files. TookBy out (λ written. IfSame b (c ∷ files) (holds b written)))))
+-- each feed gave a file of this digest by the check, or those after the first were spared that may be; the first file has no fault, and its header can be
+-- written. The drain took bytes, and if the files are the same, this holds of the first and of them
+abbrev pub Wrote : {D : Type 0} → (first : FeedUse) (spare later : List FeedUse) → DrainUse D → (digest : Mark) → (spared : Bool) → (List ℕ → List ℕ → Type 0) → Type 0
+Wrote first spare later out digest spared holds =
+    GaveBy first digest (λ b. IsWritable b × GaveEachOrNot spare spared digest b (λ some. GaveEach later digest (λ files. TookBy out (λ written. IfSame b (some ++ files) (holds b written)))))
 
 -- ---- an extract
 
@@ -39,13 +39,13 @@ abbrev pub parents_in : AreaSpec → Cut
 parents_in area = record { choose = all_parents area; select = extract_with_parents (seen_decoded area); area = area }
 
 -- what a call says that writes an extract of the file that its feeds give
-pub record Extracts {D : Type 0} (cut : Cut) (first second : FeedUse) (later : List FeedUse) (out : DrainUse D) (check : PassCheck) (result : Result InputReceipt Halt) : Type 0 where
-  -- each feed gave a file of the digest `input` by the check, to its end, unless the second was spared; the first has no fault, and its
+pub record Extracts {D : Type 0} (cut : Cut) (first : FeedUse) (spare later : List FeedUse) (out : DrainUse D) (check : PassCheck) (result : Result InputReceipt Halt) : Type 0 where
+  -- each feed gave a file of the digest `input` by the check, to its end, or those were spared that may be; the first has no fault, and its
   -- header can be written. The drain took bytes: if the files are the same, exactly its extract, and the counts are those of the entities
   -- in it
-  pub receipt : IfOk result (λ receipt. Wrote first second later out (mark_by check receipt.input) receipt.spared (λ b written. IsExtraction cut.choose cut.select cut.area b receipt.counts written))
+  pub receipt : IfOk result (λ receipt. Wrote first spare later out (mark_by check receipt.input) receipt.spared (λ b written. IsExtraction cut.choose cut.select cut.area b receipt.counts written))
   -- however it ends: what is refused, of the bytes that were read, and that the drain took nothing then; why it stops; of what bytes it says `Changed`;
   -- and that it keeps its devices
-  pub ends : EndsPasses judged_writable first (second ∷ later) out check result
+  pub ends : EndsPasses judged_writable first (spare ++ later) out check result
   -- whatever stopped it, if all feeds supply these bytes, a prefix of their extract went out, and nothing if they have a fault
-  pub beginning : EndsInFront (extract_of cut.choose cut.area) (first ∷ second ∷ later) out result
+  pub beginning : EndsInFront (extract_of cut.choose cut.area) (first ∷ spare ++ later) out result

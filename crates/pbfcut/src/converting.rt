@@ -75,7 +75,7 @@ pub fn convert_with_receipt<F: Feed, G: Feed, D: Drain, S: BuildHasher + Drop>(
     // Each feed gave a file, of the digest `input` by the check, to its end; the first has no fault, and its header can be written.
     // The drain took bytes. If both files are the same, these bytes are exactly its conversion, and the counts are those of its entities.
     ensures receipt { IfOk result (λ receipt. Wrote (fed F.Feed first.old first.new)
-        (fed G.Feed second.old second.new) [] (drained D.Drain drain.old drain.new)
+        [] (fed G.Feed second.old second.new ∷ []) (drained D.Drain drain.old drain.new)
         (mark_by passes.check receipt.input) false
         (λ b written. IsConverted b receipt.counts written)) }
     // However it ends: `refused` says what is refused, of the bytes that were read, and that the drain took nothing then; `stops` why it

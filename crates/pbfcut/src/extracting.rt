@@ -11,13 +11,11 @@ ghost use Rattle.pbfcut.specs.Choosing.{EndsChoosing, IsNever, StopsChoosing};
 ghost use Rattle.pbfcut.specs.Theorem.{Extracted, Promised, Canonical};
 ghost use Rattle.pbfcut.specs.Converting.{CanBeWritten};
 ghost use Rattle.pbf_pass.specs.HeaderLimit.{HasShortTexts, judged_writable};
-ghost use Rattle.pbfcut.specs.Extracting.{complete_ways, all_parents, extract_bytes, Begins, AddsParents, IsChoice, IsChoiceWithParents};
+ghost use Rattle.pbfcut.specs.Extracting.{complete_ways, all_parents, extract_bytes, Begins, IsChoice, IsChoiceWithParents};
 ghost use Rattle.pbf_pass.specs.Given.{GaveFile};
 ghost use Rattle.pbf_pass.specs.declared.hashing.PassCheck.TheVariants as check;
 ghost use Rattle.pbf_pass.specs.Hashing.{mark_by};
-ghost use Rattle.pbf_pass.specs.Judged.{judged_file};
-ghost use Rattle.pbf_pass.specs.Refused.{stop_of};
-ghost use Rattle.pbfcut.specs.Repeat.{IsPass, SameDigest, StopsLater, digest_of};
+ghost use Rattle.pbfcut.specs.Repeat.{SameDigest};
 ghost use Rattle.pbfcut.specs.Receipts.{Extracts, parents_in, ways_in};
 ghost use Rattle.pbfcut.specs.Write.{WritesChoice};
 ghost use Rattle.pbf_frame.specs.Keeps.{KeepsFeed};
@@ -26,7 +24,7 @@ use crate::repeat::LaterPass;
 use crate::write::OutputPlan;
 use osm_area::Area;
 use osm_entity::BoundingBox;
-use osm_ways::{Chosen, InArea, NodeIds, NodeTaker};
+use osm_ways::{Chosen, InArea, NodeIds, NodeTaker, RelationTaker};
 use pbf_block::Counts;
 use pbf_frame::{Drain, Feed, Stop};
 use pbf_header::Header;
@@ -52,7 +50,7 @@ pub(crate) struct Choice {
     pub(crate) header: Header,
     /// The pass that comes next, with the digest of the first.
     pub(crate) next: LaterPass,
-    /// Whether the second pass was not made, since the first was enough.
+    /// Whether the passes between the first and the one that writes were not made, since the first was enough.
     pub(crate) spared: bool,
 }
 
@@ -78,32 +76,6 @@ pub(crate) fn begin<A: Area, P: NodeTaker, F: Feed>(
 }
 
 impl Choice {
-    /// The pass that takes the relations: what was chosen, with all parents.
-    pub(crate) fn with_parents<F: Feed>(self, feed: &mut F) -> Result<Choice, Halt>
-        ensures parents { IfOk result (λ choice. GaveFile F.Feed feed.old feed.new
-            (digest_of self.next)
-            (λ file. AddsParents (judged_file (Some file)) self.chosen choice.chosen)) }
-        ensures same { IfOk result (λ choice. (choice.header ≡ self.header)
-            × (choice.next.digest ≡ self.next.digest) × (choice.spared ≡ self.spared)) }
-        ensures next { IfOk result (λ choice. IsPass 4 self.next.passes choice.next) }
-        ensures stops { IfErr result
-            (λ h. StopsLater F.Feed self.next feed.old feed.new ⊥ (stop_of h)) }
-        ensures keeps { KeepsFeed F.Feed feed.old feed.new }
-    {
-        let mut relations = self.chosen.with_parents();
-        self.next.gather(feed, &mut relations)?;
-        let chosen = relations.end_relations()?.into_chosen();
-        Ok(Choice {
-            chosen,
-            header: self.header,
-            next: LaterPass {
-                number: 4,
-                ..self.next
-            },
-            spared: self.spared,
-        })
-    }
-
     /// The pass that writes: the header, and what was chosen.
     pub(crate) fn write<F: Feed, D: Drain, S: BuildHasher + Drop>(
         self,
@@ -166,8 +138,8 @@ fn choose<A: Area + Copy, P: NodeTaker + Drop, F: Feed, G: Feed>(
     })
 }
 
-/// The same, and a pass more, which takes the relations.
-fn choose_parents<A: Area + Copy, P: NodeTaker + Drop, F: Feed, G: Feed, H: Feed>(
+/// The same with all parents: a third pass takes the relations, unless the first has all ways and all relations too.
+fn choose_parents<A: Area + Copy, P: RelationTaker + Drop, F: Feed, G: Feed, H: Feed>(
     passes: Passes,
     area: A,
     first: &mut F,
@@ -178,15 +150,34 @@ fn choose_parents<A: Area + Copy, P: NodeTaker + Drop, F: Feed, G: Feed, H: Feed
         (mark_by passes.check choice.next.digest)
         (λ b. GaveOrNot (fed G.Feed second.old second.new) choice.spared
         (mark_by passes.check choice.next.digest) b
-        (λ c. GaveBy (fed H.Feed third.old third.new)
-        (mark_by passes.check choice.next.digest)
+        (λ c. GaveOrNot (fed H.Feed third.old third.new) choice.spared
+        (mark_by passes.check choice.next.digest) b
         (λ d. IsChoiceWithParents (A.area area) b c d choice.chosen (header_of choice.header))))) }
     ensures spared { IfOk result (λ choice. IsNever P.has_ways → choice.spared ≡ false) }
     ensures ends { EndsChoosing (fed F.Feed first.old first.new)
         (fed G.Feed second.old second.new ∷ fed H.Feed third.old third.new ∷ []) passes result }
 {
-    let choice = choose::<A, P, F, G>(passes, area, first, second)?;
-    choice.with_parents(third)
+    let mut taking = InArea::<A, P>::new(passes.alloc, area);
+    let begun = begin(passes, first, &mut taking)?;
+    let digest = begun.digest;
+    let again = LaterPass {
+        number: 2,
+        digest,
+        passes,
+    };
+    let spared = taking.phase.has_all_ways();
+    let (mut ways, found) = taking.end_all()?;
+    again.gather_rest(second, &mut ways, spared)?;
+    let mut relations = ways.end_ways()?.with_found(found);
+    let more = LaterPass { number: 3, ..again };
+    more.gather_rest(third, &mut relations, spared)?;
+    let chosen = relations.end_relations()?.into_chosen();
+    Ok(Choice {
+        chosen,
+        header: begun.header,
+        next: LaterPass { number: 4, ..again },
+        spared,
+    })
 }
 
 /// The extract of an area, in which `P` is the first phase.
@@ -208,8 +199,7 @@ pub(crate) fn cut<
     hasher: S,
 ) -> Result<InputReceipt, Halt>
     ensures extracts { Extracts (ways_in (A.area area)) (fed F.Feed first.old first.new)
-        (fed G.Feed second.old second.new)
-        (fed H.Feed third.old third.new ∷ [])
+        (fed G.Feed second.old second.new ∷ []) (fed H.Feed third.old third.new ∷ [])
         (drained D.Drain drain.old drain.new) passes.check result }
     ensures spared { IfOk result (λ receipt. IsNever P.has_ways → receipt.spared ≡ false) }
 {
@@ -220,7 +210,7 @@ pub(crate) fn cut<
 /// The same with all parents.
 pub(crate) fn cut_parents<
     A: Area + Copy,
-    P: NodeTaker + Drop,
+    P: RelationTaker + Drop,
     F: Feed,
     G: Feed,
     H: Feed,
@@ -238,8 +228,8 @@ pub(crate) fn cut_parents<
     hasher: S,
 ) -> Result<InputReceipt, Halt>
     ensures extracts { Extracts (parents_in (A.area area)) (fed F.Feed first.old first.new)
-        (fed G.Feed second.old second.new)
-        (fed H.Feed third.old third.new ∷ fed I.Feed fourth.old fourth.new ∷ [])
+        (fed G.Feed second.old second.new ∷ fed H.Feed third.old third.new ∷ [])
+        (fed I.Feed fourth.old fourth.new ∷ [])
         (drained D.Drain drain.old drain.new) passes.check result }
     ensures spared { IfOk result (λ receipt. IsNever P.has_ways → receipt.spared ≡ false) }
 {
@@ -311,8 +301,7 @@ pub fn extract_with_receipt<F: Feed, G: Feed, H: Feed, D: Drain, S: BuildHasher 
     // Each feed gave a file, of the digest `input` by the check, to its end. If they are the same, the drain took exactly its complete-ways
     // extract. However it ends: what is refused, why it stops, what went out by then, and that the devices are kept.
     ensures extracts { Extracts (ways_in (box_area area)) (fed F.Feed first.old first.new)
-        (fed G.Feed second.old second.new)
-        (fed H.Feed third.old third.new ∷ [])
+        (fed G.Feed second.old second.new ∷ []) (fed H.Feed third.old third.new ∷ [])
         (drained D.Drain drain.old drain.new) check.Sha256 result }
     // Each feed was read.
     ensures spared { IfOk result (λ receipt. receipt.spared ≡ false) }
@@ -398,8 +387,8 @@ pub fn extract_parents_with_receipt<
     // Each feed gave a file, of the digest `input` by the check, to its end. If they are the same, the drain took exactly its complete-ways
     // extract with all parents. However it ends: what is refused, why it stops, what went out by then, and that the devices are kept.
     ensures extracts { Extracts (parents_in (box_area area)) (fed F.Feed first.old first.new)
-        (fed G.Feed second.old second.new)
-        (fed H.Feed third.old third.new ∷ fed I.Feed fourth.old fourth.new ∷ [])
+        (fed G.Feed second.old second.new ∷ fed H.Feed third.old third.new ∷ [])
+        (fed I.Feed fourth.old fourth.new ∷ [])
         (drained D.Drain drain.old drain.new) check.Sha256 result }
     // Each feed was read.
     ensures spared { IfOk result (λ receipt. receipt.spared ≡ false) }

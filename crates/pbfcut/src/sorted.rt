@@ -13,7 +13,7 @@ ghost use Rattle.pbfcut.specs.Receipts.{Extracts, parents_in, ways_in};
 
 use crate::extracting::{cut, cut_parents};
 use osm_area::Area;
-use osm_ways::FirstPhase;
+use osm_ways::{FirstPhase, SortedPhase};
 use pbf_block::Counts;
 use pbf_frame::{Drain, Feed, Stop};
 use pbf_pass::{Halt, InputReceipt, PassCheck, Passes};
@@ -88,15 +88,15 @@ pub fn extract_sorted_with_receipt<
     // drain took exactly its complete-ways extract. However it ends: what is refused, why it stops, what went out by then, and
     // that the devices are kept.
     ensures { Extracts (ways_in (A.area area)) (fed F.Feed first.old first.new)
-        (fed G.Feed second.old second.new)
-        (fed H.Feed third.old third.new ∷ [])
+        (fed G.Feed second.old second.new ∷ []) (fed H.Feed third.old third.new ∷ [])
         (drained D.Drain drain.old drain.new) passes.check result }
 {
     cut::<A, FirstPhase, F, G, H, D, S>(passes, first, second, third, area, drain, hasher)
 }
 
-/// Like [`extract_parents_with_receipt`](crate::extract_parents_with_receipt), in three passes if no node of the file comes after a
-/// way, as [`extract_sorted`] saves one.
+/// Like [`extract_parents_with_receipt`](crate::extract_parents_with_receipt), in two passes if no node of the file comes after a way, and
+/// neither after a relation: then the first gives ways and relations too, and nothing is read of the second feed and the third. For any
+/// other file there are four passes, as there.
 pub fn extract_parents_sorted_with_receipt<
     A: Area + Copy,
     F: Feed,
@@ -115,15 +115,15 @@ pub fn extract_parents_sorted_with_receipt<
     drain: &mut D,
     hasher: S,
 ) -> Result<InputReceipt, Halt>
-    // Each feed gave a file, of the digest `input` by the check, to its end, unless the second was spared. If they are the same, the
+    // Each feed gave a file, of the digest `input` by the check, to its end, unless the second and the third were spared. If they are the same, the
     // drain took exactly its complete-ways extract with all parents. However it ends: what is refused, why it stops, what went out by then, and
     // that the devices are kept.
     ensures { Extracts (parents_in (A.area area)) (fed F.Feed first.old first.new)
-        (fed G.Feed second.old second.new)
-        (fed H.Feed third.old third.new ∷ fed I.Feed fourth.old fourth.new ∷ [])
+        (fed G.Feed second.old second.new ∷ fed H.Feed third.old third.new ∷ [])
+        (fed I.Feed fourth.old fourth.new ∷ [])
         (drained D.Drain drain.old drain.new) passes.check result }
 {
-    cut_parents::<A, FirstPhase, F, G, H, I, D, S>(
+    cut_parents::<A, SortedPhase, F, G, H, I, D, S>(
         passes, first, second, third, fourth, area, drain, hasher,
     )
 }

@@ -1,5 +1,5 @@
 -- What a call of the engine did, as events, once its devices are returned.
-use Rattle.std.proofs.Common.{◌≡◌, ◌⊎◌, inl, inr, ℕ, zero, suc, ◌+◌, ◌<◌, List, [], ◌∷◌, ◌++◌, length, map, Bool, true, false, Option, Result, Ok, Err, IfErr, OnOk, refl, ap, sym, subst, ◌∙◌, arith}
+use Rattle.std.proofs.Common.{◌≡◌, ◌⊎◌, inl, inr, ℕ, zero, suc, ◌+◌, ◌-◌, ◌<◌, List, [], ◌∷◌, ◌++◌, length, map, Bool, true, false, Option, Result, Ok, Err, IfErr, OnOk, refl, ap, sym, subst, ◌∙◌, arith}
 use Rattle.std.proofs.lemmas.List.{append-nil}
 use Rattle.std.specs.Option.{is_some}
 use Rattle.std.specs.Prelude.{IfSome}
@@ -55,21 +55,21 @@ module _ {F : Type 0} (f : feed.Ghosts F) where
       let rest = close_rest news c.0 m c.2 in
       (reading f now c.1.0.0 ∷ rest.0, and_then l c.0 m (read (reading f now c.1.0.0) ∷ []) (reads rest.0) c.1.0.1 rest.1, ap (λ n. suc n) rest.2)
 
-  close_next : (known : List ℕ → Type 0) (may : Bool) (first : List ℕ) (old now : F) (file : List ℕ) (l m : Option (List Event)) → IsFresh f old → Closes f now l m → GivesOrNot f known may first old now file
+  close_next : (known : List ℕ → Type 0) (may : ℕ) (first : List ℕ) (old now : F) (file : List ℕ) (l m : Option (List Event)) → IsFresh f old → Closes f now l m → GivesOrNot f known may first old now file
       → (r : Reading) × (m ≡ then_one l (read r)) × IsWholeOrSpared known may first r file
   close_next known may first old now file l m h8 h9 h10 = grind arith
 
-  close_later : (known : List ℕ → Type 0) (may : Bool) (first : List ℕ) (olds news : List F) (files : List (List ℕ)) (l m : Option (List Event)) → AreFresh f olds → CloseAll f news l m → GiveLater f known may first olds news files
+  close_later : (known : List ℕ → Type 0) (may : ℕ) (first : List ℕ) (olds news : List F) (files : List (List ℕ)) (l m : Option (List Event)) → AreFresh f olds → CloseAll f news l m → GiveLater f known may first olds news files
       → (rs : List Reading) × (m ≡ then_all l (reads rs)) × ReadLater known may first rs files × (length rs ≡ length news)
   close_later known may first [] [] [] l m fresh c g = ([], c ∙ then_none l, tt, refl)
   close_later known may first (old ∷ olds) (now ∷ news) (b ∷ bs) l m fresh c g =
       let one = close_next known may first old now b l c.0 fresh.0 c.1 g.0 in
-      let rest = close_later known false first olds news bs c.0 m fresh.1 c.2 g.1 in
+      let rest = close_later known (may - 1) first olds news bs c.0 m fresh.1 c.2 g.1 in
       (one.0 ∷ rest.0, and_then l c.0 m (read one.0 ∷ []) (reads rest.0) one.1 rest.1, (one.2, rest.2), ap (λ n. suc n) rest.3)
   close_later known may first _ _ _ l m fresh c g = absurd g
 
   -- each gave its file
-  pub close_given : (known : List ℕ → Type 0) (may : Bool) (olds news : List F) (files : List (List ℕ)) (l m : Option (List Event)) → AreFresh f olds → CloseAll f news l m → GiveAll f known may olds news files
+  pub close_given : (known : List ℕ → Type 0) (may : ℕ) (olds news : List F) (files : List (List ℕ)) (l m : Option (List Event)) → AreFresh f olds → CloseAll f news l m → GiveAll f known may olds news files
       → (rs : List Reading) × (m ≡ then_all l (reads rs)) × ReadAll known may rs files × (length rs ≡ length news)
   close_given known may (old ∷ olds) (now ∷ news) (b ∷ bs) l m fresh c g =
       let one = c.1.1 b g.0.passed in

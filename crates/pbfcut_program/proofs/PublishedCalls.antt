@@ -1,5 +1,5 @@
 -- What pbfcutz's calls report of what went through their devices.
-use Rattle.std.proofs.Common.{arith, ◌≡◌, inl, ℕ, List, [], ◌∷◌, Bool, true, false, Option, Some, Result, Ok, Err, IfOk, IfErr, refl}
+use Rattle.std.proofs.Common.{arith, ◌≡◌, inl, ℕ, ◌<◌, List, [], ◌∷◌, Bool, true, false, Option, Some, Result, Ok, Err, IfOk, IfErr, refl}
 use Rattle.osm_area.specs.Area.{AreaSpec}
 use Rattle.pbf_frame.specs.declared.device.Feed as feed
 use Rattle.pbf_frame.specs.declared.device.Drain as drain
@@ -36,9 +36,9 @@ record Gave {F : Type 0} (f : feed.Ghosts F) (known : List ℕ → Type 0) (now 
   holding : holds (unpacked file)
 
 -- the same of a later one, which may have been spared
-record GaveAfter {F : Type 0} (f : feed.Ghosts F) (known : List ℕ → Type 0) (first : List ℕ) (old now : F) (holds : List ℕ → Type 0) : Type 0 where
+record GaveAfter {F : Type 0} (f : feed.Ghosts F) (known : List ℕ → Type 0) (may : ℕ) (first : List ℕ) (old now : F) (holds : List ℕ → Type 0) : Type 0 where
   file : List ℕ
-  gives : GivesOrNot f known true first old now file
+  gives : GivesOrNot f known may first old now file
   holding : holds (unpacked file)
 
 module _ {F : Type 0} (f : feed.Ghosts F) (packs digests : Bool) (by : PassCheck) (input r : List ℕ) (raw : Option (List ℕ)) (is : raw ≡ Some r) where
@@ -50,8 +50,8 @@ module _ {F : Type 0} (f : feed.Ghosts F) (packs digests : Bool) (by : PassCheck
   gave : {old now : F} {holds : List ℕ → Type 0} → f.has_passed old 0 [] → GavePublished f old now (mark_by by input) (mark_by (raw_check by) r) holds → Gave f Known now holds
   gave {holds = holds} start g = grind (arith, (g.logged 0 start).packed, (g.logged 0 start).digest_is)
 
-  gave_after : {old now : F} {first : List ℕ} {holds : List ℕ → Type 0} → f.has_passed old 0 [] → GaveOrNone f old now (mark_by by input) (mark_by (raw_check by) r) (unpacked first) holds → GaveAfter f Known first old now holds
-  gave_after h0 h1 = grind (arith, gave)
+  gave_after : (may : ℕ) → 0 < may → {old now : F} {first : List ℕ} {holds : List ℕ → Type 0} → f.has_passed old 0 [] → GaveOrNone f old now (mark_by by input) (mark_by (raw_check by) r) (unpacked first) holds → GaveAfter f Known may first old now holds
+  gave_after may some h0 h1 = grind (arith, gave)
 
 -- ---- one pass
 
@@ -109,11 +109,11 @@ module _ {F D : Type 0} (f : feed.Ghosts F) (d : drain.Ghosts D) (out out_now : 
 
   -- three passes
   pub extract_published : (area : AreaSpec) (one one_now two two_now three three_now : F) (outcome : Result PublishedInput PublishedHalt) (result : Result Report Halted) → AreFresh f (one ∷ two ∷ three ∷ [])
-      → ExtractsPublished (ways_in area) (fed f one one_now) (fed f two two_now) (fed f three three_now ∷ []) (drained d out out_now) by outcome → ReportsPublished outcome result
+      → ExtractsPublished (ways_in area) (fed f one one_now) (fed f two two_now ∷ []) (fed f three three_now ∷ []) (drained d out out_now) by outcome → ReportsPublished outcome result
       → Works (manner Pbfcutz false digests) by f (extracting area) (one ∷ two ∷ three ∷ []) (one_now ∷ two_now ∷ three_now ∷ []) (d.has_taken out_now log) (WriteFailed d out out_now) result
   extract_published area one one_now two two_now three three_now (Ok receipt) (Ok report) fresh extracts r =
       let first = gave f false digests by receipt.input receipt.raw report.raw r.2 fresh.0.0 extracts.receipt in
-      let again = gave_after f false digests by receipt.input receipt.raw report.raw r.2 fresh.1.0.0 first.holding.1 in
+      let again = gave_after f false digests by receipt.input receipt.raw report.raw r.2 1 (omega arith) fresh.1.0.0 first.holding.1 in
       let last = gave f false digests by receipt.input receipt.raw report.raw r.2 fresh.1.1.0.0 again.holding in
       let took = last.holding in
       rw (r.0, r.1) record {
@@ -129,18 +129,18 @@ module _ {F D : Type 0} (f : feed.Ghosts F) (d : drain.Ghosts D) (out out_now : 
 
   -- four passes
   pub extract_parents_published : (area : AreaSpec) (one one_now two two_now three three_now four four_now : F) (outcome : Result PublishedInput PublishedHalt) (result : Result Report Halted) → AreFresh f (one ∷ two ∷ three ∷ four ∷ [])
-      → ExtractsPublished (parents_in area) (fed f one one_now) (fed f two two_now) (fed f three three_now ∷ fed f four four_now ∷ []) (drained d out out_now) by outcome → ReportsPublished outcome result
+      → ExtractsPublished (parents_in area) (fed f one one_now) (fed f two two_now ∷ fed f three three_now ∷ []) (fed f four four_now ∷ []) (drained d out out_now) by outcome → ReportsPublished outcome result
       → Works (manner Pbfcutz false digests) by f (extracting_parents area) (one ∷ two ∷ three ∷ four ∷ []) (one_now ∷ two_now ∷ three_now ∷ four_now ∷ []) (d.has_taken out_now log) (WriteFailed d out out_now) result
   extract_parents_published area one one_now two two_now three three_now four four_now (Ok receipt) (Ok report) fresh extracts r =
       let first = gave f false digests by receipt.input receipt.raw report.raw r.2 fresh.0.0 extracts.receipt in
-      let again = gave_after f false digests by receipt.input receipt.raw report.raw r.2 fresh.1.0.0 first.holding.1 in
-      let third = gave f false digests by receipt.input receipt.raw report.raw r.2 fresh.1.1.0.0 again.holding in
+      let again = gave_after f false digests by receipt.input receipt.raw report.raw r.2 2 (omega arith) fresh.1.0.0 first.holding.1 in
+      let third = gave_after f false digests by receipt.input receipt.raw report.raw r.2 1 (omega arith) fresh.1.1.0.0 again.holding in
       let last = gave f false digests by receipt.input receipt.raw report.raw r.2 fresh.1.1.1.0.0 third.holding in
       let took = last.holding in
       rw (r.0, r.1) record {
         files = first.file ∷ again.file ∷ third.file ∷ last.file ∷ [];
         written = took.written;
-        gave = (first.gives, (again.gives, (inl third.gives, (inl last.gives, tt))));
+        gave = (first.gives, (again.gives, (third.gives, (inl last.gives, tt))));
         took_them = took.added.logged log [] start;
         holds = (first.holding.0, took.holding);
       }

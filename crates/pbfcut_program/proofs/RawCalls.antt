@@ -1,5 +1,5 @@
 -- What pbfcut's calls report of what went through their devices.
-use Rattle.std.proofs.Common.{◌≡◌, ◌⊎◌, inl, inr, ℕ, suc, ◌+◌, arith, map, length, List, [], ◌∷◌, Bool, true, false, Option, Some, None, Result, Ok, Err, IfOk, refl, sym, subst}
+use Rattle.std.proofs.Common.{◌≡◌, ◌⊎◌, inl, inr, ℕ, ◌<◌, suc, ◌+◌, arith, map, length, List, [], ◌∷◌, Bool, true, false, Option, Some, None, Result, Ok, Err, IfOk, refl, sym, subst}
 use Rattle.osm_area.specs.Area.{AreaSpec}
 use Rattle.pbf_frame.specs.declared.device.Feed as feed
 use Rattle.pbf_frame.specs.declared.device.Drain as drain
@@ -161,18 +161,18 @@ module _ {F D : Type 0} (f : feed.Ghosts F) (d : drain.Ghosts D) (out out_now : 
       → Works (manner Pbfcut false digests) by f copying (one ∷ two ∷ []) (one_now ∷ two_now ∷ []) (d.has_taken out_now log) (WriteFailed d out out_now) result
   copy_works = two_works copying (λ receipt b. CountsFile (judged_file (Some b)) receipt.counts) (λ receipt b c w. w ≡ c) (λ receipt b c w p q. (p, q))
 
-  -- the second pass, which may have been spared
-  later_of : (digest : Mark) {first : List ℕ} {holds : List ℕ → Type 0} (known : List ℕ → Type 0) → ((file : List ℕ) → IsDigestOf digest file → known file) → (spared : Bool) (old now : F) → f.has_passed old 0 [] → GaveOrNot (fed f old now) spared digest first holds
-      → (file : List ℕ) × GivesOrNot f known true first old now file × holds file
-  later_of digest known h2 spared old now h6 h7 = grind (arith, gives_file)
+  -- a pass that may have been spared
+  later_of : (may : ℕ) → 0 < may → (digest : Mark) {first : List ℕ} {holds : List ℕ → Type 0} (known : List ℕ → Type 0) → ((file : List ℕ) → IsDigestOf digest file → known file) → (spared : Bool) (old now : F) → f.has_passed old 0 [] → GaveOrNot (fed f old now) spared digest first holds
+      → (file : List ℕ) × GivesOrNot f known may first old now file × holds file
+  later_of may some digest known h2 spared old now h6 h7 = grind (arith, gives_file)
 
   -- three passes
   pub extract_works : (area : AreaSpec) (one one_now two two_now three three_now : F) (outcome : Result InputReceipt Halt) (result : Result Report Halted) → AreFresh f (one ∷ two ∷ three ∷ [])
-      → Extracts (ways_in area) (fed f one one_now) (fed f two two_now) (fed f three three_now ∷ []) (drained d out out_now) by outcome → ReportsRaw outcome result
+      → Extracts (ways_in area) (fed f one one_now) (fed f two two_now ∷ []) (fed f three three_now ∷ []) (drained d out out_now) by outcome → ReportsRaw outcome result
       → Works (manner Pbfcut false digests) by f (extracting area) (one ∷ two ∷ three ∷ []) (one_now ∷ two_now ∷ three_now ∷ []) (d.has_taken out_now log) (WriteFailed d out out_now) result
   extract_works area one one_now two two_now three three_now (Ok receipt) (Ok report) fresh extracts r =
       let known = Known receipt.input report.raw in let is = known_of receipt.input report.raw r.2 in
-      let again = later_of (mark_by by receipt.input) known is receipt.spared two two_now fresh.1.0.0 extracts.receipt.holding.1 in let last = again.2 in let took = last.holding in
+      let again = later_of 1 (omega arith) (mark_by by receipt.input) known is receipt.spared two two_now fresh.1.0.0 extracts.receipt.holding.1 in let last = again.2 in let took = last.holding in
       rw (r.0, r.1) record {
         files = extracts.receipt.file ∷ again.0 ∷ last.file ∷ [];
         written = took.written;
@@ -186,15 +186,17 @@ module _ {F D : Type 0} (f : feed.Ghosts F) (d : drain.Ghosts D) (out out_now : 
 
   -- four passes
   pub extract_parents_works : (area : AreaSpec) (one one_now two two_now three three_now four four_now : F) (outcome : Result InputReceipt Halt) (result : Result Report Halted) → AreFresh f (one ∷ two ∷ three ∷ four ∷ [])
-      → Extracts (parents_in area) (fed f one one_now) (fed f two two_now) (fed f three three_now ∷ fed f four four_now ∷ []) (drained d out out_now) by outcome → ReportsRaw outcome result
+      → Extracts (parents_in area) (fed f one one_now) (fed f two two_now ∷ fed f three three_now ∷ []) (fed f four four_now ∷ []) (drained d out out_now) by outcome → ReportsRaw outcome result
       → Works (manner Pbfcut false digests) by f (extracting_parents area) (one ∷ two ∷ three ∷ four ∷ []) (one_now ∷ two_now ∷ three_now ∷ four_now ∷ []) (d.has_taken out_now log) (WriteFailed d out out_now) result
   extract_parents_works area one one_now two two_now three three_now four four_now (Ok receipt) (Ok report) fresh extracts r =
       let known = Known receipt.input report.raw in let is = known_of receipt.input report.raw r.2 in
-      let again = later_of (mark_by by receipt.input) known is receipt.spared two two_now fresh.1.0.0 extracts.receipt.holding.1 in let third = again.2 in let last = third.holding in let took = last.holding in
+      let again = later_of 2 (omega arith) (mark_by by receipt.input) known is receipt.spared two two_now fresh.1.0.0 extracts.receipt.holding.1 in
+      let third = later_of 1 (omega arith) (mark_by by receipt.input) known is receipt.spared three three_now fresh.1.1.0.0 again.2 in
+      let last = third.2 in let took = last.holding in
       rw (r.0, r.1) record {
-        files = extracts.receipt.file ∷ again.0 ∷ third.file ∷ last.file ∷ [];
+        files = extracts.receipt.file ∷ again.0 ∷ third.0 ∷ last.file ∷ [];
         written = took.written;
-        gave = (gives_file f known is fresh.0.0 extracts.receipt, (again.1, (inl (gives_file f known is fresh.1.1.0.0 third), (inl (gives_file f known is fresh.1.1.1.0.0 last), tt))));
+        gave = (gives_file f known is fresh.0.0 extracts.receipt, (again.1, (third.1, (inl (gives_file f known is fresh.1.1.1.0.0 last), tt))));
         took_them = took.added.logged log [] start;
         holds = (extracts.receipt.holding.0, took.holding);
       }

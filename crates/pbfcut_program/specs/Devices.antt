@@ -1,5 +1,5 @@
 -- What went through the devices of a command, before they are returned to the host.
-use Rattle.std.specs.Prelude.{◌≡◌, ◌⊎◌, ℕ, zero, suc, ◌+◌, List, [], ◌∷◌, length, map, Bool, true, false, Option, Some, None, Result, Ok, Err, IfSome, OnErr}
+use Rattle.std.specs.Prelude.{◌≡◌, ◌⊎◌, ℕ, zero, suc, ◌+◌, ◌-◌, ◌<◌, List, [], ◌∷◌, length, map, Bool, true, false, Option, Some, None, Result, Ok, Err, IfSome, OnErr}
 use Rattle.std.specs.Option.{is_some}
 use Rattle.pbf_frame.specs.declared.device.Feed as feed
 use Rattle.pbf_frame.specs.declared.device.Drain as drain
@@ -65,16 +65,16 @@ pub record Gives {F : Type 0} (f : feed.Ghosts F) (known : List ℕ → Type 0) 
   pub end : IsAtEnd (f.remaining now)
   pub is_known : known file
 
--- a later one did; or it was spared
-abbrev pub GivesOrNot : {F : Type 0} → feed.Ghosts F → (List ℕ → Type 0) → Bool → (first : List ℕ) → (old now : F) → List ℕ → Type 0
-GivesOrNot f known may first old now file = Gives f known now file ⊎ ((may ≡ true) × (now ≡ old) × (file ≡ first))
+-- a later one did; or it was spared, as so many of those that follow may be
+abbrev pub GivesOrNot : {F : Type 0} → feed.Ghosts F → (List ℕ → Type 0) → ℕ → (first : List ℕ) → (old now : F) → List ℕ → Type 0
+GivesOrNot f known may first old now file = Gives f known now file ⊎ ((0 < may) × (now ≡ old) × (file ≡ first))
 
-abbrev pub GiveLater : {F : Type 0} → feed.Ghosts F → (List ℕ → Type 0) → Bool → (first : List ℕ) → (olds news : List F) → List (List ℕ) → Type 0
+abbrev pub GiveLater : {F : Type 0} → feed.Ghosts F → (List ℕ → Type 0) → ℕ → (first : List ℕ) → (olds news : List F) → List (List ℕ) → Type 0
 GiveLater f known may first [] [] [] = Unit {0}
-GiveLater f known may first (old ∷ olds) (now ∷ news) (b ∷ bs) = GivesOrNot f known may first old now b × GiveLater f known false first olds news bs
+GiveLater f known may first (old ∷ olds) (now ∷ news) (b ∷ bs) = GivesOrNot f known may first old now b × GiveLater f known (may - 1) first olds news bs
 GiveLater f known may first _ _ _ = ⊥
 
-abbrev pub GiveAll : {F : Type 0} → feed.Ghosts F → (List ℕ → Type 0) → Bool → (olds news : List F) → List (List ℕ) → Type 0
+abbrev pub GiveAll : {F : Type 0} → feed.Ghosts F → (List ℕ → Type 0) → ℕ → (olds news : List F) → List (List ℕ) → Type 0
 GiveAll f known may (old ∷ olds) (now ∷ news) (b ∷ bs) = Gives f known now b × GiveLater f known may b olds news bs
 GiveAll f known may _ _ _ = ⊥
 

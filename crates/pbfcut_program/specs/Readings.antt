@@ -1,5 +1,5 @@
 -- What the passes of a command read, and what that was.
-use Rattle.std.specs.Prelude.{◌≡◌, ◌⊎◌, ℕ, List, [], ◌∷◌, ◌++◌, map, Bool, true, false, Option, Some}
+use Rattle.std.specs.Prelude.{◌≡◌, ◌⊎◌, ℕ, ◌-◌, ◌<◌, List, [], ◌∷◌, ◌++◌, map, Bool, true, false, Option, Some}
 use Rattle.pbf_block.specs.declared.counts.Counts.{Counts}
 use Rattle.pbf_frame.specs.Devices.{IsAtEnd}
 use Rattle.pbf_frame.specs.Verdict.{Verdict}
@@ -16,17 +16,17 @@ pub record IsWhole (known : List ℕ → Type 0) (r : Reading) (file : List ℕ)
   pub end : IsAtEnd r.left
   pub is_known : known file
 
--- a later one did; or it was spared, and counts as one that read the first file
-abbrev pub IsWholeOrSpared : (List ℕ → Type 0) → Bool → (first : List ℕ) → Reading → List ℕ → Type 0
-IsWholeOrSpared known may first r file = IsWhole known r file ⊎ ((may ≡ true) × (r.bytes ≡ []) × (file ≡ first))
+-- a later one did; or it was spared, as so many of those that follow may be, and counts as one that read the first file
+abbrev pub IsWholeOrSpared : (List ℕ → Type 0) → ℕ → (first : List ℕ) → Reading → List ℕ → Type 0
+IsWholeOrSpared known may first r file = IsWhole known r file ⊎ ((0 < may) × (r.bytes ≡ []) × (file ≡ first))
 
-abbrev pub ReadLater : (List ℕ → Type 0) → Bool → (first : List ℕ) → List Reading → List (List ℕ) → Type 0
+abbrev pub ReadLater : (List ℕ → Type 0) → ℕ → (first : List ℕ) → List Reading → List (List ℕ) → Type 0
 ReadLater known may first [] [] = Unit {0}
-ReadLater known may first (r ∷ rs) (b ∷ bs) = IsWholeOrSpared known may first r b × ReadLater known false first rs bs
+ReadLater known may first (r ∷ rs) (b ∷ bs) = IsWholeOrSpared known may first r b × ReadLater known (may - 1) first rs bs
 ReadLater known may first _ _ = ⊥
 
--- each pass read its file; only the second may be spared
-abbrev pub ReadAll : (List ℕ → Type 0) → Bool → List Reading → List (List ℕ) → Type 0
+-- each pass read its file; only so many after the first may be spared
+abbrev pub ReadAll : (List ℕ → Type 0) → ℕ → List Reading → List (List ℕ) → Type 0
 ReadAll known may (r ∷ rs) (b ∷ bs) = IsWhole known r b × ReadLater known may b rs bs
 ReadAll known may _ _ = ⊥
 

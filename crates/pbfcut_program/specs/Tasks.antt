@@ -36,11 +36,11 @@ passes_of copying = 2
 passes_of (extracting area) = 3
 passes_of (extracting_parents area) = 4
 
--- nothing may have been read in the second pass, if the first was enough
-abbrev pub spares : Task → Bool
-spares (extracting area) = true
-spares (extracting_parents area) = true
-spares _ = false
+-- in so many passes after the first nothing may have been read, if the first was enough
+abbrev pub spares : Task → ℕ
+spares (extracting area) = 1
+spares (extracting_parents area) = 2
+spares _ = 0
 
 -- the verdict by which the first file is refused
 abbrev pub judge_of : Task → Option (List ℕ) → Option Verdict

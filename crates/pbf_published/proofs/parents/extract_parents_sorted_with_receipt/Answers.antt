@@ -14,8 +14,10 @@ returns g c =
         published_or_none c.args.passes.check g.G.Feed c.args.second.now _ _ _ _ c.in_ok-receipt.receipt.spared holds.1 _ c.open-two.ensures.remaining c.open-two.ensures.opened (closed_below g.G.Feed c.close-two.result.1.now _ _ _ _ (search rules) c.close-two.ensures.closed) digest c.in_ok-compare_unless_spared.ensures.same
             (λ e. same_by c.close-two.result.1.now _ _ (search rules) (ap (λ r. r.now) c.close-two.ensures.feed ∙ ap (λ u. u.feed.feed.feed.now) e ∙ ap (λ r. r.now) c.open-two.ensures.below))
             _ (λ e rest.
-            published_of g.H.Feed c.args.third.now _ rest c.args.passes.check _ c.open-three.ensures.remaining c.open-three.ensures.opened (closed_below g.H.Feed c.close-three.result.1.now _ _ _ _ (search rules) c.close-three.ensures.closed) digest c.in_ok-compare.ensures.same _ (λ d rest.
-            published_of g.I.Feed c.args.fourth.now _ rest c.args.passes.check _ c.open-four.ensures.remaining c.open-four.ensures.opened (closed_below g.I.Feed c.close-four.result.1.now _ _ _ _ (search rules) c.close-four.ensures.closed) digest c.in_ok-compare-2.ensures.same _ (λ e took. took))),
+            published_or_none c.args.passes.check g.H.Feed c.args.third.now _ _ _ _ c.in_ok-receipt.receipt.spared rest _ c.open-three.ensures.remaining c.open-three.ensures.opened (closed_below g.H.Feed c.close-three.result.1.now _ _ _ _ (search rules) c.close-three.ensures.closed) digest c.in_ok-compare_unless_spared-2.ensures.same
+            (λ e. same_by c.close-three.result.1.now _ _ (search rules) (ap (λ r. r.now) c.close-three.ensures.feed ∙ ap (λ u. u.feed.feed.feed.now) e ∙ ap (λ r. r.now) c.open-three.ensures.below))
+            _ (λ d rest.
+            published_of g.I.Feed c.args.fourth.now _ rest c.args.passes.check _ c.open-four.ensures.remaining c.open-four.ensures.opened (closed_below g.I.Feed c.close-four.result.1.now _ _ _ _ (search rules) c.close-four.ensures.closed) digest c.in_ok-compare.ensures.same _ (λ e took. took))),
       )));
       stops = tt;
       beginning = tt;
@@ -58,14 +60,17 @@ returns-in_err-compare_unless_spared g c =
     let from_first = outcome_receipt _ _ c.extract_parents_sorted_with_receipt-outcome.ensures.receipt _ _ c.in_ok-receipt.was _ c.published_outcome-outcome.ensures in
     rw p.1 (record { receipt = tt; stops = changed_stop _ _ _ _ _ _ 2 p.2 c.in_err-compare_unless_spared.ensures.stops.0 (inr (inl (refl, second_differs c.args.passes.check _ _ c.in_ok-receipt.receipt.spared from_first.holding.1 c.in_err-compare_unless_spared.ensures.stops.1 (digest_told g.F.Feed c.args.first.now c.close-one.result.1.now from_first c.args.passes.check _ c.open-one.ensures.remaining c.open-one.ensures.opened c.close-one.ensures.closed) c.in_ok-input.ensures.there (λ given. digest_told g.G.Feed c.args.second.now c.close-two.result.1.now given c.args.passes.check _ c.open-two.ensures.remaining c.open-two.ensures.opened c.close-two.ensures.closed) c.in_err-compare_unless_spared.ensures.stops.2))); beginning = search rules })
 
+pub returns-in_err-compare_unless_spared-2 : goal.returns-in_err-compare_unless_spared-2
+returns-in_err-compare_unless_spared-2 g c =
+    let p = err_from_is_err_and c.from_residual-in_err-compare_unless_spared-2.result c.from_residual-in_err-compare_unless_spared-2.ensures.1 in
+    let from_first = outcome_receipt _ _ c.extract_parents_sorted_with_receipt-outcome.ensures.receipt _ _ c.in_ok-receipt.was _ c.published_outcome-outcome.ensures in
+    let third = (rest_of _ _ _ _ c.in_ok-receipt.receipt.spared from_first.holding.1).1 in
+    rw p.1 (record { receipt = tt; stops = changed_stop _ _ _ _ _ _ 3 p.2 c.in_err-compare_unless_spared-2.ensures.stops.0 (inr (inr (inl (refl, second_differs c.args.passes.check _ _ c.in_ok-receipt.receipt.spared third c.in_err-compare_unless_spared-2.ensures.stops.1 (digest_told g.F.Feed c.args.first.now c.close-one.result.1.now from_first c.args.passes.check _ c.open-one.ensures.remaining c.open-one.ensures.opened c.close-one.ensures.closed) c.in_ok-input.ensures.there (λ given. digest_told g.H.Feed c.args.third.now c.close-three.result.1.now given c.args.passes.check _ c.open-three.ensures.remaining c.open-three.ensures.opened c.close-three.ensures.closed) c.in_err-compare_unless_spared-2.ensures.stops.2)))); beginning = search rules })
+
 pub returns-in_err-compare : goal.returns-in_err-compare
 returns-in_err-compare g c =
     let p = err_from_is_err_and c.from_residual-in_err-compare.result c.from_residual-in_err-compare.ensures.1 in
     let from_first = outcome_receipt _ _ c.extract_parents_sorted_with_receipt-outcome.ensures.receipt _ _ c.in_ok-receipt.was _ c.published_outcome-outcome.ensures in
-    rw p.1 (record { receipt = tt; stops = changed_stop _ _ _ _ _ _ 3 p.2 c.in_err-compare.ensures.stops.0 (inr (inr (inl (refl, later_differ c.args.passes.check _ _ _ _ _ (digest_told g.F.Feed c.args.first.now c.close-one.result.1.now from_first c.args.passes.check _ c.open-one.ensures.remaining c.open-one.ensures.opened c.close-one.ensures.closed) c.in_ok-input.ensures.there (digest_told g.H.Feed c.args.third.now c.close-three.result.1.now (rest_of _ _ _ _ c.in_ok-receipt.receipt.spared from_first.holding.1).1 c.args.passes.check _ c.open-three.ensures.remaining c.open-three.ensures.opened c.close-three.ensures.closed) c.in_err-compare.ensures.stops.1)))); beginning = search rules })
-
-pub returns-in_err-compare-2 : goal.returns-in_err-compare-2
-returns-in_err-compare-2 g c =
-    let p = err_from_is_err_and c.from_residual-in_err-compare-2.result c.from_residual-in_err-compare-2.ensures.1 in
-    let from_first = outcome_receipt _ _ c.extract_parents_sorted_with_receipt-outcome.ensures.receipt _ _ c.in_ok-receipt.was _ c.published_outcome-outcome.ensures in
-    rw p.1 (record { receipt = tt; stops = changed_stop _ _ _ _ _ _ 4 p.2 c.in_err-compare-2.ensures.stops.0 (inr (inr (inr (inl (refl, later_differ c.args.passes.check _ _ _ _ _ (digest_told g.F.Feed c.args.first.now c.close-one.result.1.now from_first c.args.passes.check _ c.open-one.ensures.remaining c.open-one.ensures.opened c.close-one.ensures.closed) c.in_ok-input.ensures.there (digest_told g.I.Feed c.args.fourth.now c.close-four.result.1.now (rest_of _ _ _ _ c.in_ok-receipt.receipt.spared from_first.holding.1).1.holding c.args.passes.check _ c.open-four.ensures.remaining c.open-four.ensures.opened c.close-four.ensures.closed) c.in_err-compare-2.ensures.stops.1))))); beginning = search rules })
+    let third = (rest_of _ _ _ _ c.in_ok-receipt.receipt.spared from_first.holding.1).1 in
+    let fourth = (rest_of _ _ _ _ c.in_ok-receipt.receipt.spared third).1 in
+    rw p.1 (record { receipt = tt; stops = changed_stop _ _ _ _ _ _ 4 p.2 c.in_err-compare.ensures.stops.0 (inr (inr (inr (inl (refl, later_differ c.args.passes.check _ _ _ _ _ (digest_told g.F.Feed c.args.first.now c.close-one.result.1.now from_first c.args.passes.check _ c.open-one.ensures.remaining c.open-one.ensures.opened c.close-one.ensures.closed) c.in_ok-input.ensures.there (digest_told g.I.Feed c.args.fourth.now c.close-four.result.1.now fourth c.args.passes.check _ c.open-four.ensures.remaining c.open-four.ensures.opened c.close-four.ensures.closed) c.in_err-compare.ensures.stops.1))))); beginning = search rules })

@@ -1,4 +1,4 @@
-use Rattle.std.proofs.Common.{[], false}
+use Rattle.std.proofs.Common.{[], ◌∷◌, false}
 use Rattle.pbfcut.specs.Calls.{drained, fed}
 use Rattle.pbfcut.specs.Theorem.{IsConverted}
 use Rattle.pbfcut.proofs.ConvertingLemmas.{can_told}
@@ -14,12 +14,12 @@ returns-clause-judged g c =
 pub returns-clause-promise : goal.returns-clause-promise
 returns-clause-promise g c b supply =
     let counts = c.in_ok-convert_with_receipt.field-0.counts in
-    took_weaker g.D.Drain _ _ _ _ (λ written both. both.0) (took_of (fed g.F.Feed c.args.first.now c.convert_with_receipt.new.first) (fed g.G.Feed c.args.second.now c.convert_with_receipt.new.second) [] (drained g.D.Drain c.args.drain.now c.convert_with_receipt.new.drain) _ false (λ file written. IsConverted file counts written) b c.in_ok-convert_with_receipt.ensures.receipt supply)
+    took_weaker g.D.Drain _ _ _ _ (λ written both. both.0) (took_of (fed g.F.Feed c.args.first.now c.convert_with_receipt.new.first) [] (fed g.G.Feed c.args.second.now c.convert_with_receipt.new.second ∷ []) (drained g.D.Drain c.args.drain.now c.convert_with_receipt.new.drain) _ false (λ file written. IsConverted file counts written) b c.in_ok-convert_with_receipt.ensures.receipt supply.0 tt supply.1)
 
 pub returns-clause-canonical : goal.returns-clause-canonical
 returns-clause-canonical g c b supply =
     let counts = c.in_ok-convert_with_receipt.field-0.counts in
-    took_weaker g.D.Drain _ _ _ _ (λ written both. both.1) (took_of (fed g.F.Feed c.args.first.now c.convert_with_receipt.new.first) (fed g.G.Feed c.args.second.now c.convert_with_receipt.new.second) [] (drained g.D.Drain c.args.drain.now c.convert_with_receipt.new.drain) _ false (λ file written. IsConverted file counts written) b c.in_ok-convert_with_receipt.ensures.receipt supply)
+    took_weaker g.D.Drain _ _ _ _ (λ written both. both.1) (took_of (fed g.F.Feed c.args.first.now c.convert_with_receipt.new.first) [] (fed g.G.Feed c.args.second.now c.convert_with_receipt.new.second ∷ []) (drained g.D.Drain c.args.drain.now c.convert_with_receipt.new.drain) _ false (λ file written. IsConverted file counts written) b c.in_ok-convert_with_receipt.ensures.receipt supply.0 tt supply.1)
 
 pub returns-clause-digests : goal.returns-clause-digests
 returns-clause-digests g c =

@@ -40,5 +40,5 @@ returns-clause-chosen g c =
       file = one.file;
       supplied = one.supplied;
       digest_is = one.digest_is;
-      holding = chooses P.start P.step P.has_ways P.ended c.new-taking.ensures.takes (fed g.G.Feed c.args.second.now c.gather_rest.new.feed) _ (g.A.Area.area c.args.area) one.file _ _ _ _ _ _ _ c.has_all_ways-spared.result (ap g.A.Area.area c.new-taking.ensures.area) one.holding c.new-taking.ensures.start c.has_all_ways-spared.ensures c.in_ok-ways.ensures c.in_ok-gather_rest.ensures.gathered c.in_ok-chosen.ensures;
+      holding = chooses P.start P.step P.has_ways P.ended c.new-taking.ensures.takes (fed g.G.Feed c.args.second.now c.gather_rest.new.feed) _ (g.A.Area.area c.args.area) one.file _ _ _ _ _ _ _ (ap g.A.Area.area c.new-taking.ensures.area) one.holding c.new-taking.ensures.start c.in_ok-ways.ensures c.in_ok-chosen.ensures c.has_all_ways-spared.result c.has_all_ways-spared.ensures c.in_ok-gather_rest.ensures.gathered;
     }

@@ -42,14 +42,15 @@ returns-clause-extracts g c =
     let h = header_of choice.header in
     let judged = λ (l : List ℕ). judged_file (Some l) in
     let said : (frames : List FrameSpec) × Says (judged_file (Some one.file)) (frames, None) =
-    gave_or_not second _ choice.spared one.file _ _ (λ file three. (three.holding.chosen.chosen.frames, three.holding.chosen.chosen.judged)) one.holding in
+    gave_or_not second _ choice.spared one.file _ _ (λ file three. gave_or_not third _ choice.spared one.file _ _ (λ more chosen. (chosen.chosen.chosen.frames, chosen.chosen.chosen.judged)) three) one.holding in
     record {
       receipt = parents_receipt first second fourth out area c.args.passes choice.next is.1 _ _ _ c.write.result c.write.ensures third one;
       ends = writing_ends first _ _ one said.0 said.1 (second ∷ third ∷ []) fourth choice.next is.0 (ap (λ (p : Passes). mark_by p.check choice.next.digest) is.1) out choice.chosen h choice.spared c.write.result c.write.ensures c.args.passes.check c.in_ok-choice.ensures.ends.feeds;
       beginning = on_err_weaker c.write.result (λ front b supply.
           let tells = tells_file g.F.Feed _ _ _ _ one in
           let three = told_or_not second _ choice.spared _ one.file b _ tells supply.0 supply.1.0 one.holding in
-          front b supply.1.1.1.0 (selects_parents choice.chosen area b _ _ _ h (ap judged (tells b supply.0)) refl (ap judged (tells_file g.H.Feed _ _ _ _ three b supply.1.1.0)) three.holding.chosen)) (wrote_front fourth out (all_parents area) (λ meant. extract_with_parents (seen_decoded area) meant) (all_parents_select area) area choice.next choice.chosen h _ c.write.result c.write.ensures);
+          let chosen = told_or_not third _ choice.spared _ one.file b _ tells supply.0 supply.1.1.0 three in
+          front b supply.1.1.1.0 (selects_parents choice.chosen area b _ _ _ h (ap judged (tells b supply.0)) refl refl chosen.chosen)) (wrote_front fourth out (all_parents area) (λ meant. extract_with_parents (seen_decoded area) meant) (all_parents_select area) area choice.next choice.chosen h _ c.write.result c.write.ensures);
     }
 
 pub returns-clause-spared : goal.returns-clause-spared
