@@ -104,7 +104,7 @@ pub record Shows (m : Manner) (dates : Bool) (input : List ℕ) (events : List E
   pub raw : Option (List ℕ)
   pub happened : events ≡ openings input 1 has ++ draws m.program key ++ screened true ∷ map read rs ++ wrote out ∷ []
   pub passes : length has ≡ 2
-  pub whole : out.out ≡ true
+  pub whole : out.fault ≡ None
   pub work : IsWork (to_raw m) (check_of m key) (showing dates) rs out.bytes counts digest raw
 
 -- what went out are the lines of the frames of the raw file that IN means, as far as the host reports what it has
@@ -117,7 +117,7 @@ pub record Lists (is_text : Option (List ℕ) → List ℕ → Type 0) (input : 
   pub first : Reading
   pub out : Writing
   pub happened : events ≡ opened input 1 has ∷ screened true ∷ read first ∷ wrote out ∷ []
-  pub whole : out.out ≡ true
+  pub whole : out.fault ≡ None
   pub lines : is_text has out.bytes
 
 -- OUT is standard output, of pbfcutz
@@ -159,7 +159,7 @@ pub record WritesCounts (m : Manner) (task : Task) (files : Files) (counts : Cou
       ++ wrote out ∷ prints (screen_of (is_screen m.program files.output.now))
       (counts_text counts ∷ done_lines known meaning digest raw files.input.now files.output.now)
   pub passes : length has ≡ passes_of task
-  pub whole : out.out ≡ true
+  pub whole : out.fault ≡ None
   pub hashed : known ≡ digest_if_asked m.digests out.bytes
   pub meaning_hashed : meaning ≡ digest_if_asked (hashes_meaning (output_form m.packs m.program) m.digests) (of_output m out.bytes)
   pub work : IsWork m (check_of m key) task rs out.bytes counts digest raw
