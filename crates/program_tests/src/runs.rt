@@ -151,7 +151,7 @@ fn an_out_made_meanwhile(rt: HostRuntime) -> Result<(), Fail> {
     Ok(())
 }
 
-/// Nobody reads the text of `show` any more: nothing is told.
+/// Nobody reads the text of `show` any more.
 #[test]
 fn a_text_that_nobody_reads(rt: HostRuntime) -> Result<(), Fail> {
     let mut host = Recorder::new(&rt, &NODES, 4_096);
