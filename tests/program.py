@@ -562,12 +562,17 @@ def texts_that_nobody_reads(bench: Bench):
     for name, content in [("short", THREE_DENSE), ("long", EMPTY_HEADER + DENSE_FRAME * 20_000)]:
         with open(os.path.join(folder, name), "wb") as file:
             file.write(content)
+    texts = [["show", "short"], ["show", "long"], ["blobs", "short"], ["blobs", "long"], ["check", "short"], ["--help"]]
     for name, more in [("pbfcut", []), ("pbfcutz", [["info", "short"]])]:
         program = shutil.copy(bench.program, os.path.join(folder, name))
-        for words in [["show", "short"], ["show", "long"], ["blobs", "short"], ["blobs", "long"], *more]:
+        for words in texts + more:
             for begun in [False, True] if words[-1] == "long" else [False]:
                 bench.count += 1
                 compare(f"{name} {words} that nobody reads", (141, b""), cut_off([program, *words], folder, begun))
+    bench.count += 1
+    compare("counts that nobody reads", (141, b""), cut_off([bench.program, "convert", "short", "out"], folder, False))
+    with open(os.path.join(folder, "out"), "rb") as file:
+        compare("OUT then", PLAIN_HEADER + DENSE_FRAME, file.read())
 
 
 def pipes(bench: Bench):

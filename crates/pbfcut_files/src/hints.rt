@@ -189,8 +189,6 @@ fn of_read(rt: &HostRuntime, asked: Asked<'_>) -> Option<String> {
 /// What to do about a write that failed.
 fn of_write(asked: Asked<'_>, failed: FailedWrite) -> Option<&'static str> {
     match (failed.target, failed.code) {
-        // A listing that ends early, as by `head`, needs no next step.
-        (Target::StandardOutput, BROKEN_PIPE) if asked.output.is_none() => None,
         (Target::StandardOutput, BROKEN_PIPE) => {
             Some("the program that read standard output has ended")
         }

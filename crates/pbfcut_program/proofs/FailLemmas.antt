@@ -9,7 +9,7 @@ use Rattle.pbfcut_cli.specs.declared.endings.Ending.{Ending}
 use Rattle.pbfcut_cli.specs.declared.endings.Ending.TheVariants as ending
 use Rattle.pbfcut_cli.specs.declared.programs.Program.{Program}
 use Rattle.pbfcut_program.specs.Events.{Event, then_all}
-use Rattle.pbfcut_program.specs.Fails.{CauseOfOpening, Each, EndsAsStop, Fails, FailsFor, FailsOpening, FailsPrinting, FailsToFinish, FailsToWrite, Has, IsChangedBy, IsRefusedBy, Judging, Opens, Quiet, Stops, TookNothing, UnlessPacked, readings}
+use Rattle.pbfcut_program.specs.Fails.{CauseOfOpening, Each, EndsAsStop, Fails, FailsAsClosed, FailsFor, FailsOpening, FailsPrinting, FailsToFinish, FailsToWrite, Has, IsChangedBy, IsRefusedBy, Judging, Opens, Quiet, Stops, TookNothing, UnlessPacked, readings}
 use Rattle.pbfcut_program.specs.Manner.{Form, Manner}
 use Rattle.pbfcut_program.specs.declared.engine.Halted.{Halted}
 use Rattle.pbfcut_program.specs.declared.host.FinishFault.{FinishFault}
@@ -67,10 +67,13 @@ file_stops m j has finishing.Failed events h = finish_writes m j has finishing.F
 file_stops m j has finishing.Exists events h = inr h
 file_stops m j has finishing.Closed events h = finish_writes m j has finishing.Closed events (inr refl) h
 
+closed : (e : Event) → FailsToFinish finishing.Closed e → FailsAsClosed e
+closed e h = grind arith
+
 pub text_stops : (m : Manner) (j : Judging) (has : List (Option (List ℕ))) (fault : FinishFault) (events : List Event) → Has (FailsToFinish fault) events → Fails m j has (ending_of_text fault) events
 text_stops m j has finishing.Failed events h = finish_writes m j has finishing.Failed events (inl refl) h
 text_stops m j has finishing.Exists events h = inr h
-text_stops m j has finishing.Closed events h = h
+text_stops m j has finishing.Closed events h = has_weaker (FailsToFinish finishing.Closed) FailsAsClosed closed events h
 
 -- before IN was opened
 pub fails_early : (m : Manner) (j : Judging) (how : Ending) (events : List Event) → Fails m j [] how events → FailsFor m j how events

@@ -4,6 +4,7 @@ use Rattle.std.specs.Option.{option_map}
 use Rattle.pbfcut_program.specs.declared.host.CreateFault.{CreateFault}
 use Rattle.pbfcut_program.specs.declared.host.FinishFault.{FinishFault}
 use Rattle.pbfcut_program.specs.declared.host.OpenFault.{OpenFault}
+use Rattle.pbfcut_program.specs.declared.host.PrintFault.{PrintFault}
 use Rattle.pbfcut_program.specs.declared.host.Screen.{Screen}
 
 -- a pass is over: these bytes were read of IN; what was left of it, if the host reports it; and how many reads failed
@@ -37,8 +38,8 @@ pub data Event : Type 0 where
   screened : (there : Bool) → Event
   read : Reading → Event
   wrote : Writing → Event
-  -- this went to a screen, or only a part of it
-  printed : Screen → (text : List ℕ) → (whole : Bool) → Event
+  -- this went to a screen, or only a part of it, for this
+  printed : Screen → (text : List ℕ) → Option PrintFault → Event
   -- this was to go to standard error
   told : (text : List ℕ) → Event
   -- on a terminal a line may say what to do next

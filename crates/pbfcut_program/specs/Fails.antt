@@ -17,6 +17,7 @@ use Rattle.pbfcut_program.specs.declared.host.CreateFault.TheVariants as creatin
 use Rattle.pbfcut_program.specs.declared.host.FinishFault.{FinishFault}
 use Rattle.pbfcut_program.specs.declared.host.FinishFault.TheVariants as finishing
 use Rattle.pbfcut_program.specs.declared.host.OpenFault.TheVariants as opening
+use Rattle.pbfcut_program.specs.declared.host.PrintFault.TheVariants as line
 use Rattle.pbfcut_program.specs.Events.{Event, Reading, text_read, text_not_read, looked, opened, not_opened, seeded, not_created, read, wrote, printed}
 use Rattle.pbfcut_program.specs.Manner.{Form, Manner, input_form, meant_known, output_form, packed_file, raw_file}
 use Rattle.pbfcut_program.specs.Readings.{IsFaulty, IsOther}
@@ -75,8 +76,14 @@ FailsToFinish fault _ = ⊥
 
 abbrev pub FailsToWrite : Event → Type 0
 FailsToWrite (wrote w) = (0 < w.failures) ⊎ ((w.fault ≡ Some finishing.Failed) ⊎ (w.fault ≡ Some finishing.Closed))
-FailsToWrite (printed screen text whole) = whole ≡ false
+FailsToWrite (printed screen text fault) = fault ≡ Some line.Failed
 FailsToWrite _ = ⊥
+
+-- nobody reads standard output any more
+abbrev pub FailsAsClosed : Event → Type 0
+FailsAsClosed (wrote w) = w.fault ≡ Some finishing.Closed
+FailsAsClosed (printed screen text fault) = fault ≡ Some line.Closed
+FailsAsClosed _ = ⊥
 
 -- what the passes read, in order
 abbrev pub readings : List Event → List Reading
@@ -137,7 +144,8 @@ FailsOpening how events = Each Quiet events × CauseOfOpening how events
 
 -- a line couldn't be printed
 abbrev pub FailsPrinting : Ending → List Event → Type 0
-FailsPrinting how events = ((how ≡ ending.Stopped stop.Write) × Has FailsToWrite events) ⊎ (how ≡ ending.Stopped stop.Memory)
+FailsPrinting how events = ((how ≡ ending.Stopped stop.Write) × Has FailsToWrite events)
+    ⊎ (((how ≡ ending.Closed) × Has FailsAsClosed events) ⊎ (how ≡ ending.Stopped stop.Memory))
 
 -- a drain that packs fails at bytes that are no raw file, too: so why it failed isn't said
 abbrev pub UnlessPacked : Form → Type 0 → Type 0
@@ -171,7 +179,7 @@ abbrev pub Fails : Manner → Judging → (has : List (Option (List ℕ))) → E
 Fails m j has ending.CannotOpen events = Has FailsToOpen events × Each TookNothing events
 Fails m j has ending.IsPipe events = Has FailsAsPipe events × Each TookNothing events
 Fails m j has ending.OutExists events = (Has FailsAsThere events × Each TookNothing events) ⊎ Has (FailsToFinish finishing.Exists) events
-Fails m j has ending.Closed events = Has (FailsToFinish finishing.Closed) events
+Fails m j has ending.Closed events = Has FailsAsClosed events
 Fails m j has (ending.Polygon fault) events = Has (FailsAsPolygon fault) events × Each TookNothing events
 Fails m j has how events = (s : Stop) × EndsAsStop m.program s how × Stops m j has events s
 

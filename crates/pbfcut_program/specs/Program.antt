@@ -69,7 +69,7 @@ digest_if_asked true written = Some (sha256 written)
 digest_if_asked false written = None
 
 abbrev pub prints : Screen → List (List ℕ) → List Event
-prints screen lines = map (λ line. printed screen line true) lines
+prints screen lines = map (λ line. printed screen line None) lines
 
 -- ---- what a command does that ends well
 
@@ -211,7 +211,7 @@ manner_in program command = manner program (packs_of command) (digests_of comman
 
 -- `info` reads as pbfcutz does
 abbrev pub Does : Manner → Command → List Event → Type 0
-Does m (Help text) events = events ≡ printed Output (string_bytes text) true ∷ []
+Does m (Help text) events = events ≡ printed Output (string_bytes text) None ∷ []
 Does m (Blobs input) events = Lists (IsListing m.program) input.now events
 Does m (Info input) events = Lists TellsInfo input.now events
 Does m (Show input dates progress) events = Shows m dates input.now events

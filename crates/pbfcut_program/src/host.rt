@@ -49,6 +49,15 @@ pub enum FinishFault {
     Closed,
 }
 
+/// Why a text isn't printed whole.
+#[derive(Clone, Copy, Debug, PartialEq, Eq)]
+pub enum PrintFault {
+    /// It can't be written.
+    Failed,
+    /// The screen is a pipe that nobody reads any more.
+    Closed,
+}
+
 /// It couldn't be done.
 #[derive(Clone, Copy, Debug, PartialEq, Eq)]
 pub struct NotDone;
@@ -165,8 +174,8 @@ pub trait Host {
             })) };
 
     /// Writes a text at once.
-    fn print(&mut self, screen: Screen, text: &[u8]) -> Result<(), NotDone>
-        ensures { log self.new ≡ then_one (log self.old) (printed screen text.now (is_ok result)) };
+    fn print(&mut self, screen: Screen, text: &[u8]) -> Result<(), PrintFault>
+        ensures { log self.new ≡ then_one (log self.old) (printed screen text.now (result_err result)) };
 
     /// Writes to standard error, if that can be done.
     fn tell(&mut self, text: &[u8])

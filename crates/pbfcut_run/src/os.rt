@@ -6,12 +6,12 @@ use crate::out::OutFile;
 use pbf_frame::FromRead;
 use pbfcut_cli::{Command, Ending, Program, Region};
 use pbfcut_files::{
-    Asked, FailedWrite, Identity, NotKept, Output, Place, Spoiled, Target, Watched, create_output,
-    is_long, is_taken, open_pass, open_screen, plain_file_at, plain_screen, read_polygon_text,
-    tell_box, tell_empty, tell_form, tell_hint, tell_left, tell_spoiled,
+    Asked, BROKEN_PIPE, FailedWrite, Identity, NotKept, Output, Place, Spoiled, Target, Watched,
+    create_output, is_long, is_taken, open_pass, open_screen, plain_file_at, plain_screen,
+    read_polygon_text, tell_box, tell_empty, tell_form, tell_hint, tell_left, tell_spoiled,
 };
 use pbfcut_program::{
-    CreateFault, FinishFault, Host, NotDone, OpenFault, Screen, Seed, TextFault, Turn,
+    CreateFault, FinishFault, Host, NotDone, OpenFault, PrintFault, Screen, Seed, TextFault, Turn,
 };
 use std::fs::File;
 use std::hash::{BuildHasher, RandomState};
@@ -183,7 +183,7 @@ impl Host for Os<'_> {
         }
     }
 
-    fn print(&mut self, screen: Screen, text: &[u8]) -> Result<(), NotDone> {
+    fn print(&mut self, screen: Screen, text: &[u8]) -> Result<(), PrintFault> {
         if screen == Screen::Error {
             // If it can't be written, OUT is there all the same.
             let _ = self.rt.stderr().write_all(text);
@@ -195,8 +195,12 @@ impl Host for Os<'_> {
             Err(error) => Err(error),
         };
         if let Err(error) = printed {
-            self.note(Target::StandardOutput, error.raw_os_error());
-            return Err(NotDone);
+            let code = error.raw_os_error();
+            self.note(Target::StandardOutput, code);
+            return Err(match code {
+                Some(BROKEN_PIPE) => PrintFault::Closed,
+                _ => PrintFault::Failed,
+            });
         }
         Ok(())
     }

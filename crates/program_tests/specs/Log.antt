@@ -17,6 +17,6 @@ event_of (happened.NotCreated path fault) = not_created path.items fault
 event_of (happened.Screened there) = screened there
 event_of (happened.Read bytes left failures) = read (record { bytes = bytes.items; left = Some left.items; failures = failures })
 event_of (happened.Wrote bytes failures fault) = wrote (record { bytes = bytes.items; reports = true; failures = failures; fault = fault })
-event_of (happened.Printed screen text whole) = printed screen text.items whole
+event_of (happened.Printed screen text fault) = printed screen text.items fault
 event_of (happened.Told text) = told text.items
 event_of happened.Advised = advised

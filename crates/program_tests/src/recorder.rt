@@ -9,7 +9,7 @@ use crate::happened::Happened;
 use crate::tape::{Reel, Tape};
 use pbfcut_cli::{Command, Ending, Region};
 use pbfcut_program::{
-    CreateFault, FinishFault, Host, NotDone, OpenFault, Screen, Seed, TextFault, Turn,
+    CreateFault, FinishFault, Host, NotDone, OpenFault, PrintFault, Screen, Seed, TextFault, Turn,
 };
 use std::hash::{BuildHasherDefault, FoldHasher};
 use std::process::Abort;
@@ -34,6 +34,8 @@ pub(crate) struct Recorder<'a, R> {
     pub(crate) unmade: Option<CreateFault>,
     /// Why not all of OUT goes out, if it doesn't.
     pub(crate) unfinished: Option<FinishFault>,
+    /// Why no text is printed whole, if none is.
+    pub(crate) unprinted: Option<PrintFault>,
     pub(crate) events: Vec<Happened>,
 }
 
@@ -52,6 +54,7 @@ impl<'a, R: Abort + AllocGlobal> Recorder<'a, R> {
             room,
             unmade: None,
             unfinished: None,
+            unprinted: None,
             events: Vec::new(rt.alloc()),
         }
     }
@@ -194,10 +197,14 @@ impl<'a, R: Abort + AllocGlobal> Host for Recorder<'a, R> {
         }
     }
 
-    fn print(&mut self, screen: Screen, text: &[u8]) -> Result<(), NotDone> {
+    fn print(&mut self, screen: Screen, text: &[u8]) -> Result<(), PrintFault> {
         let text = copy(self.rt, text);
-        self.record(Happened::Printed(screen, text, true));
-        Ok(())
+        let unprinted = self.unprinted;
+        self.record(Happened::Printed(screen, text, unprinted));
+        match unprinted {
+            Some(fault) => Err(fault),
+            None => Ok(()),
+        }
     }
 
     fn tell(&mut self, text: &[u8]) {

@@ -6,7 +6,7 @@ use crate::recorder::{File, KEY, Recorder, copy};
 use crate::show::THREE_LINES;
 use crate::words::owned;
 use pbfcut_cli::Program;
-use pbfcut_program::{CreateFault, FinishFault, Screen, run};
+use pbfcut_program::{CreateFault, FinishFault, PrintFault, Screen, run};
 use std::alloc::AllocError;
 use std::process::Abort;
 use std::test::Fail;
@@ -92,7 +92,7 @@ fn goes<R: Abort + AllocGlobal>(
 fn an_extract(rt: HostRuntime) -> Result<(), Fail> {
     let mut events = extracted(&rt, &EXTRACTED, 0)?;
     let counts = copy(&rt, b"nodes 2 ways 0 relations 0\n");
-    events.push(Happened::Printed(Screen::Output, counts, true))?;
+    events.push(Happened::Printed(Screen::Output, counts, None))?;
     assert!(rt; goes(&rt, &EXTRACT, &THREE_DENSE_NODES, 4_096, 0, &events)?);
     Ok(())
 }
@@ -167,5 +167,22 @@ fn a_text_that_nobody_reads(rt: HostRuntime) -> Result<(), Fail> {
     events.push(Happened::Told(copy(&rt, &[])))?;
     events.push(Happened::Advised)?;
     assert!(rt; ends(&rt, &mut host, &["show", "a"], 141, &events)?);
+    Ok(())
+}
+
+/// Nobody reads the counts of `check` any more.
+#[test]
+fn counts_that_nobody_reads(rt: HostRuntime) -> Result<(), Fail> {
+    let mut host = Recorder::new(&rt, &NODES, 4_096);
+    let closed = Some(PrintFault::Closed);
+    host.unprinted = closed;
+    let counts = copy(&rt, b"nodes 3 ways 0 relations 0\n");
+    let mut events = Vec::new(rt.alloc());
+    events.push(opened(&rt, 1, &THREE_DENSE_NODES))?;
+    events.push(read(&rt, &THREE_DENSE_NODES, &[]))?;
+    events.push(Happened::Printed(Screen::Output, counts, closed))?;
+    events.push(Happened::Told(copy(&rt, &[])))?;
+    events.push(Happened::Advised)?;
+    assert!(rt; ends(&rt, &mut host, &["check", "a"], 141, &events)?);
     Ok(())
 }
