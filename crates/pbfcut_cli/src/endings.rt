@@ -214,8 +214,8 @@ fn not_text(alloc: Global, program: &str) -> Result<String, AllocError>
 }
 
 impl Ending {
-    /// The exit status: 2 for a command line, a box or a polygon, 3 if a file can't be used, 141 if nobody reads standard output, and otherwise that of
-    /// the stop.
+    /// The exit status: 2 for a command line, a box or a polygon, 3 if a file can't be used, 141 if nobody reads standard output any
+    /// more, and otherwise that of the stop.
     pub fn status(&self) -> u8
         ensures { result ≡ ending_status self.now }
     {

@@ -32,7 +32,7 @@ pub enum TextFault {
 pub enum CreateFault {
     /// It can't be created.
     Failed,
-    /// A file has its name, which had none when it was looked for.
+    /// A file has OUT's name, though none had when it was looked for.
     Exists,
     /// A request for memory was refused.
     Memory,
