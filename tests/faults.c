@@ -10,6 +10,7 @@
      sync-E       from sync N on all fail, where E is EIO, ENOSPC, EDQUOT or EINVAL
      close-E      close N fails, when the file is closed
      link-E       each link fails, as on a file system that has none
+     made         new file N is there already, since another run has made it right before
      log          a letter for each call goes to FD: f and d for a sync of a file and of a folder, l, r and u for link, rename and unlink,
                   p for what is printed on standard output
      slow         each link, rename and unlink waits for up to N milliseconds, before and after it
@@ -18,6 +19,7 @@
 #define _GNU_SOURCE
 #include <errno.h>
 #include <fcntl.h>
+#include <stdarg.h>
 #include <stdio.h>
 #include <stdlib.h>
 #include <string.h>
@@ -34,8 +36,8 @@ void *__libc_realloc(void *, size_t);
 void *__libc_memalign(size_t, size_t);
 
 static char sort[32] = "";
-static unsigned long number, requests, reads, writes, syncs, closes;
-static int seen_file = -1, is_memory, is_from, is_short, is_slow, is_log, read_error, write_error, sync_error, close_error, link_error;
+static unsigned long number, requests, reads, writes, syncs, closes, news;
+static int seen_file = -1, is_memory, is_from, is_short, is_slow, is_log, is_made, read_error, write_error, sync_error, close_error, link_error;
 
 static int error_of(const char *name) {
   if (strcmp(name, "EIO") == 0) return EIO;
@@ -59,6 +61,7 @@ __attribute__((constructor)) static void begin(void) {
   is_short = strcmp(sort, "short") == 0;
   is_slow = strcmp(sort, "slow") == 0;
   is_log = strcmp(sort, "log") == 0;
+  is_made = strcmp(sort, "made") == 0;
   read_error = error_behind("read-");
   write_error = error_behind("write-");
   sync_error = error_behind("sync-");
@@ -146,6 +149,18 @@ ssize_t writev(int file, const struct iovec *parts, int count) {
   if (file != 2 && fails(write_error, &writes)) return -1;
   if (is_short && file != 2 && count > 0) return syscall(SYS_write, file, parts[0].iov_base, moved(parts[0].iov_len));
   return syscall(SYS_writev, file, parts, count);
+}
+
+int open(const char *path, int flags, ...) {
+  va_list rest;
+  va_start(rest, flags);
+  mode_t mode = flags & O_CREAT ? va_arg(rest, mode_t) : 0;
+  va_end(rest);
+  if (is_made && (flags & O_EXCL) && ++news == number) {
+    see();
+    syscall(SYS_close, syscall(SYS_openat, AT_FDCWD, path, O_WRONLY | O_CREAT, 0644));
+  }
+  return syscall(SYS_openat, AT_FDCWD, path, flags, mode);
 }
 
 int fsync(int file) {

@@ -115,13 +115,20 @@ def together(bench: Bench):
                 if overwrite and number % 2:
                     bench.write("out", OLD)
                 ended, out = started_together(bench, number, overwrite, fault)
-                # a run that looked before OUT had its name, and made its part after that, can't open it
-                lost = {(3, b"pbfcutz: OUT exists\n"), (3, b"pbfcutz: cannot open\n")}
+                lost = {(3, b"pbfcutz: OUT exists\n")}
                 well = ended.count((0, b""))
                 what = f"{number} runs at once, overwrite {overwrite}, {fault!r}: {ended}"
                 expect(what, number if overwrite else 1, well)
                 expect(what, True, set(ended[well:]) <= lost)
                 expect("OUT is whole", True, out in answers)
+
+
+def made_meanwhile(bench: Bench):
+    """OUT is not there when it is looked for, and there when it is to be made: it stays."""
+    if not bench.library:
+        return
+    expect("OUT that was made meanwhile", (3, "", "pbfcut: OUT exists\n"), bench.run(["extract", BOX, "raw", "out"], "pbfcut", "made 1 -1"))
+    expect("the file of another run", b"", bench.take("out"))
 
 
 def parts(bench: Bench):
@@ -398,7 +405,7 @@ def main():
         sys.exit(__doc__)
     with tempfile.TemporaryDirectory(prefix="pbfcut-keep-") as folder, tempfile.TemporaryDirectory() as elsewhere:
         bench = Bench(sys.argv[1], folder, elsewhere)
-        for part in [parts, together, synced, no_files, long_names, modes, of_others, mounted, sources, hints]:
+        for part in [parts, made_meanwhile, together, synced, no_files, long_names, modes, of_others, mounted, sources, hints]:
             part(bench)
             expect(f"what {part.__name__} leaves", set(), bench.left())
     print(f"tests/keep.py: {bench.count} runs ended as they have to")

@@ -540,6 +540,41 @@ def files_that_cannot_be(bench: Bench):
                most=100, status=3, stderr=told("write failed"), out=THREE_DENSE_CUT[:100])
 
 
+def cut_off(words: list, folder: str, begun: bool) -> tuple:
+    """Status and standard error of a run if the reader of its text has ended; or ends once it has begun."""
+    reading, writing = os.pipe()
+    if not begun:
+        os.close(reading)
+    process = subprocess.Popen(words, cwd=folder, stdin=subprocess.DEVNULL, stdout=writing, stderr=subprocess.PIPE)
+    os.close(writing)
+    if begun:
+        os.read(reading, 1)
+        os.close(reading)
+    errors = process.communicate(timeout=SECONDS)[1]
+    return process.returncode, errors
+
+
+def texts_that_nobody_reads(bench: Bench):
+    """The reader of a text ends before it, as `head` does: both programs say nothing, with the status that a shell has for SIGPIPE."""
+    folder = os.path.join(bench.folder, "unread")
+    os.mkdir(folder)
+    # the long texts don't fit into a buffer and a pipe
+    for name, content in [("short", THREE_DENSE), ("long", EMPTY_HEADER + DENSE_FRAME * 20_000)]:
+        with open(os.path.join(folder, name), "wb") as file:
+            file.write(content)
+    texts = [["show", "short"], ["show", "long"], ["blobs", "short"], ["blobs", "long"], ["check", "short"], ["--help"]]
+    for name, more in [("pbfcut", []), ("pbfcutz", [["info", "short"]])]:
+        program = shutil.copy(bench.program, os.path.join(folder, name))
+        for words in texts + more:
+            for begun in [False, True] if words[-1] == "long" else [False]:
+                bench.count += 1
+                compare(f"{name} {words} that nobody reads", (141, b""), cut_off([program, *words], folder, begun))
+    bench.count += 1
+    compare("counts that nobody reads", (141, b""), cut_off([bench.program, "convert", "short", "out"], folder, False))
+    with open(os.path.join(folder, "out"), "rb") as file:
+        compare("OUT then", PLAIN_HEADER + DENSE_FRAME, file.read())
+
+
 def pipes(bench: Bench):
     """A pipe gives its bytes once. A command that reads IN more often refuses one at once, though nothing ever writes to it."""
     bench.case("check of a pipe", ["check", "in"], fifo=(THREE_DENSE, 1), stdout=counted(3, 0, 0))
@@ -942,7 +977,7 @@ def main():
     folder = tempfile.mkdtemp(prefix="pbfcut-program-")
     try:
         bench = Bench(program, folder)
-        for part in [words_of_all_kinds, boxes, progress, digests, files_that_cannot_be, pipes, files_that_change, compressed_files_that_change, closed_descriptors,
+        for part in [words_of_all_kinds, boxes, progress, digests, files_that_cannot_be, texts_that_nobody_reads, pipes, files_that_change, compressed_files_that_change, closed_descriptors,
                      files_that_are_refused, files_that_are_accepted, extracts, conversions, sample, millions, twenty_million]:
             part(bench)
     except Difference as difference:

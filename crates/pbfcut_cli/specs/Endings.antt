@@ -97,6 +97,7 @@ ending_status (ending.Polygon f) = 2
 ending_status ending.CannotOpen = 3
 ending_status ending.IsPipe = 3
 ending_status ending.OutExists = 3
+ending_status ending.Closed = 141
 ending_status (ending.Stopped s) = status_of s
 ending_status (ending.RefusedPacked r) = 1
 
@@ -169,6 +170,7 @@ message_of program (ending.Polygon f) = polygon_text program (poly_place_text f.
 message_of program ending.CannotOpen = program ++ codes ": cannot open\n"
 message_of program ending.IsPipe = program ++ codes ": IN must be a file, not a pipe\n"
 message_of program ending.OutExists = program ++ codes ": OUT exists\n"
+message_of program ending.Closed = codes ""
 message_of program (ending.Stopped s) = ending_line program s ++ codes "\n"
 message_of program (ending.RefusedPacked r) = packed_text program r ++ codes "\n"
 

@@ -15,6 +15,9 @@ use pbf_frame::Stop;
 use pbf_wire::Reason;
 use std::alloc::{AllocError, Global};
 
+/// The exit status that a shell reports of a program that the system has ended since nobody reads its output: 128, and 13 for the signal.
+const CLOSED: u8 = 128 + 13;
+
 /// The exit status of a stop: 1 if the input is refused, 3 if a read or a write failed, 4 if memory was refused, 5 if the input
 /// changed.
 pub fn status(stop: &Stop) -> u8
@@ -119,6 +122,8 @@ pub enum Ending {
     IsPipe,
     /// OUT exists already.
     OutExists,
+    /// Nobody reads standard output any more, so there is nobody to be told.
+    Closed,
     /// The engine stopped; or `Memory`, if the program itself was refused memory.
     Stopped(Stop),
     /// A published file is refused.
@@ -209,7 +214,8 @@ fn not_text(alloc: Global, program: &str) -> Result<String, AllocError>
 }
 
 impl Ending {
-    /// The exit status: 2 for a command line, a box or a polygon, 3 if a file can't be used, and otherwise that of the stop.
+    /// The exit status: 2 for a command line, a box or a polygon, 3 if a file can't be used, 141 if nobody reads standard output any
+    /// more, and otherwise that of the stop.
     pub fn status(&self) -> u8
         ensures { result ≡ ending_status self.now }
     {
@@ -217,6 +223,7 @@ impl Ending {
             Ending::Words(_) | Ending::NotText | Ending::Box(_) => 2,
             Ending::Choice(_) | Ending::Polygon(_) => 2,
             Ending::CannotOpen | Ending::IsPipe | Ending::OutExists => 3,
+            Ending::Closed => CLOSED,
             Ending::Stopped(stop) => status(stop),
             Ending::RefusedPacked(_) => 1,
         }
@@ -241,6 +248,7 @@ impl Ending {
             Ending::CannotOpen => format!(in alloc; "{name}: cannot open\n"),
             Ending::IsPipe => format!(in alloc; "{name}: IN must be a file, not a pipe\n"),
             Ending::OutExists => format!(in alloc; "{name}: OUT exists\n"),
+            Ending::Closed => Ok(String::new(alloc)),
             Ending::Stopped(stop) => ended(alloc, line_by(alloc, name, stop)?.as_str()),
             Ending::RefusedPacked(refusal) => {
                 ended(alloc, packed_line(alloc, name, refusal)?.as_str())

@@ -40,7 +40,8 @@ macro_rules! after_arguments {
             $files,
             "\n  \
               4  out of memory\n  \
-              5  IN changed while it was read"
+              5  IN changed while it was read\n\
+            141  nobody reads standard output any more"
         )
     };
 }

@@ -2,6 +2,9 @@
 
 use std::io::{self, Write};
 
+/// The system's number for a pipe that nobody reads any more.
+pub const BROKEN_PIPE: i32 = 32;
+
 /// What is written to.
 #[derive(Clone, Copy, PartialEq, Eq)]
 pub enum Target {

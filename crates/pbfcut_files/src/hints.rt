@@ -4,7 +4,7 @@
 use crate::asked::{Asked, Existing, error_of, glance_at, what_exists};
 use crate::disk::folder_of;
 use crate::facts::{Refused, feature_of, refusal_of, tell_fact};
-use crate::failure::{FailedWrite, Target};
+use crate::failure::{BROKEN_PIPE, FailedWrite, Target};
 use crate::formats::{Form, form_of, osmium_target};
 use crate::polygon_text::is_no_file;
 use osm_box::BoxFault;
@@ -18,9 +18,6 @@ use std::io::{self, ErrorKind, IsTerminal};
 
 /// The system's number for a device or a disk that is full.
 const NO_SPACE: i32 = 28;
-
-/// The system's number for a pipe whose reader has ended.
-const BROKEN_PIPE: i32 = 32;
 
 fn text(rt: &HostRuntime, hint: &str) -> Option<String> {
     String::from_str(rt.alloc(), hint).ok()
@@ -192,8 +189,6 @@ fn of_read(rt: &HostRuntime, asked: Asked<'_>) -> Option<String> {
 /// What to do about a write that failed.
 fn of_write(asked: Asked<'_>, failed: FailedWrite) -> Option<&'static str> {
     match (failed.target, failed.code) {
-        // A listing that ends early, as by `head`, needs no next step.
-        (Target::StandardOutput, BROKEN_PIPE) if asked.output.is_none() => None,
         (Target::StandardOutput, BROKEN_PIPE) => {
             Some("the program that read standard output has ended")
         }

@@ -20,7 +20,7 @@ mod spoiled;
 
 pub use asked::Asked;
 pub use existing::{Identity, plain_file_at, plain_screen};
-pub use failure::{FailedWrite, Target};
+pub use failure::{BROKEN_PIPE, FailedWrite, Target};
 pub use files::{is_long, open_pass};
 pub use hints::{tell_box, tell_empty, tell_form, tell_hint};
 pub use left::tell_left;

@@ -4,7 +4,7 @@ ghost use Rattle.std.specs.Prelude.{◌≤◌, IfOk, length};
 
 use crate::disk::{open_folder, sync_file, sync_folder};
 use crate::existing::{is_plain, is_there};
-use crate::failure::{Noted, Target};
+use crate::failure::{BROKEN_PIPE, Noted, Target};
 use crate::part::{NEW_MODE, NotKept, Part, open_new, open_part};
 use crate::replaced::{is_protected, may_replace, take_over};
 use pbf_frame::Stop;
@@ -68,6 +68,15 @@ pub fn is_taken(rt: &HostRuntime, place: Place<'_>) -> bool {
     is_there(rt, place.path)
 }
 
+/// How a command ends that can't make OUT: there may be a file that was made since OUT was looked for.
+fn unmade(rt: &HostRuntime, place: Place<'_>) -> Ending {
+    if is_taken(rt, place) {
+        Ending::OutExists
+    } else {
+        Ending::CannotOpen
+    }
+}
+
 /// What is known of the plain file that OUT is to replace, if one is there; an ending, if OUT may not be made there.
 fn replaced_file(
     rt: &HostRuntime,
@@ -81,7 +90,7 @@ fn replaced_file(
         Ok(old) if place.overwrite && old.is_file() && may_replace(rt, place.path, folder) => {
             Ok(Some(old))
         }
-        Ok(_) => Err(Ending::CannotOpen),
+        Ok(_) => Err(unmade(rt, place)),
     }
 }
 
@@ -116,7 +125,7 @@ fn open_file(
     match place.program {
         Program::Pbfcut => match open_new(rt, place.path, NEW_MODE) {
             Ok(file) => Ok((file, None)),
-            Err(_) => Err(Ending::CannotOpen),
+            Err(_) => Err(unmade(rt, place)),
         },
         Program::Pbfcutz => {
             let (file, part) = open_beside(rt, place, folder)?;
@@ -182,6 +191,11 @@ impl Output {
             sync_file(file)?;
         }
         sync_folder(self.folder.as_ref())
+    }
+
+    /// Whether it is a pipe that nobody reads any more, so that a write to it failed.
+    pub fn is_closed(&self) -> bool {
+        self.code() == Some(BROKEN_PIPE)
     }
 
     /// What it is.

@@ -1,5 +1,5 @@
 -- What a call of the engine did, as events, once its devices are returned.
-use Rattle.std.proofs.Common.{◌≡◌, ◌⊎◌, inl, inr, ℕ, zero, suc, ◌+◌, ◌-◌, ◌<◌, List, [], ◌∷◌, ◌++◌, length, map, Bool, true, false, Option, Result, Ok, Err, IfErr, OnOk, refl, ap, sym, subst, ◌∙◌, arith}
+use Rattle.std.proofs.Common.{◌≡◌, ◌⊎◌, inl, inr, ℕ, zero, suc, ◌+◌, ◌-◌, ◌<◌, List, [], ◌∷◌, ◌++◌, length, map, Bool, false, Option, None, Some, Result, Ok, Err, IfErr, OnOk, refl, ap, sym, subst, ◌∙◌, arith}
 use Rattle.std.proofs.lemmas.List.{append-nil}
 use Rattle.std.specs.Option.{is_some}
 use Rattle.std.specs.Prelude.{IfSome}
@@ -18,6 +18,7 @@ use Rattle.pbfcut_cli.specs.declared.programs.Program.{Program}
 use Rattle.pbfcut_cli.specs.declared.programs.Program.TheVariants.{Pbfcut, Pbfcutz}
 use Rattle.pbfcut_program.specs.declared.engine.Report.{Report}
 use Rattle.pbfcut_program.specs.declared.engine.Halted.{Halted}
+use Rattle.pbfcut_program.specs.declared.host.FinishFault.{FinishFault}
 use Rattle.pbfcut.specs.Calls.{AllSupply, AnyFailed}
 use Rattle.pbfcut_program.specs.Devices.{AreFresh, ChangeIn, CloseAll, Closes, Finishes, Fronts, GiveAll, GiveLater, GivesOrNot, GivesOtherAt, IsAsked, IsFresh, IsFreshOut, StopsFor, Works, used}
 use Rattle.pbfcut_program.specs.Events.{Event, Reading, Writing, read, wrote, then_all, then_one}
@@ -29,7 +30,7 @@ use Rattle.pbfcut_program.specs.Readings.{IsOther, IsWholeOrSpared, IsWork, Read
 use Rattle.pbfcut_program.specs.Leaving.{Leaves, TookFront}
 use Rattle.pbfcut_program.specs.Tasks.{Task, answer_of, judge_of, spares}
 use Rattle.pbfcut_program.proofs.EventLemmas.{each_both, has_after, has_before, nothing_read, readings_both, readings_of}
-use Rattle.pbfcut_program.proofs.FailLemmas.{stop_fails, unless_packed, write_stops}
+use Rattle.pbfcut_program.proofs.FailLemmas.{stop_fails, text_stops, unless_packed}
 use Rattle.pbfcut_program.proofs.LeavingLemmas.{TakenFront, front_nothing, front_read, front_taken, taken_front}
 use Rattle.pbfcut_program.proofs.Logging.{and_then, then_none}
 
@@ -122,8 +123,8 @@ Ends took failed front m n =
 pub ends_with_none : (m : Option (List Event)) (took : List ℕ → Type 0) → Ends took ⊥ (λ answer. ⊥) m m
 ends_with_none m took = (([], then_none m, refl, (λ x. absurd x), λ answer x. tt), λ t. ([], then_none m, refl, tt))
 
-pub ends_with_out : {D : Type 0} (d : drain.Ghosts D) (out : D) (went : Bool) (took : List ℕ → Type 0) (failed : Type 0) (m n : Option (List Event)) → ((w : List ℕ) → took w → d.has_taken out 0 w) → (failed → 0 < d.failures out) → Finishes d out went m n → Ends took failed (TakenFront (d.taken out)) m n
-ends_with_out d out went took failed m n taken risen fin = grind (arith, front_taken, d.taken out, fin.1 [], taken [])
+pub ends_with_out : {D : Type 0} (d : drain.Ghosts D) (out : D) (fault : Option FinishFault) (took : List ℕ → Type 0) (failed : Type 0) (m n : Option (List Event)) → ((w : List ℕ) → took w → d.has_taken out 0 w) → (failed → 0 < d.failures out) → Finishes d out fault m n → Ends took failed (TakenFront (d.taken out)) m n
+ends_with_out d out fault took failed m n taken risen fin = grind (arith, front_taken, d.taken out, fin.1 [], taken [])
 
 -- ---- why it fails
 
@@ -227,28 +228,28 @@ work_fails program packs digests check f task took failed front l m n olds news 
 -- ---- what it does
 
 -- the same, and its drain too
-pub work_done : {F D : Type 0} (f : feed.Ghosts F) (d : drain.Ghosts D) (out : D) (went : Bool) (by : Manner) (check : PassCheck) (task : Task) (took : List ℕ → Type 0) (failed : Type 0) (l m n : Option (List Event)) (olds news : List F) (report : Report)
-    → AreFresh f olds → CloseAll f news l m → Finishes d out went m n → ((w : List ℕ) → took w → d.has_taken out 0 w) → Works by check f task olds news took failed (Ok report)
-    → (rs : List Reading) × (w : Writing) × (n ≡ then_all l (reads rs ++ wrote w ∷ [])) × (w.out ≡ went) × took w.bytes × IsWork by check task rs w.bytes report.counts report.input report.raw
-work_done f d out went by check task took failed l m n olds news report fresh c fin taken works =
+pub work_done : {F D : Type 0} (f : feed.Ghosts F) (d : drain.Ghosts D) (out : D) (fault : Option FinishFault) (by : Manner) (check : PassCheck) (task : Task) (took : List ℕ → Type 0) (failed : Type 0) (l m n : Option (List Event)) (olds news : List F) (report : Report)
+    → AreFresh f olds → CloseAll f news l m → Finishes d out fault m n → ((w : List ℕ) → took w → d.has_taken out 0 w) → Works by check f task olds news took failed (Ok report)
+    → (rs : List Reading) × (w : Writing) × (n ≡ then_all l (reads rs ++ wrote w ∷ [])) × (w.fault ≡ fault) × took w.bytes × IsWork by check task rs w.bytes report.counts report.input report.raw
+work_done f d out fault by check task took failed l m n olds news report fresh c fin taken works =
     let given = close_given f (AreDigests by check report.input report.raw) (spares task) olds news works.files l m fresh c works.gave in (
       given.0,
-      record { bytes = works.written; reports = is_some (d.taken out); failures = d.failures out; out = went },
-      and_then l m n (reads given.0) (wrote (record { bytes = works.written; reports = is_some (d.taken out); failures = d.failures out; out = went }) ∷ []) given.1 (fin.1 works.written (taken works.written works.took_them)),
+      record { bytes = works.written; reports = is_some (d.taken out); failures = d.failures out; fault = fault },
+      and_then l m n (reads given.0) (wrote (record { bytes = works.written; reports = is_some (d.taken out); failures = d.failures out; fault = fault }) ∷ []) given.1 (fin.1 works.written (taken works.written works.took_them)),
       refl,
       works.took_them,
       record { files = works.files; read = given.2; holds = works.holds },
     )
 
 -- a call ended well, but not all went out
-pub finish_fails : {F D : Type 0} (f : feed.Ghosts F) (d : drain.Ghosts D) (out : D) (went : Bool) (l m n : Option (List Event)) (news : List F) → CloseAll f news l m → Finishes d out went m n → went ≡ false
-    → (events : List Event) × (n ≡ then_all l events) × Has FailsToWrite events × ((answer : List ℕ) → TakenFront (d.taken out) answer → Each (TookFront answer) events)
-finish_fails f d out went l m n news c fin e =
+pub finish_fails : {F D : Type 0} (f : feed.Ghosts F) (d : drain.Ghosts D) (out : D) (fault : Option FinishFault) (l m n : Option (List Event)) (news : List F) → CloseAll f news l m → Finishes d out fault m n → (why : FinishFault) → fault ≡ Some why
+    → (events : List Event) × (n ≡ then_all l events) × Has (FailsToFinish why) events × ((answer : List ℕ) → TakenFront (d.taken out) answer → Each (TookFront answer) events)
+finish_fails f d out fault l m n news c fin why e =
     let rest = close_rest f news l m c in
-    let w : Writing = record { bytes = fin.0.0; reports = is_some (d.taken out); failures = d.failures out; out = went } in (
+    let w : Writing = record { bytes = fin.0.0; reports = is_some (d.taken out); failures = d.failures out; fault = fault } in (
       reads rest.0 ++ wrote w ∷ [],
       and_then l m n (reads rest.0) (wrote w ∷ []) rest.1 fin.0.2,
-      has_after _ (reads rest.0) _ (inl (inr e)),
+      has_after _ (reads rest.0) _ (inl e),
       λ answer x. each_both _ (reads rest.0) (wrote w ∷ []) (front_read answer rest.0) (front_taken answer fin.0.0 (d.taken out) fin.0.1 x, tt),
     )
 
@@ -259,11 +260,11 @@ pub work_read_once : {F : Type 0} (f : feed.Ghosts F) (by : Manner) (check : Pas
 work_read_once f by check task failed l m old now report fresh c works = grind arith
 
 -- what a call did, however it ended
-pub if_done : {F D : Type 0} (f : feed.Ghosts F) (d : drain.Ghosts D) (out : D) (went : Bool) (by : Manner) (check : PassCheck) (task : Task) (took : List ℕ → Type 0) (failed : Type 0) (l m n : Option (List Event)) (olds news : List F) (outcome : Result Report Halted)
-    → AreFresh f olds → CloseAll f news l m → Finishes d out went m n → ((w : List ℕ) → took w → d.has_taken out 0 w) → Works by check f task olds news took failed outcome
-    → OnOk outcome ((report : Report) × (rs : List Reading) × (w : Writing) × (n ≡ then_all l (reads rs ++ wrote w ∷ [])) × (w.out ≡ went) × IsWork by check task rs w.bytes report.counts report.input report.raw)
-if_done f d out went by check task took failed l m n olds news (Ok report) fresh c fin taken works = grind (arith, work_done f d out went by check task took failed l m n olds news report fresh c fin taken works)
-if_done f d out went by check task took failed l m n olds news (Err halted) fresh c fin taken works = tt
+pub if_done : {F D : Type 0} (f : feed.Ghosts F) (d : drain.Ghosts D) (out : D) (fault : Option FinishFault) (by : Manner) (check : PassCheck) (task : Task) (took : List ℕ → Type 0) (failed : Type 0) (l m n : Option (List Event)) (olds news : List F) (outcome : Result Report Halted)
+    → AreFresh f olds → CloseAll f news l m → Finishes d out fault m n → ((w : List ℕ) → took w → d.has_taken out 0 w) → Works by check f task olds news took failed outcome
+    → OnOk outcome ((report : Report) × (rs : List Reading) × (w : Writing) × (n ≡ then_all l (reads rs ++ wrote w ∷ [])) × (w.fault ≡ fault) × IsWork by check task rs w.bytes report.counts report.input report.raw)
+if_done f d out fault by check task took failed l m n olds news (Ok report) fresh c fin taken works = grind (arith, work_done f d out fault by check task took failed l m n olds news report fresh c fin taken works)
+if_done f d out fault by check task took failed l m n olds news (Err halted) fresh c fin taken works = tt
 
 -- a call stopped, and it and its devices left this
 pub stops_leaving : (m : Manner) (task : Task) (has : List (Option (List ℕ))) (before after : Option (List ℕ)) (events : List Event) → IfSome before (λ taken. taken ≡ [])
@@ -275,40 +276,36 @@ stops_leaving m task has before after events fresh fronts given = inl (unless_pa
 pub hashed_as : (digests : Bool) (known : Option (List ℕ)) (w : List ℕ) → IfSome known (λ digest. digest ≡ sha256 w) → IsAsked digests known → known ≡ digest_if_asked digests w
 hashed_as digests known w h3 h4 = grind arith
 
--- not all went out, or OUT didn't get its name
-pub keep_fails : (m : Manner) (j : Judging) (has : List (Option (List ℕ))) (how : Ending) (events : List Event) → ((how ≡ ending.Stopped stop.Write) ⊎ (how ≡ ending.OutExists)) → Has FailsToWrite events → Has FailsToFinish events → Fails m j has how events
-keep_fails m j has how events h5 h6 h7 = grind (arith, write_stops)
-
 -- ---- a text
 
 -- a call stopped whose text goes to standard output; or the rest of the text didn't go out
-pub text_fails : {F D A : Type 0} (program : Program) (digests : Bool) (check : PassCheck) (f : feed.Ghosts F) (d : drain.Ghosts D) (task : Task) (before out : D) (went : Bool) (l m n : Option (List Event)) (olds news : List F) (outcome : Result Report Halted) (result : Result A Ending)
-    → IsFreshOut d before → AreFresh f olds → CloseAll f news l m → Finishes d out went m n → Works (manner program false digests) check f task olds news (d.has_taken out 0) (WriteFailed d before out) outcome
-    → Fronts (input_form program) task (map f.remaining olds) (d.taken before) (d.taken out) outcome → EndsAs went outcome result
+pub text_fails : {F D A : Type 0} (program : Program) (digests : Bool) (check : PassCheck) (f : feed.Ghosts F) (d : drain.Ghosts D) (task : Task) (before out : D) (fault : Option FinishFault) (l m n : Option (List Event)) (olds news : List F) (outcome : Result Report Halted) (result : Result A Ending)
+    → IsFreshOut d before → AreFresh f olds → CloseAll f news l m → Finishes d out fault m n → Works (manner program false digests) check f task olds news (d.has_taken out 0) (WriteFailed d before out) outcome
+    → Fronts (input_form program) task (map f.remaining olds) (d.taken before) (d.taken out) outcome → EndsAs fault outcome result
     → IfErr result (λ how. (events : List Event) × (n ≡ then_all l events) × Fails (manner program false digests) (judging (judge_of task)) (map f.remaining olds) how events × Leaves (manner program false digests) task (map f.remaining olds) events)
-text_fails program digests check f d task before out true l m n olds news (Ok report) (Ok a) fresh begun c fin works front ends = tt
-text_fails program digests check f d task before out true l m n olds news (Ok report) (Err how) fresh begun c fin works front ends = absurd ends
-text_fails program digests check f d task before out true l m n olds news (Err halted) (Ok a) fresh begun c fin works front ends = absurd ends
-text_fails program digests check f d task before out true l m n olds news (Err halted) (Err how) fresh begun c fin works front ends =
+text_fails program digests check f d task before out None l m n olds news (Ok report) (Ok a) fresh begun c fin works front ends = tt
+text_fails program digests check f d task before out None l m n olds news (Ok report) (Err how) fresh begun c fin works front ends = absurd ends
+text_fails program digests check f d task before out None l m n olds news (Err halted) (Ok a) fresh begun c fin works front ends = absurd ends
+text_fails program digests check f d task before out None l m n olds news (Err halted) (Err how) fresh begun c fin works front ends =
     let by = manner program false digests in
     let has = map f.remaining olds in
-    let tail = ends_with_out d out true (d.has_taken out 0) (WriteFailed d before out) m n (λ w t. t) (λ risen. has_failed _ _ fresh.2 risen) fin in
+    let tail = ends_with_out d out None (d.has_taken out 0) (WriteFailed d before out) m n (λ w t. t) (λ risen. has_failed _ _ fresh.2 risen) fin in
     let fail = work_fails program false digests check f task (d.has_taken out 0) (WriteFailed d before out) (TakenFront (d.taken out)) l m n olds news halted tail begun c works in
     (fail.0, fail.1, subst (λ h. Fails by (judging (judge_of task)) has h fail.0) (sym ends) fail.2, stops_leaving by task has (d.taken before) (d.taken out) fail.0 fresh.1 fail.3 front)
-text_fails program digests check f d task before out false l m n olds news (Ok report) (Ok a) fresh begun c fin works front ends = absurd ends
-text_fails program digests check f d task before out false l m n olds news (Err halted) (Ok a) fresh begun c fin works front ends = absurd ends
-text_fails program digests check f d task before out false l m n olds news (Ok report) (Err how) fresh begun c fin works front ends =
+text_fails program digests check f d task before out (Some why) l m n olds news (Ok report) (Ok a) fresh begun c fin works front ends = absurd ends
+text_fails program digests check f d task before out (Some why) l m n olds news (Err halted) (Ok a) fresh begun c fin works front ends = absurd ends
+text_fails program digests check f d task before out (Some why) l m n olds news (Ok report) (Err how) fresh begun c fin works front ends =
     let by = manner program false digests in
     let has = map f.remaining olds in
-    let done = work_done f d out false by check task (d.has_taken out 0) (WriteFailed d before out) l m n olds news report begun c fin (λ w t. t) works in
+    let done = work_done f d out (Some why) by check task (d.has_taken out 0) (WriteFailed d before out) l m n olds news report begun c fin (λ w t. t) works in
     let events : List Event = reads done.0 ++ wrote done.1 ∷ [] in (
       events,
       done.2,
-      subst (λ h. Fails by (judging (judge_of task)) has h events) (sym ends) (write_stops by (judging (judge_of task)) has events (has_after _ (reads done.0) (wrote done.1 ∷ []) (inl (inr done.3)))),
+      subst (λ h. Fails by (judging (judge_of task)) has h events) (sym ends) (text_stops by (judging (judge_of task)) has why events (has_after _ (reads done.0) (wrote done.1 ∷ []) (inl done.3))),
       inr (record { before = []; rs = done.0; out = done.1; after = []; happened = refl; by = check; counts = report.counts; digest = report.input; raw = report.raw; work = done.5 }),
     )
-text_fails program digests check f d task before out false l m n olds news (Err halted) (Err how) fresh begun c fin works front ends =
+text_fails program digests check f d task before out (Some why) l m n olds news (Err halted) (Err how) fresh begun c fin works front ends =
     let by = manner program false digests in
     let has = map f.remaining olds in
-    let fail = finish_fails f d out false l m n news c fin refl in
-    (fail.0, fail.1, subst (λ h. Fails by (judging (judge_of task)) has h fail.0) (sym ends) (write_stops by (judging (judge_of task)) has fail.0 fail.2), stops_leaving by task has (d.taken before) (d.taken out) fail.0 fresh.1 fail.3 front)
+    let fail = finish_fails f d out (Some why) l m n news c fin why refl in
+    (fail.0, fail.1, subst (λ h. Fails by (judging (judge_of task)) has h fail.0) (sym ends) (text_stops by (judging (judge_of task)) has why fail.0 fail.2), stops_leaving by task has (d.taken before) (d.taken out) fail.0 fresh.1 fail.3 front)

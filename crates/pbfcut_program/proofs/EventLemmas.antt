@@ -13,6 +13,11 @@ has_before p [] ys h = absurd h
 has_before p (x ∷ xs) ys (inl h) = inl h
 has_before p (x ∷ xs) ys (inr h) = inr (has_before p xs ys h)
 
+pub has_weaker : (p q : Event → Type 0) → ((e : Event) → p e → q e) → (xs : List Event) → Has p xs → Has q xs
+has_weaker p q of [] h = absurd h
+has_weaker p q of (x ∷ xs) (inl h) = inl (of x h)
+has_weaker p q of (x ∷ xs) (inr h) = inr (has_weaker p q of xs h)
+
 pub each_both : (p : Event → Type 0) (xs ys : List Event) → Each p xs → Each p ys → Each p (xs ++ ys)
 each_both p [] ys h k = k
 each_both p (x ∷ xs) ys h k = (h.0, each_both p xs ys h.1 k)

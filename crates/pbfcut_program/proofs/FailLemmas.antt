@@ -1,5 +1,5 @@
 -- Why commands fail, put together.
-use Rattle.std.proofs.Common.{arith, ◌≡◌, ◌⊎◌, inl, inr, ℕ, ◌+◌, List, [], ◌∷◌, ◌++◌, Bool, true, false, refl, IfErr, OnOk, Option, Result, Ok, Err, sym, subst}
+use Rattle.std.proofs.Common.{arith, ◌≡◌, ◌⊎◌, inl, inr, ℕ, ◌+◌, List, [], ◌∷◌, ◌++◌, refl, IfErr, OnOk, Option, Some, None, Result, Ok, Err, sym, subst}
 use Rattle.pbf_frame.specs.Verdict.{Verdict}
 use Rattle.pbf_frame.specs.declared.stop.Stop.{Stop}
 use Rattle.pbf_frame.specs.declared.stop.Stop.TheVariants as stop
@@ -9,12 +9,14 @@ use Rattle.pbfcut_cli.specs.declared.endings.Ending.{Ending}
 use Rattle.pbfcut_cli.specs.declared.endings.Ending.TheVariants as ending
 use Rattle.pbfcut_cli.specs.declared.programs.Program.{Program}
 use Rattle.pbfcut_program.specs.Events.{Event, then_all}
-use Rattle.pbfcut_program.specs.Fails.{CauseOfOpening, Each, EndsAsStop, Fails, FailsFor, FailsOpening, FailsPrinting, FailsToWrite, Has, IsChangedBy, IsRefusedBy, Judging, Opens, Quiet, Stops, TookNothing, UnlessPacked, readings}
+use Rattle.pbfcut_program.specs.Fails.{CauseOfOpening, Each, EndsAsStop, Fails, FailsAsClosed, FailsFor, FailsOpening, FailsPrinting, FailsToFinish, FailsToWrite, Has, IsChangedBy, IsRefusedBy, Judging, Opens, Quiet, Stops, TookNothing, UnlessPacked, readings}
 use Rattle.pbfcut_program.specs.Manner.{Form, Manner}
 use Rattle.pbfcut_program.specs.declared.engine.Halted.{Halted}
-use Rattle.pbfcut_program.specs.Outcomes.{EndsAs}
+use Rattle.pbfcut_program.specs.declared.host.FinishFault.{FinishFault}
+use Rattle.pbfcut_program.specs.declared.host.FinishFault.TheVariants as finishing
+use Rattle.pbfcut_program.specs.Outcomes.{EndsAs, ending_of_file, ending_of_text}
 use Rattle.pbfcut_program.specs.Telling.{Tells, TellsQuietly}
-use Rattle.pbfcut_program.proofs.EventLemmas.{each_both, each_quiet, has_after, has_before, nothing_in, readings_after, readings_before, readings_of_quiet}
+use Rattle.pbfcut_program.proofs.EventLemmas.{each_both, each_quiet, has_after, has_before, has_weaker, nothing_in, readings_after, readings_before, readings_of_quiet}
 use Rattle.pbfcut_program.proofs.Logging.{and_then}
 
 -- ---- before IN is read
@@ -52,6 +54,26 @@ memory_fails m j has events = (stop.Memory, refl, memory_stops m j has events)
 
 pub write_stops : (m : Manner) (j : Judging) (has : List (Option (List ℕ))) (events : List Event) → Has FailsToWrite events → Fails m j has (ending.Stopped stop.Write) events
 write_stops m j has events h = (stop.Write, refl, write_caused m j has events h)
+
+-- not all of OUT went out
+fails_as_write : (fault : FinishFault) → ((fault ≡ finishing.Failed) ⊎ (fault ≡ finishing.Closed)) → (e : Event) → FailsToFinish fault e → FailsToWrite e
+fails_as_write fault is e h = grind arith
+
+finish_writes : (m : Manner) (j : Judging) (has : List (Option (List ℕ))) (fault : FinishFault) (events : List Event) → ((fault ≡ finishing.Failed) ⊎ (fault ≡ finishing.Closed)) → Has (FailsToFinish fault) events → Fails m j has (ending.Stopped stop.Write) events
+finish_writes m j has fault events is h = write_stops m j has events (has_weaker (FailsToFinish fault) FailsToWrite (fails_as_write fault is) events h)
+
+pub file_stops : (m : Manner) (j : Judging) (has : List (Option (List ℕ))) (fault : FinishFault) (events : List Event) → Has (FailsToFinish fault) events → Fails m j has (ending_of_file fault) events
+file_stops m j has finishing.Failed events h = finish_writes m j has finishing.Failed events (inl refl) h
+file_stops m j has finishing.Exists events h = inr h
+file_stops m j has finishing.Closed events h = finish_writes m j has finishing.Closed events (inr refl) h
+
+closed : (e : Event) → FailsToFinish finishing.Closed e → FailsAsClosed e
+closed e h = grind arith
+
+pub text_stops : (m : Manner) (j : Judging) (has : List (Option (List ℕ))) (fault : FinishFault) (events : List Event) → Has (FailsToFinish fault) events → Fails m j has (ending_of_text fault) events
+text_stops m j has finishing.Failed events h = finish_writes m j has finishing.Failed events (inl refl) h
+text_stops m j has finishing.Exists events h = inr h
+text_stops m j has finishing.Closed events h = has_weaker (FailsToFinish finishing.Closed) FailsAsClosed closed events h
 
 -- before IN was opened
 pub fails_early : (m : Manner) (j : Judging) (how : Ending) (events : List Event) → Fails m j [] how events → FailsFor m j how events
@@ -150,8 +172,8 @@ tells_err l m xs r h4 = grind arith
 -- ---- texts
 
 -- what went out, if it did; and why not
-pub text_ok : {T A : Type 0} (went : Bool) (outcome : Result T Halted) (result : Result A Ending) (P : Type 0) → EndsAs went outcome result → (went ≡ true → OnOk outcome P) → OnOk result P
-text_ok went outcome result P h4 h5 = grind arith
+pub text_ok : {T A : Type 0} (fault : Option FinishFault) (outcome : Result T Halted) (result : Result A Ending) (P : Type 0) → EndsAs fault outcome result → (fault ≡ None → OnOk outcome P) → OnOk result P
+text_ok fault outcome result P h4 h5 = grind arith
 
-pub text_err : {T A : Type 0} (went : Bool) (outcome : Result T Halted) (result : Result A Ending) (Q : Ending → Type 0) → EndsAs went outcome result → (went ≡ false → Q (ending.Stopped stop.Write)) → IfErr outcome (λ halted. Q halted.ending) → IfErr result Q
-text_err went outcome result Q h4 h5 h6 = grind arith
+pub text_err : {T A : Type 0} (fault : Option FinishFault) (outcome : Result T Halted) (result : Result A Ending) (Q : Ending → Type 0) → EndsAs fault outcome result → ((why : FinishFault) → fault ≡ Some why → Q (ending_of_text why)) → IfErr outcome (λ halted. Q halted.ending) → IfErr result Q
+text_err fault outcome result Q h4 h5 h6 = grind arith

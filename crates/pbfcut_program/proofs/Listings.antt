@@ -17,43 +17,44 @@ use Rattle.pbfcut_cli.specs.declared.endings.Ending.TheVariants as ending
 use Rattle.pbfcut_cli.specs.declared.programs.Program.{Program}
 use Rattle.pbfcut_cli.specs.declared.programs.Program.TheVariants.{Pbfcutz}
 use Rattle.pbfcut_program.specs.declared.engine.Halted.{Halted}
+use Rattle.pbfcut_program.specs.declared.host.FinishFault.{FinishFault}
 use Rattle.pbfcut_program.specs.Devices.{Closes, EndsFor, Finishes, Fronts, IsFresh, IsFreshOut}
 use Rattle.pbfcut_program.specs.Events.{Event, Reading, Writing, opened, screened, read, wrote, then_all}
 use Rattle.pbfcut_program.specs.Fails.{Fails, FailsFor, Judging, judging, listing}
-use Rattle.pbfcut_program.specs.Outcomes.{ListsBy}
+use Rattle.pbfcut_program.specs.Outcomes.{ListsBy, ending_of_text}
 use Rattle.pbfcut_program.specs.Manner.{Manner, input_form, manner, meant, of_input, to_raw}
 use Rattle.pbfcut_program.specs.Program.{IsListing}
 use Rattle.pbfcut_program.specs.Leaving.{LeavesFor}
 use Rattle.pbfcut_program.specs.Tasks.{answer_of, listing_frames}
 use Rattle.pbfcut_program.proofs.Closing.{ends_with_out, has_failed, reading, stop_told}
-use Rattle.pbfcut_program.proofs.FailLemmas.{caused_weaker, opened_fails, stop_fails, write_stops}
+use Rattle.pbfcut_program.proofs.FailLemmas.{caused_weaker, opened_fails, stop_fails, text_stops}
 use Rattle.pbfcut_program.proofs.FrontLemmas.{meant_is}
 use Rattle.pbfcut_program.proofs.LeavingLemmas.{TakenFront, front_taken, taken_front}
 use Rattle.pbfcut_program.proofs.Logging.{and_then}
 use Rattle.pbfcut_program.proofs.Weaker.{ends_weaker}
 
-module _ {F D : Type 0} (f : feed.Ghosts F) (d : drain.Ghosts D) (now : F) (out : D) (went : Bool) (l m n : Option (List Event)) (c : Closes f now l m) (fin : Finishes d out went m n) where
+module _ {F D : Type 0} (f : feed.Ghosts F) (d : drain.Ghosts D) (now : F) (out : D) (fault : Option FinishFault) (l m n : Option (List Event)) (c : Closes f now l m) (fin : Finishes d out fault m n) where
   abbrev lost : Writing
-  lost = record { bytes = fin.0.0; reports = is_some (d.taken out); failures = d.failures out; out = went }
+  lost = record { bytes = fin.0.0; reports = is_some (d.taken out); failures = d.failures out; fault = fault }
 
   -- whatever went through the devices
   pub some_listing : n ≡ then_all l (read (reading f now c.0.0) ∷ wrote lost ∷ [])
   some_listing = and_then l m n (read (reading f now c.0.0) ∷ []) (wrote lost ∷ []) c.0.1 fin.0.2
 
   pub list_done : (program : Program) (old : F) (before : D) (outcome : Result ℕ Halted) → IsFreshOut d before → ListsBy program f d old now before out outcome
-      → OnOk outcome ((r : Reading) × (w : Writing) × (n ≡ then_all l (read r ∷ wrote w ∷ [])) × (w.out ≡ went) × IsListing program (f.remaining old) w.bytes)
+      → OnOk outcome ((r : Reading) × (w : Writing) × (n ≡ then_all l (read r ∷ wrote w ∷ [])) × (w.fault ≡ fault) × IsListing program (f.remaining old) w.bytes)
   list_done program old before (Ok count) fresh lists =
       let end = fin.1 _ (lists.added.logged 0 [] fresh.0) in
-      (reading f now c.0.0, record { bytes = _; reports = is_some (d.taken out); failures = d.failures out; out = went }, and_then l m n (read (reading f now c.0.0) ∷ []) (wrote (record { bytes = _; reports = is_some (d.taken out); failures = d.failures out; out = went }) ∷ []) c.0.1 end, refl, (lists.frames, lists.says, refl))
+      (reading f now c.0.0, record { bytes = _; reports = is_some (d.taken out); failures = d.failures out; fault = fault }, and_then l m n (read (reading f now c.0.0) ∷ []) (wrote (record { bytes = _; reports = is_some (d.taken out); failures = d.failures out; fault = fault }) ∷ []) c.0.1 end, refl, (lists.frames, lists.says, refl))
   list_done program old before (Err halted) fresh lists = tt
 
   pub info_done : {T : Type 0} (has : Option (List ℕ)) (before : D) (outcome : Result T Halted) → IsFreshOut d before → OnOk outcome (Took d before out (TellsInfo has))
-      → OnOk outcome ((r : Reading) × (w : Writing) × (n ≡ then_all l (read r ∷ wrote w ∷ [])) × (w.out ≡ went) × TellsInfo has w.bytes)
+      → OnOk outcome ((r : Reading) × (w : Writing) × (n ≡ then_all l (read r ∷ wrote w ∷ [])) × (w.fault ≡ fault) × TellsInfo has w.bytes)
   info_done has before (Ok t) fresh shows =
       let end = fin.1 _ (shows.added.logged 0 [] fresh.0) in (
         reading f now c.0.0,
-        record { bytes = _; reports = is_some (d.taken out); failures = d.failures out; out = went },
-        and_then l m n (read (reading f now c.0.0) ∷ []) (wrote (record { bytes = _; reports = is_some (d.taken out); failures = d.failures out; out = went }) ∷ []) c.0.1 end,
+        record { bytes = _; reports = is_some (d.taken out); failures = d.failures out; fault = fault },
+        and_then l m n (read (reading f now c.0.0) ∷ []) (wrote (record { bytes = _; reports = is_some (d.taken out); failures = d.failures out; fault = fault }) ∷ []) c.0.1 end,
         refl,
         shows.holding,
       )
@@ -85,9 +86,9 @@ module _ {F D : Type 0} (f : feed.Ghosts F) (d : drain.Ghosts D) (now : F) (out 
       → (events : List Event) × (n ≡ then_all k events) × FailsFor m j how events × LeavesLines m has events
   listing_fails m j how k input has e why = (all input has, all_listing k input has e, record { has = has ∷ []; opens = (inl (refl, refl), tt); why = why }, lines_left m input has)
 
-  pub listing_lost : (m : Manner) (j : Judging) (k : Option (List Event)) (input : List ℕ) (has : Option (List ℕ)) → l ≡ then_all k (opened input 1 has ∷ screened true ∷ []) → went ≡ false
-      → (events : List Event) × (n ≡ then_all k events) × FailsFor m j (ending.Stopped stop.Write) events × LeavesLines m has events
-  listing_lost m j k input has e gone = listing_fails m j (ending.Stopped stop.Write) k input has e (write_stops m j (has ∷ []) (all input has) (inr (inr (inr (inl (inr gone))))))
+  pub listing_lost : (m : Manner) (j : Judging) (k : Option (List Event)) (input : List ℕ) (has : Option (List ℕ)) → l ≡ then_all k (opened input 1 has ∷ screened true ∷ []) → (why : FinishFault) → fault ≡ Some why
+      → (events : List Event) × (n ≡ then_all k events) × FailsFor m j (ending_of_text why) events × LeavesLines m has events
+  listing_lost m j k input has e why gone = listing_fails m j (ending_of_text why) k input has e (text_stops m j (has ∷ []) why (all input has) (inr (inr (inr (inl gone)))))
 
   pub list_fails : (m : Manner) (old : F) (before : D) (outcome : Result ℕ Halted) (k : Option (List Event)) (input : List ℕ) → IsFresh f old → IsFreshOut d before → l ≡ then_all k (opened input 1 (f.remaining old) ∷ screened true ∷ []) → ListsBy m.program f d old now before out outcome
       → IfErr outcome (λ halted. (events : List Event) × (n ≡ then_all k events) × FailsFor m listing halted.ending events × LeavesLines m (f.remaining old) events)
@@ -104,7 +105,7 @@ module _ {F D : Type 0} (f : feed.Ghosts F) (d : drain.Ghosts D) (now : F) (out 
       let failed = WriteFailed d before out in
       let first : List Event = opened input 1 (f.remaining old) ∷ screened true ∷ [] in
       let works = ends_weaker f (Added d before [] out) (took []) (λ none. none.logged 0 [] start.0) Pbfcutz judged_headings failed failed halted.ending (old ∷ []) (now ∷ []) (λ w. w) ends in
-      let tail = ends_with_out d out went took failed m n (λ w t. t) (λ risen. has_failed _ _ start.2 risen) fin in
+      let tail = ends_with_out d out fault took failed m n (λ w t. t) (λ risen. has_failed _ _ start.2 risen) fin in
       let end = stop_told f false digests judged_headings took failed (TakenFront (d.taken out)) l m n tail Pbfcutz works.0 (old ∷ []) (now ∷ []) (fresh, tt) (m, c, refl) works.2 in
       let why = stop_fails (manner Pbfcutz false digests) (judging judged_headings) (f.remaining old ∷ []) halted.ending end.0 works.0 works.1 end.2 in
       (_, and_then k l n first end.0 e end.1, opened_fails (manner Pbfcutz false digests) (judging judged_headings) (f.remaining old ∷ []) halted.ending first end.0 (tt, (tt, tt)) (inl (refl, refl), tt) why)

@@ -21,6 +21,7 @@ use Rattle.pbfcut_cli.specs.declared.programs.Program.{Program}
 use Rattle.pbfcut_cli.specs.declared.programs.Program.TheVariants.{Pbfcut, Pbfcutz}
 use Rattle.pbfcut_program.specs.declared.engine.Report.{Report}
 use Rattle.pbfcut_program.specs.declared.engine.Halted.{Halted}
+use Rattle.pbfcut_program.specs.declared.host.FinishFault.{FinishFault}
 use Rattle.pbfcut_program.specs.Events.{Event, read, wrote, then_one}
 use Rattle.pbfcut_program.specs.Fails.{EndsAsStop, FirstFault, UnlessPacked}
 use Rattle.pbfcut_program.specs.Manner.{AreDigests, Form, Manner, meant, of_input, of_output, output_form, packed_file}
@@ -46,11 +47,11 @@ Closes f now before after =
     ((bytes : List ℕ) × (after ≡ then_one before (read (record { bytes = bytes; left = f.remaining now; failures = f.failures now }))))
     × ((bytes : List ℕ) → f.has_passed now 0 bytes → after ≡ then_one before (read (record { bytes = bytes; left = f.remaining now; failures = f.failures now })))
 
--- OUT, of which all went out, or not
-abbrev pub Finishes : {D : Type 0} → drain.Ghosts D → D → Bool → Option (List Event) → Option (List Event) → Type 0
-Finishes d now out before after =
-    ((bytes : List ℕ) × IfSome (d.taken now) (λ taken. bytes ≡ taken) × (after ≡ then_one before (wrote (record { bytes = bytes; reports = is_some (d.taken now); failures = d.failures now; out = out }))))
-    × ((bytes : List ℕ) → d.has_taken now 0 bytes → after ≡ then_one before (wrote (record { bytes = bytes; reports = is_some (d.taken now); failures = d.failures now; out = out })))
+-- OUT, of which all went out, or not, by this fault
+abbrev pub Finishes : {D : Type 0} → drain.Ghosts D → D → Option FinishFault → Option (List Event) → Option (List Event) → Type 0
+Finishes d now fault before after =
+    ((bytes : List ℕ) × IfSome (d.taken now) (λ taken. bytes ≡ taken) × (after ≡ then_one before (wrote (record { bytes = bytes; reports = is_some (d.taken now); failures = d.failures now; fault = fault }))))
+    × ((bytes : List ℕ) → d.has_taken now 0 bytes → after ≡ then_one before (wrote (record { bytes = bytes; reports = is_some (d.taken now); failures = d.failures now; fault = fault })))
 
 -- one feed after the other
 abbrev pub CloseAll : {F : Type 0} → feed.Ghosts F → List F → Option (List Event) → Option (List Event) → Type 0

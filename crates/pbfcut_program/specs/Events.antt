@@ -1,7 +1,10 @@
 -- What a program does with its host, and what came of it, in order.
 use Rattle.std.specs.Prelude.{ℕ, List, [], ◌∷◌, ◌++◌, Bool, Option}
 use Rattle.std.specs.Option.{option_map}
+use Rattle.pbfcut_program.specs.declared.host.CreateFault.{CreateFault}
+use Rattle.pbfcut_program.specs.declared.host.FinishFault.{FinishFault}
 use Rattle.pbfcut_program.specs.declared.host.OpenFault.{OpenFault}
+use Rattle.pbfcut_program.specs.declared.host.PrintFault.{PrintFault}
 use Rattle.pbfcut_program.specs.declared.host.Screen.{Screen}
 
 -- a pass is over: these bytes were read of IN; what was left of it, if the host reports it; and how many reads failed
@@ -10,12 +13,12 @@ pub record Reading : Type 0 where
   pub left : Option (List ℕ)
   pub failures : ℕ
 
--- OUT is closed: it took these bytes; whether it reports of itself that it took them; how many writes failed; and whether all that it took went out
+-- OUT is closed: it took these bytes; whether it reports of itself that it took them; how many writes failed; and why not all that it took went out, if it didn't
 pub record Writing : Type 0 where
   pub bytes : List ℕ
   pub reports : Bool
   pub failures : ℕ
-  pub out : Bool
+  pub fault : Option FinishFault
 
 pub data Event : Type 0 where
   -- a whole text is read, or isn't
@@ -30,13 +33,13 @@ pub data Event : Type 0 where
   seeded : (key : Option ℕ) → Event
   -- OUT is created, or isn't
   created : (path : List ℕ) → Event
-  not_created : (path : List ℕ) → Event
+  not_created : (path : List ℕ) → CreateFault → Event
   -- standard output is taken to be written to, if there is memory
   screened : (there : Bool) → Event
   read : Reading → Event
   wrote : Writing → Event
-  -- this went to a screen, or only a part of it
-  printed : Screen → (text : List ℕ) → (whole : Bool) → Event
+  -- this went to a screen, or only a part of it, for this
+  printed : Screen → (text : List ℕ) → Option PrintFault → Event
   -- this was to go to standard error
   told : (text : List ℕ) → Event
   -- on a terminal a line may say what to do next

@@ -1,5 +1,5 @@
 -- Why a command fails, by what happened.
-use Rattle.std.specs.Prelude.{◌≡◌, ◌⊎◌, ℕ, ◌+◌, ◌<◌, List, [], ◌∷◌, ◌++◌, length, true, false, Option, None, Err}
+use Rattle.std.specs.Prelude.{◌≡◌, ◌⊎◌, ℕ, ◌+◌, ◌<◌, List, [], ◌∷◌, ◌++◌, length, true, false, Option, None, Some, Err}
 use Rattle.osm_polygon.specs.declared.fault.PolyFault.{PolyFault}
 use Rattle.osm_polygon.specs.Texts.{polygons_of_text}
 use Rattle.pbf_wire.specs.declared.fault.Fault.{Fault}
@@ -13,7 +13,11 @@ use Rattle.pbfcut_cli.specs.declared.endings.Ending.{Ending}
 use Rattle.pbfcut_cli.specs.declared.endings.Ending.TheVariants as ending
 use Rattle.pbfcut_cli.specs.declared.programs.Program.{Program}
 use Rattle.pbfcut_cli.specs.declared.programs.Program.TheVariants.{Pbfcut, Pbfcutz}
-use Rattle.pbfcut_program.specs.declared.host.OpenFault.TheVariants.{Failed, Pipe}
+use Rattle.pbfcut_program.specs.declared.host.CreateFault.TheVariants as creating
+use Rattle.pbfcut_program.specs.declared.host.FinishFault.{FinishFault}
+use Rattle.pbfcut_program.specs.declared.host.FinishFault.TheVariants as finishing
+use Rattle.pbfcut_program.specs.declared.host.OpenFault.TheVariants as opening
+use Rattle.pbfcut_program.specs.declared.host.PrintFault.TheVariants as line
 use Rattle.pbfcut_program.specs.Events.{Event, Reading, text_read, text_not_read, looked, opened, not_opened, seeded, not_created, read, wrote, printed}
 use Rattle.pbfcut_program.specs.Manner.{Form, Manner, input_form, meant_known, output_form, packed_file, raw_file}
 use Rattle.pbfcut_program.specs.Readings.{IsFaulty, IsOther}
@@ -41,17 +45,19 @@ Quiet _ = Unit {0}
 
 abbrev pub FailsToOpen : Event → Type 0
 FailsToOpen (text_not_read path) = Unit {0}
-FailsToOpen (not_opened path Failed) = Unit {0}
-FailsToOpen (not_created path) = Unit {0}
+FailsToOpen (not_opened path opening.Failed) = Unit {0}
+FailsToOpen (not_created path creating.Failed) = Unit {0}
 FailsToOpen (seeded key) = key ≡ None
 FailsToOpen _ = ⊥
 
 abbrev pub FailsAsPipe : Event → Type 0
-FailsAsPipe (not_opened path Pipe) = Unit {0}
+FailsAsPipe (not_opened path opening.Pipe) = Unit {0}
 FailsAsPipe _ = ⊥
 
+-- OUT was there, or it was there when it was to be made
 abbrev pub FailsAsThere : Event → Type 0
 FailsAsThere (looked path there) = there ≡ true
+FailsAsThere (not_created path creating.Exists) = Unit {0}
 FailsAsThere _ = ⊥
 
 -- the text that was read is no polygon, by this fault
@@ -63,14 +69,21 @@ abbrev pub FailsToRead : Event → Type 0
 FailsToRead (read r) = 0 < r.failures
 FailsToRead _ = ⊥
 
-abbrev pub FailsToFinish : Event → Type 0
-FailsToFinish (wrote w) = w.out ≡ false
-FailsToFinish _ = ⊥
+-- not all of OUT went out, for this
+abbrev pub FailsToFinish : FinishFault → Event → Type 0
+FailsToFinish fault (wrote w) = w.fault ≡ Some fault
+FailsToFinish fault _ = ⊥
 
 abbrev pub FailsToWrite : Event → Type 0
-FailsToWrite (wrote w) = (0 < w.failures) ⊎ (w.out ≡ false)
-FailsToWrite (printed screen text whole) = whole ≡ false
+FailsToWrite (wrote w) = (0 < w.failures) ⊎ ((w.fault ≡ Some finishing.Failed) ⊎ (w.fault ≡ Some finishing.Closed))
+FailsToWrite (printed screen text fault) = fault ≡ Some line.Failed
 FailsToWrite _ = ⊥
+
+-- nobody reads standard output any more
+abbrev pub FailsAsClosed : Event → Type 0
+FailsAsClosed (wrote w) = w.fault ≡ Some finishing.Closed
+FailsAsClosed (printed screen text fault) = fault ≡ Some line.Closed
+FailsAsClosed _ = ⊥
 
 -- what the passes read, in order
 abbrev pub readings : List Event → List Reading
@@ -131,7 +144,8 @@ FailsOpening how events = Each Quiet events × CauseOfOpening how events
 
 -- a line couldn't be printed
 abbrev pub FailsPrinting : Ending → List Event → Type 0
-FailsPrinting how events = ((how ≡ ending.Stopped stop.Write) × Has FailsToWrite events) ⊎ (how ≡ ending.Stopped stop.Memory)
+FailsPrinting how events = ((how ≡ ending.Stopped stop.Write) × Has FailsToWrite events)
+    ⊎ (((how ≡ ending.Closed) × Has FailsAsClosed events) ⊎ (how ≡ ending.Stopped stop.Memory))
 
 -- a drain that packs fails at bytes that are no raw file, too: so why it failed isn't said
 abbrev pub UnlessPacked : Form → Type 0 → Type 0
@@ -164,7 +178,8 @@ EndsAsStop program s _ = ⊥
 abbrev pub Fails : Manner → Judging → (has : List (Option (List ℕ))) → Ending → List Event → Type 0
 Fails m j has ending.CannotOpen events = Has FailsToOpen events × Each TookNothing events
 Fails m j has ending.IsPipe events = Has FailsAsPipe events × Each TookNothing events
-Fails m j has ending.OutExists events = (Has FailsAsThere events × Each TookNothing events) ⊎ Has FailsToFinish events
+Fails m j has ending.OutExists events = (Has FailsAsThere events × Each TookNothing events) ⊎ Has (FailsToFinish finishing.Exists) events
+Fails m j has ending.Closed events = Has FailsAsClosed events
 Fails m j has (ending.Polygon fault) events = Has (FailsAsPolygon fault) events × Each TookNothing events
 Fails m j has how events = (s : Stop) × EndsAsStop m.program s how × Stops m j has events s
 

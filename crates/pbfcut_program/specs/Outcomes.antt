@@ -1,5 +1,5 @@
 -- What a call of the engine came to, as the program reports it.
-use Rattle.std.specs.Prelude.{◌≡◌, ℕ, false, Bool, true, Some, None, Result, Ok, Err}
+use Rattle.std.specs.Prelude.{◌≡◌, ℕ, false, Option, Some, None, Result, Ok, Err}
 use Rattle.pbf_frame.specs.declared.device.Feed as feed
 use Rattle.pbf_frame.specs.declared.device.Drain as drain
 use Rattle.pbf_frame.specs.declared.stop.Stop.{Stop}
@@ -18,6 +18,8 @@ use Rattle.pbf_pass.specs.Refused.{stop_of}
 use Rattle.pbfcut_cli.specs.declared.endings.Ending.TheVariants as ending
 use Rattle.pbfcut_program.specs.declared.engine.Report.{Report}
 use Rattle.pbfcut_program.specs.declared.engine.Halted.{Halted}
+use Rattle.pbfcut_program.specs.declared.host.FinishFault.{FinishFault}
+use Rattle.pbfcut_program.specs.declared.host.FinishFault.TheVariants as fault
 use Rattle.pbfcut_program.specs.Fails.{EndsAsStop}
 use Rattle.pbfcut_program.specs.Manner.{input_form, meant_known}
 
@@ -41,9 +43,21 @@ abbrev pub ListsBy : {F D : Type 0} → Program → feed.Ghosts F → drain.Ghos
 ListsBy program f d old now before after (Ok count) = Lists d before after (judged_known false 0 (meant_known (input_form program) (f.remaining old))) count
 ListsBy program f d old now before after (Err halted) = EndsListing program f d old now before after halted.ending
 
--- a text was written, and the rest of it went out or not: then it is that which failed
-abbrev pub EndsAs : {A B : Type 0} → (went : Bool) → Result A Halted → Result B Ending → Type 0
-EndsAs true (Ok _) (Ok _) = Unit {0}
-EndsAs true (Err halted) (Err how) = how ≡ halted.ending
-EndsAs false outcome (Err how) = how ≡ ending.Stopped stop.Write
+-- how a command ends if not all of OUT went out
+abbrev pub ending_of_file : FinishFault → Ending
+ending_of_file fault.Failed = ending.Stopped stop.Write
+ending_of_file fault.Exists = ending.OutExists
+ending_of_file fault.Closed = ending.Stopped stop.Write
+
+-- the same of a command whose text goes to standard output
+abbrev pub ending_of_text : FinishFault → Ending
+ending_of_text fault.Failed = ending.Stopped stop.Write
+ending_of_text fault.Exists = ending.OutExists
+ending_of_text fault.Closed = ending.Closed
+
+-- a text was written, and all of it went out, or not: then it is that which failed
+abbrev pub EndsAs : {A B : Type 0} → Option FinishFault → Result A Halted → Result B Ending → Type 0
+EndsAs None (Ok _) (Ok _) = Unit {0}
+EndsAs None (Err halted) (Err how) = how ≡ halted.ending
+EndsAs (Some why) outcome (Err how) = how ≡ ending_of_text why
 EndsAs _ _ _ = ⊥

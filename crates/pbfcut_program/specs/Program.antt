@@ -69,7 +69,7 @@ digest_if_asked true written = Some (sha256 written)
 digest_if_asked false written = None
 
 abbrev pub prints : Screen → List (List ℕ) → List Event
-prints screen lines = map (λ line. printed screen line true) lines
+prints screen lines = map (λ line. printed screen line None) lines
 
 -- ---- what a command does that ends well
 
@@ -104,7 +104,7 @@ pub record Shows (m : Manner) (dates : Bool) (input : List ℕ) (events : List E
   pub raw : Option (List ℕ)
   pub happened : events ≡ openings input 1 has ++ draws m.program key ++ screened true ∷ map read rs ++ wrote out ∷ []
   pub passes : length has ≡ 2
-  pub whole : out.out ≡ true
+  pub whole : out.fault ≡ None
   pub work : IsWork (to_raw m) (check_of m key) (showing dates) rs out.bytes counts digest raw
 
 -- what went out are the lines of the frames of the raw file that IN means, as far as the host reports what it has
@@ -117,7 +117,7 @@ pub record Lists (is_text : Option (List ℕ) → List ℕ → Type 0) (input : 
   pub first : Reading
   pub out : Writing
   pub happened : events ≡ opened input 1 has ∷ screened true ∷ read first ∷ wrote out ∷ []
-  pub whole : out.out ≡ true
+  pub whole : out.fault ≡ None
   pub lines : is_text has out.bytes
 
 -- OUT is standard output, of pbfcutz
@@ -159,7 +159,7 @@ pub record WritesCounts (m : Manner) (task : Task) (files : Files) (counts : Cou
       ++ wrote out ∷ prints (screen_of (is_screen m.program files.output.now))
       (counts_text counts ∷ done_lines known meaning digest raw files.input.now files.output.now)
   pub passes : length has ≡ passes_of task
-  pub whole : out.out ≡ true
+  pub whole : out.fault ≡ None
   pub hashed : known ≡ digest_if_asked m.digests out.bytes
   pub meaning_hashed : meaning ≡ digest_if_asked (hashes_meaning (output_form m.packs m.program) m.digests) (of_output m out.bytes)
   pub work : IsWork m (check_of m key) task rs out.bytes counts digest raw
@@ -211,7 +211,7 @@ manner_in program command = manner program (packs_of command) (digests_of comman
 
 -- `info` reads as pbfcutz does
 abbrev pub Does : Manner → Command → List Event → Type 0
-Does m (Help text) events = events ≡ printed Output (string_bytes text) true ∷ []
+Does m (Help text) events = events ≡ printed Output (string_bytes text) None ∷ []
 Does m (Blobs input) events = Lists (IsListing m.program) input.now events
 Does m (Info input) events = Lists TellsInfo input.now events
 Does m (Show input dates progress) events = Shows m dates input.now events

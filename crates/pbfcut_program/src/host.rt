@@ -2,6 +2,7 @@
 
 ghost use Rattle.std.specs.Prelude.{◌≡◌, ℕ, List, [], Option, Some, None, IfOk, IfErr, IfSome, OnErr, is_ok, string_bytes};
 ghost use Rattle.std.specs.Option.{is_some};
+ghost use Rattle.std.specs.Result.{result_err};
 ghost use Rattle.pbfcut_program.specs.Events.{Event, Reading, Writing, text_read, text_not_read, looked, opened, not_opened, seeded, created, not_created, screened, read, wrote, printed, told, advised, then_one};
 
 use pbf_frame::{Drain, Feed};
@@ -31,6 +32,8 @@ pub enum TextFault {
 pub enum CreateFault {
     /// It can't be created.
     Failed,
+    /// A file has OUT's name, though none had when it was looked for.
+    Exists,
     /// A request for memory was refused.
     Memory,
 }
@@ -42,6 +45,17 @@ pub enum FinishFault {
     Failed,
     /// Another file has OUT's name meanwhile.
     Exists,
+    /// OUT is a pipe that nobody reads any more.
+    Closed,
+}
+
+/// Why a text isn't printed whole.
+#[derive(Clone, Copy, Debug, PartialEq, Eq)]
+pub enum PrintFault {
+    /// It can't be written.
+    Failed,
+    /// The screen is a pipe that nobody reads any more.
+    Closed,
 }
 
 /// It couldn't be done.
@@ -132,8 +146,8 @@ pub trait Host {
             ≡ then_one (log self.old) (created path.now)) }
         ensures fresh { IfOk result (λ out. Self.Out.has_taken out 0 []
             × IfSome (Self.Out.taken out) (λ taken. taken ≡ []) × (Self.Out.failures out ≡ 0)) }
-        ensures failed { OnErr result (log self.new
-            ≡ then_one (log self.old) (not_created path.now)) };
+        ensures failed { IfErr result (λ fault. log self.new
+            ≡ then_one (log self.old) (not_created path.now fault)) };
 
     /// Standard output, to be written to as OUT is. `Err` says that memory was refused.
     fn screen(&mut self) -> Result<Self::Out, NotDone>
@@ -149,19 +163,19 @@ pub trait Host {
               bytes = bytes;
               reports = is_some (Self.Out.taken out);
               failures = Self.Out.failures out;
-              out = is_ok result;
+              fault = result_err result;
             }))) }
         ensures logged { (bytes : List ℕ) → Self.Out.has_taken out 0 bytes
             → log self.new ≡ then_one (log self.old) (wrote (record {
               bytes = bytes;
               reports = is_some (Self.Out.taken out);
               failures = Self.Out.failures out;
-              out = is_ok result;
+              fault = result_err result;
             })) };
 
     /// Writes a text at once.
-    fn print(&mut self, screen: Screen, text: &[u8]) -> Result<(), NotDone>
-        ensures { log self.new ≡ then_one (log self.old) (printed screen text.now (is_ok result)) };
+    fn print(&mut self, screen: Screen, text: &[u8]) -> Result<(), PrintFault>
+        ensures { log self.new ≡ then_one (log self.old) (printed screen text.now (result_err result)) };
 
     /// Writes to standard error, if that can be done.
     fn tell(&mut self, text: &[u8])

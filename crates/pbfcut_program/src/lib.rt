@@ -13,5 +13,7 @@ mod reading;
 mod writing;
 
 pub use ending::report;
-pub use host::{CreateFault, FinishFault, Host, NotDone, OpenFault, Screen, Seed, TextFault, Turn};
+pub use host::{
+    CreateFault, FinishFault, Host, NotDone, OpenFault, PrintFault, Screen, Seed, TextFault, Turn,
+};
 pub use program::run;

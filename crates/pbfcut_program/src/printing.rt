@@ -7,7 +7,7 @@ ghost use Rattle.pbfcut_program.specs.declared.host.Screen.TheVariants as screen
 ghost use Rattle.pbfcut_program.specs.Telling.{Tells, TellsQuietly};
 
 use crate::engine::{Engine, Halted, Report};
-use crate::host::{Host, Screen};
+use crate::host::{Host, PrintFault, Screen};
 use osm_text::{put_digest_line, put_hex};
 use pbf_frame::Stop;
 use pbf_pass::{Counts, Refusal};
@@ -20,7 +20,8 @@ pub(crate) fn print_text<H: Host>(host: &mut H, screen: Screen, text: &[u8]) -> 
 {
     match host.print(screen, text) {
         Ok(()) => Ok(()),
-        Err(_) => Err(Ending::Stopped(Stop::Write)),
+        Err(PrintFault::Failed) => Err(Ending::Stopped(Stop::Write)),
+        Err(PrintFault::Closed) => Err(Ending::Closed),
     }
 }
 

@@ -10,13 +10,13 @@ ghost use Rattle.pbfcut_program.specs.Events.{Event, Reading, opened, read, then
 ghost use Rattle.pbfcut_program.specs.Fails.{FailsFor, judging, listing};
 ghost use Rattle.pbfcut_program.specs.Leaving.{LeavesFor};
 ghost use Rattle.pbfcut_program.specs.Manner.{manner, manner_of, once_check, to_raw};
-ghost use Rattle.pbfcut_program.specs.Outcomes.{EndsAs};
+ghost use Rattle.pbfcut_program.specs.Outcomes.{EndsAs, ending_of_text};
 ghost use Rattle.pbfcut_program.specs.Program.{Checks, IsListing, Lists, Shows};
 ghost use Rattle.pbfcut_program.specs.Readings.{IsWork};
 ghost use Rattle.pbfcut_program.specs.Tasks.{checking, listing_frames, showing};
 
 use crate::engine::{Engine, Halted, Report, ShowOptions, check, list_blobs, show, show_info};
-use crate::host::Host;
+use crate::host::{FinishFault, Host};
 use crate::jobs::close_two;
 use crate::opening::{Input, draw_key, open_pass, open_screen, open_two};
 use crate::printing::{print_checked, tell_refusal};
@@ -70,6 +70,17 @@ pub(crate) fn run_check<H: Host>(
     print_checked(engine, host, &report, path)
 }
 
+/// How a command ends whose text didn't all go to standard output.
+fn unsent(fault: FinishFault) -> Ending
+    ensures { result ≡ ending_of_text fault }
+{
+    match fault {
+        FinishFault::Failed => Ending::Stopped(Stop::Write),
+        FinishFault::Exists => Ending::OutExists,
+        FinishFault::Closed => Ending::Closed,
+    }
+}
+
 /// Hands standard output back after a call whose text goes to it. A text that can't be written is reported instead of a later refusal,
 /// since it came first.
 fn ended<H: Host, T: Drop>(
@@ -77,11 +88,12 @@ fn ended<H: Host, T: Drop>(
     out: H::Out,
     outcome: Result<T, Halted>,
 ) -> Result<(), Ending>
-    ensures { (went : Bool) × Finishes H.Out.Drain out went (H.log host.old) (H.log host.new)
-        × EndsAs went outcome result }
+    ensures { (fault : Option FinishFault)
+        × Finishes H.Out.Drain out fault (H.log host.old) (H.log host.new)
+        × EndsAs fault outcome result }
 {
-    if host.finish(out, outcome.is_ok()).is_err() {
-        return Err(Ending::Stopped(Stop::Write));
+    if let Err(fault) = host.finish(out, outcome.is_ok()) {
+        return Err(unsent(fault));
     }
     match outcome {
         Ok(_done) => Ok(()),

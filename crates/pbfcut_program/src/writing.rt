@@ -2,6 +2,7 @@
 //! a seed.
 
 ghost use Rattle.std.specs.Prelude.{◌≡◌, ◌⊎◌, ◌∷◌, ◌++◌, ◌<◌, [], List, length, map, is_ok, IfErr, IfOk, IfSome, Some, None, OnOk, true, false};
+ghost use Rattle.std.specs.Result.{result_err};
 ghost use Rattle.pbf_frame.specs.declared.stop.Stop.TheVariants as stop;
 ghost use Rattle.pbfcut_cli.specs.declared.endings.Ending.TheVariants as ending;
 ghost use Rattle.pbf_pass.specs.HeaderLimit.{judged_writable};
@@ -12,6 +13,7 @@ ghost use Rattle.pbfcut_program.specs.Events.{Event, Reading, Writing, read, see
 ghost use Rattle.pbfcut_program.specs.Fails.{Each, Fails, FailsFor, FailsOpening, Quiet, UnlessPacked, judging};
 ghost use Rattle.pbfcut_program.specs.Jobs.{area_of, feeds_of, plan_of, task_of};
 ghost use Rattle.pbfcut_program.specs.Leaving.{Leaves, LeavesFor};
+ghost use Rattle.pbfcut_program.specs.Outcomes.{ending_of_file};
 ghost use Rattle.pbfcut_program.specs.Program.{Extracts, LeavesCut, WritesCounts, advice, digest_if_asked, extract_task, is_empty, is_screen, looks, makes, openings, screen_of};
 ghost use Rattle.pbfcut_program.specs.Manner.{check_in, hashes_meaning, input_form, manner_of, of_output, output_form, packed_file, to_raw};
 ghost use Rattle.pbfcut_program.specs.Readings.{IsWork};
@@ -77,6 +79,7 @@ fn make_out<H: Host>(host: &mut H, is_screen: bool, files: &Files<'_>) -> Result
     match host.create(files.output, files.overwrite) {
         Ok(out) => Ok(out),
         Err(CreateFault::Failed) => Err(Ending::CannotOpen),
+        Err(CreateFault::Exists) => Err(Ending::OutExists),
         Err(CreateFault::Memory) => Err(Ending::Stopped(Stop::Memory)),
     }
 }
@@ -361,13 +364,13 @@ fn run_into<F: Feed, D: Drain + Drop, S: BuildHasher + Drop>(
 
 /// What is reported once OUT was returned.
 fn kept(finished: Result<(), FinishFault>, done: Done) -> Result<Done, Ending>
-    ensures ok { IfOk result (λ d. (d ≡ done) × (is_ok finished ≡ true)) }
-    ensures err { IfErr result (λ how. (is_ok finished ≡ false)
-        × ((how ≡ ending.Stopped stop.Write) ⊎ (how ≡ ending.OutExists))) }
+    ensures ok { IfOk result (λ d. (d ≡ done) × (result_err finished ≡ None)) }
+    ensures err { IfErr result (λ how. (fault : FinishFault)
+        × (result_err finished ≡ Some fault) × (how ≡ ending_of_file fault)) }
 {
     match finished {
         Ok(()) => Ok(done),
-        Err(FinishFault::Failed) => Err(Ending::Stopped(Stop::Write)),
+        Err(FinishFault::Failed | FinishFault::Closed) => Err(Ending::Stopped(Stop::Write)),
         Err(FinishFault::Exists) => Err(Ending::OutExists),
     }
 }
@@ -382,7 +385,7 @@ fn run_job<H: Host>(
     requires fresh { AreFresh H.In.Feed (feeds_of ready.job) × IsFreshOut H.Out.Drain ready.out }
     ensures ok { IfOk result (λ done. (rs : List Reading) × (out : Writing)
         × (H.log host.new ≡ then_all (H.log host.old) (map read rs ++ wrote out ∷ []))
-        × (out.out ≡ true) × (done.output ≡ digest_if_asked engine.digests out.bytes)
+        × (out.fault ≡ None) × (done.output ≡ digest_if_asked engine.digests out.bytes)
         × (done.meaning ≡ digest_if_asked
         (hashes_meaning (output_form engine.packs engine.program) engine.digests)
         (of_output (manner_of engine) out.bytes))

@@ -6,12 +6,12 @@ use crate::out::OutFile;
 use pbf_frame::FromRead;
 use pbfcut_cli::{Command, Ending, Program, Region};
 use pbfcut_files::{
-    Asked, FailedWrite, Identity, NotKept, Place, Spoiled, Target, Watched, create_output, is_long,
-    is_taken, open_pass, open_screen, plain_file_at, plain_screen, read_polygon_text, tell_box,
-    tell_empty, tell_form, tell_hint, tell_left, tell_spoiled,
+    Asked, BROKEN_PIPE, FailedWrite, Identity, NotKept, Output, Place, Spoiled, Target, Watched,
+    create_output, is_long, is_taken, open_pass, open_screen, plain_file_at, plain_screen,
+    read_polygon_text, tell_box, tell_empty, tell_form, tell_hint, tell_left, tell_spoiled,
 };
 use pbfcut_program::{
-    CreateFault, FinishFault, Host, NotDone, OpenFault, Screen, Seed, TextFault, Turn,
+    CreateFault, FinishFault, Host, NotDone, OpenFault, PrintFault, Screen, Seed, TextFault, Turn,
 };
 use std::fs::File;
 use std::hash::{BuildHasher, RandomState};
@@ -61,6 +61,18 @@ impl<'a> Os<'a> {
     /// Notes the system's number of the reason why a write failed, if there is one.
     fn note(&mut self, target: Target, code: Option<i32>) {
         self.failed = code.map(|code| FailedWrite { target, code });
+    }
+}
+
+/// Writes what is left in the buffer. If nobody reads a pipe any more, bytes are lost even if none are left.
+fn flush(output: &mut Output) -> Result<(), FinishFault> {
+    let flushed = output.flush();
+    if output.is_closed() {
+        return Err(FinishFault::Closed);
+    }
+    match flushed {
+        Ok(()) => Ok(()),
+        Err(_) => Err(FinishFault::Failed),
     }
 }
 
@@ -141,6 +153,7 @@ impl Host for Os<'_> {
                 Ok(OutFile::new(output))
             }
             Err(Ending::CannotOpen) => Err(CreateFault::Failed),
+            Err(Ending::OutExists) => Err(CreateFault::Exists),
             Err(_) => Err(CreateFault::Memory),
         }
     }
@@ -154,18 +167,11 @@ impl Host for Os<'_> {
 
     fn finish(&mut self, out: OutFile, whole: bool) -> Result<(), FinishFault> {
         let mut output = out.into_inner();
-        let flushed = output.flush();
+        let flushed = flush(&mut output);
         self.note(output.target(), output.code());
-        if !whole {
+        if !whole || flushed.is_err() {
             output.discard(self.rt);
-            return match flushed {
-                Ok(()) => Ok(()),
-                Err(_) => Err(FinishFault::Failed),
-            };
-        }
-        if flushed.is_err() {
-            output.discard(self.rt);
-            return Err(FinishFault::Failed);
+            return flushed;
         }
         match output.keep(self.rt) {
             Ok(()) => Ok(()),
@@ -177,7 +183,7 @@ impl Host for Os<'_> {
         }
     }
 
-    fn print(&mut self, screen: Screen, text: &[u8]) -> Result<(), NotDone> {
+    fn print(&mut self, screen: Screen, text: &[u8]) -> Result<(), PrintFault> {
         if screen == Screen::Error {
             // If it can't be written, OUT is there all the same.
             let _ = self.rt.stderr().write_all(text);
@@ -189,8 +195,12 @@ impl Host for Os<'_> {
             Err(error) => Err(error),
         };
         if let Err(error) = printed {
-            self.note(Target::StandardOutput, error.raw_os_error());
-            return Err(NotDone);
+            let code = error.raw_os_error();
+            self.note(Target::StandardOutput, code);
+            return Err(match code {
+                Some(BROKEN_PIPE) => PrintFault::Closed,
+                _ => PrintFault::Failed,
+            });
         }
         Ok(())
     }

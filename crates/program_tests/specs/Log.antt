@@ -13,10 +13,10 @@ event_of (happened.Opened path pass has) = opened path.items pass (Some has.item
 event_of (happened.NotOpened path fault) = not_opened path.items fault
 event_of (happened.Seeded key) = seeded (Some key)
 event_of (happened.Created path) = created path.items
-event_of (happened.NotCreated path) = not_created path.items
+event_of (happened.NotCreated path fault) = not_created path.items fault
 event_of (happened.Screened there) = screened there
 event_of (happened.Read bytes left failures) = read (record { bytes = bytes.items; left = Some left.items; failures = failures })
-event_of (happened.Wrote bytes failures out) = wrote (record { bytes = bytes.items; reports = true; failures = failures; out = out })
-event_of (happened.Printed screen text whole) = printed screen text.items whole
+event_of (happened.Wrote bytes failures fault) = wrote (record { bytes = bytes.items; reports = true; failures = failures; fault = fault })
+event_of (happened.Printed screen text fault) = printed screen text.items fault
 event_of (happened.Told text) = told text.items
 event_of happened.Advised = advised

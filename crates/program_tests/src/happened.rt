@@ -1,6 +1,6 @@
 //! What a host recorded, as data.
 
-use pbfcut_program::{OpenFault, Screen};
+use pbfcut_program::{CreateFault, FinishFault, OpenFault, PrintFault, Screen};
 
 /// One event, in the order of the calls of a host. Paths and texts are bytes.
 #[derive(Debug, PartialEq, Drop)]
@@ -16,14 +16,14 @@ pub enum Happened {
     /// The key that was drawn.
     Seeded(u128),
     Created(Vec<u8>),
-    NotCreated(Vec<u8>),
+    NotCreated(Vec<u8>, CreateFault),
     Screened(bool),
     /// The bytes that were read of IN, those that were left, and how many reads failed.
     Read(Vec<u8>, Vec<u8>, u64),
-    /// The bytes that OUT took, how many writes failed, and whether all that it took went out.
-    Wrote(Vec<u8>, u64, bool),
-    /// Where a text went, the text, and whether all of it did.
-    Printed(Screen, Vec<u8>, bool),
+    /// The bytes that OUT took, how many writes failed, and why not all that it took went out.
+    Wrote(Vec<u8>, u64, Option<FinishFault>),
+    /// Where a text went, the text, and why not all of it did.
+    Printed(Screen, Vec<u8>, Option<PrintFault>),
     Told(Vec<u8>),
     Advised,
 }

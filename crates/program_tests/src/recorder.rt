@@ -1,14 +1,15 @@
 //! A host in memory that keeps its log: so the clauses of a host can be met. A test ends if memory for the log is refused.
 
-ghost use Rattle.std.specs.Prelude.{◌≡◌, map, string_bytes, Some, IfSome};
+ghost use Rattle.std.specs.Prelude.{◌≡◌, [], map, string_bytes, Some, IfOk, IfSome};
 ghost use Rattle.program_tests.specs.Log.{event_of};
+ghost use Rattle.pbf_frame.specs.Memory.{taken_by};
 ghost use Rattle.pbfcut_program.specs.Events.{then_one};
 
 use crate::happened::Happened;
 use crate::tape::{Reel, Tape};
 use pbfcut_cli::{Command, Ending, Region};
 use pbfcut_program::{
-    CreateFault, FinishFault, Host, NotDone, OpenFault, Screen, Seed, TextFault, Turn,
+    CreateFault, FinishFault, Host, NotDone, OpenFault, PrintFault, Screen, Seed, TextFault, Turn,
 };
 use std::hash::{BuildHasherDefault, FoldHasher};
 use std::process::Abort;
@@ -29,6 +30,12 @@ pub(crate) struct Recorder<'a, R> {
     rt: &'a R,
     files: &'a [File<'a>],
     room: usize,
+    /// Why OUT isn't made, if it isn't.
+    pub(crate) unmade: Option<CreateFault>,
+    /// Why not all of OUT goes out, if it doesn't.
+    pub(crate) unfinished: Option<FinishFault>,
+    /// Why no text is printed whole, if none is.
+    pub(crate) unprinted: Option<PrintFault>,
     pub(crate) events: Vec<Happened>,
 }
 
@@ -45,6 +52,9 @@ impl<'a, R: Abort + AllocGlobal> Recorder<'a, R> {
             rt,
             files,
             room,
+            unmade: None,
+            unfinished: None,
+            unprinted: None,
             events: Vec::new(rt.alloc()),
         }
     }
@@ -62,6 +72,19 @@ impl<'a, R: Abort + AllocGlobal> Recorder<'a, R> {
     fn text(&self, path: &str) -> Option<String> {
         let text = str::from_utf8(self.find(path)?).ok()?;
         String::from_str(self.rt.alloc(), text).ok()
+    }
+
+    /// OUT, unless it isn't made.
+    fn make(&self) -> Result<Reel, CreateFault>
+        ensures { IfOk result (λ reel. (taken_by reel.sink ≡ []) × (reel.failures ≡ 0)) }
+    {
+        if let Some(fault) = self.unmade {
+            return Err(fault);
+        }
+        match Reel::new(self.rt.alloc(), self.room) {
+            Ok(reel) => Ok(reel),
+            Err(_) => Err(CreateFault::Memory),
+        }
     }
 
     /// Adds to the log.
@@ -139,14 +162,14 @@ impl<'a, R: Abort + AllocGlobal> Host for Recorder<'a, R> {
 
     fn create(&mut self, path: &str, _overwrite: bool) -> Result<Reel, CreateFault> {
         let name = copy(self.rt, path.as_bytes());
-        match Reel::new(self.rt.alloc(), self.room) {
+        match self.make() {
             Ok(reel) => {
                 self.record(Happened::Created(name));
                 Ok(reel)
             }
-            Err(_) => {
-                self.record(Happened::NotCreated(name));
-                Err(CreateFault::Memory)
+            Err(fault) => {
+                self.record(Happened::NotCreated(name, fault));
+                Err(fault)
             }
         }
     }
@@ -166,14 +189,22 @@ impl<'a, R: Abort + AllocGlobal> Host for Recorder<'a, R> {
 
     fn finish(&mut self, out: Reel, _whole: bool) -> Result<(), FinishFault> {
         let bytes = copy(self.rt, out.taken());
-        self.record(Happened::Wrote(bytes, out.failures, true));
-        Ok(())
+        let unfinished = self.unfinished;
+        self.record(Happened::Wrote(bytes, out.failures, unfinished));
+        match unfinished {
+            Some(fault) => Err(fault),
+            None => Ok(()),
+        }
     }
 
-    fn print(&mut self, screen: Screen, text: &[u8]) -> Result<(), NotDone> {
+    fn print(&mut self, screen: Screen, text: &[u8]) -> Result<(), PrintFault> {
         let text = copy(self.rt, text);
-        self.record(Happened::Printed(screen, text, true));
-        Ok(())
+        let unprinted = self.unprinted;
+        self.record(Happened::Printed(screen, text, unprinted));
+        match unprinted {
+            Some(fault) => Err(fault),
+            None => Ok(()),
+        }
     }
 
     fn tell(&mut self, text: &[u8]) {

@@ -3,9 +3,10 @@
 use crate::blobs::THREE_DENSE_NODES;
 use crate::happened::Happened;
 use crate::recorder::{File, KEY, Recorder, copy};
+use crate::show::THREE_LINES;
 use crate::words::owned;
 use pbfcut_cli::Program;
-use pbfcut_program::{Screen, run};
+use pbfcut_program::{CreateFault, FinishFault, PrintFault, Screen, run};
 use std::alloc::AllocError;
 use std::process::Abort;
 use std::test::Fail;
@@ -25,14 +26,20 @@ fn read<R: Abort + AllocGlobal>(rt: &R, bytes: &[u8], left: &[u8]) -> Happened {
     Happened::Read(copy(rt, bytes), copy(rt, left), 0)
 }
 
-/// What happens before an extract of this file `a` into `b` reads.
-fn prepared<R: Abort + AllocGlobal>(rt: &R, file: &[u8]) -> Result<Vec<Happened>, AllocError> {
+/// What happens before an extract of this file `a` makes `b`.
+fn seeded<R: Abort + AllocGlobal>(rt: &R, file: &[u8]) -> Result<Vec<Happened>, AllocError> {
     let mut events = Vec::new(rt.alloc());
     events.push(Happened::Looked(copy(rt, b"b"), false))?;
     events.push(opened(rt, 1, file))?;
     events.push(opened(rt, 2, file))?;
     events.push(opened(rt, 3, file))?;
     events.push(Happened::Seeded(KEY))?;
+    Ok(events)
+}
+
+/// What happens before it reads.
+fn prepared<R: Abort + AllocGlobal>(rt: &R, file: &[u8]) -> Result<Vec<Happened>, AllocError> {
+    let mut events = seeded(rt, file)?;
     events.push(Happened::Created(copy(rt, b"b")))?;
     Ok(events)
 }
@@ -47,11 +54,24 @@ fn extracted<R: Abort + AllocGlobal>(
     events.push(read(rt, &THREE_DENSE_NODES, &[]))?;
     events.push(read(rt, &[], &THREE_DENSE_NODES))?;
     events.push(read(rt, &THREE_DENSE_NODES, &[]))?;
-    events.push(Happened::Wrote(copy(rt, taken), failures, true))?;
+    events.push(Happened::Wrote(copy(rt, taken), failures, None))?;
     Ok(events)
 }
 
-/// Whether these words end with this status over a file `a` and so much room for OUT, and exactly this happened.
+/// Whether these words end with this status over this host, and exactly this happened.
+fn ends<R: Abort + AllocGlobal>(
+    rt: &R,
+    host: &mut Recorder<'_, R>,
+    given: &[&str],
+    status: u8,
+    events: &[Happened],
+) -> Result<bool, AllocError> {
+    let words = owned(rt.alloc(), given)?;
+    let ended = run(rt.alloc(), host, Program::Pbfcut, &words);
+    Ok(ended == status && host.events.as_slice() == events)
+}
+
+/// The same over a file `a` and so much room for OUT.
 fn goes<R: Abort + AllocGlobal>(
     rt: &R,
     given: &[&str],
@@ -60,21 +80,19 @@ fn goes<R: Abort + AllocGlobal>(
     status: u8,
     events: &[Happened],
 ) -> Result<bool, AllocError> {
-    let words = owned(rt.alloc(), given)?;
     let files = [File {
         path: "a",
         bytes: file,
     }];
     let mut host = Recorder::new(rt, &files, room);
-    let ended = run(rt.alloc(), &mut host, Program::Pbfcut, &words);
-    Ok(ended == status && host.events.as_slice() == events)
+    ends(rt, &mut host, given, status, events)
 }
 
 #[test]
 fn an_extract(rt: HostRuntime) -> Result<(), Fail> {
     let mut events = extracted(&rt, &EXTRACTED, 0)?;
     let counts = copy(&rt, b"nodes 2 ways 0 relations 0\n");
-    events.push(Happened::Printed(Screen::Output, counts, true))?;
+    events.push(Happened::Printed(Screen::Output, counts, None))?;
     assert!(rt; goes(&rt, &EXTRACT, &THREE_DENSE_NODES, 4_096, 0, &events)?);
     Ok(())
 }
@@ -87,7 +105,7 @@ fn a_refused_file(rt: HostRuntime) -> Result<(), Fail> {
     events.push(read(&rt, file, &[]))?;
     events.push(read(&rt, &[], file))?;
     events.push(read(&rt, &[], file))?;
-    events.push(Happened::Wrote(copy(&rt, &[]), 0, true))?;
+    events.push(Happened::Wrote(copy(&rt, &[]), 0, None))?;
     events.push(Happened::Told(copy(&rt, b"pbfcut: refused at 19: 10 PrefixCut\n")))?;
     events.push(Happened::Advised)?;
     assert!(rt; goes(&rt, &EXTRACT, file, 4_096, 1, &events)?);
@@ -111,5 +129,60 @@ fn a_failed_write(rt: HostRuntime) -> Result<(), Fail> {
     events.push(Happened::Told(copy(&rt, b"pbfcut: write failed\n")))?;
     events.push(Happened::Advised)?;
     assert!(rt; goes(&rt, &EXTRACT, &THREE_DENSE_NODES, 100, 3, &events)?);
+    Ok(())
+}
+
+/// A host of the three nodes.
+const NODES: [File<'static>; 1] = [File {
+    path: "a",
+    bytes: &THREE_DENSE_NODES,
+}];
+
+/// Another run makes OUT after it was looked for.
+#[test]
+fn an_out_made_meanwhile(rt: HostRuntime) -> Result<(), Fail> {
+    let mut host = Recorder::new(&rt, &NODES, 4_096);
+    host.unmade = Some(CreateFault::Exists);
+    let mut events = seeded(&rt, &THREE_DENSE_NODES)?;
+    events.push(Happened::NotCreated(copy(&rt, b"b"), CreateFault::Exists))?;
+    events.push(Happened::Told(copy(&rt, b"pbfcut: OUT exists\n")))?;
+    events.push(Happened::Advised)?;
+    assert!(rt; ends(&rt, &mut host, &EXTRACT, 3, &events)?);
+    Ok(())
+}
+
+/// Nobody reads the text of `show` any more.
+#[test]
+fn a_text_that_nobody_reads(rt: HostRuntime) -> Result<(), Fail> {
+    let mut host = Recorder::new(&rt, &NODES, 4_096);
+    let closed = Some(FinishFault::Closed);
+    host.unfinished = closed;
+    let mut events = Vec::new(rt.alloc());
+    events.push(opened(&rt, 1, &THREE_DENSE_NODES))?;
+    events.push(opened(&rt, 2, &THREE_DENSE_NODES))?;
+    events.push(Happened::Screened(true))?;
+    events.push(read(&rt, &THREE_DENSE_NODES, &[]))?;
+    events.push(read(&rt, &THREE_DENSE_NODES, &[]))?;
+    events.push(Happened::Wrote(copy(&rt, THREE_LINES.as_bytes()), 0, closed))?;
+    events.push(Happened::Told(copy(&rt, &[])))?;
+    events.push(Happened::Advised)?;
+    assert!(rt; ends(&rt, &mut host, &["show", "a"], 141, &events)?);
+    Ok(())
+}
+
+/// Nobody reads the counts of `check` any more.
+#[test]
+fn counts_that_nobody_reads(rt: HostRuntime) -> Result<(), Fail> {
+    let mut host = Recorder::new(&rt, &NODES, 4_096);
+    let closed = Some(PrintFault::Closed);
+    host.unprinted = closed;
+    let counts = copy(&rt, b"nodes 3 ways 0 relations 0\n");
+    let mut events = Vec::new(rt.alloc());
+    events.push(opened(&rt, 1, &THREE_DENSE_NODES))?;
+    events.push(read(&rt, &THREE_DENSE_NODES, &[]))?;
+    events.push(Happened::Printed(Screen::Output, counts, closed))?;
+    events.push(Happened::Told(copy(&rt, &[])))?;
+    events.push(Happened::Advised)?;
+    assert!(rt; ends(&rt, &mut host, &["check", "a"], 141, &events)?);
     Ok(())
 }

@@ -11,7 +11,7 @@ use std::alloc::{AllocError, Global};
 use std::process::Abort;
 use std::test::Fail;
 
-const THREE_LINES: &str = "N 10 100 100\nN 11 -100 100\nN 15 100 100\n";
+pub(crate) const THREE_LINES: &str = "N 10 100 100\nN 11 -100 100\nN 15 100 100\n";
 
 /// A dense node with an empty key; the value's one byte is at 42.
 const EMPTY_KEY: [u8; 72] = [

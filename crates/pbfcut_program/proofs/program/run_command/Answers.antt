@@ -1,4 +1,4 @@
-use Rattle.std.proofs.Common.{◌≡◌, [], ◌∷◌, ap, rules, string_bytes, true}
+use Rattle.std.proofs.Common.{◌≡◌, [], ◌∷◌, ap, rules, string_bytes, None}
 use Rattle.std.proofs.lemmas.Result.{IfErr-weaker, on_ok_weaker}
 use Rattle.pbfcut_program.specs.declared.host.Screen.TheVariants.{Output}
 use Rattle.pbfcut_program.specs.Events.{printed}
@@ -11,7 +11,7 @@ use Rattle.pbfcut_program.proofs.program.run_command.Goals as goal
 pub returns-in-Help-clause-ok : goal.returns-in-Help-clause-ok
 returns-in-Help-clause-ok g c =
     let same : c.as_bytes.result.now ≡ string_bytes c.in-Help.text = search rules in
-    rw c.in-Help.is (on_ok_weaker c.print_text.result (λ e. (_, e, ap (λ t. printed Output t true ∷ []) same)) (tells_ok _ _ _ c.print_text.result c.print_text.ensures))
+    rw c.in-Help.is (on_ok_weaker c.print_text.result (λ e. (_, e, ap (λ t. printed Output t None ∷ []) same)) (tells_ok _ _ _ c.print_text.result c.print_text.ensures))
 
 pub returns-in-Help-clause-err : goal.returns-in-Help-clause-err
 returns-in-Help-clause-err g c =

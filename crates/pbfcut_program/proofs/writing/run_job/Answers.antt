@@ -1,6 +1,6 @@
 use Rattle.std.proofs.Common.{◌∙◌, ◌<◌, ◌++◌, ◌∷◌, [], List, inl, inr, map, refl}
 use Rattle.std.proofs.lemmas.Result.{IfErr-weaker, IfOk-weaker}
-use Rattle.std.specs.Result.{is_ok}
+use Rattle.std.specs.Result.{result_err}
 use Rattle.pbfcut_program.specs.Devices.{MeansBy, TakenBy}
 use Rattle.pbfcut_program.specs.Events.{Event, read, wrote}
 use Rattle.pbfcut_program.specs.Fails.{judging}
@@ -8,9 +8,9 @@ use Rattle.pbfcut_program.specs.Jobs.{feeds_of, task_of}
 use Rattle.pbfcut_program.specs.Leaving.{TookFront}
 use Rattle.pbfcut_program.specs.Manner.{check_in, hashes_meaning, manner_of, of_output, output_form}
 use Rattle.pbfcut_program.specs.Tasks.{judge_of}
-use Rattle.pbfcut_program.proofs.Closing.{ends_with_out, hashed_as, keep_fails, stops_leaving, work_done, work_fails}
+use Rattle.pbfcut_program.proofs.Closing.{ends_with_out, hashed_as, stops_leaving, work_done, work_fails}
 use Rattle.pbfcut_program.proofs.EventLemmas.{has_after}
-use Rattle.pbfcut_program.proofs.FailLemmas.{told_fails}
+use Rattle.pbfcut_program.proofs.FailLemmas.{file_stops, told_fails}
 use Rattle.pbfcut_program.proofs.LeavingLemmas.{TakenFront, quiet_front}
 use Rattle.pbfcut_program.proofs.writing.run_job.Goals as goal
 
@@ -20,7 +20,7 @@ returns-in-Ok-clause-ok g c =
     let job = c.args.ready.job in
     let ran = c.run_into-result.result in
     let works = rw c.in-Ok.is at (c.run_into-result.ensures.works c.requires.fresh.0) in
-    let done = work_done g.H.In.Feed g.H.Out.Drain ran.out (is_ok c.finish-finished.result) (manner_of c.args.engine) (check_in c.args.engine c.args.ready.seed.key) (task_of job) (λ w. TakenBy g.H.Out.Drain ran.out ran.output w × MeansBy (output_form c.args.engine.packs c.args.engine.program) ran.meaning w) (0 < g.H.Out.Drain.failures ran.out)
+    let done = work_done g.H.In.Feed g.H.Out.Drain ran.out (result_err c.finish-finished.result) (manner_of c.args.engine) (check_in c.args.engine c.args.ready.seed.key) (task_of job) (λ w. TakenBy g.H.Out.Drain ran.out ran.output w × MeansBy (output_form c.args.engine.packs c.args.engine.program) ran.meaning w) (0 < g.H.Out.Drain.failures ran.out)
     (log c.args.host.now) (log c.close_job.new.host) (log c.finish-finished.new.self) (feeds_of job) (feeds_of c.run_into-result.new.job) c.in-Ok.report c.requires.fresh.0 c.close_job.ensures
     (c.finish-finished.ensures.some, c.finish-finished.ensures.logged) (λ w t. t.0.0) works in
     let form = output_form c.args.engine.packs c.args.engine.program in
@@ -35,16 +35,16 @@ returns-in-Ok-clause-err g c =
     let ran = c.run_into-result.result in
     let report = c.in-Ok.report in
     let works = rw c.in-Ok.is at (c.run_into-result.ensures.works c.requires.fresh.0) in
-    let done = work_done g.H.In.Feed g.H.Out.Drain ran.out (is_ok c.finish-finished.result) (manner_of c.args.engine) (check_in c.args.engine c.args.ready.seed.key) (task_of job) (λ w. TakenBy g.H.Out.Drain ran.out ran.output w × MeansBy (output_form c.args.engine.packs c.args.engine.program) ran.meaning w) (0 < g.H.Out.Drain.failures ran.out)
+    let done = work_done g.H.In.Feed g.H.Out.Drain ran.out (result_err c.finish-finished.result) (manner_of c.args.engine) (check_in c.args.engine c.args.ready.seed.key) (task_of job) (λ w. TakenBy g.H.Out.Drain ran.out ran.output w × MeansBy (output_form c.args.engine.packs c.args.engine.program) ran.meaning w) (0 < g.H.Out.Drain.failures ran.out)
     (log c.args.host.now) (log c.close_job.new.host) (log c.finish-finished.new.self) (feeds_of job) (feeds_of c.run_into-result.new.job) report c.requires.fresh.0 c.close_job.ensures
     (c.finish-finished.ensures.some, c.finish-finished.ensures.logged) (λ w t. t.0.0) works in
     let rs : List Event = map (λ r. read r) done.0 in
     let last : List Event = wrote done.1 ∷ [] in
     IfErr-weaker c.kept.result _ _ (λ how e.
-    let lost = done.3 ∙ e.0 in (
+    let lost = done.3 ∙ e.1 in (
       rs ++ last,
       done.2,
-      keep_fails (manner_of c.args.engine) (judging (judge_of (task_of job))) (map g.H.In.Feed.remaining (feeds_of job)) how (rs ++ last) e.1 (has_after _ rs last (inl (inr lost))) (has_after _ rs last (inl lost)),
+      rw e.2 (file_stops (manner_of c.args.engine) (judging (judge_of (task_of job))) (map g.H.In.Feed.remaining (feeds_of job)) e.0 (rs ++ last) (has_after _ rs last (inl lost))),
       inr (record { before = []; rs = done.0; out = done.1; after = []; happened = refl; by = check_in c.args.engine c.args.ready.seed.key; counts = report.counts; digest = report.input; raw = report.raw; work = done.5 }),
     )) c.kept.ensures.err
 
@@ -58,7 +58,7 @@ returns-in-Err-clause-err g c =
     let has = map g.H.In.Feed.remaining (feeds_of job) in
     let works = rw c.in-Err.is at (c.run_into-result.ensures.works c.requires.fresh.0) in
     let front = rw c.in-Err.is at c.run_into-result.ensures.front in
-    let tail = ends_with_out g.H.Out.Drain ran.out (is_ok c.finish-finished.result) (λ w. TakenBy g.H.Out.Drain ran.out ran.output w × MeansBy (output_form c.args.engine.packs c.args.engine.program) ran.meaning w) (0 < g.H.Out.Drain.failures ran.out) (log c.close_job.new.host) (log c.finish-finished.new.self)
+    let tail = ends_with_out g.H.Out.Drain ran.out (result_err c.finish-finished.result) (λ w. TakenBy g.H.Out.Drain ran.out ran.output w × MeansBy (output_form c.args.engine.packs c.args.engine.program) ran.meaning w) (0 < g.H.Out.Drain.failures ran.out) (log c.close_job.new.host) (log c.finish-finished.new.self)
     (λ w t. t.0.0) (λ risen. risen) (c.finish-finished.ensures.some, c.finish-finished.ensures.logged) in
     let fail = work_fails c.args.engine.program c.args.engine.packs c.args.engine.digests (check_in c.args.engine c.args.ready.seed.key) g.H.In.Feed (task_of job) (λ w. TakenBy g.H.Out.Drain ran.out ran.output w × MeansBy (output_form c.args.engine.packs c.args.engine.program) ran.meaning w) (0 < g.H.Out.Drain.failures ran.out) (TakenFront (taken ran.out))
     (log c.args.host.now) (log c.close_job.new.host) (log c.finish-finished.new.self) (feeds_of job) (feeds_of c.run_into-result.new.job) c.in-Err.halted tail c.requires.fresh.0 c.close_job.ensures works in
