@@ -24,9 +24,9 @@ import sys
 
 import build
 import planted
-from planted import HOLE, PARTS, files_in, functions_of, text_of, without_body, write
+from planted import PARTS, files_in, leave_out, text_of
 
-KEPT = os.path.join(os.path.dirname(planted.KEPT), "stubs")
+KEPT = os.path.join(os.environ.get("XDG_CACHE_HOME") or os.path.expanduser("~/.cache"), "pbfcut", "stubs")
 
 
 def digest_of(crate):
@@ -46,15 +46,7 @@ def make_stub(crate, name):
     for part in PARTS:
         if os.path.isdir(os.path.join(crate, part)):
             shutil.copytree(os.path.join(crate, part), os.path.join(room, part))
-    for file in [file for file in files_in(room) if file.startswith("src/")]:
-        text = text_of(room, file)
-        for function, folder, place in reversed(list(functions_of(file, text))):
-            text = without_body(text, place)
-            proof = os.path.join(room, "proofs", folder)
-            shutil.rmtree(proof, ignore_errors=True)
-            module = f"Rattle.{name}.proofs.{folder.replace('/', '.')}"
-            write(os.path.join(proof, "Proof.antt"), HOLE.format(module=module, name=function))
-        write(os.path.join(room, file), text)
+    leave_out(room, name)
     os.rename(room, made)
     return made
 
