@@ -26,9 +26,9 @@ import tempfile
 
 import build
 import planted
-from planted import HOLE, PARTS, files_in, functions_of, text_of, without_body, write
+from planted import PARTS, files_in, functions_of, leave_out, text_of
 
-KEPT = os.path.join(os.path.dirname(planted.KEPT), "stubs")
+KEPT = os.path.join(os.environ.get("XDG_CACHE_HOME") or os.path.expanduser("~/.cache"), "pbfcut", "stubs")
 
 
 def digest_of(crate):
@@ -40,21 +40,11 @@ def digest_of(crate):
 
 
 def copy_stubbed(crate, name, room, asked=()):
-    """Copies a crate into a room, with stubs for all functions but those that are asked for, by the folders of their proofs."""
+    """Copies a crate into a room, with stubs for all functions but those that are asked for, by the file and the name of each."""
     for part in PARTS:
         if os.path.isdir(os.path.join(crate, part)):
             shutil.copytree(os.path.join(crate, part), os.path.join(room, part))
-    for file in [file for file in files_in(room) if file.startswith("src/")]:
-        text = text_of(room, file)
-        for function, folder, place in reversed(list(functions_of(file, text))):
-            if any(f"{folder}/".startswith(f"{path}/") for path in asked):
-                continue
-            text = without_body(text, place)
-            proof = os.path.join(room, "proofs", folder)
-            shutil.rmtree(proof, ignore_errors=True)
-            module = f"Rattle.{name}.proofs.{folder.replace('/', '.')}"
-            write(os.path.join(proof, "Proof.antt"), HOLE.format(module=module, name=function))
-        write(os.path.join(room, file), text)
+    leave_out(room, name, frozenset(asked))
 
 
 def make_stub(crate, name):
@@ -68,6 +58,14 @@ def make_stub(crate, name):
         except OSError:  # another run has made it meanwhile
             shutil.rmtree(room)
     return made
+
+
+def functions_at(crate, paths):
+    """The functions that these paths name, each by its file and its name."""
+    asked = tuple(f"{path.replace('::', '/')}/" for path in paths)
+    files = [file for file in files_in(crate) if file.startswith("src/")]
+    named = [(file, *found) for file in files for found in functions_of(file, text_of(crate, file))]
+    return [(file, name) for file, name, folder, _ in named if f"{folder}/".startswith(asked)]
 
 
 def words_of(kit, tree, name, jobs):
@@ -120,8 +118,7 @@ def main():
     folder = os.path.join(tree, "crates", given.crate)
     with tempfile.TemporaryDirectory(prefix="alone-") as room:
         if given.alone:
-            asked = [path.replace("::", "/") for path in given.paths]
-            copy_stubbed(folder, given.crate, room, asked)
+            copy_stubbed(folder, given.crate, room, functions_at(folder, given.paths))
             folder = room
         how = {"cwd": folder, "stdout": subprocess.PIPE, "stderr": subprocess.STDOUT, "text": True, "errors": "replace"}
         with subprocess.Popen(words_of(kit, tree, given.crate, given.jobs) + only, **how) as check:

@@ -1,11 +1,13 @@
 #!/usr/bin/env python3
 """Tries planted bugs: the prover must refuse each.
 
-usage: tools/planted.py [--set must-fail|more-edits|all] [--sample N --seed WORD] [--libraries FOLDER] [--beside PID --log FILE] [--lanes N]
-       [CRATE..]
+usage: tools/planted.py [--set must-fail|more-edits|all] [--all] [--sample N --seed WORD] [--write FILE] [--libraries FOLDER]
+       [--beside PID --log FILE] [--lanes N] [CRATE..]
 
-Those of crates/NAME/must-fail/ are tried, where no other set is named, and with --sample N of the others, which WORD chooses. The edits
-that are not tried are read all the same: each has to fit the files that it changes.
+The set is that of crates/NAME/must-fail/, where no other is named. Of its bugs those are not tried that release/REFUSED lists, as long as all
+that their trials depend on is what it was: the kit, this script, the edit, its crate, and what is public of the crates below. With --all
+they are tried, too. With --sample N of the listed bugs are tried again, and N of those that are not of the set; WORD chooses them. The
+edits that are not tried are read all the same: each has to fit the files that it changes. --write makes FILE the list that is now right.
 
 The prover judges each function by the contracts of those that it calls, and names each function that it refuses. So one check of a
 crate tries many bugs, one in a function, and asks for the proofs of these functions alone: the others have a hole instead of one, and
@@ -17,9 +19,6 @@ FOLDER has the built libraries, FOLDER/NAME/out/rlib/NAME.rlib; with none they a
 --beside each crate waits for the libraries that it depends on, until `rt ci`, the process PID, says in FILE that they are proved, or ends.
 N checks run at a time: as many as there are processors, where nothing else is said and memory allows; once PID has ended more of them,
 as both allow.
-
-A bug that was refused is not tried again on this machine while its edit, its crate, the crates below and the kit stay the same: that is
-kept in ~/.cache/pbfcut/planted, which may be removed.
 
 Exit status: 0 each bug was refused; 1 one was not, or cannot be tried; 2 this kit is not called in the way that this script knows,
 and `rt must-fail` and tests/more_edits.sh have to try them, one check for each.
@@ -39,12 +38,12 @@ import time
 from concurrent.futures import ThreadPoolExecutor
 from dataclasses import dataclass
 
-from build import NOT_THIS_KIT, TOP, all_below, free_gigabytes, kit_folder, known_crates, lanes, source_sum
+from build import NOT_THIS_KIT, TOP, all_below, free_gigabytes, kit_folder, known_crates, lanes
 
 FOLDERS = ("must-fail", "more-edits")
 SETS = {"must-fail": FOLDERS[:1], "more-edits": FOLDERS[1:], "all": FOLDERS}
 PARTS = ("src", "specs", "proofs")
-KEPT = os.path.join(os.environ.get("XDG_CACHE_HOME") or os.path.expanduser("~/.cache"), "pbfcut", "planted")
+LIST = os.path.join(TOP, "release", "REFUSED")
 
 # What the prover says where a proof cannot be read since a name is gone, or waits for another: no refusal of a goal.
 OF_NAMES = re.compile(r"has no field|is not in scope|has no `|was not admitted|was not checked|is not proved")
@@ -172,6 +171,78 @@ def without_body(text, place):
     return f"{text[: begin.end()]}\n{indent}    loop {{}}\n{text[end.start() :]}"
 
 
+def without_bodies(crate, asked=frozenset()):
+    """Each file of src/ of a crate, its text with endless loops as the bodies of the functions that are not asked for, and the names of
+    these, each by the folder of its proof. A constant may be computed by a `const fn`, so those stay as they are."""
+    for file in [file for file in files_in(crate) if file.startswith("src/")]:
+        text, left_out = text_of(crate, file), {}
+        if (file, "") not in asked:
+            for name, folder, place in reversed(list(functions_of(file, text))):
+                if (file, name) not in asked and "const fn" not in text[place : text.index("\n", place)]:
+                    text, left_out[folder] = without_body(text, place), name
+        yield file, text, left_out
+
+
+def leave_out(crate, name, asked=frozenset()):
+    """Replaces the proof of each function of a copy of the crate by a hole and its body by an endless loop, unless it is asked for, by its
+    file and name, or by its file: the prover reads a body and all that it calls, even where the proof is a hole."""
+    for file, text, left_out in list(without_bodies(crate, asked)):
+        for folder, function in left_out.items():
+            proof = os.path.join(crate, "proofs", folder)
+            shutil.rmtree(proof, ignore_errors=True)
+            module = f"Rattle.{name}.proofs.{folder.replace('/', '.')}"
+            write(os.path.join(proof, "Proof.antt"), HOLE.format(module=module, name=function))
+        write(os.path.join(crate, file), text)
+
+
+def digest_of(texts):
+    """A digest of named texts, in the order of the names."""
+    digest = hashlib.sha256()
+    for name, text in sorted(texts.items()):
+        digest.update(f"{name}\0{len(text)}\0{text}".encode())
+    return digest.hexdigest()
+
+
+def public_digest(crate):
+    """A digest of what the crates above read of a crate: contracts, definitions and lemmas, without bodies and the proofs of functions."""
+    texts, proofs = {}, []
+    for file, text, left_out in without_bodies(crate):
+        texts[file] = text
+        proofs += [f"proofs/{folder}/" for folder in left_out]
+    for file in files_in(crate):
+        if file not in texts and not file.startswith(tuple(proofs)):
+            texts[file] = text_of(crate, file)
+    return digest_of(texts)
+
+
+def trial_digests(top, crates, version):
+    """A digest of what the trial of each planted bug depends on, by the bug's crate, folder and file: the version of the kit, this script, the
+    edit, the crate, and what is public of the crates below."""
+    public = {name: public_digest(os.path.join(top, "crates", name)) for name in crates}
+    script, digests = text_of("", os.path.abspath(__file__)), {}
+    for name in crates:
+        folder = os.path.join(top, "crates", name)
+        own = digest_of({file: text_of(folder, file) for file in files_in(folder)})
+        below = " ".join(f"{other} {public[other]}" for other in all_below(crates, name))
+        shared = {"version": version, "script": script, "crate": own, "uses": " ".join(crates[name]), "below": below}
+        for bug in [f"{it}/{edit}" for it in FOLDERS for edit in edits_of(folder, it)]:
+            digests[f"{name}/{bug}"] = digest_of(shared | {"edit": text_of(folder, bug)})
+    return digests
+
+
+def read_list(path):
+    """The lines of a list of refused bugs: the digest of each by its name."""
+    try:
+        lines = open(path, encoding="utf-8").read().split("\n")
+    except OSError:
+        return {}
+    return {name: digest for digest, _, name in (line.partition("  ") for line in lines) if name}
+
+
+def write_list(path, digests):
+    write(path, "".join(f"{digest}  {name}\n" for name, digest in sorted(digests.items())))
+
+
 def homes_of(file, text):
     """Patterns of the folders of proofs/ for the functions of a file: that of its module, and that of each type that it has an `impl`
     of, wherever the type is declared."""
@@ -229,10 +300,22 @@ def read_bugs(crate):
     return [read_bug(crate, folder, name) for folder in FOLDERS for name in edits_of(crate, folder)]
 
 
-def sample_of(crates, count, seed):
-    """So many bugs of the crates' second folders, by the crate and the bug's name: other ones for another seed."""
-    names = [(crate, f"{FOLDERS[1]}/{name}") for crate in crates for name in edits_of(os.path.join(TOP, "crates", crate), FOLDERS[1])]
-    return set(sorted(names, key=lambda name: hashlib.sha256(f"{seed} {'/'.join(name)}".encode()).digest())[:count])
+def sample_of(names, count, seed):
+    """So many of these names: other ones for another seed."""
+    return set(sorted(names, key=lambda name: hashlib.sha256(f"{seed} {name}".encode()).digest())[:count])
+
+
+def is_of(name, folders):
+    """Whether a bug, by its crate, folder and file, is in one of these folders."""
+    return name.split("/")[1] in folders
+
+
+def choose(given, names, fresh):
+    """Of the bugs with these names those that are tried, and those that are not, since they are among the fresh ones of the list."""
+    wanted = {name for name in names if is_of(name, SETS[given.set])}
+    known = set() if given.all else wanted & fresh
+    again, others = (sample_of(it, given.sample, given.seed) for it in (known, names - wanted))
+    return wanted - known | again | others, known - again
 
 
 def apart(bugs):
@@ -326,45 +409,14 @@ def function_below(text, line):
     return function_at(text, sum(len(it) + 1 for it in lines[:line]) - 1)
 
 
-class Refusals:
-    """The bugs of a crate that earlier runs on this machine saw refused."""
-
-    def __init__(self, crates, name):
-        self.folder, self.sum = os.path.join(TOP, "crates", name), source_sum(crates, name)
-
-    def path(self, bug):
-        edit = text_of(self.folder, bug).encode()
-        return os.path.join(KEPT, hashlib.sha256(self.sum.encode() + edit).hexdigest())
-
-    def found(self, bug):
-        """Where a bug was refused, or nothing."""
-        try:
-            with open(self.path(bug), encoding="utf-8") as kept:
-                return kept.read()
-        except (OSError, UnicodeError):
-            return ""
-
-    def keep(self, bug, found):
-        """Without a place to keep it, the next run tries the bug again."""
-        path = self.path(bug)
-        try:
-            os.makedirs(KEPT, exist_ok=True)
-            with tempfile.NamedTemporaryFile("w", dir=KEPT, delete=False, encoding="utf-8") as made:
-                made.write(found)
-            os.replace(made.name, path)
-        except OSError:
-            pass
-
-
 class Crate:
     """A crate whose planted bugs are tried."""
 
     def __init__(self, kit, crates, name, libraries, left):
         self.kit, self.crates, self.name, self.libraries, self.left = kit, crates, name, libraries, left
         self.folder = os.path.join(TOP, "crates", name)
-        self.refusals = Refusals(crates, name)
         self.functions = set()  # those that the checks named
-        self.checks, self.kept = 0, 0
+        self.checks = 0
 
     def library(self, name):
         return os.path.join(self.libraries, name, "out", "rlib", f"{name}.rlib")
@@ -393,20 +445,6 @@ class Crate:
         known = [f"{path}/{name}".lstrip("/") for path, name in named] or [folder for name, folder, _ in folders if name == change.function]
         return {path.replace("/", "::") for path in known or [module_of(change.home)]}
 
-    def leave_out(self, room, asked):
-        """Replaces the proof of each function of a copy of the crate by a hole and its body by an endless loop, unless it is asked for, in
-        these files by these names: the prover reads a body and all that it calls, even where the proof is a hole."""
-        for file in [file for file in files_in(room) if file.startswith("src/")]:
-            text = text_of(room, file)
-            others = [it for it in functions_of(file, text) if (file, it[0]) not in asked and (file, "") not in asked]
-            for name, folder, place in reversed(others):
-                text = without_body(text, place)
-                proof = os.path.join(room, "proofs", folder)
-                shutil.rmtree(proof, ignore_errors=True)
-                module = f"Rattle.{self.name}.proofs.{folder.replace('/', '.')}"
-                write(os.path.join(proof, "Proof.antt"), HOLE.format(module=module, name=name))
-            write(os.path.join(room, file), text)
-
     def check(self, bugs, kept, is_whole=False):
         """Checks a copy of the crate that has these bugs, over what the checks before it proved: the functions that they stand in, and what has
         no hole of what those call, or all of the crate. Of a bug that stands in no function the whole of its file is asked for."""
@@ -424,7 +462,7 @@ class Crate:
             for file, text in texts.items():
                 write(os.path.join(room, file), text)
             if not is_whole:
-                self.leave_out(room, homes)
+                leave_out(room, self.name, homes)
             how = {"cwd": room, "stdin": subprocess.DEVNULL, "stdout": subprocess.PIPE, "stderr": subprocess.STDOUT, "errors": "replace"}
             ran = subprocess.run(self.words() + only + ["--incremental", kept], **how)
             if ran.returncode == -signal.SIGKILL:  # most often memory ran out: once more
@@ -445,12 +483,9 @@ class Crate:
                 return True, found
         return False, "THE CRATE IS STILL PROVED" if verdict.is_proved else "refused for a name alone"
 
-    def try_all(self, folders, sample):
-        """Tries the bugs of these folders of the crate, and those of the sample. Answers for each its name, whether it is refused, and where."""
-        bugs = [bug for bug in read_bugs(self.folder) if bug.name.startswith(folders) or (self.name, bug.name) in sample]
-        told = [(bug.name, True, found) for bug in bugs for found in [self.refusals.found(bug.name)] if found]
-        self.kept, known = len(told), {name for name, _, _ in told}
-        bugs = [bug for bug in bugs if bug.name not in known]
+    def try_all(self, names):
+        """Tries the bugs of the crate that have these names. Answers for each its name, whether it is refused, and where."""
+        told, bugs = [], [bug for bug in read_bugs(self.folder) if f"{self.name}/{bug.name}" in names]
         left, alone = [bug for bug in bugs if bug.is_placed()], [bug for bug in bugs if not bug.is_placed()]
         with tempfile.TemporaryDirectory(prefix="planted-kept-") as kept:
             while len(left) > 1:
@@ -467,9 +502,6 @@ class Crate:
                     left.sort(key=lambda bug: bug not in chosen)
             for bug in left + alone:
                 told.append((bug.name, *self.try_alone(bug, kept)))
-        for name, is_refused, found in told:
-            if is_refused and name not in known:
-                self.refusals.keep(name, found)
         return told
 
 
@@ -524,12 +556,14 @@ class Lanes:
             self.changed.notify()
 
 
-def try_crate(crate, folders, sample, gate, lanes):
+def try_crate(crate, names, gate, lanes):
     try:
+        if not any(name.startswith(f"{crate.name}/") for name in names):
+            return crate.try_all(names)  # its edits are read
         if not gate.wait_for(crate):
             return [("each", False, "the libraries that its crate stands on are not built")]
         with lanes:
-            return crate.try_all(folders, sample)
+            return crate.try_all(names)
     except Unusable as why:
         return [("each", False, str(why))]
     finally:
@@ -544,45 +578,59 @@ def build_libraries(crates, names):
             sys.exit(f"planted: {name} is not proved")
 
 
-def main():
-    asked = argparse.ArgumentParser(
-        usage="tools/planted.py [--set must-fail|more-edits|all] [--sample N --seed WORD] [--libraries FOLDER] [--beside PID --log FILE]"
-        " [--lanes N] [CRATE..]"
-    )
+def arguments():
+    asked = argparse.ArgumentParser(usage=__doc__.split("usage: ")[1].split("\n\n")[0])
     asked.add_argument("--set", choices=SETS, default="must-fail")
+    asked.add_argument("--all", action="store_true")
     asked.add_argument("--sample", type=int, default=0)
     asked.add_argument("--seed", default="")
+    asked.add_argument("--write")
     asked.add_argument("--libraries")
     asked.add_argument("--beside", type=int)
     asked.add_argument("--log")
     asked.add_argument("--lanes", type=int, default=lanes())
     asked.add_argument("crates", nargs="*")
-    given = asked.parse_args()
-    kit, crates = kit_folder(), known_crates()
-    if kit is None:
-        return NOT_THIS_KIT
-    folders = SETS[given.set]
-    known = [name for name in crates if any(os.path.isdir(os.path.join(TOP, "crates", name, it)) for it in folders)]
-    names = given.crates or known
-    sample = sample_of(names, given.sample, given.seed)
-    if set(names) - set(known):
-        sys.exit(f"planted: no bugs in {' or '.join(folders)} of {', '.join(sorted(set(names) - set(known)))}")
-    if not given.libraries:
-        build_libraries(crates, names)
-    left = set(names)
-    tried = [Crate(kit, crates, name, given.libraries or os.path.join(TOP, "crates"), left) for name in names]
-    count, failed, started = 0, 0, time.monotonic()
+    return asked.parse_args()
+
+
+def try_crates(given, tried, names):
+    """Tries the bugs of these names, each in its crate, and prints how each trial ended. Answers which are refused, and how many aren't."""
+    refused, failed = set(), 0
     gate = Gate(given.beside, given.log)
     room = Lanes(given.lanes, gate)
     with ThreadPoolExecutor(len(tried)) as pool:
-        for crate, told in zip(tried, pool.map(lambda crate: try_crate(crate, folders, sample, gate, room), tried)):
-            for name, is_refused, found in told:
-                print(f"planted {crate.name}/{name}: {'refused, as it must be' if is_refused else 'NOT REFUSED'}: {found[:160]}", flush=True)
+        for crate, told in zip(tried, pool.map(lambda crate: try_crate(crate, names, gate, room), tried)):
+            for bug, is_refused, found in told:
+                print(f"planted {crate.name}/{bug}: {'refused, as it must be' if is_refused else 'NOT REFUSED'}: {found[:160]}", flush=True)
                 failed += not is_refused
-            count += len(told)
-    minutes, checks, kept = (time.monotonic() - started) / 60, sum(crate.checks for crate in tried), sum(crate.kept for crate in tried)
-    earlier = f", {kept} of them by earlier runs on this machine" if kept else ""
-    print(f"planted: {count - failed} of {count} bugs refused{earlier}, in {checks} checks and {minutes:.0f} minutes")
+                refused |= {f"{crate.name}/{bug}"} if is_refused else set()
+    return refused, failed
+
+
+def main():
+    given = arguments()
+    kit, crates = kit_folder(), known_crates()
+    if kit is None:
+        return NOT_THIS_KIT
+    digests = trial_digests(TOP, crates, subprocess.run(["rt", "version"], capture_output=True, text=True).stdout)
+    known = {bug.split("/")[0] for bug in digests}
+    names = given.crates or [name for name in crates if name in known]
+    if set(names) - known:
+        sys.exit(f"planted: no bugs in {', '.join(sorted(set(names) - known))}")
+    listed = read_list(LIST)
+    fresh = {bug for bug in digests if listed.get(bug) == digests[bug]}
+    wanted, spared = choose(given, {bug for bug in digests if bug.split("/")[0] in names}, fresh)
+    if not given.libraries:
+        build_libraries(crates, names)
+    left, started = set(names), time.monotonic()
+    tried = [Crate(kit, crates, name, given.libraries or os.path.join(TOP, "crates"), left) for name in names]
+    refused, failed = try_crates(given, tried, wanted)
+    if given.write:
+        write_list(given.write, {bug: digests[bug] for bug in fresh - wanted | refused})
+    count = len(refused) + failed
+    print(f"planted: {sum(crate.checks for crate in tried)} checks in {(time.monotonic() - started) / 60:.0f} minutes")
+    print(f"planted: {len(refused) + len(spared)} of {count + len(spared)} planted bugs refused: {count} tried in this run", end="")
+    print(f", {len(spared)} as release/REFUSED lists them" if spared else "")
     return 1 if failed else 0
 
 

@@ -2,6 +2,7 @@
 # Makes release/ of the program that the gate built, or an archive of a release.
 #
 # usage: tools/release.sh                    after a green `bash .ci/run`: packs its program into release/, and writes release/MANIFEST
+#                                            and release/REFUSED, the list of the planted bugs that were refused
 #        tools/release.sh --archive FOLDER   makes FOLDER/pbfcut-VERSION-x86_64-linux.tar.gz of release/, and pbf-vectors-VERSION.tar.gz
 #                                            of vectors/ for authors of other readers, with SHA256SUMS beside them
 set -eu
@@ -28,6 +29,9 @@ make_release() {
   version=$("$built" --version)
   mkdir -p release
   gzip -9nc "$built" >"$packed"
+  if [ -s "$built.refused" ]; then
+    cp "$built.refused" release/REFUSED
+  fi
   {
     echo "program: ${version%% (*}"
     echo "sha256: $(digest_of "$built")"
