@@ -1,4 +1,4 @@
-//! What a file holds, as text for people: the lines of a header and of an entity, texts in quotation marks, numbers, times.
+//! What a file holds, as text: the lines of a header and of an entity, a header in JSON, texts in quotation marks, numbers, times.
 //! It appends to a vector of bytes, and knows nothing of files, frames and devices.
 #![tactic(auto)]
 

@@ -199,9 +199,9 @@ pub(crate) const AFTER_INFO: &str = after_arguments_of_reader!(
     With --json the same is printed as a JSON object on one line, by the words of\n\
     the lines: {\"required\":[..],\"optional\":[..],\"stored\":\"zlib\",\"frames\":{..}}\n",
     "IN has zlib or raw blobs.\n",
-    "Examples, the second of which prints the features of a file:\n  \
+    "Examples:\n  \
       pbfcutz info england.osm.pbf\n  \
-      pbfcutz info --json england.osm.pbf | jq .optional\n"
+      pbfcutz info --json england.osm.pbf | python3 -m json.tool\n"
 );
 
 /// What `--version` prints after the name.
