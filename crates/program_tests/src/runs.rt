@@ -113,3 +113,24 @@ fn a_failed_write(rt: HostRuntime) -> Result<(), Fail> {
     assert!(rt; goes(&rt, &EXTRACT, &THREE_DENSE_NODES, 100, 3, &events)?);
     Ok(())
 }
+
+#[test]
+fn info_in_json(rt: HostRuntime) -> Result<(), Fail> {
+    let words = owned(rt.alloc(), &["info", "--json", "a"])?;
+    let files = [File {
+        path: "a",
+        bytes: &THREE_DENSE_NODES,
+    }];
+    let mut host = Recorder::new(&rt, &files, 4_096);
+    let status = run(rt.alloc(), &mut host, Program::Pbfcutz, &words);
+    let text =
+        b"{\"required\":[],\"optional\":[],\"stored\":\"raw\",\"frames\":{\"OSMHeader\":1,\"OSMData\":1,\"other\":0}}\n";
+    let mut events = Vec::new(rt.alloc());
+    events.push(opened(&rt, 1, &THREE_DENSE_NODES))?;
+    events.push(Happened::Screened(true))?;
+    events.push(read(&rt, &THREE_DENSE_NODES, &[]))?;
+    events.push(Happened::Wrote(copy(&rt, text), 0, true))?;
+    assert_eq!(rt; status, 0);
+    assert_eq!(rt; host.events.as_slice(), events.as_slice());
+    Ok(())
+}
