@@ -11,10 +11,10 @@ use Rattle.osm_polygon.specs.declared.place.Place.{Place}
 use Rattle.osm_polygon.specs.declared.bands.Band.{Band}
 use Rattle.osm_polygon.specs.declared.belts.Belt.{Belt}
 use Rattle.osm_polygon.specs.declared.belts.Belt.TheVariants.{One, Many}
-use Rattle.osm_polygon.specs.declared.belts.Parts.{Parts}
+use Rattle.osm_polygon.specs.declared.belts.BeltBands.{BeltBands}
 use Rattle.osm_polygon.specs.Edges.{along, strip_number, lowest, highest, is_in_strip}
 use Rattle.osm_polygon.specs.Bands.{IsBand, AreBands}
-use Rattle.osm_polygon.specs.Belts.{AreParts, IsBelt, IsNarrow, AreNarrow, AreBelts, held_of, held_in, cells_of, cells_in}
+use Rattle.osm_polygon.specs.Belts.{AreBeltBands, IsBelt, IsNarrow, AreNarrow, AreBelts, held_of, held_in, cells_of, cells_in}
 use Rattle.osm_polygon.proofs.Counting.{filter_near}
 use Rattle.osm_polygon.proofs.EdgeLemmas.{both}
 use Rattle.osm_polygon.proofs.StripLemmas.{le_true, nat_le_is}
@@ -87,10 +87,10 @@ module _ (shift number finer : ℕ) (narrow : finer ≤ shift) where
       let at : strip_number Latitude finer p / parts ≡ number = finer_number finer shift (along Latitude p) narrow ∙ is in
       (div-lt_iff_lt-mul {k = parts} {x = strip_number Latitude finer p} {y = number + 1} (some_power (shift - finer))).0 (omega (arith, at))
 
-pub are_parts : (shift number : ℕ) (all : List Edge) (parts : Parts) → parts.shift ≤ shift → shift < 64
+pub are_belt_bands : (shift number : ℕ) (all : List Edge) (parts : BeltBands) → parts.shift ≤ shift → shift < 64
     → parts.first ≡ number * 2 ^ (shift - parts.shift) → parts.first + length parts.bands.items ≡ (number + 1) * 2 ^ (shift - parts.shift)
-    → AreBands parts.shift parts.first (filter (is_in_strip Latitude shift number) all) parts.bands.items → AreParts shift number all parts
-are_parts shift number all parts narrow width first end are = record {
+    → AreBands parts.shift parts.first (filter (is_in_strip Latitude shift number) all) parts.bands.items → AreBeltBands shift number all parts
+are_belt_bands shift number all parts narrow width first end are = record {
   bands = bands_in shift number parts.shift narrow parts.first all parts.bands.items are (omega (arith, first)) (omega (arith, end));
   begun = λ p is. rw first (first_place shift number parts.shift narrow p is);
   ends = λ p is. rw end (last_place shift number parts.shift narrow p is);

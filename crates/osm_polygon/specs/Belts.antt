@@ -8,14 +8,14 @@ use Rattle.osm_polygon.specs.declared.bands.Band.{Band}
 use Rattle.osm_polygon.specs.declared.bands.Asked.{Asked}
 use Rattle.osm_polygon.specs.declared.belts.Belt.{Belt}
 use Rattle.osm_polygon.specs.declared.belts.Belt.TheVariants.{One, Many}
-use Rattle.osm_polygon.specs.declared.belts.Parts.{Parts}
+use Rattle.osm_polygon.specs.declared.belts.BeltBands.{BeltBands}
 use Rattle.osm_polygon.specs.Polygon.{is_amid_edges}
 use Rattle.osm_polygon.specs.Edges.{point_of, side_of, strip_number, is_in_strip}
 use Rattle.osm_polygon.specs.Strips.{held}
 use Rattle.osm_polygon.specs.Bands.{IsBand, AreBands, AreClosed, held_by, cells_by}
 
 -- the bands of the belt with this number, if these are the edges of the polygon: each place of it is in one of them
-pub record AreParts (shift number : ℕ) (edges : List Edge) (parts : Parts) : Type 0 where
+pub record AreBeltBands (shift number : ℕ) (edges : List Edge) (parts : BeltBands) : Type 0 where
   pub bands : AreBands parts.shift parts.first edges parts.bands.items
   pub begun : (p : Place) → strip_number Latitude shift p ≡ number
       → parts.first ≤ strip_number Latitude parts.shift p
@@ -28,7 +28,7 @@ abbrev pub IsBelt : (shift number : ℕ) → List Edge → Belt → Type 0
 IsBelt shift number edges (One band) =
     IsBand (record { shift = shift; band = number })
     (filter (is_in_strip Latitude shift number) edges) band
-IsBelt shift number edges (Many parts) = AreParts shift number edges parts
+IsBelt shift number edges (Many parts) = AreBeltBands shift number edges parts
 
 -- the belts from this number on
 abbrev pub AreBelts : (shift number : ℕ) → List Edge → List Belt → Type 0
@@ -48,10 +48,10 @@ IsNarrow (One band) = band.shift < 64
 IsNarrow (Many parts) = (parts.shift < 64) × AreNarrow parts.bands.items
 
 -- what is said of a place of the belt, if these are the edges of the polygon
-abbrev pub PartsTell : Parts → Place → Bool → Type 0
-PartsTell parts place told =
+abbrev pub BeltBandsTell : BeltBands → Place → Bool → Type 0
+BeltBandsTell parts place told =
     (shift : ℕ) (edges : List Edge)
-    → AreParts shift (strip_number Latitude shift place) edges parts
+    → AreBeltBands shift (strip_number Latitude shift place) edges parts
     → AreClosed (map side_of edges) → told ≡ is_amid_edges (map side_of edges) (point_of place)
 
 abbrev pub BeltTells : Belt → Asked → Bool → Type 0

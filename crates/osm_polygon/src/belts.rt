@@ -6,7 +6,7 @@ ghost use Rattle.osm_polygon.specs.declared.edge.Axis.TheVariants.{Latitude};
 ghost use Rattle.osm_polygon.specs.declared.edge.Edge as edge;
 ghost use Rattle.osm_polygon.specs.Edges.{is_in_strip};
 ghost use Rattle.osm_polygon.specs.Strips.{spans_of};
-ghost use Rattle.osm_polygon.specs.Belts.{IsBelt, IsNarrow, AreNarrow, AreBelts, PartsTell, BeltTells, held_of, held_in, cells_of, cells_in};
+ghost use Rattle.osm_polygon.specs.Belts.{IsBelt, IsNarrow, AreNarrow, AreBelts, BeltBandsTell, BeltTells, held_of, held_in, cells_of, cells_in};
 
 use crate::bands::{Asked, Band, Border, band_of, bands_of};
 use crate::edge::{Axis, Edge, strip_of};
@@ -20,12 +20,12 @@ pub(crate) enum Belt {
     /// It is one band.
     One(Band),
     /// It has several.
-    Many(Parts),
+    Many(BeltBands),
 }
 
 /// The bands of a belt from the one with the number `first` to the north.
 #[derive(Debug, Drop)]
-pub(crate) struct Parts {
+pub(crate) struct BeltBands {
     pub(crate) bands: Vec<Band>,
     /// The number of the first band.
     pub(crate) first: u64,
@@ -54,7 +54,7 @@ fn belt_of(alloc: Global, edges: &[Edge], border: Border) -> Result<Belt, AllocE
         return Ok(Belt::One(band_of(alloc, edges, border)?));
     }
     let bands = bands_of(alloc, edges, cut)?;
-    Ok(Belt::Many(Parts {
+    Ok(Belt::Many(BeltBands {
         bands,
         first: cut.first,
         shift: cut.shift,
@@ -85,13 +85,13 @@ pub(crate) fn belts_of(alloc: Global, edges: &[Edge], cut: Cut) -> Result<Vec<Be
     Ok(belts)
 }
 
-impl Parts {
+impl BeltBands {
     /// Whether a place of the belt lies on an edge of the polygon, or the ray from it to the east crosses an odd number of them.
     #[inline(always)]
     fn has(&self, place: Place) -> bool
         requires bands { self.now.shift < 64 }
         requires cells { AreNarrow self.now.bands.items }
-        ensures { PartsTell self.now place result }
+        ensures { BeltBandsTell self.now place result }
     {
         let number = strip_of(Axis::Latitude, self.shift, place);
         if number < self.first {

@@ -26,7 +26,7 @@ RefusesRest f old new at_fault stop.Write = Unit {0}
 RefusesRest f old new at_fault stop.Memory = Unit {0}
 RefusesRest f old new at_fault (stop.Changed pass) = Refuses (at_fault (stop.Changed pass)) (f.has_passed old) (f.has_passed new) (f.remaining old) (f.remaining new)
 
--- faulty bytes were read, with their number, as far as it can be counted, and their digest, if they were hashed
+-- faulty bytes were read, with their number, as far as it can be counted, and their digest by the check
 pub record RefusesBytes {F : Type 0} (f : feed.Ghosts F) (old new : F) (check : PassCheck) (at_fault : Fault → List ℕ → Type 0) (refusal : Refusal) : Type 0 where
   pub bytes : Refuses (at_fault refusal.fault) (f.has_passed old) (f.has_passed new) (f.remaining old) (f.remaining new)
   pub counted : IsLength refusal.read bytes.read

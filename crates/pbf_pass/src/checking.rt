@@ -40,7 +40,7 @@ pub fn check<F: Feed>(alloc: Global, feed: &mut F) -> Result<Counts, Stop>
 /// A refusal has how many bytes were read, and their digest. The fault is the first one of every file that begins with these bytes;
 /// or, if the feed was at its end, of the file that has exactly these bytes.
 pub fn check_with_receipt<F: Feed>(passes: Passes, feed: &mut F) -> Result<InputReceipt, Halt>
-    // The feed gave a file, of this digest if it is hashed, to its end. It has no fault, and the counts are those of its entities.
+    // The feed gave a file, of this digest by the check, to its end. It has no fault, and the counts are those of its entities.
     ensures receipt { IfOk result (λ receipt. GaveFile F.Feed feed.old feed.new
         (mark_by passes.check receipt.input)
         (λ file. CountsFile (judged_file (Some file)) receipt.counts)) }

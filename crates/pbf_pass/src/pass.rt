@@ -378,7 +378,7 @@ pub struct Judged {
     pub pass: Pass,
     /// How many bytes it has.
     pub count: u64,
-    /// The digest of its bytes, if they were hashed.
+    /// The digest of its bytes by the check of the passes.
     pub digest: [u8; 32],
 }
 
@@ -391,7 +391,7 @@ pub fn judge<F: Feed, G: Gather>(
     feed: &mut F,
     gathering: &mut G,
 ) -> Result<Judged, Halt>
-    // The feed gave a file, of this digest if it is hashed, to its end. It has no fault, the pass has its header and the counts of its
+    // The feed gave a file, of this digest by the check, to its end. It has no fault, the pass has its header and the counts of its
     // entities, and these were gathered in order. `count` is the number of its bytes, or 2^64 - 1 if it has more.
     ensures judged { IfOk result (λ told. GaveFile F.Feed feed.old feed.new
         (mark_by passes.check told.digest) (λ file. IsLength told.count file

@@ -112,7 +112,7 @@ pub fn gather_unjudged<F: Feed, G: Gather>(
     gathering: &mut G,
     number: u8,
 ) -> Result<[u8; 32], Stop>
-    // The feed gave a file, of this digest if it is hashed, to its end; if it has no fault, its entities were gathered in order.
+    // The feed gave a file, of this digest by the check, to its end; if it has no fault, its entities were gathered in order.
     ensures gathered { IfOk result (λ digest. GaveFile F.Feed feed.old feed.new
         (mark_by passes.check digest) (λ file. GathersFile G.gathered (judged_file (Some file))
         gathering.old gathering.new)) }

@@ -105,19 +105,19 @@ pub struct FileRead {
     pub frames: u64,
     /// How many bytes it has, up to the greatest number.
     pub count: u64,
-    /// Their digest, if the pass hashes them.
+    /// Their digest by the check of the passes.
     pub digest: [u8; 32],
 }
 
-/// Visits the frames of a whole file, counts its bytes, and hashes them if `passes` says so. Reads each byte once, to the file's end if it
-/// returns `Ok`, and holds one frame at a time.
+/// Visits the frames of a whole file, counts its bytes, and hashes them by the check of `passes`. Reads each byte once, to the file's end
+/// if it returns `Ok`, and holds one frame at a time.
 pub fn pass_over<F: Feed, V: Visit>(
     passes: Passes,
     feed: &mut F,
     visitor: &mut V,
 ) -> Result<FileRead, Halt>
     requires { V.ready visitor.old }
-    // The feed gave a file, of this digest if it is hashed, to its end, and its frames were visited.
+    // The feed gave a file, of this digest by the check, to its end, and its frames were visited.
     ensures visited { IfOk result (λ read. GaveFile F.Feed feed.old feed.new
         (mark_by passes.check read.digest) (λ file. IsLength read.count file
         × VisitsAll V.took (judged_known false 0 (Some file)) read.frames

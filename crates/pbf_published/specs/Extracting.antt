@@ -12,9 +12,9 @@ use Rattle.pbf_published.specs.declared.input.PublishedInput.{PublishedInput}
 use Rattle.pbf_published.specs.Published.{FrontUnlessChanged, GaveOrNone, GavePublished, GavePublishedEach, StopsPublished}
 
 pub record ExtractsPublished {D : Type 0} (cut : Cut) (first second : FeedUse) (later : List FeedUse) (out : DrainUse D) (check : PassCheck) (result : Result PublishedInput PublishedHalt) : Type 0 where
-  -- each feed gave packed bytes of the digest `input`, which mean a raw file, of the digest `raw` if it is hashed, unless nothing was read of the second.
-  -- The first raw file has no fault, and its header can be written. The drain took bytes: if the raw files are the same, exactly its extract, in
-  -- canonical form, and the counts are those of the entities in it
+  -- each feed gave packed bytes of the digest `input`, which mean a raw file, of the SHA-256 digest `raw` if that is the check, unless
+  -- nothing was read of the second. The first raw file has no fault, and its header can be written. The drain took bytes: if the raw files
+  -- are the same, exactly its extract, in canonical form, and the counts are those of the entities in it
   pub receipt : IfOk result (λ receipt. GavePublished first.ghosts first.old first.new (mark_by check receipt.input) (mark_by (raw_check check) receipt.raw) (λ b. IsWritable b
       × GaveOrNone second.ghosts second.old second.new (mark_by check receipt.input) (mark_by (raw_check check) receipt.raw) b (λ c. GavePublishedEach later (mark_by check receipt.input) (mark_by (raw_check check) receipt.raw) (λ files.
       TookBy out (λ written. IfSame b (c ∷ files) (IsExtraction cut.choose cut.select cut.area b receipt.counts written))))))

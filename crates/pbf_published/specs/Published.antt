@@ -21,15 +21,15 @@ use Rattle.pbf_published.specs.declared.input.PublishedHalt.{PublishedHalt}
 
 -- ---- what was given
 
--- by a log of a feed packed bytes passed, of this digest if there is one, that mean this raw file
+-- by a log of a feed packed bytes passed, of this digest by the check, that mean this raw file
 pub record PassedAs (has_passed : ℕ → List ℕ → Type 0) (log : ℕ) (digest : Mark) (raw : List ℕ) : Type 0 where
   pub packed : List ℕ
   pub passed : has_passed log packed
   pub digest_is : IsDigestOf digest packed
   pub means : unpacked packed ≡ raw
 
--- a feed gave packed bytes of one digest, to its end, which mean a raw file, of another if there is one, and this holds of that file. They are what
--- the feed had to give, if it reports its bytes
+-- a feed gave packed bytes of one digest, to its end, which mean a raw file of another, each by its check, and this holds of that file.
+-- They are what the feed had to give, if it reports its bytes
 pub record GavePublished {F : Type 0} (f : feed.Ghosts F) (old new : F) (digest raw_digest : Mark) (holds : List ℕ → Type 0) : Type 0 where
   pub packed : List ℕ
   pub digest_is : IsDigestOf digest packed
@@ -97,8 +97,8 @@ pub record Opened (known : Option (List ℕ)) (passed : ℕ → List ℕ → Typ
   pub hashed : supplied (log_number (hash_log check) (hash_log check) known) []
   pub logged : (log : ℕ) → passed log [] → supplied (log_number (hash_log check) (below_log log) known) []
 
--- the packed bytes, of the digest if there is one, mean what was supplied, and passed by each log of the feed below; and there is a digest if nothing
--- is reported to be left
+-- if there is a digest, packed bytes have it by the check, mean what was supplied, and passed by each log of the feed below; and there is
+-- one if nothing is reported to be left
 pub record Closed (passed : ℕ → List ℕ → Type 0) (left_below : Option (List ℕ)) (supplied : ℕ → List ℕ → Type 0) (left digest : Option (List ℕ)) : Type 0 where
   pub means : (check : PassCheck) (start : Option (List ℕ)) (raw : List ℕ) → supplied (log_number (hash_log check) (hash_log check) start) raw → IfSome digest (λ d. Means (mark_by check d) start left left_below raw)
   pub logged : (check : PassCheck) (log : ℕ) (start : Option (List ℕ)) (raw : List ℕ) → supplied (log_number (hash_log check) (below_log log) start) raw → IfSome digest (λ d. PassedAs passed log (mark_by check d) raw)

@@ -22,8 +22,8 @@ pub fn check_with_receipt<F: Feed>(
     passes: Passes,
     feed: &mut F,
 ) -> Result<PublishedInput, PublishedHalt>
-    // The feed gave packed bytes of the digest `input`, which mean a raw file, of the digest `raw` if it is hashed. That file has no
-    // fault, and the counts are those of its entities.
+    // The feed gave packed bytes of the digest `input`, which mean a raw file, of the SHA-256 digest `raw` if that is the check. That file
+    // has no fault, and the counts are those of its entities.
     ensures receipt { IfOk result (λ receipt. GavePublished F.Feed feed.old feed.new
         (mark_by passes.check receipt.input)
         (mark_by (raw_check passes.check) receipt.raw)

@@ -31,9 +31,9 @@ pub fn convert_with_receipt<F: Feed, G: Feed, D: Drain, S: BuildHasher + Drop>(
     drain: &mut D,
     hasher: S,
 ) -> Result<PublishedInput, PublishedHalt>
-    // Each feed gave packed bytes of the digest `input`, which mean a raw file, of the digest `raw` if it is hashed. That of the first
-    // has no fault, and its header can be written. The drain took bytes. If both raw files are the same, these bytes are exactly its
-    // conversion in canonical form, and the counts are those of its entities.
+    // Each feed gave packed bytes of the digest `input`, which mean a raw file, of the SHA-256 digest `raw` if that is the check. That of
+    // the first has no fault, and its header can be written. The drain took bytes. If both raw files are the same, these bytes are exactly
+    // its conversion in canonical form, and the counts are those of its entities.
     ensures receipt { IfOk result (λ receipt. GavePublished F.Feed first.old first.new
         (mark_by passes.check receipt.input)
         (mark_by (raw_check passes.check) receipt.raw) (λ b. IsWritable b

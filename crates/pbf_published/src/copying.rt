@@ -28,8 +28,8 @@ pub fn copy_with_receipt<F: Feed, G: Feed, D: Drain>(
     second: &mut G,
     drain: &mut D,
 ) -> Result<PublishedInput, PublishedHalt>
-    // Each feed gave packed bytes of the digest `input`, which mean a raw file, of the digest `raw` if it is hashed. That of the first
-    // has no fault, and the counts are those of its entities. The drain took exactly that of the second.
+    // Each feed gave packed bytes of the digest `input`, which mean a raw file, of the SHA-256 digest `raw` if that is the check. That of
+    // the first has no fault, and the counts are those of its entities. The drain took exactly that of the second.
     ensures receipt { IfOk result (λ receipt. GavePublished F.Feed first.old first.new
         (mark_by passes.check receipt.input)
         (mark_by (raw_check passes.check) receipt.raw) (λ b. CountsFile (judged_file (Some b)) receipt.counts

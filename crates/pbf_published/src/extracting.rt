@@ -41,11 +41,12 @@ pub fn extract_sorted_with_receipt<
     drain: &mut D,
     hasher: S,
 ) -> Result<PublishedInput, PublishedHalt>
-    // Each feed gave packed bytes of the digest `input`, which mean a raw file, of the digest `raw` if it is hashed, or nothing was read of
-    // the second. If the raw files are the same, the drain took exactly its complete-ways extract, in canonical form. What is refused is
-    // the raw file that the first feed's bytes mean, by its first fault, and then the drain took nothing. `Read` and `Write` come only if a count of
-    // failures rose: of a feed, of the drain. `Changed` has the number of the pass whose feed has other packed bytes than the first, as far as both
-    // report them. After any other stop a prefix of the extract went out, if all feeds mean one raw file.
+    // Each feed gave packed bytes of the digest `input`, which mean a raw file, of the SHA-256 digest `raw` if that is the check, or
+    // nothing was read of the second. If the raw files are the same, the drain took exactly its complete-ways extract, in canonical form.
+    // What is refused is the raw file that the first feed's bytes mean, by its first fault, and then the drain took nothing. `Read` and
+    // `Write` come only if a count of failures rose: of a feed, of the drain. `Changed` has the number of the pass whose feed has other
+    // packed bytes than the first, as far as both report them. After any other stop a prefix of the extract went out, if all feeds mean one
+    // raw file.
     ensures { ExtractsPublished (ways_in (A.area area)) (fed F.Feed first.old first.new)
         (fed G.Feed second.old second.new)
         (fed H.Feed third.old third.new ∷ [])

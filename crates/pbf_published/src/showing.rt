@@ -37,8 +37,9 @@ pub fn show_with_receipt<F: Feed, G: Feed, D: Drain>(
     drain: &mut D,
     dates: bool,
 ) -> Result<PublishedInput, PublishedHalt>
-    // Each feed gave packed bytes of the digest `input`, which mean a raw file, of the digest `raw` if it is hashed. That of the first
-    // has no fault, and the counts are those of its entities. The drain took exactly the text of that of the second, which has no fault.
+    // Each feed gave packed bytes of the digest `input`, which mean a raw file, of the SHA-256 digest `raw` if that is the check. That of
+    // the first has no fault, and the counts are those of its entities. The drain took exactly the text of that of the second, which has no
+    // fault.
     ensures receipt { IfOk result (λ receipt. GavePublished F.Feed first.old first.new
         (mark_by passes.check receipt.input)
         (mark_by (raw_check passes.check) receipt.raw) (λ b. CountsFile (judged_file (Some b)) receipt.counts

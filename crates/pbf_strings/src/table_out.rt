@@ -186,7 +186,7 @@ impl<S: BuildHasher> TableOut<S> {
         requires { length self.old < MOST_USED_TEXTS }
         ensures { GivesIndex text.now self.old self.new result }
     {
-        let Ok(copy) = copied(&mut self.recent, self.alloc, text) else {
+        let Ok(copy) = copy_with_slots(&mut self.recent, self.alloc, text) else {
             return match self.texts.get_index_of(text) {
                 Some(place) => Ok(place as u32 + 1),
                 None => Err(AllocError),
@@ -275,7 +275,7 @@ impl<S: BuildHasher> TableOut<S> {
 }
 
 /// A copy of a text that is new. The first one makes the slots.
-fn copied(slots: &mut Vec<u32>, alloc: Global, text: &[u8]) -> Result<Vec<u8>, AllocError>
+fn copy_with_slots(slots: &mut Vec<u32>, alloc: Global, text: &[u8]) -> Result<Vec<u8>, AllocError>
     ensures items { IfOk result (λ copy. copy.items ≡ text.now) }
 {
     if slots.is_empty() {

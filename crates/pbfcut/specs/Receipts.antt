@@ -16,8 +16,8 @@ use Rattle.pbfcut.specs.Kept.{IsWritable, extract_of}
 use Rattle.pbfcut.specs.Theorem.{IsExtraction}
 use Rattle.pbf_pass.specs.declared.hashing.PassCheck.{PassCheck}
 
--- each feed gave a file of this digest, if there is one, or the second was spared; the first file has no fault, and its header can be written. The drain
--- took bytes, and if the files are the same, this holds of the first and of them
+-- each feed gave a file of this digest by the check, or the second was spared; the first file has no fault, and its header can be written.
+-- The drain took bytes, and if the files are the same, this holds of the first and of them
 abbrev pub Wrote : {D : Type 0} → (first second : FeedUse) (later : List FeedUse) → DrainUse D → (digest : Mark) → (spared : Bool) → (List ℕ → List ℕ → Type 0) → Type 0
 Wrote first second later out digest spared holds =
     GaveBy first digest (λ b. IsWritable b × GaveOrNot second spared digest b (λ c. GaveEach later digest (λ files. TookBy out (λ written. IfSame b (c ∷ files) (holds b written)))))
@@ -40,8 +40,9 @@ parents_in area = record { choose = all_parents area; select = extract_with_pare
 
 -- what a call says that writes an extract of the file that its feeds give
 pub record Extracts {D : Type 0} (cut : Cut) (first second : FeedUse) (later : List FeedUse) (out : DrainUse D) (check : PassCheck) (result : Result InputReceipt Halt) : Type 0 where
-  -- each feed gave a file of the digest `input`, if they are hashed, to its end, unless the second was spared; the first has no fault, and its header can
-  -- be written. The drain took bytes: if the files are the same, exactly its extract, and the counts are those of the entities in it
+  -- each feed gave a file of the digest `input` by the check, to its end, unless the second was spared; the first has no fault, and its
+  -- header can be written. The drain took bytes: if the files are the same, exactly its extract, and the counts are those of the entities
+  -- in it
   pub receipt : IfOk result (λ receipt. Wrote first second later out (mark_by check receipt.input) receipt.spared (λ b written. IsExtraction cut.choose cut.select cut.area b receipt.counts written))
   -- however it ends: what is refused, of the bytes that were read, and that the drain took nothing then; why it stops; of what bytes it says `Changed`;
   -- and that it keeps its devices

@@ -19,11 +19,11 @@ use Rattle.pbf_pass.specs.Stops.{Caused, ReadFailed}
 abbrev pub IsPass : ℕ → Passes → LaterPass → Type 0
 IsPass number passes again = (again.number ≡ number) × (again.passes ≡ passes)
 
--- the digest of the first pass, if it was hashed
+-- the digest of the first pass, by the check
 abbrev pub digest_of : LaterPass → Mark
 digest_of again = mark_by again.passes.check again.digest
 
--- these aren't bytes without a fault that have this digest, if there is one
+-- these bytes have a fault, or another digest by the check
 abbrev pub IsUnlike : Mark → List ℕ → Type 0
 IsUnlike digest bytes = IsDigestOf digest bytes → IsFaulty (judged_file (Some bytes))
 
@@ -44,7 +44,7 @@ as_change number (Changed pass) = Changed pass
 abbrev pub SameDigest : Option (List ℕ) → Option (List ℕ) → Type 0
 SameDigest first other = (b c : List ℕ) → first ≡ Some b → other ≡ Some c → sha256 b ≡ sha256 c
 
--- the entities of a whole file, of this digest if there is one, were gathered, if it has no fault; or none were left, and nothing was read
+-- the entities of a whole file, of this digest by the check, were gathered, if it has no fault; or none were left, and nothing was read
 abbrev pub GathersRest : {F S : Type 0} → feed.Ghosts F → (S → EntitySpec → S) → Bool → (old new : F) → Mark → (before now : S) → Type 0
 GathersRest f gathered true old new digest before now = (new ≡ old) × (now ≡ before)
 GathersRest f gathered false old new digest before now = GaveFile f old new digest (λ file. GathersFile gathered (judged_file (Some file)) before now)

@@ -60,7 +60,7 @@ ShowsFront dates known old new = (all : Verdict) → known ≡ Some all → IsFr
 abbrev pub WritesFront : Bool → Option Verdict → Option (List ℕ) → Option (List ℕ) → Type 0
 WritesFront dates known old new = (all : Verdict) → known ≡ Some all → IsFront old new (file_text dates all.0)
 
--- the feed gave a file, of this digest if it is hashed, and the drain took its text; or a prefix of it, if the pass stopped
+-- the feed gave a file, of this digest by the check, and the drain took its text; or a prefix of it, if the pass stopped
 pub record ShowsAgain {D : Type 0} (source : FeedUse) (drain : DrainUse D) (check : PassCheck) (dates : Bool) (result : Result (List ℕ) Stop) : Type 0 where
   pub shown : IfOk result (λ digest. GaveBy source (mark_by check digest) (λ file. TookBy drain (Shown dates (judged_file (Some file)))))
   pub beginning : OnErr result (WritesFront dates (judged_file (supply_of source)) (taken_before drain) (taken_after drain))

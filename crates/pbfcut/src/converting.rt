@@ -72,7 +72,7 @@ pub fn convert_with_receipt<F: Feed, G: Feed, D: Drain, S: BuildHasher + Drop>(
     drain: &mut D,
     hasher: S,
 ) -> Result<InputReceipt, Halt>
-    // Each feed gave a file, of the digest `input` if the passes hash, to its end; the first has no fault, and its header can be written.
+    // Each feed gave a file, of the digest `input` by the check, to its end; the first has no fault, and its header can be written.
     // The drain took bytes. If both files are the same, these bytes are exactly its conversion, and the counts are those of its entities.
     ensures receipt { IfOk result (λ receipt. Wrote (fed F.Feed first.old first.new)
         (fed G.Feed second.old second.new) [] (drained D.Drain drain.old drain.new)

@@ -71,7 +71,7 @@ pub fn copy_with_receipt<F: Feed, G: Feed, D: Drain>(
     second: &mut G,
     drain: &mut D,
 ) -> Result<InputReceipt, Halt>
-    // Each feed gave a file, of the digest `input` if the passes hash, to its end. The first has no fault, and the counts are those of
+    // Each feed gave a file, of the digest `input` by the check, to its end. The first has no fault, and the counts are those of
     // its entities. The drain took exactly the second.
     ensures receipt { IfOk result (λ receipt. GaveFile F.Feed first.old first.new
         (mark_by passes.check receipt.input)

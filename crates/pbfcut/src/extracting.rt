@@ -308,8 +308,8 @@ pub fn extract_with_receipt<F: Feed, G: Feed, H: Feed, D: Drain, S: BuildHasher 
     drain: &mut D,
     hasher: S,
 ) -> Result<InputReceipt, Halt>
-    // Each feed gave a file of the digest `input`, to its end. If they are the same, the drain took exactly its complete-ways extract.
-    // However it ends: what is refused, why it stops, what went out by then, and that the devices are kept.
+    // Each feed gave a file, of the digest `input` by the check, to its end. If they are the same, the drain took exactly its complete-ways
+    // extract. However it ends: what is refused, why it stops, what went out by then, and that the devices are kept.
     ensures extracts { Extracts (ways_in (box_area area)) (fed F.Feed first.old first.new)
         (fed G.Feed second.old second.new)
         (fed H.Feed third.old third.new ∷ [])
@@ -395,8 +395,8 @@ pub fn extract_parents_with_receipt<
     drain: &mut D,
     hasher: S,
 ) -> Result<InputReceipt, Halt>
-    // Each feed gave a file of the digest `input`, to its end. If they are the same, the drain took exactly its complete-ways extract with all parents.
-    // However it ends: what is refused, why it stops, what went out by then, and that the devices are kept.
+    // Each feed gave a file, of the digest `input` by the check, to its end. If they are the same, the drain took exactly its complete-ways
+    // extract with all parents. However it ends: what is refused, why it stops, what went out by then, and that the devices are kept.
     ensures extracts { Extracts (parents_in (box_area area)) (fed F.Feed first.old first.new)
         (fed G.Feed second.old second.new)
         (fed H.Feed third.old third.new ∷ fed I.Feed fourth.old fourth.new ∷ [])

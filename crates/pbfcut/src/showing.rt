@@ -198,7 +198,7 @@ pub fn show_with_receipt<F: Feed, G: Feed, D: Drain>(
     drain: &mut D,
     dates: bool,
 ) -> Result<InputReceipt, Halt>
-    // Each feed gave a file, of the digest `input` if the passes hash, to its end. The first has no fault, and the counts are those of
+    // Each feed gave a file, of the digest `input` by the check, to its end. The first has no fault, and the counts are those of
     // its entities. The drain took exactly the text of the second, which has no fault.
     ensures receipt { IfOk result (λ receipt. GaveFile F.Feed first.old first.new
         (mark_by passes.check receipt.input)

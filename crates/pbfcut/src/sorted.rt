@@ -84,7 +84,7 @@ pub fn extract_sorted_with_receipt<
     drain: &mut D,
     hasher: S,
 ) -> Result<InputReceipt, Halt>
-    // Each feed gave a file, of the digest `input` if the passes hash, to its end, unless the second was spared. If they are the same, the
+    // Each feed gave a file, of the digest `input` by the check, to its end, unless the second was spared. If they are the same, the
     // drain took exactly its complete-ways extract. However it ends: what is refused, why it stops, what went out by then, and
     // that the devices are kept.
     ensures { Extracts (ways_in (A.area area)) (fed F.Feed first.old first.new)
@@ -115,7 +115,7 @@ pub fn extract_parents_sorted_with_receipt<
     drain: &mut D,
     hasher: S,
 ) -> Result<InputReceipt, Halt>
-    // Each feed gave a file, of the digest `input` if the passes hash, to its end, unless the second was spared. If they are the same, the
+    // Each feed gave a file, of the digest `input` by the check, to its end, unless the second was spared. If they are the same, the
     // drain took exactly its complete-ways extract with all parents. However it ends: what is refused, why it stops, what went out by then, and
     // that the devices are kept.
     ensures { Extracts (parents_in (A.area area)) (fed F.Feed first.old first.new)

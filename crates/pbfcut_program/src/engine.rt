@@ -192,9 +192,9 @@ pub(crate) fn check<F: Feed>(engine: Engine, pass: &mut F) -> Result<Report, Hal
     }
 }
 
-/// How `show` writes, and with which key.
+/// How `show` writes, and the key of its passes.
 #[derive(Clone, Copy)]
-pub(crate) struct Text {
+pub(crate) struct ShowOptions {
     pub(crate) dates: bool,
     pub(crate) key: u128,
 }
@@ -204,18 +204,18 @@ pub(crate) fn show<F: Feed, D: Drain>(
     engine: Engine,
     passes: &mut TwoPasses<F>,
     drain: &mut D,
-    text: Text,
+    options: ShowOptions,
 ) -> Result<Report, Halted>
-    ensures works { WorksOn (to_raw (manner_of engine)) (check_in engine text.key)
-        F.Feed D.Drain (showing text.dates)
+    ensures works { WorksOn (to_raw (manner_of engine)) (check_in engine options.key)
+        F.Feed D.Drain (showing options.dates)
         (passes.old.one ∷ passes.old.two ∷ []) (passes.new.one ∷ passes.new.two ∷ [])
         drain.old drain.new result }
-    ensures front { Fronts (input_form engine.program) (showing text.dates)
+    ensures front { Fronts (input_form engine.program) (showing options.dates)
         (F.remaining passes.old.one ∷ F.remaining passes.old.two ∷ [])
         (D.taken drain.old) (D.taken drain.new) result }
 {
     let TwoPasses { one, two } = passes;
-    let Text { dates, key } = text;
+    let ShowOptions { dates, key } = options;
     let how = engine.many_passes(key);
     match engine.program {
         Program::Pbfcut => reported(pbfcut::show_with_receipt(how, one, two, drain, dates)),

@@ -15,7 +15,7 @@ ghost use Rattle.pbfcut_program.specs.Program.{Checks, IsListing, Lists, Shows};
 ghost use Rattle.pbfcut_program.specs.Readings.{IsWork};
 ghost use Rattle.pbfcut_program.specs.Tasks.{checking, listing_frames, showing};
 
-use crate::engine::{Engine, Halted, Report, Text, check, list_blobs, show, show_info};
+use crate::engine::{Engine, Halted, Report, ShowOptions, check, list_blobs, show, show_info};
 use crate::host::Host;
 use crate::jobs::close_two;
 use crate::opening::{Input, draw_key, open_pass, open_screen, open_two};
@@ -108,7 +108,7 @@ pub(crate) fn run_show<H: Host>(
     let mut passes = open_two(host, input)?;
     let key = draw_key(host, engine.program)?;
     let mut out = open_screen(host)?;
-    let outcome = show(engine, &mut passes, &mut out, Text { dates, key });
+    let outcome = show(engine, &mut passes, &mut out, ShowOptions { dates, key });
     close_two(host, passes);
     ended(host, out, outcome)
 }

@@ -2,7 +2,7 @@ use Rattle.std.proofs.Common.{◌≡◌, ◌+◌, ◌-◌, ◌*◌, ◌^◌, Lis
 use Rattle.osm_polygon.specs.declared.edge.Edge.{Edge}
 use Rattle.osm_polygon.specs.declared.strips.Cut.{Cut}
 use Rattle.osm_polygon.specs.Bands.{IsBand, AreBands}
-use Rattle.osm_polygon.proofs.BeltLemmas.{are_parts}
+use Rattle.osm_polygon.proofs.BeltLemmas.{are_belt_bands}
 use Rattle.osm_polygon.proofs.belts.belt_of.Goals as goal
 
 pub returns-then-cut-border-clause-is : goal.returns-then-cut-border-clause-is
@@ -17,7 +17,7 @@ returns-clause-is c = λ all same.
     let bands = c.in_ok-bands.bands in
     let first : cut.first ≡ number * 2 ^ (shift - cut.shift) = ap (λ (k : Cut). k.first) c.choose_parts-cut.ensures.are in
     let end : cut.end ≡ (number + 1) * 2 ^ (shift - cut.shift) = ap (λ (k : Cut). k.end) c.choose_parts-cut.ensures.are in
-    are_parts shift number all (record { bands = bands; first = cut.first; shift = cut.shift }) c.choose_parts-cut.ensures.width c.requires.width
+    are_belt_bands shift number all (record { bands = bands; first = cut.first; shift = cut.shift }) c.choose_parts-cut.ensures.width c.requires.width
     first
     (omega (arith, c.in_ok-bands.ensures.number, first, end))
     (subst (λ (l : List Edge). AreBands cut.shift cut.first l bands.items) same c.in_ok-bands.ensures.are)

@@ -7,21 +7,21 @@ use Rattle.pbfcut_program.proofs.engine.show.Goals as goal
 
 pub returns-in-Pbfcut-clause-works : goal.returns-in-Pbfcut-clause-works
 returns-in-Pbfcut-clause-works g c =
-    let h = c.many_passes-how.ensures ∙ ap (λ p. check_by c.args.engine.digests p c.args.text.key) c.in-Pbfcut.is in
+    let h = c.many_passes-how.ensures ∙ ap (λ p. check_by c.args.engine.digests p c.args.options.key) c.in-Pbfcut.is in
     let receipt = c.show_with_receipt.ensures.receipt in
     let ends = c.show_with_receipt.ensures.ends in
     rw c.in-Pbfcut.is (λ fresh log start.
-    show_works g.F.Feed g.D.Drain c.args.drain.now c.show_with_receipt.new.drain c.args.engine.digests _ log start c.args.text.dates c.args.passes.now.one c.show_with_receipt.new.first c.args.passes.now.two c.show_with_receipt.new.second c.show_with_receipt.result c.reported.result fresh (rw h at receipt) (rw h at ends) c.reported.ensures)
+    show_works g.F.Feed g.D.Drain c.args.drain.now c.show_with_receipt.new.drain c.args.engine.digests _ log start c.args.options.dates c.args.passes.now.one c.show_with_receipt.new.first c.args.passes.now.two c.show_with_receipt.new.second c.show_with_receipt.result c.reported.result fresh (rw h at receipt) (rw h at ends) c.reported.ensures)
 
 pub returns-in-Pbfcutz-clause-works : goal.returns-in-Pbfcutz-clause-works
 returns-in-Pbfcutz-clause-works g c =
-    let h = c.many_passes-how.ensures ∙ ap (λ p. check_by c.args.engine.digests p c.args.text.key) c.in-Pbfcutz.is in
+    let h = c.many_passes-how.ensures ∙ ap (λ p. check_by c.args.engine.digests p c.args.options.key) c.in-Pbfcutz.is in
     let receipt = c.show_with_receipt-in-Pbfcutz.ensures.receipt in
     rw c.in-Pbfcutz.is (λ fresh log start.
-    show_published g.F.Feed g.D.Drain c.args.drain.now c.show_with_receipt-in-Pbfcutz.new.drain c.args.engine.digests _ log start c.args.text.dates c.args.passes.now.one c.show_with_receipt-in-Pbfcutz.new.first c.args.passes.now.two c.show_with_receipt-in-Pbfcutz.new.second c.show_with_receipt-in-Pbfcutz.result c.published.result fresh (rw h at receipt) c.show_with_receipt-in-Pbfcutz.ensures.stops c.published.ensures)
+    show_published g.F.Feed g.D.Drain c.args.drain.now c.show_with_receipt-in-Pbfcutz.new.drain c.args.engine.digests _ log start c.args.options.dates c.args.passes.now.one c.show_with_receipt-in-Pbfcutz.new.first c.args.passes.now.two c.show_with_receipt-in-Pbfcutz.new.second c.show_with_receipt-in-Pbfcutz.result c.published.result fresh (rw h at receipt) c.show_with_receipt-in-Pbfcutz.ensures.stops c.published.ensures)
 
 pub returns-in-Pbfcut-clause-front : goal.returns-in-Pbfcut-clause-front
-returns-in-Pbfcut-clause-front g c = rw c.in-Pbfcut.is (front.show_raw c.args.text.dates (g.F.Feed.remaining c.args.passes.now.one) (g.F.Feed.remaining c.args.passes.now.two) _ _ c.reported.result c.show_with_receipt.result c.reported.ensures c.show_with_receipt.ensures.beginning)
+returns-in-Pbfcut-clause-front g c = rw c.in-Pbfcut.is (front.show_raw c.args.options.dates (g.F.Feed.remaining c.args.passes.now.one) (g.F.Feed.remaining c.args.passes.now.two) _ _ c.reported.result c.show_with_receipt.result c.reported.ensures c.show_with_receipt.ensures.beginning)
 
 pub returns-in-Pbfcutz-clause-front : goal.returns-in-Pbfcutz-clause-front
-returns-in-Pbfcutz-clause-front g c = rw c.in-Pbfcutz.is (front.show_published c.args.text.dates (g.F.Feed.remaining c.args.passes.now.one) (g.F.Feed.remaining c.args.passes.now.two) _ _ c.published.result c.show_with_receipt-in-Pbfcutz.result c.published.ensures _ _ _ c.show_with_receipt-in-Pbfcutz.ensures.beginning c.show_with_receipt-in-Pbfcutz.ensures.stops)
+returns-in-Pbfcutz-clause-front g c = rw c.in-Pbfcutz.is (front.show_published c.args.options.dates (g.F.Feed.remaining c.args.passes.now.one) (g.F.Feed.remaining c.args.passes.now.two) _ _ c.published.result c.show_with_receipt-in-Pbfcutz.result c.published.ensures _ _ _ c.show_with_receipt-in-Pbfcutz.ensures.beginning c.show_with_receipt-in-Pbfcutz.ensures.stops)

@@ -8,7 +8,7 @@ use Rattle.osm_polygon.specs.Edges.{strip_number, is_in_strip}
 use Rattle.osm_polygon.specs.Bands.{IsBand}
 use Rattle.osm_polygon.proofs.BandLemmas.{amid, band_at, even_border}
 use Rattle.osm_polygon.proofs.BeltLemmas.{narrow_at}
-use Rattle.osm_polygon.proofs.belts.Parts.has.Goals as goal
+use Rattle.osm_polygon.proofs.belts.BeltBands.has.Goals as goal
 
 pub returns-then-number-self : goal.returns-then-number-self
 returns-then-number-self c = λ shift edges is closed.
