@@ -32,7 +32,9 @@ number_pair first second = signed_decimal first ++ codes "," ++ signed_decimal s
 
 -- the edges: left, bottom, right, top
 abbrev pub edges_value : HeaderBox → List ℕ
-edges_value box = codes "[" ++ number_pair box.left box.bottom ++ codes "," ++ number_pair box.right box.top ++ codes "]"
+edges_value box =
+    codes "[" ++ number_pair box.left box.bottom ++ codes ","
+    ++ number_pair box.right box.top ++ codes "]"
 
 abbrev pub maybe_box_member : Option HeaderBox → List ℕ
 maybe_box_member None = []

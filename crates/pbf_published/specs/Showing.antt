@@ -10,25 +10,33 @@ use Rattle.pbf_published.specs.Published.{raw_of}
 
 -- how all blobs are stored
 abbrev pub storage : Stored → List ℕ
-storage s = if s.packed then (if s.raw then codes "\"mixed\"" else codes "\"zlib\"") else codes "\"raw\""
+storage s =
+    if s.packed then (if s.raw then codes "\"mixed\"" else codes "\"zlib\"") else codes "\"raw\""
 
 -- the lines of a header, that of how blobs are stored, and that of how many frames there are of each type
 abbrev pub info_lines : (header : List ℕ) → Stored → (frames : List ℕ) → List ℕ
-info_lines header stored frames = header ++ codes "H stored " ++ storage stored ++ codes "\n" ++ frames
+info_lines header stored frames =
+    header ++ codes "H stored " ++ storage stored ++ codes "\n" ++ frames
 
 -- the same as one object of JSON, on one line
 abbrev pub info_object : (members : List ℕ) → Stored → (frames : List ℕ) → List ℕ
-info_object members stored frames = codes "{" ++ members ++ codes "\"stored\":" ++ storage stored ++ codes ",\"frames\":" ++ frames ++ codes "}\n"
+info_object members stored frames =
+    codes "{" ++ members ++ codes "\"stored\":" ++ storage stored
+    ++ codes ",\"frames\":" ++ frames ++ codes "}\n"
 
 -- what is said of these frames, of which the first header counts
 abbrev pub info_text : (json : Bool) → List FrameSpec → Stored → List ℕ
-info_text false frames stored = info_lines (header_lines (first_header frames)) stored (frames_line frames)
-info_text true frames stored = info_object (members_of (first_header frames)) stored (frames_object frames)
+info_text false frames stored =
+    info_lines (header_lines (first_header frames)) stored (frames_line frames)
+info_text true frames stored =
+    info_object (members_of (first_header frames)) stored (frames_object frames)
 
 -- the same, by a summary of the frames
 abbrev pub summary_text : (json : Bool) → Summary → Stored → List ℕ
-summary_text false s stored = info_lines s.lines.items stored (counts_line s.headers s.blocks s.others)
-summary_text true s stored = info_object s.members.items stored (counts_object s.headers s.blocks s.others)
+summary_text false s stored =
+    info_lines s.lines.items stored (counts_line s.headers s.blocks s.others)
+summary_text true s stored =
+    info_object s.members.items stored (counts_object s.headers s.blocks s.others)
 
 -- these bytes are what is said of the raw file that published bytes mean, none of whose frames has a fault, and of how those are stored
 pub record TellsInfo (json : Bool) (has : Option (List ℕ)) (written : List ℕ) : Type 0 where

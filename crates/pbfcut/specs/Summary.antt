@@ -54,10 +54,13 @@ frames_line frames = counts_line (count_of is_header frames) (count_of is_data f
 
 -- the same in JSON
 abbrev pub counts_object : (headers blocks others : ℕ) → List ℕ
-counts_object headers blocks others = codes "{\"OSMHeader\":" ++ decimal headers ++ codes ",\"OSMData\":" ++ decimal blocks ++ codes ",\"other\":" ++ decimal others ++ codes "}"
+counts_object headers blocks others =
+    codes "{\"OSMHeader\":" ++ decimal headers ++ codes ",\"OSMData\":" ++ decimal blocks
+    ++ codes ",\"other\":" ++ decimal others ++ codes "}"
 
 abbrev pub frames_object : List FrameSpec → List ℕ
-frames_object frames = counts_object (count_of is_header frames) (count_of is_data frames) (count_of is_other frames)
+frames_object frames =
+    counts_object (count_of is_header frames) (count_of is_data frames) (count_of is_other frames)
 
 -- ---- the verdict on frames and headers
 
@@ -91,7 +94,8 @@ counted is k n = if is k then capped (n + 1) else n
 pub record Sums (k : FrameKind) (p : Payload) (old new : Summary) : Type 0 where
   pub sound : fault_of_header p ≡ None
   pub lines : new.lines.items ≡ (if old.headers == 0 && is_header k then text_in false p else old.lines.items)
-  pub members : new.members.items ≡ (if old.headers == 0 && is_header k then members_in p else old.members.items)
+  pub members : new.members.items
+      ≡ (if old.headers == 0 && is_header k then members_in p else old.members.items)
   pub headers : new.headers ≡ counted is_header k old.headers
   pub blocks : new.blocks ≡ counted is_data k old.blocks
   pub others : new.others ≡ counted is_other k old.others
