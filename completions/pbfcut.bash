@@ -35,7 +35,8 @@ _pbfcut() {
     pack:-* | unpack:-*) _pbfcut_words "$word" "--progress --digests $files --help" ;;
     check:-*) _pbfcut_words "$word" "--progress --digests --help" ;;
     show:-*) _pbfcut_words "$word" "--dates --progress --help" ;;
-    blobs:-* | info:-*) _pbfcut_words "$word" "--help" ;;
+    info:-*) _pbfcut_words "$word" "--json --help" ;;
+    blobs:-*) _pbfcut_words "$word" "--help" ;;
     help:*) _pbfcut_words "$word" "$commands" ;;
     *) _pbfcut_files "$word" ;;
   esac

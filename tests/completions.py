@@ -38,6 +38,7 @@ CASES = [
     ("pbfcut extract --box=1,2,3,4 to", "pbfcut extract --box=1,2,3,4 town.osm.pbf "),
     ("pbfcut check to", "pbfcut check town.osm.pbf "),
     ("pbfcut show --da", "pbfcut show --dates "),
+    ("pbfcutz info --js", "pbfcutz info --json "),
     ("pbfcut check with", "pbfcut check with\\ space.osm.pbf "),
 ]
 # the same in a folder that has only one file

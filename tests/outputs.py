@@ -8,6 +8,7 @@ Called by the name pbfcutz, the program is pbfcutz. What it packs is read here b
 """
 
 import hashlib
+import json
 import os
 import random
 import re
@@ -19,7 +20,7 @@ import sys
 import tempfile
 import time
 
-from published import SAMPLE, Folder, frame, frame_at, packed, pieces_of, unpacked
+from published import SAMPLE, Folder, frame, frame_at, packed, pieces_of, spelled, unpacked, varint
 
 TOP = os.path.dirname(os.path.dirname(os.path.abspath(__file__)))
 CUT = ["extract", "--box=9.997,49.999,10.003,50.003"]
@@ -57,7 +58,7 @@ READERS = {"osmium": ["cat", "--no-progress", "-f", "opl", "FILE"], "ogrinfo": [
 COMMANDS = {"extract": ["--box", "--polygon", "--parents", "--progress", "--digests", "--raw", "--output", "--overwrite"],
             "convert": ["--progress", "--digests", "--raw", "--output", "--overwrite"],
             "pack": ["--progress", "--digests", "--output", "--overwrite"], "unpack": ["--progress", "--digests", "--output", "--overwrite"],
-            "check": ["--progress", "--digests"], "show": ["--dates", "--progress"], "info": [], "blobs": []}
+            "check": ["--progress", "--digests"], "show": ["--dates", "--progress"], "info": ["--json"], "blobs": []}
 
 
 def shown(value) -> str:
@@ -115,6 +116,11 @@ class Bench(Folder):
         expect(f"{name}: {said!r} in standard error", True, said in errors.decode(errors="replace") if said else not errors)
         expect(f"{name}: the folder", before | set(left), set(os.listdir(self.folder)))
 
+    def printed(self, words: list) -> bytes:
+        """What a run prints that ends well."""
+        self.count += 1
+        return subprocess.run([self.pbfcutz, *words], cwd=self.folder, capture_output=True, check=True, timeout=SECONDS).stdout
+
     def made(self, words: list, command: list, counts: str = COUNTS) -> bytes:
         """What a run writes to 'out', which goes away."""
         self.case([*command, *words], out=counts, left=("out",))
@@ -161,27 +167,69 @@ def told(lines: str, stored: str, blocks: int, others: int = 0) -> str:
     return f'{lines}H stored "{stored}"\nH frames OSMHeader 1 OSMData {blocks} other {others}\n'
 
 
+def text_of(quoted: bytes) -> str:
+    """A string as lines have it, as JSON has it."""
+    text = re.sub(rb"\\(x..|.)", lambda found: bytes([int(found[1][1:], 16)]) if found[1][1:] else found[1], quoted[1:-1])
+    try:
+        return text.decode()
+    except UnicodeDecodeError:
+        return text.decode("latin-1")
+
+
+def object_of(lines: bytes) -> dict:
+    """What the lines of `info` say, as an object."""
+    found = {}
+    for word, value in re.findall(rb"^H (\w+) (.*)\n", lines, re.M):
+        name = word.decode()
+        if name == "frames":
+            words = value.decode().split()
+            found[name] = dict(zip(words[::2], map(int, words[1::2])))
+        elif name in ("required", "optional"):
+            found.setdefault(name, []).append(text_of(value))
+        elif value.startswith(b'"'):
+            found[name] = text_of(value)
+        else:
+            found[name] = [int(number) for number in value.split()] if name == "bbox" else int(value)
+    return found
+
+
+def info(bench: Bench, name: str, lines):
+    """What `info` prints of a file: these lines, and the same in JSON, in their order, of which only empty lists of features are no line."""
+    wanted = lines if isinstance(lines, bytes) else lines.encode()
+    expect(f"info of {name}", wanted, bench.printed(["info", name]))
+    printed = bench.printed(["info", "--json", name])
+    expect(f"line ends in info --json of {name}", (1, True), (printed.count(b"\n"), printed.endswith(b"}\n")))
+    found = json.loads(printed.decode())
+    keys = list(found)
+    for word in "required", "optional":
+        if found[word] == []:
+            del found[word]
+    expect(f"info --json of {name}", object_of(wanted), found)
+    order = ["bbox", "required", "optional", "program", "source", "timestamp", "sequence", "url", "stored", "frames"]
+    expect(f"the order of info --json of {name}", [word for word in order if word in keys], keys)
+
+
 def headers(bench: Bench):
     """What a file says of itself."""
     shown = subprocess.run([bench.pbfcutz, "show", "in"], cwd=bench.folder, capture_output=True, check=True).stdout.decode()
     lines = "".join(line for line in shown.splitlines(True) if line.startswith("H "))
     blocks = len(list(pieces_of(bench.raw))) - 1
-    bench.case(["info", "in"], out=told(lines, "zlib", blocks))
-    bench.case(["info", "raw"], out=told(lines, "raw", blocks))
+    info(bench, "in", told(lines, "zlib", blocks))
+    info(bench, "raw", told(lines, "raw", blocks))
     # The header may stand behind frames of other types, whose blobs don't count.
     header, _, end = frame_at(bench.raw, 0)
     expect("the first frame", (b"OSMHeader", True), (header, end < len(bench.raw) // 4))
     other = frame(b"OSMOther", b"\xff\xff")
     bench.write("cut", other + bench.raw[:end] + other + bench.raw[end:] + other)
-    bench.case(["info", "cut"], out=told(lines, "raw", blocks, 3))
+    info(bench, "cut", told(lines, "raw", blocks, 3))
     bench.write("cut", bench.raw[:end])
-    bench.case(["info", "cut"], out=told(lines, "raw", 0))
+    info(bench, "cut", told(lines, "raw", 0))
     # Some blobs are zlib data, and some are raw.
     packed = bench.read("in")
     bench.write("cut", packed[:frame_at(packed, 0)[2]] + bench.raw[end:])
-    bench.case(["info", "cut"], out=told(lines, "mixed", blocks))
+    info(bench, "cut", told(lines, "mixed", blocks))
     bench.write("cut", bench.raw[:end] + packed[frame_at(packed, 0)[2]:])
-    bench.case(["info", "cut"], out=told(lines, "mixed", blocks))
+    info(bench, "cut", told(lines, "mixed", blocks))
     # All frames are read, and nothing is printed of a file that is refused.
     bench.write("cut", bench.raw[:-1])
     bench.case(["info", "cut"], status=1, said="pbfcutz: refused at")
@@ -192,6 +240,16 @@ def headers(bench: Bench):
     bench.write("cut", bench.raw[:end - 1])
     bench.case(["info", "cut"], status=1, said="pbfcutz: refused at")
     bench.case(["info", "/dev/stdin"], out=told(lines, "raw", blocks), stdin=open(bench.path("raw"), "rb"))
+    # A header without a box, with strings of all bytes, one of which is not UTF-8, and with nothing.
+    strange = bytes(range(128)), "\u00e9\u2028\U0001f600".encode(), bytes(range(128, 256)), b""
+    header = b"".join(spelled(number, text) for number, text in zip((5, 5, 16, 17), strange)) + spelled(4, b"OsmSchema-V0.6")
+    header += varint(32 * 8) + varint(2**64 - 1) + varint(33 * 8) + varint(2**63 - 1)
+    for number, content in enumerate((header, spelled(5, strange[2]), b"")):
+        bench.write("cut", frame(b"OSMHeader", spelled(1, content)))
+        printed = bench.printed(["show", "cut"])
+        expect(f"the lines of header {number}", (7, 1, 0)[number], printed.count(b"\n"))
+        info(bench, "cut", printed + told("", "raw", 0).encode())
+    bench.case(["info", "--json", "--json", "cut"], status=2, said="cannot be used multiple times")
     bench.write("cut", b"<osm>")
     bench.case(["info", "cut"], status=1, said="pbfcutz: refused at 0: ")
     bench.write("cut", b"")

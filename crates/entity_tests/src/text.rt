@@ -1,7 +1,7 @@
 //! What no clause says: that the calls succeed, and lines of the format's own examples.
 
 use osm_entity::{EntityRef, Member, MemberKind, Meta, Node, Relation, Scale, Way};
-use osm_text::{put_entity, put_header, put_number, put_quoted};
+use osm_text::{put_entity, put_header, put_header_members, put_number, put_quoted};
 use pbf_header::{Header, HeaderBox};
 use std::alloc::{AllocError, Global};
 use std::process::Abort;
@@ -57,6 +57,36 @@ fn texts(rt: HostRuntime) -> Result<(), Fail> {
     put_quoted(&mut text, b"\xc3\xa9\x7f")?;
     put_quoted(&mut text, b"\xc3\xa9\xff")?;
     let expected = "\"\"\"a\\\"\\\\\\x0a\"\"é\\x7f\"\"\\xc3\\xa9\\xff\"";
+    assert_eq!(rt; text.as_slice(), expected.as_bytes());
+    Ok(())
+}
+
+/// A header that has nothing but these optional features.
+fn featured(alloc: Global, optional: &[&[u8]]) -> Result<Header, AllocError> {
+    let mut texts = Vec::new(alloc);
+    for text in optional {
+        texts.push(Vec::from_slice(alloc, text)?)?;
+    }
+    Ok(Header {
+        bbox: None,
+        required: Vec::new(alloc),
+        optional: texts,
+        program: None,
+        source: None,
+        url: None,
+        timestamp: None,
+        sequence: None,
+    })
+}
+
+#[test]
+fn texts_of_json(rt: HostRuntime) -> Result<(), Fail> {
+    let features: [&[u8]; 4] = [b"", b"a\"\\\n", b"\xc3\xa9\x7f", b"\xc3\xa9\xff"];
+    let header = featured(rt.alloc(), &features)?;
+    let mut text = Vec::new(rt.alloc());
+    put_header_members(&mut text, &header)?;
+    let expected =
+        "\"required\":[],\"optional\":[\"\",\"a\\\"\\\\\\u000a\",\"é\\u007f\",\"\\u00c3\\u00a9\\u00ff\"],";
     assert_eq!(rt; text.as_slice(), expected.as_bytes());
     Ok(())
 }
@@ -162,6 +192,11 @@ fn a_header_with_every_field(rt: HostRuntime) -> Result<(), Fail> {
         "H bbox 1 -2 3 4\nH required \"DenseNodes\"\nH optional \"Has_Metadata\"\nH program \"p\"\nH source \"s\\\"t\"\nH timestamp 5\nH sequence 7\nH url \"u\"\n";
     let mut text = Vec::new(rt.alloc());
     put_header(&mut text, &header)?;
+    assert_eq!(rt; text.as_slice(), expected.as_bytes());
+    let expected =
+        "\"bbox\":[1,-2,3,4],\"required\":[\"DenseNodes\"],\"optional\":[\"Has_Metadata\"],\"program\":\"p\",\"source\":\"s\\\"t\",\"timestamp\":5,\"sequence\":7,\"url\":\"u\",";
+    text.clear();
+    put_header_members(&mut text, &header)?;
     assert_eq!(rt; text.as_slice(), expected.as_bytes());
     Ok(())
 }

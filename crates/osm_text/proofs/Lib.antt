@@ -1,2 +1,3 @@
 pub mod DayLemmas
+mod JsonLemmas
 pub mod TextLemmas

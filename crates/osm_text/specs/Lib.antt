@@ -3,3 +3,4 @@ pub mod Quoted
 pub mod Digests
 pub mod EntityText
 pub mod HeaderText
+pub mod HeaderJson

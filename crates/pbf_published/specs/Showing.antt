@@ -1,24 +1,47 @@
--- What `show_info` writes.
+-- What `show_info` writes, as lines or in JSON.
 use Rattle.std.specs.Prelude.{◌≡◌, Bool, true, false, if◌then◌else◌, ℕ, List, ◌++◌, codes, Option, None, IfSome}
 use Rattle.pbf_frame.specs.Frames.{FrameSpec}
 use Rattle.pbf_frame.specs.Verdict.{Says, judged_known}
 use Rattle.pbf_unpack.specs.declared.stored.Stored.{Stored}
 use Rattle.pbf_unpack.specs.Stored.{stored_from}
-use Rattle.pbfcut.specs.Summary.{first_header, frames_line, header_lines}
+use Rattle.pbfcut.specs.declared.summary.Summary.{Summary}
+use Rattle.pbfcut.specs.Summary.{counts_line, counts_object, first_header, frames_line, frames_object, header_lines, members_of}
 use Rattle.pbf_published.specs.Published.{raw_of}
 
 -- how all blobs are stored
-abbrev pub storage_line : Stored → List ℕ
-storage_line s = if s.packed then (if s.raw then codes "H stored \"mixed\"\n" else codes "H stored \"zlib\"\n") else codes "H stored \"raw\"\n"
+abbrev pub storage : Stored → List ℕ
+storage s =
+    if s.packed then (if s.raw then codes "\"mixed\"" else codes "\"zlib\"") else codes "\"raw\""
 
--- the lines of the first header of these frames, how blobs are stored, and how many frames there are of each type
-abbrev pub info_text : List FrameSpec → Stored → List ℕ
-info_text frames stored = header_lines (first_header frames) ++ storage_line stored ++ frames_line frames
+-- the lines of a header, that of how blobs are stored, and that of how many frames there are of each type
+abbrev pub info_lines : (header : List ℕ) → Stored → (frames : List ℕ) → List ℕ
+info_lines header stored frames =
+    header ++ codes "H stored " ++ storage stored ++ codes "\n" ++ frames
+
+-- the same as one object of JSON, on one line
+abbrev pub info_object : (members : List ℕ) → Stored → (frames : List ℕ) → List ℕ
+info_object members stored frames =
+    codes "{" ++ members ++ codes "\"stored\":" ++ storage stored
+    ++ codes ",\"frames\":" ++ frames ++ codes "}\n"
+
+-- what is said of these frames, of which the first header counts
+abbrev pub info_text : (json : Bool) → List FrameSpec → Stored → List ℕ
+info_text false frames stored =
+    info_lines (header_lines (first_header frames)) stored (frames_line frames)
+info_text true frames stored =
+    info_object (members_of (first_header frames)) stored (frames_object frames)
+
+-- the same, by a summary of the frames
+abbrev pub summary_text : (json : Bool) → Summary → Stored → List ℕ
+summary_text false s stored =
+    info_lines s.lines.items stored (counts_line s.headers s.blocks s.others)
+summary_text true s stored =
+    info_object s.members.items stored (counts_object s.headers s.blocks s.others)
 
 -- these bytes are what is said of the raw file that published bytes mean, none of whose frames has a fault, and of how those are stored
-pub record TellsInfo (has : Option (List ℕ)) (written : List ℕ) : Type 0 where
+pub record TellsInfo (json : Bool) (has : Option (List ℕ)) (written : List ℕ) : Type 0 where
   pub frames : List FrameSpec
   pub stored : Stored
   pub says : Says (judged_known false 0 (raw_of has)) (frames, None)
   pub stores : IfSome has (λ packed. stored ≡ stored_from 0 packed)
-  pub is : written ≡ info_text frames stored
+  pub is : written ≡ info_text json frames stored

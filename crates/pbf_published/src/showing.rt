@@ -9,9 +9,9 @@ ghost use Rattle.pbf_pass.specs.Hashing.{mark_by, raw_check};
 ghost use Rattle.pbfcut.specs.Calls.{drained, fed};
 ghost use Rattle.pbfcut.specs.Listing.{Lists, ListsFront, ListsToFault};
 ghost use Rattle.pbfcut.specs.Showing.{Shown, ShowsFront};
-ghost use Rattle.pbfcut.specs.Summary.{counts_line, judged_headings};
+ghost use Rattle.pbfcut.specs.Summary.{counts_line, counts_object, judged_headings};
 ghost use Rattle.pbf_pass.specs.Stops.{Caused, FaultOf, ReadFailed, WriteFailed, unchanged};
-ghost use Rattle.pbf_published.specs.Showing.{TellsInfo, storage_line};
+ghost use Rattle.pbf_published.specs.Showing.{TellsInfo, info_lines, info_object, storage, summary_text};
 ghost use Rattle.pbf_published.specs.Published.{GavePublished, RefusedRaw, StopsPublished, UnlessChanged, raw_of};
 
 use crate::input::{
@@ -21,7 +21,7 @@ use crate::input::{
 use pbf_frame::{Drain, Feed, Stop, write_all};
 use pbf_pass::{PassCheck, Passes};
 use pbf_unpack::{Inflater, Stored};
-use pbfcut::{Summary, put_counts};
+use pbfcut::{Summary, put_counts, put_counts_object};
 use std::alloc::{AllocError, Global};
 
 /// Writes the text of the raw file that a published one means, as `show_with_receipt` of pbfcut does that of a raw file.
@@ -77,35 +77,69 @@ pub fn show_with_receipt<F: Feed, G: Feed, D: Drain>(
     })
 }
 
-/// The line that says how blobs are stored.
-fn storage_line(stored: Stored) -> &'static [u8]
-    ensures { result.now ≡ storage_line stored }
+/// How blobs are stored, in quotation marks.
+fn storage(stored: Stored) -> &'static [u8]
+    ensures { result.now ≡ storage stored }
 {
     if !stored.packed {
-        return b"H stored \"raw\"\n";
+        return b"\"raw\"";
     }
     if stored.raw {
-        b"H stored \"mixed\"\n"
+        b"\"mixed\""
     } else {
-        b"H stored \"zlib\"\n"
+        b"\"zlib\""
     }
 }
 
-/// What is said of a file.
-fn info_text(alloc: Global, summary: &Summary, stored: Stored) -> Result<Vec<u8>, AllocError>
-    ensures { IfOk result (λ text. text.items ≡ summary.now.lines.items ++ storage_line stored
-        ++ counts_line summary.now.headers summary.now.blocks summary.now.others) }
+/// What is said of a file, as lines.
+fn info_lines(alloc: Global, summary: &Summary, stored: Stored) -> Result<Vec<u8>, AllocError>
+    ensures { IfOk result (λ text. text.items ≡ info_lines summary.now.lines.items stored
+        (counts_line summary.now.headers summary.now.blocks summary.now.others)) }
 {
     let mut text = Vec::new(alloc);
     text.extend_from_slice(&summary.lines)?;
-    text.extend_from_slice(storage_line(stored))?;
+    text.extend_from_slice(b"H stored ")?;
+    text.extend_from_slice(storage(stored))?;
+    text.push(b'\n')?;
     put_counts(&mut text, summary)?;
     Ok(text)
 }
 
+/// What is said of a file, as an object of JSON.
+fn info_object(alloc: Global, summary: &Summary, stored: Stored) -> Result<Vec<u8>, AllocError>
+    ensures { IfOk result (λ text. text.items ≡ info_object summary.now.members.items stored
+        (counts_object summary.now.headers summary.now.blocks summary.now.others)) }
+{
+    let mut text = Vec::new(alloc);
+    text.push(b'{')?;
+    text.extend_from_slice(&summary.members)?;
+    text.extend_from_slice(b"\"stored\":")?;
+    text.extend_from_slice(storage(stored))?;
+    text.extend_from_slice(b",\"frames\":")?;
+    put_counts_object(&mut text, summary)?;
+    text.extend_from_slice(b"}\n")?;
+    Ok(text)
+}
+
+/// What is said of a file.
+fn info_text(
+    alloc: Global,
+    summary: &Summary,
+    stored: Stored,
+    json: bool,
+) -> Result<Vec<u8>, AllocError>
+    ensures { IfOk result (λ text. text.items ≡ summary_text json summary.now stored) }
+{
+    if json {
+        info_object(alloc, summary, stored)
+    } else {
+        info_lines(alloc, summary, stored)
+    }
+}
+
 /// Reads a published file, and returns what is said of it.
-fn read_info<F: Feed>(alloc: Global, feed: &mut F) -> Result<Vec<u8>, PublishedHalt>
-    ensures told { IfOk result (λ text. TellsInfo (F.remaining feed.old) text.items) }
+fn read_info<F: Feed>(alloc: Global, feed: &mut F, json: bool) -> Result<Vec<u8>, PublishedHalt>
+    ensures told { IfOk result (λ text. TellsInfo json (F.remaining feed.old) text.items) }
     ensures stops { IfErr result (λ h. Caused
         (FaultOf (judged_headings (raw_of (F.remaining feed.old))))
         (ReadFailed F.Feed feed.old feed.new) ⊥ unchanged h.stop) }
@@ -114,7 +148,7 @@ fn read_info<F: Feed>(alloc: Global, feed: &mut F) -> Result<Vec<u8>, PublishedH
     let outcome = pbfcut::read_summary(alloc, &mut input);
     let stored = input.stored();
     match outcome {
-        Ok(summary) => Ok(info_text(alloc, &summary, stored)?),
+        Ok(summary) => Ok(info_text(alloc, &summary, stored, json)?),
         Err(stop) => {
             let halt = stopped(stop, &input, lacks_memory(&input));
             // What is known of the feed comes back with the reference itself.
@@ -124,7 +158,8 @@ fn read_info<F: Feed>(alloc: Global, feed: &mut F) -> Result<Vec<u8>, PublishedH
     }
 }
 
-/// Writes the lines of the first header of a published file, how its blobs are stored, and how many frames it has of each type.
+/// Writes the lines of the first header of a published file, how its blobs are stored, and how many frames it has of each type; with
+/// `json` the same as one object of JSON.
 ///
 /// Nothing is written of a file that is refused: by the first fault of its frames or of its header, whose place is that in the
 /// published file. What other frames hold is not judged. Reads once, and holds one packed frame and two raw ones.
@@ -132,10 +167,11 @@ pub fn show_info<F: Feed, D: Drain>(
     alloc: Global,
     feed: &mut F,
     drain: &mut D,
+    json: bool,
 ) -> Result<(), PublishedHalt>
     // The drain took what is to be said of the frames of the raw file that the feed's bytes mean, and of how their blobs are stored.
     ensures shown { OnOk result (Took D.Drain drain.old drain.new
-        (TellsInfo (F.remaining feed.old))) }
+        (TellsInfo json (F.remaining feed.old))) }
     // Each stop has its cause. What is refused is that raw file, for the first fault of its frames and its header, and the drain took
     // nothing. `Read` and `Write` come only if a count of failures rose: of the feed, of the drain; `Changed` never comes.
     ensures stops { IfErr result (λ h. Caused (RefusedRaw
@@ -143,7 +179,7 @@ pub fn show_info<F: Feed, D: Drain>(
         (ReadFailed F.Feed feed.old feed.new) (WriteFailed D.Drain drain.old drain.new)
         unchanged h.stop) }
 {
-    let text = read_info(alloc, feed)?;
+    let text = read_info(alloc, feed, json)?;
     match write_all(drain, &text) {
         Ok(()) => Ok(()),
         Err(_) => Err(PublishedHalt::from(Stop::Write)),

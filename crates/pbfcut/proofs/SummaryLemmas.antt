@@ -22,15 +22,15 @@ use Rattle.pbf_pass.specs.Visit.{Takes, Fails, Visited, VisitsAll, StopsVisit}
 use Rattle.pbf_pass.proofs.VisitLemmas.{visited_to}
 use Rattle.pbfcut.specs.declared.summary.Summary.{Summary}
 use Rattle.pbfcut.specs.Showing.{frame_text}
-use Rattle.pbfcut.specs.Summary.{IsSummary, Sums, count_of, counted, first_header, header_lines, heading_fault, headings_front, headings_known, is_other}
+use Rattle.pbfcut.specs.Summary.{IsSummary, Sums, count_of, counted, first_header, header_lines, heading_fault, headings_front, headings_known, is_other, members_of}
 
 -- why the reading of a header stops
 pub header_stops : (fault : Option Fault) (e : ReadFault) → ((x : Fault) → e ≡ read.Refused x → fault ≡ Some x) → Caused (Only fault) ⊥ ⊥ unchanged (stop_of_fault e)
 header_stops fault e h = grind arith
 
--- a line put together of seven parts
-pub line_put : (o a b c d e f g p q r s t u v : List ℕ) → p ≡ o ++ a → q ≡ p ++ b → r ≡ q ++ c → s ≡ r ++ d → t ≡ s ++ e → u ≡ t ++ f → v ≡ u ++ g → v ≡ o ++ ((((((a ++ b) ++ c) ++ d) ++ e) ++ f) ++ g)
-line_put o a b c d e f g p q r s t u v one two three four five six seven = grind (arith, append_assoc)
+-- three counts were put, each after what is before it, and then the end
+pub counts_put : (o p q r s a l b m c n d : List ℕ) → p ≡ o ++ a ++ l → q ≡ p ++ b ++ m → r ≡ q ++ c ++ n → s ≡ r ++ d → s ≡ o ++ (a ++ l ++ b ++ m ++ c ++ n ++ d)
+counts_put o p q r s a l b m c n d one two three four = grind (arith, append_assoc)
 
 -- ---- one frame more
 
@@ -42,9 +42,22 @@ count_more is (g ∷ gone) f = grind (arith, count_more is gone f)
 counted_more : (is : FrameKind → Bool) (gone : List FrameSpec) (f : FrameSpec) → capped (count_of is (gone ++ f ∷ [])) ≡ counted is (frame_kind f) (capped (count_of is gone))
 counted_more is gone f = grind (arith, count_more is gone f)
 
-lines_more : (gone : List FrameSpec) (f : FrameSpec) → header_lines (first_header (gone ++ f ∷ [])) ≡ (if capped (count_of is_header gone) == 0 && is_header (frame_kind f) then frame_text false f else header_lines (first_header gone))
-lines_more [] f = grind arith
-lines_more (g ∷ gone) f = grind (arith, lines_more gone f)
+-- the first header stays the first
+first_more : (gone : List FrameSpec) (f : FrameSpec) → first_header (gone ++ f ∷ []) ≡ (if capped (count_of is_header gone) == 0 && is_header (frame_kind f) then Some f else first_header gone)
+first_more [] f = grind arith
+first_more (g ∷ gone) f = grind (arith, first_more gone f)
+
+-- what is said of it
+said_more : (text : Option FrameSpec → List ℕ) (gone : List FrameSpec) (f : FrameSpec) → text (first_header (gone ++ f ∷ [])) ≡ (if capped (count_of is_header gone) == 0 && is_header (frame_kind f) then text (Some f) else text (first_header gone))
+said_more text gone f = ap text (first_more gone f) ∙ if_inside (capped (count_of is_header gone) == 0 && is_header (frame_kind f)) where
+  if_inside : (b : Bool) → text (if b then Some f else first_header gone) ≡ (if b then text (Some f) else text (first_header gone))
+  if_inside true = refl
+  if_inside false = refl
+
+-- a text of it that a summary keeps
+kept_more : (text : Option FrameSpec → List ℕ) (gone : List FrameSpec) (f : FrameSpec) (headers : ℕ) (old new : List ℕ) → headers ≡ capped (count_of is_header gone) → old ≡ text (first_header gone)
+    → new ≡ (if headers == 0 && is_header (frame_kind f) then text (Some f) else old) → new ≡ text (first_header (gone ++ f ∷ []))
+kept_more text gone f headers old new is_count is_old is_new = grind (arith, said_more text gone f, is_count, is_old, is_new)
 
 -- what is counted is no more than there is
 count_within : (is : FrameKind → Bool) (frames : List FrameSpec) → count_of is frames ≤ length frames
@@ -58,6 +71,7 @@ exact is frames n within e = omega (arith, within, e, count_within is frames)
 
 record HasSummed (gone : List FrameSpec) (s : Summary) : Type 0 where
   pub lines : s.lines.items ≡ header_lines (first_header gone)
+  pub members : s.members.items ≡ members_of (first_header gone)
   pub headers : s.headers ≡ capped (count_of is_header gone)
   pub blocks : s.blocks ≡ capped (count_of is_data gone)
   pub others : s.others ≡ capped (count_of is_other gone)
@@ -68,21 +82,23 @@ took old f new = Sums (frame_kind f) (payload_of f) old new
 one_more : (gone : List FrameSpec) (f : FrameSpec) (mid now : Summary) → HasSummed gone mid → took mid f now → HasSummed (gone ++ f ∷ []) now
 unfolding frame_text
 one_more gone f mid now h one = record {
-  lines = one.lines ∙ ap (λ (n : ℕ). if n == 0 && is_header (frame_kind f) then frame_text false f else mid.lines.items) h.headers ∙ ap (λ (l : List ℕ). if capped (count_of is_header gone) == 0 && is_header (frame_kind f) then frame_text false f else l) h.lines ∙ sym (lines_more gone f);
+  lines = kept_more header_lines gone f mid.headers mid.lines.items now.lines.items h.headers h.lines one.lines;
+  members = kept_more members_of gone f mid.headers mid.members.items now.members.items h.headers h.members one.members;
   headers = one.headers ∙ ap (counted is_header (frame_kind f)) h.headers ∙ sym (counted_more is_header gone f);
   blocks = one.blocks ∙ ap (counted is_data (frame_kind f)) h.blocks ∙ sym (counted_more is_data gone f);
   others = one.others ∙ ap (counted is_other (frame_kind f)) h.others ∙ sym (counted_more is_other gone f);
 }
 
 -- a fresh summary took all frames of a file
-pub summed : (known : Option Verdict) (count : ℕ) (before now : Summary) → count ≤ 2 ^ 64 - 1 → before.lines.items ≡ [] → before.headers ≡ 0 → before.blocks ≡ 0 → before.others ≡ 0 → VisitsAll took known count before now → IsSummary known now
-summed known count before now within lines headers blocks others p =
-    let all : HasSummed p.frames now = visited_to took HasSummed one_more p.frames [] before now record { lines = lines; headers = headers; blocks = blocks; others = others } p.visited in
+pub summed : (known : Option Verdict) (count : ℕ) (before now : Summary) → count ≤ 2 ^ 64 - 1 → before.lines.items ≡ [] → before.members.items ≡ [] → before.headers ≡ 0 → before.blocks ≡ 0 → before.others ≡ 0 → VisitsAll took known count before now → IsSummary known now
+summed known count before now within lines members headers blocks others p =
+    let all : HasSummed p.frames now = visited_to took HasSummed one_more p.frames [] before now record { lines = lines; members = members; headers = headers; blocks = blocks; others = others } p.visited in
     let few : length p.frames ≤ 2 ^ 64 - 1 = omega (arith, within, p.counted) in
     record {
       frames = p.frames;
       says = subst (λ (k : Option Verdict). Says k (p.frames, None)) (sym p.says) refl;
       lines = all.lines;
+      members = all.members;
       headers = exact is_header p.frames now.headers few all.headers;
       blocks = exact is_data p.frames now.blocks few all.blocks;
       others = exact is_other p.frames now.others few all.others;

@@ -1,4 +1,4 @@
--- What `info` says of the frames of a file: its first header, and how many there are of each type.
+-- What `info` says of the frames of a file, as lines and in JSON: its first header, and how many there are of each type.
 use Rattle.std.specs.Prelude.{◌≡◌, ℕ, ◌+◌, ◌==◌, ◌&&◌, if◌then◌else◌, List, [], ◌∷◌, ◌++◌, codes, decimal, Bool, true, false, Option, Some, None}
 use Rattle.std.specs.Option.{option_map}
 use Rattle.pbf_wire.specs.declared.fault.Fault.{Fault}
@@ -6,6 +6,8 @@ use Rattle.pbf_frame.specs.declared.frame.FrameKind.{FrameKind}
 use Rattle.pbf_frame.specs.declared.frame.FrameKind.TheVariants as kind
 use Rattle.pbf_frame.specs.Frames.{FrameSpec, frame_kind, is_header, is_data}
 use Rattle.pbf_frame.specs.Verdict.{Verdict, Says, judged_known}
+use Rattle.osm_text.specs.HeaderJson.{header_members}
+use Rattle.pbf_header.specs.Header.{header_in}
 use Rattle.pbf_header.specs.HeaderFaults.{header_fault}
 use Rattle.pbf_block.specs.Numbers.{capped}
 use Rattle.pbf_pass.specs.Judged.{sound_first}
@@ -29,6 +31,15 @@ abbrev pub header_lines : Option FrameSpec → List ℕ
 header_lines None = []
 header_lines (Some f) = frame_text false f
 
+-- what a JSON object has of it
+abbrev pub members_in : Payload → List ℕ
+members_in (header_block at message) = header_members (header_in at message)
+members_in _ = []
+
+abbrev pub members_of : Option FrameSpec → List ℕ
+members_of None = []
+members_of (Some f) = members_in (payload_of f)
+
 -- how many of them are of a kind
 abbrev pub count_of : (FrameKind → Bool) → List FrameSpec → ℕ
 count_of is [] = 0
@@ -40,6 +51,16 @@ counts_line headers blocks others = codes "H frames OSMHeader " ++ decimal heade
 
 abbrev pub frames_line : List FrameSpec → List ℕ
 frames_line frames = counts_line (count_of is_header frames) (count_of is_data frames) (count_of is_other frames)
+
+-- the same in JSON
+abbrev pub counts_object : (headers blocks others : ℕ) → List ℕ
+counts_object headers blocks others =
+    codes "{\"OSMHeader\":" ++ decimal headers ++ codes ",\"OSMData\":" ++ decimal blocks
+    ++ codes ",\"other\":" ++ decimal others ++ codes "}"
+
+abbrev pub frames_object : List FrameSpec → List ℕ
+frames_object frames =
+    counts_object (count_of is_header frames) (count_of is_data frames) (count_of is_other frames)
 
 -- ---- the verdict on frames and headers
 
@@ -73,6 +94,8 @@ counted is k n = if is k then capped (n + 1) else n
 pub record Sums (k : FrameKind) (p : Payload) (old new : Summary) : Type 0 where
   pub sound : fault_of_header p ≡ None
   pub lines : new.lines.items ≡ (if old.headers == 0 && is_header k then text_in false p else old.lines.items)
+  pub members : new.members.items
+      ≡ (if old.headers == 0 && is_header k then members_in p else old.members.items)
   pub headers : new.headers ≡ counted is_header k old.headers
   pub blocks : new.blocks ≡ counted is_data k old.blocks
   pub others : new.others ≡ counted is_other k old.others
@@ -82,6 +105,7 @@ pub record IsSummary (known : Option Verdict) (s : Summary) : Type 0 where
   pub frames : List FrameSpec
   pub says : Says known (frames, None)
   pub lines : s.lines.items ≡ header_lines (first_header frames)
+  pub members : s.members.items ≡ members_of (first_header frames)
   pub headers : s.headers ≡ count_of is_header frames
   pub blocks : s.blocks ≡ count_of is_data frames
   pub others : s.others ≡ count_of is_other frames

@@ -28,4 +28,4 @@ pub use showing::{show, show_with_receipt};
 pub use sorted::{
     extract_parents_sorted_with_receipt, extract_sorted, extract_sorted_with_receipt,
 };
-pub use summary::{Summary, put_counts, read_summary};
+pub use summary::{Summary, put_counts, put_counts_object, read_summary};

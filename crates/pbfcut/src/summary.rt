@@ -1,6 +1,7 @@
 //! `info`: the first header of a file, and how many frames there are of each type.
 
-ghost use Rattle.std.specs.Prelude.{◌≡◌, ◌++◌, None, Some, false, IfOk, IfErr, OnOk};
+ghost use Rattle.std.specs.Prelude.{◌≡◌, ◌++◌, decimal, None, Some, false, IfOk, IfErr, OnOk};
+ghost use Rattle.osm_text.specs.HeaderJson.{header_members};
 ghost use Rattle.osm_text.specs.HeaderText.{header_text};
 ghost use Rattle.pbf_header.specs.Header.{header_of};
 ghost use Rattle.pbf_frame.specs.Frames.{frame_kind};
@@ -11,9 +12,9 @@ ghost use Rattle.pbf_pass.specs.Given.{GaveFile};
 ghost use Rattle.pbf_pass.specs.Hashing.{no_mark};
 ghost use Rattle.pbf_pass.specs.Payload.{lent_by, payload_of};
 ghost use Rattle.pbf_pass.specs.Stops.{Caused, FaultOf, Only, ReadFailed, unchanged};
-ghost use Rattle.pbfcut.specs.Summary.{IsSummary, Sums, counts_line, fault_of_header, heading_fault, judged_headings};
+ghost use Rattle.pbfcut.specs.Summary.{IsSummary, Sums, counts_line, counts_object, fault_of_header, heading_fault, judged_headings};
 
-use osm_text::{put_header, put_number};
+use osm_text::{put_header, put_header_members, put_number};
 use pbf_frame::{Feed, Frame, FrameKind, Stop};
 use pbf_header::Header;
 use pbf_pass::{PassCheck, Passes, Visit, pass_over};
@@ -24,6 +25,8 @@ use std::alloc::{AllocError, Global};
 pub struct Summary {
     /// The lines of the first header.
     pub lines: Vec<u8>,
+    /// What a JSON object has of it.
+    pub members: Vec<u8>,
     /// How many frames are headers.
     pub headers: u64,
     /// How many hold entities.
@@ -33,10 +36,12 @@ pub struct Summary {
 }
 
 impl Summary {
-    /// Keeps the lines of a header, if it is the first.
-    fn keep_lines(&mut self, header: &Header) -> Result<(), AllocError>
-        ensures first { OnOk result (self.old.headers ≡ 0
+    /// Keeps the texts of a header, if it is the first.
+    fn keep_texts(&mut self, header: &Header) -> Result<(), AllocError>
+        ensures lines { OnOk result (self.old.headers ≡ 0
             → self.new.lines.items ≡ header_text (header_of header.now)) }
+        ensures members { OnOk result (self.old.headers ≡ 0
+            → self.new.members.items ≡ header_members (header_of header.now)) }
         ensures later { (self.old.headers ≡ 0 → ⊥) → self.new ≡ self.old }
         ensures headers { self.new.headers ≡ self.old.headers }
         ensures blocks { self.new.blocks ≡ self.old.blocks }
@@ -46,7 +51,9 @@ impl Summary {
             return Ok(());
         }
         self.lines.clear();
-        put_header(&mut self.lines, header)
+        self.members.clear();
+        put_header(&mut self.lines, header)?;
+        put_header_members(&mut self.members, header)
     }
 
     /// Judges a header, and counts it.
@@ -57,7 +64,7 @@ impl Summary {
             (Caused (Only (fault_of_header (lent_by frame.now))) ⊥ ⊥ unchanged) }
     {
         let header = Header::read(alloc, frame.payload, frame.payload_at)?;
-        self.keep_lines(&header)?;
+        self.keep_texts(&header)?;
         self.headers = self.headers.saturating_add(1);
         Ok(())
     }
@@ -83,18 +90,35 @@ impl Visit for Summary {
     }
 }
 
+/// Appends a number after these bytes.
+fn put_count(out: &mut Vec<u8>, before: &[u8], count: u64) -> Result<(), AllocError>
+    ensures { OnOk result (out.new.items ≡ out.old.items ++ before.now ++ decimal count) }
+{
+    out.extend_from_slice(before)?;
+    put_number(out, count)
+}
+
 /// Appends the line that says how many frames there are of each type.
 pub fn put_counts(out: &mut Vec<u8>, summary: &Summary) -> Result<(), AllocError>
     ensures { OnOk result (out.new.items ≡ out.old.items
         ++ counts_line summary.now.headers summary.now.blocks summary.now.others) }
 {
-    out.extend_from_slice(b"H frames OSMHeader ")?;
-    put_number(out, summary.headers)?;
-    out.extend_from_slice(b" OSMData ")?;
-    put_number(out, summary.blocks)?;
-    out.extend_from_slice(b" other ")?;
-    put_number(out, summary.others)?;
+    put_count(out, b"H frames OSMHeader ", summary.headers)?;
+    put_count(out, b" OSMData ", summary.blocks)?;
+    put_count(out, b" other ", summary.others)?;
     out.push(b'\n')?;
+    Ok(())
+}
+
+/// Appends an object of JSON that says how many frames there are of each type.
+pub fn put_counts_object(out: &mut Vec<u8>, summary: &Summary) -> Result<(), AllocError>
+    ensures { OnOk result (out.new.items ≡ out.old.items
+        ++ counts_object summary.now.headers summary.now.blocks summary.now.others) }
+{
+    put_count(out, b"{\"OSMHeader\":", summary.headers)?;
+    put_count(out, b",\"OSMData\":", summary.blocks)?;
+    put_count(out, b",\"other\":", summary.others)?;
+    out.push(b'}')?;
     Ok(())
 }
 
@@ -118,6 +142,7 @@ pub fn read_summary<F: Feed>(alloc: Global, feed: &mut F) -> Result<Summary, Sto
     };
     let mut summary = Summary {
         lines: Vec::new(alloc),
+        members: Vec::new(alloc),
         headers: 0,
         blocks: 0,
         others: 0,

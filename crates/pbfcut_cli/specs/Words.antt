@@ -30,6 +30,9 @@ output_rule = record (new_rule (codes "OUT")) { required = true }
 abbrev pub dates_rule : Rule
 dates_rule = record (new_rule (codes "dates")) { long = Some (codes "dates"); action = Some SetTrue }
 
+abbrev pub json_rule : Rule
+json_rule = record (new_rule (codes "json")) { long = Some (codes "json"); action = Some SetTrue }
+
 abbrev pub progress_rule : Rule
 progress_rule =
     record (new_rule (codes "progress")) { long = Some (codes "progress"); action = Some SetTrue }
@@ -94,7 +97,7 @@ check_app = with_rule (with_told (new_app (codes "check"))) input_rule
 
 -- a command that only pbfcutz has
 abbrev pub info_app : App
-info_app = with_rule (new_app (codes "info")) input_rule
+info_app = with_rule (with_rule (new_app (codes "info")) json_rule) input_rule
 
 -- with `--raw`, if its blobs would be compressed otherwise
 abbrev pub with_raw : Program → App → App
@@ -230,7 +233,8 @@ pub record ReadsFiles (rows : List Row) (files : Files) : Type 0 where
 -- the command has this name, and its values are those of the rows
 abbrev pub ReadsAs : Text → List Row → Command → Type 0
 ReadsAs name rows (Blobs input) = (name ≡ codes "blobs") × (input.now ≡ argument_value (codes "IN") rows)
-ReadsAs name rows (Info input) = (name ≡ codes "info") × (input.now ≡ argument_value (codes "IN") rows)
+ReadsAs name rows (Info input json) = (name ≡ codes "info")
+    × (input.now ≡ argument_value (codes "IN") rows) × ReadsFlag json (codes "json") rows
 ReadsAs name rows (Show input dates progress) = (name ≡ codes "show")
     × (input.now ≡ argument_value (codes "IN") rows) × ReadsFlag dates (codes "dates") rows
     × ReadsFlag progress (codes "progress") rows

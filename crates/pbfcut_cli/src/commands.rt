@@ -16,6 +16,7 @@ ghost use Rattle.pbfcut_cli.specs.Words.{
   flag_rule,
   info_app,
   input_rule,
+  json_rule,
   last_rule,
   lone_box_rule,
   named_rule,
@@ -101,6 +102,15 @@ fn dates<'a>(alloc: Global) -> Arg<'a>
         .long("dates")
         .action(ArgAction::SetTrue)
         .help(help::DATES)
+}
+
+fn json<'a>(alloc: Global) -> Arg<'a>
+    ensures { IsArgument json_rule result }
+{
+    Arg::new(alloc, "json")
+        .long("json")
+        .action(ArgAction::SetTrue)
+        .help(help::JSON)
 }
 
 fn progress<'a>(alloc: Global) -> Arg<'a>
@@ -350,10 +360,8 @@ fn unpack<'a>(alloc: Global, help: &'a Help) -> Made<'a>
 fn info<'a>(alloc: Global, help: &'a Help) -> Made<'a>
     ensures { IfOk result (IsCommand info_app) }
 {
-    with_arg(
-        Ok(named(alloc, "info", help::INFO, help::AFTER_INFO)),
-        input(alloc, help),
-    )
+    let command = named(alloc, "info", help::INFO, help::AFTER_INFO);
+    with_arg(with_arg(Ok(command), json(alloc)), input(alloc, help))
 }
 
 /// `extract` with no argument yet.

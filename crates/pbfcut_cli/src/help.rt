@@ -196,10 +196,13 @@ pub(crate) const AFTER_INFO: &str = after_arguments_of_reader!(
     the box and the features are what the file says of itself. Then it prints how\n\
     blobs are stored, as 'H stored \"zlib\"', \"raw\" or \"mixed\", and how many frames\n\
     IN has, as 'H frames OSMHeader 1 OSMData 25 other 0'. It reads all frames, and\n\
-    validates them and the header, but not the entities. IN may be a pipe.\n",
+    validates them and the header, but not the entities. IN may be a pipe.\n\
+    With --json the same is printed as a JSON object on one line, by the words of\n\
+    the lines: {\"required\":[..],\"optional\":[..],\"stored\":\"zlib\",\"frames\":{..}}\n",
     "IN has zlib or raw blobs.\n",
-    "Example:\n  \
-      pbfcutz info england.osm.pbf\n"
+    "Examples:\n  \
+      pbfcutz info england.osm.pbf\n  \
+      pbfcutz info --json england.osm.pbf | python3 -m json.tool\n"
 );
 
 /// What `--version` prints after the name.
@@ -208,6 +211,8 @@ pub(crate) const VERSION: &str = "1.0.0 (rattle-kit-13f logic dac8208d650f15bf)"
 pub(crate) const OUTPUT: &str = "The file to write; it must not exist";
 
 pub(crate) const DATES: &str = "Print times from 1970 to 2099 as dates";
+
+pub(crate) const JSON: &str = "Print a JSON object instead of lines";
 
 pub(crate) const PROGRESS: &str = "Show progress on standard error";
 

@@ -84,6 +84,7 @@ fn tip_of_other(option: &str) -> Option<&'static str> {
             Some("only 'extract' has this option")
         }
         "--dates" => Some("only 'show' has this option"),
+        "--json" => Some("only 'info' of pbfcutz has this option"),
         "--progress" | "--digests" => Some("leave it out: this command has no such option"),
         _ => None,
     }

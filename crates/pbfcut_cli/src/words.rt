@@ -66,9 +66,10 @@ pub enum Command<'a> {
     Blobs {
         input: &'a str,
     },
-    /// `info IN`: print the header of the file at `input`.
+    /// `info [--json] IN`: print the header of the file at `input`, with `json` as JSON.
     Info {
         input: &'a str,
+        json: bool,
     },
     /// `show [--dates] IN`: print the file at `input`, with `dates` times as dates.
     Show {
@@ -261,7 +262,10 @@ fn command_in<'a>(matches: &ArgMatches<'a>) -> Result<Command<'a>, CliFault>
     let input = value(inner, "IN");
     match name {
         "blobs" => Ok(Command::Blobs { input }),
-        "info" => Ok(Command::Info { input }),
+        "info" => {
+            let json = flag(inner, "json");
+            Ok(Command::Info { input, json })
+        }
         "show" => {
             let dates = flag(inner, "dates");
             let progress = flag(inner, "progress");

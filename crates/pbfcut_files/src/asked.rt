@@ -23,7 +23,7 @@ impl<'a> Asked<'a> {
         let (input, output, region) = match command {
             Command::Help(_) => return None,
             Command::Blobs { input } => (*input, None, None),
-            Command::Info { input } => (*input, None, None),
+            Command::Info { input, .. } => (*input, None, None),
             Command::Show { input, .. } => (*input, None, None),
             Command::Check { input, .. } => (*input, None, None),
             Command::Convert(files) => (files.input, Some(files.output), None),

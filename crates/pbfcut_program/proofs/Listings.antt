@@ -48,9 +48,9 @@ module _ {F D : Type 0} (f : feed.Ghosts F) (d : drain.Ghosts D) (now : F) (out 
       (reading f now c.0.0, record { bytes = _; reports = is_some (d.taken out); failures = d.failures out; fault = fault }, and_then l m n (read (reading f now c.0.0) ∷ []) (wrote (record { bytes = _; reports = is_some (d.taken out); failures = d.failures out; fault = fault }) ∷ []) c.0.1 end, refl, (lists.frames, lists.says, refl))
   list_done program old before (Err halted) fresh lists = tt
 
-  pub info_done : {T : Type 0} (has : Option (List ℕ)) (before : D) (outcome : Result T Halted) → IsFreshOut d before → OnOk outcome (Took d before out (TellsInfo has))
-      → OnOk outcome ((r : Reading) × (w : Writing) × (n ≡ then_all l (read r ∷ wrote w ∷ [])) × (w.fault ≡ fault) × TellsInfo has w.bytes)
-  info_done has before (Ok t) fresh shows =
+  pub info_done : {T : Type 0} (json : Bool) (has : Option (List ℕ)) (before : D) (outcome : Result T Halted) → IsFreshOut d before → OnOk outcome (Took d before out (TellsInfo json has))
+      → OnOk outcome ((r : Reading) × (w : Writing) × (n ≡ then_all l (read r ∷ wrote w ∷ [])) × (w.fault ≡ fault) × TellsInfo json has w.bytes)
+  info_done json has before (Ok t) fresh shows =
       let end = fin.1 _ (shows.added.logged 0 [] fresh.0) in (
         reading f now c.0.0,
         record { bytes = _; reports = is_some (d.taken out); failures = d.failures out; fault = fault },
@@ -58,7 +58,7 @@ module _ {F D : Type 0} (f : feed.Ghosts F) (d : drain.Ghosts D) (now : F) (out 
         refl,
         shows.holding,
       )
-  info_done has before (Err halted) fresh shows = tt
+  info_done json has before (Err halted) fresh shows = tt
 
   -- with what came before
   abbrev all : (input : List ℕ) → Option (List ℕ) → List Event

@@ -213,7 +213,7 @@ manner_in program command = manner program (packs_of command) (digests_of comman
 abbrev pub Does : Manner → Command → List Event → Type 0
 Does m (Help text) events = events ≡ printed Output (string_bytes text) None ∷ []
 Does m (Blobs input) events = Lists (IsListing m.program) input.now events
-Does m (Info input) events = Lists TellsInfo input.now events
+Does m (Info input json) events = Lists (TellsInfo json) input.now events
 Does m (Show input dates progress) events = Shows m dates input.now events
 Does m (Check input progress digests) events = Checks m input.now events
 Does m (Convert files) events = Writes m converting files events
@@ -226,7 +226,7 @@ Does m (Extract region parents files) events = Extracts m region parents files e
 abbrev pub judging_of : Command → Judging
 judging_of (Help text) = printing
 judging_of (Blobs input) = listing
-judging_of (Info input) = judging judged_headings
+judging_of (Info input json) = judging judged_headings
 judging_of (Show input dates progress) = judging judged_file
 judging_of (Check input progress digests) = judging judged_file
 judging_of (Convert files) = judging judged_writable
@@ -236,7 +236,7 @@ judging_of (Extract region parents files) = judging judged_writable
 
 -- `info` reads as pbfcutz does, and writes a text, as `show` does
 abbrev pub reading_of : Manner → Command → Manner
-reading_of m (Info input) = manner Pbfcutz false m.digests
+reading_of m (Info input json) = manner Pbfcutz false m.digests
 reading_of m (Show input dates progress) = to_raw m
 reading_of m _ = m
 

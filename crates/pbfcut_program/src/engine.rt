@@ -373,19 +373,20 @@ pub(crate) fn list_blobs<F: Feed, D: Drain>(
     }
 }
 
-/// Writes the lines of the header, how blobs are stored, and how many frames there are.
+/// Writes what the header says, how blobs are stored, and how many frames there are: as lines, or in JSON.
 pub(crate) fn show_info<F: Feed, D: Drain>(
     engine: Engine,
     pass: &mut F,
     drain: &mut D,
+    json: bool,
 ) -> Result<(), Halted>
     ensures shown { OnOk result (Took D.Drain drain.old drain.new
-        (TellsInfo (F.remaining pass.old))) }
+        (TellsInfo json (F.remaining pass.old))) }
     ensures ends { IfErr result (λ halted. EndsFor Pbfcutz F.Feed judged_headings
         (pass.old ∷ []) (pass.new ∷ []) (Added D.Drain drain.old [] drain.new)
         (WriteFailed D.Drain drain.old drain.new) halted.ending) }
 {
-    match pbf_published::show_info(engine.alloc, pass, drain) {
+    match pbf_published::show_info(engine.alloc, pass, drain, json) {
         Ok(()) => Ok(()),
         Err(halt) => Err(Halted::from(halt)),
     }

@@ -96,13 +96,13 @@ fn run_command<H: Host>(engine: Engine, host: &mut H, command: &Command<'_>) -> 
             };
             run_blobs(engine, host, &input)
         }
-        Command::Info { input: path } => {
+        Command::Info { input: path, json } => {
             let input = Input {
                 path: *path,
                 passes: 1,
                 progress: false,
             };
-            run_info(engine, host, &input)
+            run_info(engine, host, &input, *json)
         }
         Command::Show {
             input: path,

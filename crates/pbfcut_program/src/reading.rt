@@ -146,16 +146,17 @@ pub(crate) fn run_blobs<H: Host>(
     ended(host, out, outcome)
 }
 
-/// `info IN`: the lines of the header, how blobs are stored and how many frames there are go to standard output. Nothing is written of a
-/// file that is refused.
+/// `info IN`: what the header says, how blobs are stored and how many frames there are go to standard output, as lines or in JSON. Nothing
+/// is written of a file that is refused.
 pub(crate) fn run_info<H: Host>(
     engine: Engine,
     host: &mut H,
     input: &Input<'_>,
+    json: bool,
 ) -> Result<(), Ending>
     ensures ok { OnOk result ((events : List Event)
         × (H.log host.new ≡ then_all (H.log host.old) events)
-        × Lists TellsInfo input.now.path.now events) }
+        × Lists (TellsInfo json) input.now.path.now events) }
     ensures err { IfErr result (λ how. (events : List Event)
         × (H.log host.new ≡ then_all (H.log host.old) events)
         × FailsFor (manner program.Pbfcutz false engine.digests)
@@ -163,7 +164,7 @@ pub(crate) fn run_info<H: Host>(
 {
     let mut pass = open_pass(host, input, 1)?;
     let mut out = open_screen(host)?;
-    let outcome = show_info(engine, &mut pass, &mut out);
+    let outcome = show_info(engine, &mut pass, &mut out, json);
     host.close(pass);
     ended(host, out, outcome)
 }

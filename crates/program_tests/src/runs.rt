@@ -186,3 +186,18 @@ fn counts_that_nobody_reads(rt: HostRuntime) -> Result<(), Fail> {
     assert!(rt; ends(&rt, &mut host, &["check", "a"], 141, &events)?);
     Ok(())
 }
+
+/// `info --json`.
+#[test]
+fn info_in_json(rt: HostRuntime) -> Result<(), Fail> {
+    let mut host = Recorder::new(&rt, &NODES, 4_096);
+    let text =
+        b"{\"required\":[],\"optional\":[],\"stored\":\"raw\",\"frames\":{\"OSMHeader\":1,\"OSMData\":1,\"other\":0}}\n";
+    let mut events = Vec::new(rt.alloc());
+    events.push(opened(&rt, 1, &THREE_DENSE_NODES))?;
+    events.push(Happened::Screened(true))?;
+    events.push(read(&rt, &THREE_DENSE_NODES, &[]))?;
+    events.push(Happened::Wrote(copy(&rt, text), 0, None))?;
+    assert!(rt; ends(&rt, &mut host, &["info", "--json", "a"], 0, &events)?);
+    Ok(())
+}

@@ -39,6 +39,12 @@ fn is_show(alloc: Global, words: &[&str], input: &str, asked: (bool, bool)) -> b
     }
 }
 
+/// Whether they are a command of pbfcutz to print the header of `a`, as lines or in JSON.
+fn is_info(alloc: Global, words: &[&str], asked: bool) -> bool {
+    let read = read_words(alloc, Program::Pbfcutz, words);
+    matches!(&read, Ok(Command::Info { input, json }) if *input == "a" && *json == asked)
+}
+
 /// Whether they are a command to check this file, with or without progress and digests.
 fn is_check(alloc: Global, words: &[&str], input: &str, asked: (bool, bool)) -> bool {
     let read = read_words(alloc, Program::Pbfcut, words);
@@ -255,6 +261,9 @@ fn commands_of_pbfcutz(rt: HostRuntime) {
     assert!(rt; is_of_pbfcutz(rt.alloc(), &["pack", "a", "b"]));
     assert!(rt; is_of_pbfcutz(rt.alloc(), &["unpack", "a", "-o", "b"]));
     assert!(rt; is_of_pbfcutz(rt.alloc(), &["info", "a"]));
+    assert!(rt; is_info(rt.alloc(), &["info", "a"], false));
+    assert!(rt; is_info(rt.alloc(), &["info", "--json", "a"], true));
+    assert!(rt; is_info(rt.alloc(), &["info", "a", "--json"], true));
 }
 
 #[test]

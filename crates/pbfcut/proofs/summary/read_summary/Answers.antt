@@ -10,7 +10,7 @@ pub returns-clause-gave : goal.returns-clause-gave
 returns-clause-gave g c =
     let few : c.in_ok-pass_over.field-0.frames ≤ 2 ^ 64 - 1 = search rules in
     let said = gave_file_less g.F.Feed _ _ _ _ (λ file. IsSummary (judged_known false 0 (Some file)) c.pass_over.new.visitor)
-    (λ file p. summed (judged_known false 0 (Some file)) c.in_ok-pass_over.field-0.frames _ c.pass_over.new.visitor few (search rules) refl refl refl p.1) c.in_ok-pass_over.ensures.visited in
+    (λ file p. summed (judged_known false 0 (Some file)) c.in_ok-pass_over.field-0.frames _ c.pass_over.new.visitor few (search rules) (search rules) refl refl refl p.1) c.in_ok-pass_over.ensures.visited in
     search (rules, said)
 
 pub returns-in_err-pass_over-clause-stops : goal.returns-in_err-pass_over-clause-stops

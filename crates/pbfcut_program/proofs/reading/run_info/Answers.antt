@@ -33,8 +33,8 @@ returns-clause-ok g c =
     let first : List Event = opened input 1 has ∷ screened true ∷ [] in
     let begun = and_then (log c.args.host.now) _ _ (opened input 1 has ∷ []) (screened true ∷ []) c.in_ok-pass.ensures.opened c.in_ok-out.ensures.opened.0 in
     let e = c.ended.ensures in
-    let done : OnOk c.ended.result ((r : Reading) × (w : Writing) × (log c.ended.new.host ≡ then_all (log c.open_screen.new.host) (read r ∷ wrote w ∷ [])) × (w.fault ≡ None) × TellsInfo has w.bytes) =
-    text_ok e.0 c.show_info-outcome.result c.ended.result _ e.2 (λ went. rw (sym went) (info_done g.H.In.Feed g.H.Out.Drain c.show_info-outcome.new.pass c.show_info-outcome.new.drain e.0 (log c.open_screen.new.host) (log c.close.new.self) (log c.ended.new.host) (c.close.ensures.some, c.close.ensures.logged) e.1 has c.in_ok-out.out c.show_info-outcome.result c.in_ok-out.ensures.opened.1 c.show_info-outcome.ensures.shown)) in
+    let done : OnOk c.ended.result ((r : Reading) × (w : Writing) × (log c.ended.new.host ≡ then_all (log c.open_screen.new.host) (read r ∷ wrote w ∷ [])) × (w.fault ≡ None) × TellsInfo c.args.json has w.bytes) =
+    text_ok e.0 c.show_info-outcome.result c.ended.result _ e.2 (λ went. rw (sym went) (info_done g.H.In.Feed g.H.Out.Drain c.show_info-outcome.new.pass c.show_info-outcome.new.drain e.0 (log c.open_screen.new.host) (log c.close.new.self) (log c.ended.new.host) (c.close.ensures.some, c.close.ensures.logged) e.1 c.args.json has c.in_ok-out.out c.show_info-outcome.result c.in_ok-out.ensures.opened.1 c.show_info-outcome.ensures.shown)) in
     on_ok_weaker c.ended.result (λ d. (_, and_then (log c.args.host.now) _ _ first _ begun d.2, record { has = has; first = d.0; out = d.1; happened = refl; whole = d.3; lines = d.4 })) done
 
 pub returns-clause-err : goal.returns-clause-err
