@@ -3,7 +3,6 @@ use Rattle.std.proofs.Common.{◌≡◌, inl, inr, ℕ, List, [], ◌∷◌, Boo
 use Rattle.std.specs.Option.{is_some}
 use Rattle.pbf_frame.specs.declared.device.Feed as feed
 use Rattle.pbf_frame.specs.declared.device.Drain as drain
-use Rattle.pbf_frame.specs.declared.stop.Stop.TheVariants as stop
 use Rattle.pbf_frame.specs.Transfers.{Added}
 use Rattle.pbf_frame.specs.Verdict.{Says, Verdict, judged_known}
 use Rattle.pbf_frame.proofs.Beginnings.{front_whole}
@@ -13,7 +12,6 @@ use Rattle.pbf_published.specs.Showing.{TellsInfo}
 use Rattle.pbfcut.specs.Blobs.{lines}
 use Rattle.pbfcut.specs.Summary.{judged_headings}
 use Rattle.pbfcut_cli.specs.declared.endings.Ending.{Ending}
-use Rattle.pbfcut_cli.specs.declared.endings.Ending.TheVariants as ending
 use Rattle.pbfcut_cli.specs.declared.programs.Program.{Program}
 use Rattle.pbfcut_cli.specs.declared.programs.Program.TheVariants.{Pbfcutz}
 use Rattle.pbfcut_program.specs.declared.engine.Halted.{Halted}

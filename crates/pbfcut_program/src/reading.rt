@@ -1,6 +1,6 @@
 //! The commands that write no file: `blobs`, `info`, `show` and `check`.
 
-ghost use Rattle.std.specs.Prelude.{◌≡◌, ◌∷◌, [], ℕ, Bool, false, List, Option, IfErr, IfOk, OnOk};
+ghost use Rattle.std.specs.Prelude.{◌≡◌, ◌∷◌, [], ℕ, false, List, Option, IfErr, IfOk, OnOk};
 ghost use Rattle.pbf_pass.specs.Judged.{judged_file};
 ghost use Rattle.pbf_published.specs.Showing.{TellsInfo};
 ghost use Rattle.pbfcut.specs.Summary.{judged_headings};

@@ -1,7 +1,7 @@
 //! The commands that write a file. Before anything is written it is settled that OUT is new, IN is opened once for each pass, and there is
 //! a seed.
 
-ghost use Rattle.std.specs.Prelude.{◌≡◌, ◌⊎◌, ◌∷◌, ◌++◌, ◌<◌, [], List, length, map, is_ok, IfErr, IfOk, IfSome, Some, None, OnOk, true, false};
+ghost use Rattle.std.specs.Prelude.{◌≡◌, ◌⊎◌, ◌∷◌, ◌++◌, ◌<◌, [], List, length, map, IfErr, IfOk, IfSome, Some, None, OnOk, true, false};
 ghost use Rattle.std.specs.Result.{result_err};
 ghost use Rattle.pbf_frame.specs.declared.stop.Stop.TheVariants as stop;
 ghost use Rattle.pbfcut_cli.specs.declared.endings.Ending.TheVariants as ending;
