@@ -397,7 +397,7 @@ def boxes(bench: Bench):
 def progress(bench: Bench):
     """The report of each command that has one: a number of per cent for each pass, which rises to 100."""
     def reports(passes: int, end: bytes = b"", spared: tuple = ()):
-        """Each pass to its end, but those that are spared since no node comes after a way."""
+        """Each pass to its end, but those that are spared since the file is sorted by type."""
         def holds(text: bytes) -> bool:
             told, shown = re.fullmatch(rb"((?:\rpass \d of \d: \d+ %  )+)\n(.*)", text, re.S).groups()
             numbers = [tuple(map(int, found)) for found in re.findall(rb"pass (\d) of (\d): (\d+) %", told)]
@@ -414,7 +414,7 @@ def progress(bench: Bench):
         (["extract", "--parents", BOX, "--progress", "in", "out"], 4, THREE_DENSE_CUT),
     ]:
         bench.case(f"progress of {words}", words, given=THREE_DENSE, stdout=lambda text: len(text) > 0, out=out,
-                   stderr=reports(passes, spared=(2,) if "extract" in words else ()))
+                   stderr=reports(passes, spared=tuple(range(2, passes)) if "extract" in words else ()))
     bench.case("progress of a file that is refused", ["check", "--progress", "in"], given=THREE_DENSE + b"\x00", status=1,
                stderr=reports(1, told(f"refused at {len(THREE_DENSE)}: 10 PrefixCut")))
     bench.case("progress of a pipe", ["check", "--progress", "in"], fifo=(THREE_DENSE, 1), stdout=counted(3, 0, 0),

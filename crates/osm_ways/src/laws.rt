@@ -14,7 +14,8 @@ ghost use Rattle.osm_ways.specs.Selection.{Seen, node_ids, way_ids, keeps, extra
 ghost use Rattle.osm_ways.specs.Seen.{seen_entity, seen_decoded};
 ghost use Rattle.osm_ways.specs.Parents.{IsLeastSelected, relation_ids, keeps_with_parents, extract_with_parents, links_in, start_in};
 ghost use Rattle.osm_ways.specs.First.{first_pass};
-ghost use Rattle.osm_ways.specs.Phases.{start_ways, node_pass, way_pass, relation_pass, without_parents, is_chosen, is_taken};
+ghost use Rattle.osm_ways.specs.Phases.{start_ways, node_pass, nothing_found, relations_from, way_pass, relation_pass, without_parents, is_chosen, is_taken};
+ghost use Rattle.osm_ways.specs.Sorted.{sorted_pass};
 
 /// An extract of an extract is the extract, with and without parents.
 pub fn extract_twice_is_once<X>()
@@ -90,6 +91,16 @@ pub fn one_pass_is_two()
         → (first_pass seen).in_order ≡ true → (first_pass seen).ways ≡ way_pass seen }
     ensures broken { (seen : List Seen) → (first_pass seen).in_order ≡ false
         → (first_pass seen).ways ≡ start_ways (node_pass seen) }
+{}
+
+/// If no node comes after a way, and neither after a relation, one pass gathers what three do; otherwise what the one over nodes does.
+pub fn one_pass_is_three()
+    ensures in_order { (seen : List Seen) → (sorted_pass seen).first.in_order ≡ true
+        → relations_from (sorted_pass seen).first.ways (sorted_pass seen).found
+        ≡ relation_pass seen }
+    ensures broken { (seen : List Seen) → (sorted_pass seen).first.in_order ≡ false
+        → ((sorted_pass seen).first.ways ≡ start_ways (node_pass seen))
+        × ((sorted_pass seen).found ≡ nothing_found) }
 {}
 
 /// Over a whole list the passes keep what the extract keeps: of two passes, of nodes and of ways, the extract; of a third one,

@@ -71,11 +71,7 @@ impl FoundRelations {
     /// # Errors
     ///
     /// If memory is refused, it may only be dropped.
-    pub(crate) fn add(
-        &mut self,
-        relation: &RelationRef<'_>,
-        starts: bool,
-    ) -> Result<(), AllocError>
+    pub(crate) fn add(&mut self, relation: &RelationRef<'_>, starts: bool) -> Result<(), AllocError>
         ensures { OnOk result (self.new ≡ found_if starts self.old (relation_of relation.now).id
             (map seen_member (relation_of relation.now).members)) }
     {

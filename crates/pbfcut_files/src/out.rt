@@ -3,7 +3,7 @@
 ghost use Rattle.std.specs.Prelude.{◌≤◌, IfOk, length};
 
 use crate::disk::{open_folder, sync_file, sync_folder};
-use crate::existing::{is_plain, is_there};
+use crate::existing::is_there;
 use crate::failure::{BROKEN_PIPE, Noted, Target};
 use crate::part::{NEW_MODE, NotKept, Part, open_new, open_part};
 use crate::replaced::{is_protected, may_replace, take_over};
@@ -62,10 +62,12 @@ pub struct Output {
 
 /// Whether something has OUT's name, unless it is a plain file that is to be replaced.
 pub fn is_taken(rt: &HostRuntime, place: Place<'_>) -> bool {
-    if place.overwrite && is_plain(rt, place.path) {
-        return false;
+    // One look: between two another run may make the file that is to be replaced.
+    match fs::symlink_metadata(rt, place.path) {
+        Ok(metadata) if place.overwrite && metadata.is_file() => false,
+        Ok(_) => is_there(rt, place.path),
+        Err(_) => false,
     }
-    is_there(rt, place.path)
 }
 
 /// How a command ends that can't make OUT: there may be a file that was made since OUT was looked for.
