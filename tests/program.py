@@ -592,9 +592,9 @@ def files_that_change(bench: Bench):
     """The last byte of IN is another one from pass N on, and OUT is empty if that isn't the pass that writes."""
     path, out = os.path.join(bench.folder, "changing"), os.path.join(bench.folder, "changed")
     extract, parents, mixed = ["extract", BOX, path, out], ["extract", "--parents", BOX, path, out], EMPTY_HEADER + WAY_FRAME + DENSE_FRAME
-    # if no node comes after a way, nothing is read in pass 2
+    # of a file that is sorted by type nothing is read between the first pass and the last
     for words, given, first, passes in [(["show", path], THREE_DENSE, 2, 2), (["convert", path, out], THREE_DENSE, 2, 2), (extract, mixed, 2, 3),
-                                        (extract, THREE_DENSE, 3, 3), (parents, mixed, 2, 4), (parents, THREE_DENSE, 3, 4)]:
+                                        (extract, THREE_DENSE, 3, 3), (parents, mixed, 2, 4), (parents, THREE_DENSE, 4, 4)]:
         for number in range(first, passes + 1):
             status, errors = run_with_change([bench.program, *words, "--progress"], path, given, out, number)
             compare(f"{words}, changed in pass {number}: status", 5, status)
