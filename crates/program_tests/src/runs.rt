@@ -198,6 +198,8 @@ fn info_in_json(rt: HostRuntime) -> Result<(), Fail> {
     events.push(Happened::Screened(true))?;
     events.push(read(&rt, &THREE_DENSE_NODES, &[]))?;
     events.push(Happened::Wrote(copy(&rt, text), 0, None))?;
-    assert!(rt; ends(&rt, &mut host, &["info", "--json", "a"], 0, &events)?);
+    let words = owned(rt.alloc(), &["info", "--json", "a"])?;
+    assert_eq!(rt; run(rt.alloc(), &mut host, Program::Pbfcutz, &words), 0);
+    assert_eq!(rt; host.events.as_slice(), events.as_slice());
     Ok(())
 }
