@@ -1,53 +1,65 @@
 //! The laws of the selection. Each is the contract of a function that does nothing: a proof that needs the law calls it, or
 //! takes the lemma of that name from this crate's `proofs/`.
 
-ghost use Rattle.std.specs.Prelude.{◌≡◌, true, false, List, map};
+ghost use Rattle.std.specs.Prelude.{◌≡◌, Bool, true, false, List, map};
 ghost use Rattle.std.specs.List.{filter};
 ghost use Rattle.std.specs.Ordering.{int_cmp};
 ghost use Rattle.std.specs.FinSet as set;
 ghost use Rattle.osm_area.specs.Area.{AreaSpec, IsAreaWithin, box_area};
 ghost use Rattle.osm_box.specs.declared.bounding_box.BoundingBox.{BoundingBox};
 ghost use Rattle.osm_box.specs.BoundingBox.{is_box_within};
-ghost use Rattle.osm_entity.specs.Entity.{EntitySpec, decoded};
+ghost use Rattle.osm_entity.specs.Entity.{EntitySpec, TagSpec, decoded};
 ghost use Rattle.osm_ids.specs.Links.{IsLeast};
-ghost use Rattle.osm_ways.specs.Selection.{Seen, node_ids, way_ids, keeps, extract, IsWithin};
+ghost use Rattle.osm_ways.specs.Selection.{Seen, Strategy, complete_ways, all_parents, smart, node_ids, way_ids, all_levels, keeps, extract, IsWider, IsWithin};
 ghost use Rattle.osm_ways.specs.Seen.{seen_entity, seen_decoded};
-ghost use Rattle.osm_ways.specs.Parents.{IsLeastSelected, relation_ids, keeps_with_parents, extract_with_parents, links_in, start_in};
+ghost use Rattle.osm_ways.specs.Parents.{IsLeastSelected, links_in, start_in};
 ghost use Rattle.osm_ways.specs.First.{first_pass};
 ghost use Rattle.osm_ways.specs.Phases.{start_ways, node_pass, nothing_found, relations_from, way_pass, relation_pass, without_parents, is_chosen, is_taken};
 ghost use Rattle.osm_ways.specs.Sorted.{sorted_pass};
 
-/// An extract of an extract is the extract, with and without parents.
+/// An extract of an extract is the extract, by each strategy.
 pub fn extract_twice_is_once<X>()
-    ensures ways { (look : X → Seen) (xs : List X)
-        → extract look (extract look xs) ≡ extract look xs }
-    ensures parents { (look : X → Seen) (xs : List X)
-        → extract_with_parents look (extract_with_parents look xs) ≡ extract_with_parents look xs }
+    ensures { (by : Strategy) (look : X → Seen) (xs : List X)
+        → extract by look (extract by look xs) ≡ extract by look xs }
 {}
 
-/// Cuts compose: if a small look is within a large one, the small look's extract of the large look's extract is its extract of the
-/// whole list, with and without parents.
+/// Cuts compose: if a small look is within a large one, and the large look's extract is by a strategy that is as wide, the small
+/// look's extract of it is its extract of the whole list.
 pub fn extract_of_larger_is_extract<X>()
-    ensures ways { (small large : X → Seen) → IsWithin small large → (xs : List X)
-        → extract small (extract large xs) ≡ extract small xs }
-    ensures parents { (small large : X → Seen) → IsWithin small large → (xs : List X)
-        → extract_with_parents small (extract_with_parents large xs)
-        ≡ extract_with_parents small xs }
+    ensures { (narrow wide : Strategy) → IsWider narrow wide
+        → (small large : X → Seen) → IsWithin small large → (xs : List X)
+        → extract narrow small (extract wide large xs) ≡ extract narrow small xs }
 {}
 
-/// That premise is needed: there are two looks and a list for which the large look drops what the small one needs.
+/// The look has to be as large: there are two looks and a list for which the large look drops what the small one needs.
 pub fn larger_look_is_needed()
     ensures { ((small large : Seen → Seen) (xs : List Seen)
-        → extract small (extract large xs) ≡ extract small xs) → ⊥ }
+        → extract complete_ways small (extract complete_ways large xs)
+        ≡ extract complete_ways small xs) → ⊥ }
 {}
 
-/// A large look's extract of a small look's extract is all of it, with and without parents.
+/// And the strategy has to be as wide: there is a list whose smart extract is more than that of its complete-ways extract.
+pub fn larger_strategy_is_needed()
+    ensures { ((whole : List TagSpec → Bool) (look : Seen → Seen) (xs : List Seen)
+        → extract (smart whole) look (extract complete_ways look xs)
+        ≡ extract (smart whole) look xs) → ⊥ }
+{}
+
+/// Each strategy keeps what those before it keep, and a smart one for more relations keeps more: so any extract can be cut out of
+/// a smart one.
+pub fn strategies_are_a_chain()
+    ensures parents { IsWider complete_ways all_parents }
+    ensures smart { (whole : List TagSpec → Bool) → IsWider all_parents (smart whole) }
+    ensures types { (some more : List TagSpec → Bool)
+        → ((tags : List TagSpec) → some tags ≡ true → more tags ≡ true)
+        → IsWider (smart some) (smart more) }
+{}
+
+/// A large look's extract of a small look's extract is all of it, if it is by a strategy that is as wide.
 pub fn extract_is_kept_by_larger<X>()
-    ensures ways { (small large : X → Seen) → IsWithin small large → (xs : List X)
-        → extract large (extract small xs) ≡ extract small xs }
-    ensures parents { (small large : X → Seen) → IsWithin small large → (xs : List X)
-        → extract_with_parents large (extract_with_parents small xs)
-        ≡ extract_with_parents small xs }
+    ensures { (narrow wide : Strategy) → IsWider narrow wide
+        → (small large : X → Seen) → IsWithin small large → (xs : List X)
+        → extract wide large (extract narrow small xs) ≡ extract narrow small xs }
 {}
 
 /// If an area lies in a larger one, the look by it is within the look by the larger one, over stored entities and over decoded ones.
@@ -66,23 +78,20 @@ pub fn box_within_box()
 
 /// If two views of an entity look alike to the selection, the extract of the one view is that view of the extract.
 pub fn extract_follows_view<X, Y>()
-    ensures ways { (view : X → Y) (look : X → Seen) (other : Y → Seen)
+    ensures { (by : Strategy) (view : X → Y) (look : X → Seen) (other : Y → Seen)
         → ((x : X) → other (view x) ≡ look x) → (xs : List X)
-        → map view (extract look xs) ≡ extract other (map view xs) }
-    ensures parents { (view : X → Y) (look : X → Seen) (other : Y → Seen)
-        → ((x : X) → other (view x) ≡ look x) → (xs : List X)
-        → map view (extract_with_parents look xs) ≡ extract_with_parents other (map view xs) }
+        → map view (extract by look xs) ≡ extract by other (map view xs) }
 {}
 
 /// The relations that are kept with all parents are the least set that has the id of each relation with a node member, a way
 /// member or a relation member that is kept; and it is the least set over the links from each relation member to its relation
 /// that holds the relations which nodes and ways select.
 pub fn parents_are_least()
-    ensures least { (seen : List Seen)
-        → IsLeastSelected (node_ids seen) (way_ids seen) seen (relation_ids seen) }
-    ensures links { (seen : List Seen) (start ids : set.FinSet int_cmp)
-        → set.contains start ≡ start_in seen → IsLeast (links_in seen) start ids
-        → set.contains ids ≡ relation_ids seen }
+    ensures least { (by : Strategy) (seen : List Seen)
+        → IsLeastSelected (node_ids by seen) (way_ids seen) seen (all_levels by seen) }
+    ensures links { (by : Strategy) (seen : List Seen) (start ids : set.FinSet int_cmp)
+        → set.contains start ≡ start_in by seen → IsLeast (links_in seen) start ids
+        → set.contains ids ≡ all_levels by seen }
 {}
 
 /// One pass over nodes and ways gathers what two do, if no node comes after a way; otherwise what the one over nodes does.
@@ -106,12 +115,13 @@ pub fn one_pass_is_three()
 /// Over a whole list the passes keep what the extract keeps: of two passes, of nodes and of ways, the extract; of a third one,
 /// of relations, and the least set over its links, the extract with all parents.
 pub fn passes_are_extract()
-    ensures ways { (seen : List Seen) → is_chosen (without_parents (way_pass seen)) ≡ keeps seen }
+    ensures ways { (seen : List Seen) → is_chosen (without_parents (way_pass seen))
+        ≡ keeps complete_ways seen }
     ensures kept { (seen : List Seen) → (relation_pass seen).ways ≡ way_pass seen }
     ensures parents { (seen : List Seen) (ids : set.FinSet int_cmp)
         → IsLeast (set.contains (relation_pass seen).links) (relation_pass seen).start ids
         → is_chosen (record { ways = (relation_pass seen).ways; relation_ids = ids })
-        ≡ keeps_with_parents seen }
+        ≡ keeps all_parents seen }
 {}
 
 /// Of the list that the sets were gathered from they take by id and refs what they choose by the refs.
@@ -125,10 +135,7 @@ pub fn taken_are_chosen<X>()
 
 /// The extract of stored entities is that of decoded ones: the selection sees both alike.
 pub fn extract_is_decoded()
-    ensures ways { (area : AreaSpec) (entities : List EntitySpec)
-        → map decoded (extract (seen_entity area) entities)
-        ≡ extract (seen_decoded area) (map decoded entities) }
-    ensures parents { (area : AreaSpec) (entities : List EntitySpec)
-        → map decoded (extract_with_parents (seen_entity area) entities)
-        ≡ extract_with_parents (seen_decoded area) (map decoded entities) }
+    ensures { (by : Strategy) (area : AreaSpec) (entities : List EntitySpec)
+        → map decoded (extract by (seen_entity area) entities)
+        ≡ extract by (seen_decoded area) (map decoded entities) }
 {}
