@@ -1,9 +1,8 @@
 //! `extract` of published files.
 
 ghost use Rattle.std.specs.Prelude.{◌∷◌, []};
-ghost use Rattle.osm_ways.specs.Selection.{extract};
+ghost use Rattle.osm_ways.specs.Selection.{complete_ways};
 ghost use Rattle.pbfcut.specs.Calls.{drained, fed};
-ghost use Rattle.pbfcut.specs.Receipts.{ways_in};
 ghost use Rattle.pbf_published.specs.Extracting.{ExtractsPublished};
 
 use crate::input::{
@@ -47,7 +46,7 @@ pub fn extract_sorted_with_receipt<
     // `Write` come only if a count of failures rose: of a feed, of the drain. `Changed` has the number of the pass whose feed has other
     // packed bytes than the first, as far as both report them. After any other stop a prefix of the extract went out, if all feeds mean one
     // raw file.
-    ensures { ExtractsPublished (ways_in (A.area area)) (fed F.Feed first.old first.new)
+    ensures { ExtractsPublished complete_ways (A.area area) (fed F.Feed first.old first.new)
         (fed G.Feed second.old second.new ∷ []) (fed H.Feed third.old third.new ∷ [])
         (drained D.Drain drain.old drain.new) passes.check result }
 {

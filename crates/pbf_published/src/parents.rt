@@ -2,7 +2,7 @@
 
 ghost use Rattle.std.specs.Prelude.{◌∷◌, []};
 ghost use Rattle.pbfcut.specs.Calls.{drained, fed};
-ghost use Rattle.pbfcut.specs.Receipts.{parents_in};
+ghost use Rattle.osm_ways.specs.Selection.{all_parents};
 ghost use Rattle.pbf_published.specs.Extracting.{ExtractsPublished};
 
 use crate::input::{
@@ -41,7 +41,7 @@ pub fn extract_parents_sorted_with_receipt<
     // nothing. `Read` and `Write` come only if a count of failures rose: of a feed, of the drain. `Changed` has the number of the pass
     // whose feed has other packed bytes than the first, as far as both report them. After any other stop a prefix of the extract went out,
     // if all feeds mean one raw file.
-    ensures { ExtractsPublished (parents_in (A.area area)) (fed F.Feed first.old first.new)
+    ensures { ExtractsPublished all_parents (A.area area) (fed F.Feed first.old first.new)
         (fed G.Feed second.old second.new ∷ fed H.Feed third.old third.new ∷ [])
         (fed I.Feed fourth.old fourth.new ∷ [])
         (drained D.Drain drain.old drain.new) passes.check result }

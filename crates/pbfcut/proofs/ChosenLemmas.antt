@@ -2,11 +2,8 @@
 use Rattle.std.proofs.Common.{arith, Bool, ◌≡◌, ℕ, List, [], ◌∷◌, Option, Some, Result, IfOk, OnErr, subst, refl, sym, ap, ◌∙◌}
 use Rattle.std.proofs.lemmas.Result.{on_err_weaker}
 use Rattle.osm_area.specs.Area.{AreaSpec}
-use Rattle.osm_entity.specs.Entity.{Decoded}
-use Rattle.osm_ways.specs.Parents.{extract_with_parents}
 use Rattle.osm_ways.specs.Phases.{KeptSets}
-use Rattle.osm_ways.specs.Seen.{seen_decoded}
-use Rattle.osm_ways.specs.Selection.{extract}
+use Rattle.osm_ways.specs.Selection.{Strategy, all_parents, complete_ways}
 use Rattle.pbf_header.specs.Header.{HeaderSpec}
 use Rattle.pbf_frame.specs.Devices.{IsFront}
 use Rattle.pbf_pass.specs.declared.receipt.Halt.{Halt}
@@ -17,14 +14,13 @@ use Rattle.pbf_pass.specs.Judged.{judged_file}
 use Rattle.pbf_pass.proofs.GivenLemmas.{gave_file_less}
 use Rattle.pbfcut.specs.declared.repeat.LaterPass.{LaterPass}
 use Rattle.pbfcut.specs.Calls.{DrainUse, FeedUse, GaveBy, GaveOrNot, TookBy, supply_of, taken_after, taken_before}
-use Rattle.pbfcut.specs.Extracting.{Choice, complete_ways, all_parents, IsChoice, IsChoiceWithParents}
+use Rattle.pbfcut.specs.Extracting.{IsChoice, IsChoiceWithParents}
 use Rattle.pbfcut.specs.Kept.{IsWritable, extract_of}
 use Rattle.pbfcut.specs.Pick.{taken_by}
 use Rattle.pbfcut.specs.Repeat.{digest_of}
 use Rattle.pbfcut.specs.Receipts.{Wrote}
 use Rattle.pbfcut.specs.Theorem.{IsExtraction}
 use Rattle.pbfcut.specs.Write.{WritesChoice}
-use Rattle.pbfcut.proofs.KeptLaw.{IsSelection, complete_ways_select, all_parents_select}
 use Rattle.pbfcut.proofs.ExtractingLemmas.{Selects, selects_chosen, selects_parents, extracted, extracts_front, chosen_sound}
 use Rattle.pbfcut.proofs.TheoremLemmas.{gave_or_less, gave_or_not, took_weaker}
 
@@ -35,37 +31,37 @@ if_ok_both r P Q R h4 h5 h6 = grind arith
 -- ---- the pass that writes
 
 -- what it wrote is the extract of a file, if it wrote from that file, and a prefix of it went out otherwise
-module _ {D : Type 0} (last : FeedUse) (out : DrainUse D) (choose : Choice) (select : List Decoded → List Decoded) (selection : IsSelection choose select) (area : AreaSpec) (again : LaterPass) (sets : KeptSets) (h : HeaderSpec) (spared : Bool) (r : Result InputReceipt Halt) (wrote : WritesChoice last out again sets h spared r) where
+module _ {D : Type 0} (last : FeedUse) (out : DrainUse D) (by : Strategy) (area : AreaSpec) (again : LaterPass) (sets : KeptSets) (h : HeaderSpec) (spared : Bool) (r : Result InputReceipt Halt) (wrote : WritesChoice last out again sets h spared r) where
   abbrev WroteExtract : InputReceipt → Mark → Type 0
-  WroteExtract receipt digest = GaveBy last digest (λ e. TookBy out (λ written. (b : List ℕ) → Selects b choose area (taken_by sets) h → b ≡ e → IsExtraction choose select area b receipt.counts written))
+  WroteExtract receipt digest = GaveBy last digest (λ e. TookBy out (λ written. (b : List ℕ) → Selects b by area (taken_by sets) h → b ≡ e → IsExtraction by area b receipt.counts written))
 
   pub wrote_extract : (passes : Passes) → again.passes ≡ passes → IfOk r (λ receipt. WroteExtract receipt (mark_by passes.check receipt.input))
   wrote_extract passes is = if_ok_both r _ _ _ (λ receipt input packed.
       let same : digest_of again ≡ mark_by passes.check receipt.input = ap (λ (p : Passes). mark_by p.check again.digest) is ∙ ap (λ (l : List ℕ). mark_by passes.check l) (sym input.0) in
       subst (WroteExtract receipt) same
-      (gave_file_less last.ghosts last.old last.new (digest_of again) _ _ (λ e took. took_weaker out.ghosts out.old out.new _ _ (λ written packed b selects is. extracted choose select selection area b (taken_by sets) h selects receipt.counts (judged_file (Some e)) written (ap (λ (l : List ℕ). judged_file (Some l)) (sym is)) packed) took) packed)) wrote.input wrote.packed
+      (gave_file_less last.ghosts last.old last.new (digest_of again) _ _ (λ e took. took_weaker out.ghosts out.old out.new _ _ (λ written packed b selects is. extracted by area b (taken_by sets) h selects receipt.counts (judged_file (Some e)) written (ap (λ (l : List ℕ). judged_file (Some l)) (sym is)) packed) took) packed)) wrote.input wrote.packed
 
-  pub wrote_front : OnErr r ((b : List ℕ) → supply_of last ≡ Some b → Selects b choose area (taken_by sets) h → IsFront (taken_before out) (taken_after out) (extract_of choose area b))
-  wrote_front = on_err_weaker r (λ front b is selects. extracts_front choose select selection area b (taken_by sets) h selects (judged_file (supply_of last)) (taken_before out) (taken_after out) (ap judged_file is) front) wrote.front
+  pub wrote_front : OnErr r ((b : List ℕ) → supply_of last ≡ Some b → Selects b by area (taken_by sets) h → IsFront (taken_before out) (taken_after out) (extract_of by area b))
+  wrote_front = on_err_weaker r (λ front b is selects. extracts_front by area b (taken_by sets) h selects (judged_file (supply_of last)) (taken_before out) (taken_after out) (ap judged_file is) front) wrote.front
 
 -- of a call without parents
 module _ {D : Type 0} (first second last : FeedUse) (out : DrainUse D) (area : AreaSpec) (passes : Passes) (again : LaterPass) (is : again.passes ≡ passes) (sets : KeptSets) (h : HeaderSpec) (spared : Bool) (r : Result InputReceipt Halt) (wrote : WritesChoice last out again sets h spared r) where
   pub extract_receipt : GaveBy first (mark_by passes.check again.digest) (λ b. GaveOrNot second spared (mark_by passes.check again.digest) b (λ c. IsChoice area b c sets h))
-      → IfOk r (λ receipt. Wrote first (second ∷ []) (last ∷ []) out (mark_by passes.check receipt.input) receipt.spared (λ b written. IsExtraction (complete_ways area) (λ meant. extract (seen_decoded area) meant) area b receipt.counts written))
+      → IfOk r (λ receipt. Wrote first (second ∷ []) (last ∷ []) out (mark_by passes.check receipt.input) receipt.spared (λ b written. IsExtraction complete_ways area b receipt.counts written))
   extract_receipt chosen = if_ok_both r _ _ _ (λ receipt input wrote.
       let digest = mark_by passes.check receipt.input in
       gave_file_less first.ghosts first.old first.new digest (λ b. GaveOrNot second receipt.spared digest b (λ c. IsChoice area b c sets h)) _ (λ b two. (
         gave_or_not second digest receipt.spared b _ (IsWritable b) (λ c choice. chosen_sound area b _ _ h choice.chosen) two,
         gave_or_less second digest receipt.spared b _ _ (λ c choice. gave_file_less last.ghosts last.old last.new digest _ _ (λ e took. took_weaker out.ghosts out.old out.new _ _ (λ written is same third. is b (selects_chosen sets area b b c h refl (sym same) choice) third) took) wrote) two,
       )) (subst (λ (s : Bool). GaveBy first digest (λ b. GaveOrNot second s digest b (λ c. IsChoice area b c sets h))) (sym input.1) (subst (λ (l : List ℕ). GaveBy first (mark_by passes.check l) (λ b. GaveOrNot second spared (mark_by passes.check l) b (λ c. IsChoice area b c sets h))) (sym input.0) chosen))) wrote.input
-      (wrote_extract last out (complete_ways area) (λ meant. extract (seen_decoded area) meant) (complete_ways_select area) area again sets h spared r wrote passes is)
+      (wrote_extract last out complete_ways area again sets h spared r wrote passes is)
 
   -- with all parents, by a third feed
   abbrev GaveParents : FeedUse → (spared : Bool) → Mark → Type 0
   GaveParents third spared digest = GaveBy first digest (λ b. GaveOrNot second spared digest b (λ c. GaveOrNot third spared digest b (λ e. IsChoiceWithParents area b c e sets h)))
 
   pub parents_receipt : (third : FeedUse) → GaveParents third spared (mark_by passes.check again.digest)
-      → IfOk r (λ receipt. Wrote first (second ∷ third ∷ []) (last ∷ []) out (mark_by passes.check receipt.input) receipt.spared (λ b written. IsExtraction (all_parents area) (λ meant. extract_with_parents (seen_decoded area) meant) area b receipt.counts written))
+      → IfOk r (λ receipt. Wrote first (second ∷ third ∷ []) (last ∷ []) out (mark_by passes.check receipt.input) receipt.spared (λ b written. IsExtraction all_parents area b receipt.counts written))
   parents_receipt third chosen = if_ok_both r _ _ _ (λ receipt input wrote.
       let digest = mark_by passes.check receipt.input in
       let judged = λ (l : List ℕ). judged_file (Some l) in
@@ -74,4 +70,4 @@ module _ {D : Type 0} (first second last : FeedUse) (out : DrainUse D) (area : A
         gave_or_less second digest receipt.spared b _ _ (λ c three. gave_or_less third digest receipt.spared b _ _ (λ e choice. gave_file_less last.ghosts last.old last.new digest _ _ (λ n took. took_weaker out.ghosts out.old out.new _ _ (λ written is same more fourth.
             is b (selects_parents sets area b _ _ _ h refl (ap judged (sym same)) (ap judged (sym more)) choice.chosen) fourth) took) wrote) three) two,
       )) (subst (λ (s : Bool). GaveParents third s digest) (sym input.1) (subst (λ (l : List ℕ). GaveParents third spared (mark_by passes.check l)) (sym input.0) chosen))) wrote.input
-      (wrote_extract last out (all_parents area) (λ meant. extract_with_parents (seen_decoded area) meant) (all_parents_select area) area again sets h spared r wrote passes is)
+      (wrote_extract last out all_parents area again sets h spared r wrote passes is)

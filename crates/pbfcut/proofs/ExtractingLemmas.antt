@@ -8,12 +8,11 @@ use Rattle.osm_area.specs.Area.{AreaSpec}
 use Rattle.osm_box.specs.declared.bounding_box.BoundingBox.{BoundingBox}
 use Rattle.osm_entity.specs.Ranges.{IsInt64}
 use Rattle.std.specs.Int.Signed.{mag}
-use Rattle.osm_entity.specs.Entity.{EntitySpec, Decoded, node, way, relation}
+use Rattle.osm_entity.specs.Entity.{EntitySpec, node, way, relation}
 use Rattle.osm_ids.specs.Links.{IsLeast}
-use Rattle.osm_ways.specs.Parents.{keeps_with_parents}
 use Rattle.osm_ways.specs.Phases.{Found, TakesAll, TakesFirst, WaySets, RelationSets, KeptSets, nothing_found, relations_from, way_step, relation_step, start_ways, start_relations, node_pass, without_parents, way_pass, relation_pass, is_chosen, is_taken}
 use Rattle.osm_ways.specs.Seen.{seen_entity, seen_member}
-use Rattle.osm_ways.specs.Selection.{MemberSeen, Seen, a_relation, keeps}
+use Rattle.osm_ways.specs.Selection.{MemberSeen, Seen, a_relation, Strategy, all_parents, complete_ways, keeps}
 use Rattle.osm_ways.proofs.Passes.{chosen_is_kept, chosen_with_parents, ways_stay}
 use Rattle.osm_ways.proofs.Taken.{taken_are_chosen}
 use Rattle.osm_pack.specs.Cuts.{written_file}
@@ -30,10 +29,10 @@ use Rattle.pbf_pass.specs.HeaderLimit.{HasShortTexts, header_limit, judged_writa
 use Rattle.pbf_pass.specs.Counting.{stored_entities}
 use Rattle.pbfcut.specs.Calls.{FeedUse, GaveOrNot}
 use Rattle.pbfcut.specs.Theorem.{IsExtraction}
-use Rattle.pbfcut.specs.Extracting.{Choice, complete_ways, all_parents, extraction, extract_bytes, Begins, Chooses, ChoosesParents, IsChoice, IsChoiceWithParents}
+use Rattle.pbfcut.specs.Extracting.{extraction, kept_by, extract_bytes, Begins, Chooses, ChoosesParents, IsChoice, IsChoiceWithParents}
 use Rattle.pbfcut.specs.Kept.{verdict_on, extract_of, IsWritable}
 use Rattle.pbf_pass.proofs.GivenLemmas.{gave_file_less}
-use Rattle.pbfcut.proofs.KeptLaw.{IsSelection, same_verdict, extract_kept}
+use Rattle.pbfcut.proofs.KeptLaw.{same_verdict, extract_kept}
 use Rattle.pbf_pass.specs.Pass.{with_seen, with_seen_in, with_way, with_relation, TakesFile, file_header}
 use Rattle.pbfcut.specs.Repeat.{GathersRest}
 use Rattle.pbf_pass.specs.Unjudged.{GathersFile}
@@ -71,30 +70,30 @@ taken_is : (area : AreaSpec) (sets : KeptSets) (e : EntitySpec) → taken_by set
 taken_is area sets e = grind arith
 
 -- sets that were gathered from a whole list, and keep what it does
-taken_as : (area : AreaSpec) (es : List EntitySpec) (sets : KeptSets) (keep : List Seen → Seen → Bool) → sets.ways ≡ way_pass (map (seen_entity area) es) → is_chosen sets ≡ keep (map (seen_entity area) es)
-    → filter (taken_by sets) es ≡ filter (λ e. keep (map (seen_entity area) es) (seen_entity area e)) es
-taken_as area es sets keep ways all =
+taken_as : (area : AreaSpec) (es : List EntitySpec) (sets : KeptSets) (by : Strategy) → sets.ways ≡ way_pass (map (seen_entity area) es) → is_chosen sets ≡ keeps by (map (seen_entity area) es)
+    → filter (taken_by sets) es ≡ kept_by by area es
+taken_as area es sets by ways all =
     filter_agree (taken_by sets) (λ e. is_taken sets (seen_entity area e)) (taken_is area sets) es
     ∙ subst (λ (w : WaySets). filter (λ e. is_taken (record { ways = w; relation_ids = sets.relation_ids }) (seen_entity area e)) es ≡ filter (λ e. is_chosen (record { ways = w; relation_ids = sets.relation_ids }) (seen_entity area e)) es) (sym ways) (taken_are_chosen (seen_entity area) sets.relation_ids es)
     ∙ ap (λ (k : Seen → Bool). filter (λ e. k (seen_entity area e)) es) all
 
 -- what the sets keep is the complete-ways extract
-pub taken_are : (area : AreaSpec) (es : List EntitySpec) → filter (taken_by (without_parents (way_pass (map (seen_entity area) es)))) es ≡ complete_ways area es
-taken_are area es = taken_as area es (without_parents (way_pass (map (seen_entity area) es))) keeps refl (chosen_is_kept (map (seen_entity area) es))
+pub taken_are : (area : AreaSpec) (es : List EntitySpec) → filter (taken_by (without_parents (way_pass (map (seen_entity area) es)))) es ≡ kept_by complete_ways area es
+taken_are area es = taken_as area es (without_parents (way_pass (map (seen_entity area) es))) complete_ways refl (chosen_is_kept (map (seen_entity area) es))
 
 -- ---- the bytes that are to be written
 
 -- the header of a file that has one
-header_from : (area : AreaSpec) (o : Option (ℕ × HeaderSpec)) (h : HeaderSpec) → option_map (λ p. header_out_for_box area.bounds p.1) o ≡ Some h → (choose : Choice) (es : List EntitySpec) → extraction choose area o es ≡ written_file h (choose es)
-header_from area o h h3 choose es = grind (arith, none_some)
+header_from : (area : AreaSpec) (o : Option (ℕ × HeaderSpec)) (h : HeaderSpec) → option_map (λ p. header_out_for_box area.bounds p.1) o ≡ Some h → (by : Strategy) (es : List EntitySpec) → extraction by area o es ≡ written_file h (kept_by by area es)
+header_from area o h h3 by es = grind (arith, none_some)
 
--- a selection that keeps what the choice does of the frames that the passes read
-pub record Selects (b : List ℕ) (choose : Choice) (area : AreaSpec) (pick : Pick) (h : HeaderSpec) : Type 0 where
+-- a selection that keeps what the strategy does of the frames that the passes read
+pub record Selects (b : List ℕ) (by : Strategy) (area : AreaSpec) (pick : Pick) (h : HeaderSpec) : Type 0 where
   pub frames : List FrameSpec
   pub judged : judged_file (Some b) ≡ Some (frames, None)
   pub writable : judged_writable (Some b) ≡ Some (frames, None)
-  pub bytes : extract_bytes choose area (frames, None) ≡ written_file h (choose (stored_entities frames))
-  pub picked : filter pick (stored_entities frames) ≡ choose (stored_entities frames)
+  pub bytes : extract_bytes by area (frames, None) ≡ written_file h (kept_by by area (stored_entities frames))
+  pub picked : filter pick (stored_entities frames) ≡ kept_by by area (stored_entities frames)
   pub typed : EdgesTyped (edges_of area.bounds)
 
 -- of what was chosen in two passes of the same file
@@ -105,19 +104,19 @@ module _ (area : AreaSpec) (b : List ℕ) (first second : Option Verdict) (sets 
   its_ways : sets ≡ way_pass (map (seen_entity area) (stored_entities c.frames))
   its_ways = c.chosen c.frames (too ∙ its_frames) ∙ sets_are area (stored_entities c.frames)
 
-  selects : (choose : Choice) (pick : Pick) → filter pick (stored_entities c.frames) ≡ choose (stored_entities c.frames) → Selects b choose area pick h
-  selects choose pick picked = record {
+  selects : (by : Strategy) (pick : Pick) → filter pick (stored_entities c.frames) ≡ kept_by by area (stored_entities c.frames) → Selects b by area pick h
+  selects by pick picked = record {
     frames = c.frames;
     judged = its_frames;
     writable = judged_sound b c.frames its_frames c.within;
-    bytes = header_from area (file_header c.frames) h c.header choose (stored_entities c.frames);
+    bytes = header_from area (file_header c.frames) h c.header by (stored_entities c.frames);
     picked = picked;
     typed = c.typed;
   }
 
   -- the passes for nodes and for ways choose the complete-ways extract
-  pub selects_ways : Selects b (complete_ways area) area (taken_by (without_parents sets)) h
-  selects_ways = selects (complete_ways area) (taken_by (without_parents sets)) (ap (λ (s : WaySets). filter (taken_by (without_parents s)) (stored_entities c.frames)) its_ways ∙ taken_are area (stored_entities c.frames))
+  pub selects_ways : Selects b complete_ways area (taken_by (without_parents sets)) h
+  selects_ways = selects complete_ways (taken_by (without_parents sets)) (ap (λ (s : WaySets). filter (taken_by (without_parents s)) (stored_entities c.frames)) its_ways ∙ taken_are area (stored_entities c.frames))
 
 -- ---- the box
 
@@ -130,17 +129,17 @@ edges_typed area left bottom right top = record { left = int64 area.left left; r
 
 -- ---- a whole call
 
-module _ (choose : Choice) (select : List Decoded → List Decoded) (selection : IsSelection choose select) (area : AreaSpec) (b : List ℕ) (pick : Pick) (h : HeaderSpec) (s : Selects b choose area pick h) where
+module _ (by : Strategy) (area : AreaSpec) (b : List ℕ) (pick : Pick) (h : HeaderSpec) (s : Selects b by area pick h) where
   verdict : verdict_on b ≡ (s.frames, None)
   verdict = same_verdict b s.frames s.writable
 
-  answer : written_file h (filter pick (stored_entities s.frames)) ≡ extract_of choose area b
-  answer = ap (λ (l : List EntitySpec). written_file h l) s.picked ∙ (sym s.bytes ∙ ap (λ (v : Verdict). extract_bytes choose area v) (sym verdict))
+  answer : written_file h (filter pick (stored_entities s.frames)) ≡ extract_of by area b
+  answer = ap (λ (l : List EntitySpec). written_file h l) s.picked ∙ (sym s.bytes ∙ ap (λ (v : Verdict). extract_bytes by area v) (sym verdict))
 
-  pub extracted : (counts : Counts) (known : Option Verdict) (written : List ℕ) → known ≡ judged_file (Some b) → Packed pick h counts known written → IsExtraction choose select area b counts written
-  extracted counts known written is went = grind (arith, went s.frames (is ∙ s.judged), answer, extract_kept choose select selection area s.typed b (ap (λ (v : Verdict). v.1) verdict))
+  pub extracted : (counts : Counts) (known : Option Verdict) (written : List ℕ) → known ≡ judged_file (Some b) → Packed pick h counts known written → IsExtraction by area b counts written
+  extracted counts known written is went = grind (arith, went s.frames (is ∙ s.judged), answer, extract_kept by area s.typed b (ap (λ (v : Verdict). v.1) verdict))
 
-  pub extracts_front : (known : Option Verdict) (old new : Option (List ℕ)) → known ≡ judged_file (Some b) → PacksFront pick h known old new → IsFront old new (extract_of choose area b)
+  pub extracts_front : (known : Option Verdict) (old new : Option (List ℕ)) → known ≡ judged_file (Some b) → PacksFront pick h known old new → IsFront old new (extract_of by area b)
   extracts_front known old new is front = subst (λ (l : List ℕ). IsFront old new l) answer (front s.frames (is ∙ s.judged))
 
 -- ---- the passes that choose
@@ -165,10 +164,10 @@ pub chosen_sound : (area : AreaSpec) (b : List ℕ) (second : Option Verdict) (s
 chosen_sound area b second sets h c = ap (λ (v : Verdict). v.1) (same_verdict b c.frames (judged_sound b c.frames (known_says b (c.frames, None) c.judged) c.within))
 
 -- a selection by what was chosen
-pub selects_chosen : (sets : KeptSets) (area : AreaSpec) (b first second : List ℕ) (h : HeaderSpec) → first ≡ b → second ≡ b → IsChoice area first second sets h → Selects b (complete_ways area) area (taken_by sets) h
+pub selects_chosen : (sets : KeptSets) (area : AreaSpec) (b first second : List ℕ) (h : HeaderSpec) → first ≡ b → second ≡ b → IsChoice area first second sets h → Selects b complete_ways area (taken_by sets) h
 selects_chosen sets area b first second h is too c =
     let judged = λ (l : List ℕ). judged_file (Some l) in
-    subst (λ (s : KeptSets). Selects b (complete_ways area) area (taken_by s) h) (sym c.kept) (selects_ways area b _ _ c.ways h (ap judged is) (ap judged too) c.chosen)
+    subst (λ (s : KeptSets). Selects b complete_ways area (taken_by s) h) (sym c.kept) (selects_ways area b _ _ c.ways h (ap judged is) (ap judged too) c.chosen)
 
 -- ---- with all parents
 
@@ -180,19 +179,19 @@ relations_folded area sets (relation r ∷ es) = relations_folded area (with_rel
 
 -- what the sets keep is the extract with all parents
 parents_are : (area : AreaSpec) (es : List EntitySpec) (sets : KeptSets) → sets.ways ≡ (relation_pass (map (seen_entity area) es)).ways
-    → IsLeast (set.contains (relation_pass (map (seen_entity area) es)).links) (relation_pass (map (seen_entity area) es)).start sets.relation_ids → filter (taken_by sets) es ≡ all_parents area es
+    → IsLeast (set.contains (relation_pass (map (seen_entity area) es)).links) (relation_pass (map (seen_entity area) es)).start sets.relation_ids → filter (taken_by sets) es ≡ kept_by all_parents area es
 parents_are area es sets ways least =
     let seen = map (seen_entity area) es in
-    taken_as area es sets keeps_with_parents (ways ∙ ways_stay seen) (ap (λ (w : WaySets). is_chosen (record { ways = w; relation_ids = sets.relation_ids })) ways ∙ chosen_with_parents seen sets.relation_ids least)
+    taken_as area es sets all_parents (ways ∙ ways_stay seen) (ap (λ (w : WaySets). is_chosen (record { ways = w; relation_ids = sets.relation_ids })) ways ∙ chosen_with_parents seen sets.relation_ids least)
 
 pub selects_parents : (sets : KeptSets) (area : AreaSpec) (b : List ℕ) (first second third : Option Verdict) (h : HeaderSpec) → first ≡ judged_file (Some b) → second ≡ judged_file (Some b) → third ≡ judged_file (Some b)
-    → ChoosesParents area first second third sets h → Selects b (all_parents area) area (taken_by sets) h
+    → ChoosesParents area first second third sets h → Selects b all_parents area (taken_by sets) h
 selects_parents sets area b first second third h is too more p =
     let c = p.chosen in
     let es = stored_entities c.frames in
     let relations : p.relations ≡ relation_pass (map (seen_entity area) es) =
     p.gathered c.frames (more ∙ its_frames area b first second _ h is too c) ∙ (ap (λ (w : WaySets). fold with_relation (start_relations w) es) (its_ways area b first second _ h is too c) ∙ relations_folded area (start_relations (way_pass (map (seen_entity area) es))) es) in
-    selects area b first second _ h is too c (all_parents area) (taken_by sets)
+    selects area b first second _ h is too c all_parents (taken_by sets)
     (parents_are area es sets (p.kept ∙ ap (λ (r : RelationSets). r.ways) relations) (subst (λ (r : RelationSets). IsLeast (set.contains r.links) r.start sets.relation_ids) relations p.least))
 
 -- ---- if passes may be left out

@@ -9,16 +9,14 @@ use Rattle.pbf_wire.specs.declared.fault.Reason.TheVariants.{EntityLarge}
 use Rattle.pbf_wire.specs.Faults.{fault}
 use Rattle.osm_area.specs.Area.{AreaSpec, IsAreaWithin}
 use Rattle.osm_entity.specs.Entity as entity
-use Rattle.osm_entity.specs.Entity.{EntitySpec, Decoded}
+use Rattle.osm_entity.specs.Entity.{EntitySpec}
 use Rattle.osm_entity.specs.Ranges.{EntityFits, EntityTyped}
 use Rattle.osm_entity.specs.Weight.{text_weight}
-use Rattle.osm_ways.specs.Selection.{keeps, extract}
-use Rattle.osm_ways.specs.Parents.{keeps_with_parents, extract_with_parents}
+use Rattle.osm_ways.specs.Selection.{Strategy, IsWider, keeps, extract}
 use Rattle.osm_ways.specs.Seen.{seen_entity, seen_decoded}
 use Rattle.osm_ways.proofs.Decoding.{seen_alike}
 use Rattle.osm_ways.proofs.Boxes.{seen_entity-within}
-use Rattle.osm_ways.proofs.Extracts.{chosen_viewed, extract_of_larger, extract_twice}
-use Rattle.osm_ways.proofs.ParentLaws.{extract_with_parents_of_larger, extract_with_parents_twice}
+use Rattle.osm_ways.proofs.Extracts.{extract_of_larger, extract_twice, extract_viewed}
 use Rattle.pbf_block.specs.declared.counts.Counts.{Counts}
 use Rattle.pbf_frame.specs.declared.frame.FrameKind.TheVariants as kind
 use Rattle.pbf_frame.specs.declared.frame.TheConstants.{FILE_LIMIT}
@@ -38,7 +36,7 @@ use Rattle.pbf_pass.proofs.SoundLemmas.{ends_well}
 use Rattle.pbfcut.specs.Converting.{answer_bytes}
 use Rattle.pbf_pass.specs.HeaderLimit.{header_limit, has_short_texts, with_limit, limited, judged_writable}
 use Rattle.pbf_pass.specs.Counting.{entities_in, frame_entities, stored_entities}
-use Rattle.pbfcut.specs.Extracting.{Choice, complete_ways, all_parents, extract_bytes}
+use Rattle.pbfcut.specs.Extracting.{extract_bytes, kept_by}
 use Rattle.pbf_pass.specs.Judged.{fault_in, payload_fault, sound_first, sound_front, fully}
 use Rattle.pbfcut.specs.Kept.{verdict_within, verdict_on, IsWritable, conversion_of, extract_of}
 use Rattle.pbfcut.specs.Theorem.{IsConversion, IsExtract, IsExtraction, IsCanonical}
@@ -157,8 +155,8 @@ module _ (read : Verdict) (h : HeaderSpec) (es : List EntitySpec) (is : IsFileOf
   converted_is : answer_bytes read ≡ written_file h es
   converted_is = grind arith
 
-  extracted_is : (choose : Choice) (area : AreaSpec) → extract_bytes choose area read ≡ written_file (header_out_for_box area.bounds h) (choose es)
-  extracted_is choose area = grind arith
+  extracted_is : (by : Strategy) (area : AreaSpec) → extract_bytes by area read ≡ written_file (header_out_for_box area.bounds h) (kept_by by area es)
+  extracted_is by area = grind arith
 
 pub same_verdict : (file : List ℕ) (frames : List FrameSpec) → judged_writable (Some file) ≡ Some (frames, None) → verdict_on file ≡ (frames, None)
 same_verdict file frames is = ap (λ (o : Option Verdict). unwrap_or o (frames, None)) is
@@ -198,78 +196,73 @@ conversion_kept file sound =
 
 -- ---- an extract
 
--- a choice of stored entities that is a choice of what they mean, and of which the same is chosen again
-pub record IsSelection (choose : Choice) (select : List Decoded → List Decoded) : Type 0 where
-  pub fit : (es : List EntitySpec) → AllByRecursion EntityFits es → AllByRecursion EntityFits (choose es)
-  pub typed : (es : List EntitySpec) → AllByRecursion EntityTyped es → AllByRecursion EntityTyped (choose es)
-  pub twice : (es : List EntitySpec) → choose (choose es) ≡ choose es
-  pub meaning : (es : List EntitySpec) → map entity.decoded (choose es) ≡ select (map entity.decoded es)
+-- what is kept of stored entities is what is kept of what they mean, and of it the same is kept again
+record IsSelection (by : Strategy) (area : AreaSpec) : Type 0 where
+  pub fit : (es : List EntitySpec) → AllByRecursion EntityFits es → AllByRecursion EntityFits (kept_by by area es)
+  pub typed : (es : List EntitySpec) → AllByRecursion EntityTyped es → AllByRecursion EntityTyped (kept_by by area es)
+  pub twice : (es : List EntitySpec) → kept_by by area (kept_by by area es) ≡ kept_by by area es
+  pub meaning : (es : List EntitySpec) → map entity.decoded (kept_by by area es) ≡ extract by (seen_decoded area) (map entity.decoded es)
 
-module _ (choose : Choice) (select : List Decoded → List Decoded) (selection : IsSelection choose select) (area : AreaSpec) (edges : EdgesTyped (edges_of area.bounds)) where
-  -- it means what is selected, and its extract is the same bytes
+is_selection : (by : Strategy) (area : AreaSpec) → IsSelection by area
+is_selection by area = grind (arith, all_filter EntityFits, all_filter EntityTyped, extract_twice by (seen_entity area), extract_viewed by entity.decoded (seen_entity area) (seen_decoded area) (seen_alike area), seen_alike area)
+
+module _ (by : Strategy) (area : AreaSpec) (edges : EdgesTyped (edges_of area.bounds)) where
+  selection : IsSelection by area
+  selection = is_selection by area
+
+  -- it means the extract, and its extract is the same bytes
   pub record IsKeptExtract (read : Verdict) (written : List ℕ) : Type 0 where
-    pub extract : IsExtract choose select area read (verdict_within None written)
-    pub again : extract_bytes choose area (verdict_within None written) ≡ written
+    pub extract : IsExtract by area read (verdict_within None written)
+    pub again : extract_bytes by area (verdict_within None written) ≡ written
 
-  can_extract : (h : HeaderSpec) (es : List EntitySpec) → CanWrite h es → CanWrite (header_out_for_box area.bounds h) (choose es)
+  can_extract : (h : HeaderSpec) (es : List EntitySpec) → CanWrite h es → CanWrite (header_out_for_box area.bounds h) (kept_by by area es)
   can_extract h es can = grind (arith, out_fits (Some (edges_of area.bounds)) (header_out_for_box area.bounds h) edges can.fits.timestamp can.fits.sequence, edges_of area.bounds, selection.fit es can.fit, selection.typed es can.typed)
 
-  extract_written : (read : Verdict) (h : HeaderSpec) (es : List EntitySpec) → IsFileOf read h es → CanWrite h es → IsKeptExtract read (written_file (header_out_for_box area.bounds h) (choose es))
+  extract_written : (read : Verdict) (h : HeaderSpec) (es : List EntitySpec) → IsFileOf read h es → CanWrite h es → IsKeptExtract read (written_file (header_out_for_box area.bounds h) (kept_by by area es))
   extract_written read h es is can =
       let out = header_out_for_box area.bounds h in
-      let kept = choose es in
+      let kept = kept_by by area es in
       let written = verdict_within None (written_file out kept) in
       let once : header_out_for_convert out ≡ out = header_out_twice (Some (edges_of area.bounds)) (Some (edges_of area.bounds)) h in
       let again = subst (λ (g : HeaderSpec). IsFileOf written g kept) once (written_out_is_file out kept (can_extract h es can)) in
-      let entities = entities_are written out kept again ∙ ap choose (sym (entities_are read h es is)) in
+      let entities = entities_are written out kept again ∙ ap (kept_by by area) (sym (entities_are read h es is)) in
       record {
         extract = grind (arith, is_sound written out kept again, header_is written out kept again, header_is read h es is, selection.meaning (stored_entities read.0));
-        again = extracted_is written out kept again choose area ∙ (ap (λ (g : HeaderSpec). written_file g (choose kept)) once ∙ ap (λ (l : List EntitySpec). written_file out l) (selection.twice es));
+        again = extracted_is written out kept again by area ∙ (ap (λ (g : HeaderSpec). written_file g (kept_by by area kept)) once ∙ ap (λ (l : List EntitySpec). written_file out l) (selection.twice es));
       }
 
-  pub extract_kept : (file : List ℕ) → IsWritable file → IsKeptExtract (verdict_on file) (extract_of choose area file)
+  pub extract_kept : (file : List ℕ) → IsWritable file → IsKeptExtract (verdict_on file) (extract_of by area file)
   extract_kept file sound =
       let r = readable file sound in
-      let e = extracted_is (verdict_on file) r.header r.entities r.is choose area in
+      let e = extracted_is (verdict_on file) r.header r.entities r.is by area in
       subst (λ (w : List ℕ). IsKeptExtract (verdict_on file) w) (sym e) (extract_written (verdict_on file) r.header r.entities r.is r.can)
 
-  -- a choice by any area that needs no more than what is chosen: its extract of the extract is that of the file
-  pub extract_of_extract : (fewer : Choice) (other : AreaSpec) → ((es : List EntitySpec) → fewer (choose es) ≡ fewer es) → (file : List ℕ) → IsWritable file → extract_bytes fewer other (verdict_within None (extract_of choose area file)) ≡ extract_of fewer other file
+  -- an extract that needs no more than what this one keeps is the same of it as of the file
+  pub extract_of_extract : (fewer : Strategy) (other : AreaSpec) → ((es : List EntitySpec) → kept_by fewer other (kept_by by area es) ≡ kept_by fewer other es) → (file : List ℕ) → IsWritable file → extract_bytes fewer other (verdict_within None (extract_of by area file)) ≡ extract_of fewer other file
   extract_of_extract fewer other enough file sound =
       let r = readable file sound in
       let out = header_out_for_box area.bounds r.header in
-      let kept = choose r.entities in
+      let kept = kept_by by area r.entities in
       let written = verdict_within None (written_file out kept) in
       let once : header_out_for_convert out ≡ out = header_out_twice (Some (edges_of area.bounds)) (Some (edges_of area.bounds)) r.header in
       let again = subst (λ (g : HeaderSpec). IsFileOf written g kept) once (written_out_is_file out kept (can_extract r.header r.entities r.can)) in
-      ap (λ (w : List ℕ). extract_bytes fewer other (verdict_within None w)) (extracted_is (verdict_on file) r.header r.entities r.is choose area)
+      ap (λ (w : List ℕ). extract_bytes fewer other (verdict_within None w)) (extracted_is (verdict_on file) r.header r.entities r.is by area)
       ∙ (extracted_is written out kept again fewer other
-      ∙ (ap (λ (g : HeaderSpec). written_file g (fewer kept)) (header_out_twice (Some (edges_of other.bounds)) (Some (edges_of area.bounds)) r.header)
+      ∙ (ap (λ (g : HeaderSpec). written_file g (kept_by fewer other kept)) (header_out_twice (Some (edges_of other.bounds)) (Some (edges_of area.bounds)) r.header)
       ∙ (ap (λ (l : List EntitySpec). written_file (header_out_for_box other.bounds r.header) l) (enough r.entities)
       ∙ sym (extracted_is (verdict_on file) r.header r.entities r.is fewer other))))
 
   -- and so it is of the bytes that two runs wrote
-  pub run_of_run : (fewer : Choice) (other : AreaSpec) → ((es : List EntitySpec) → fewer (choose es) ≡ fewer es) → (file part cut : List ℕ) → length part ≤ FILE_LIMIT → IsWritable file → IsCanonical (extract_bytes choose area) file part → IsCanonical (extract_bytes fewer other) part cut → cut ≡ extract_of fewer other file
+  pub run_of_run : (fewer : Strategy) (other : AreaSpec) → ((es : List EntitySpec) → kept_by fewer other (kept_by by area es) ≡ kept_by fewer other es) → (file part cut : List ℕ) → length part ≤ FILE_LIMIT → IsWritable file → IsCanonical (extract_bytes by area) file part → IsCanonical (extract_bytes fewer other) part cut → cut ≡ extract_of fewer other file
   run_of_run fewer other enough file part cut low sound first second = grind (arith, extract_kept file sound, same_as_a_file part low (subst (λ (w : List ℕ). (verdict_within None w).1 ≡ None) (sym first.is) (extract_kept file sound).extract.sound), extract_of_extract fewer other enough file sound)
-
--- ---- the complete ways, without and with all parents
-
-pub complete_ways_select : (area : AreaSpec) → IsSelection (complete_ways area) (λ meant. extract (seen_decoded area) meant)
-complete_ways_select area = grind (arith, all_filter EntityFits, all_filter EntityTyped, extract_twice (seen_entity area), chosen_viewed keeps entity.decoded (seen_entity area) (seen_decoded area) (seen_alike area), seen_alike area)
-
-pub all_parents_select : (area : AreaSpec) → IsSelection (all_parents area) (λ meant. extract_with_parents (seen_decoded area) meant)
-all_parents_select area = grind (arith, all_filter EntityFits, all_filter EntityTyped, extract_with_parents_twice (seen_entity area), chosen_viewed keeps_with_parents entity.decoded (seen_entity area) (seen_decoded area) (seen_alike area), seen_alike area)
 
 -- ---- two runs
 
-pub ways_compose : (area small : AreaSpec) → EdgesTyped (edges_of area.bounds) → IsAreaWithin small area → (file part cut : List ℕ) (counts fewer : Counts) → length part ≤ FILE_LIMIT
-    → IsExtraction (complete_ways area) (extract (seen_decoded area)) area file counts part → IsExtraction (complete_ways small) (extract (seen_decoded small)) small part fewer cut → cut ≡ extract_of (complete_ways small) small file
-ways_compose area small typed h file part cut counts fewer low first second =
-    run_of_run (complete_ways area) (extract (seen_decoded area)) (complete_ways_select area) area typed (complete_ways small) small
-    (extract_of_larger (seen_entity small) (seen_entity area) (seen_entity-within small area h)) file part cut low first.0.sound first.1 second.1
+-- an extract by a strategy that is no wider, and by a smaller area
+pub smaller_extract : (narrow wide : Strategy) → IsWider narrow wide → (area small : AreaSpec) → IsAreaWithin small area → (es : List EntitySpec) → kept_by narrow small (kept_by wide area es) ≡ kept_by narrow small es
+smaller_extract narrow wide wider area small h es = extract_of_larger narrow wide wider (seen_entity small) (seen_entity area) (seen_entity-within small area h) es
 
-pub parents_compose : (area small : AreaSpec) → EdgesTyped (edges_of area.bounds) → IsAreaWithin small area → (file part cut : List ℕ) (counts fewer : Counts) → length part ≤ FILE_LIMIT
-    → IsExtraction (all_parents area) (extract_with_parents (seen_decoded area)) area file counts part → IsExtraction (all_parents small) (extract_with_parents (seen_decoded small)) small part fewer cut → cut ≡ extract_of (all_parents small) small file
-parents_compose area small typed h file part cut counts fewer low first second =
-    run_of_run (all_parents area) (extract_with_parents (seen_decoded area)) (all_parents_select area) area typed (all_parents small) small
-    (extract_with_parents_of_larger (seen_entity small) (seen_entity area) (seen_entity-within small area h)) file part cut low first.0.sound first.1 second.1
+pub runs_compose : (narrow wide : Strategy) → IsWider narrow wide → (area small : AreaSpec) → EdgesTyped (edges_of area.bounds) → IsAreaWithin small area → (file part cut : List ℕ) (counts fewer : Counts) → length part ≤ FILE_LIMIT
+    → IsExtraction wide area file counts part → IsExtraction narrow small part fewer cut → cut ≡ extract_of narrow small file
+runs_compose narrow wide wider area small typed h file part cut counts fewer low first second =
+    run_of_run wide area typed narrow small (smaller_extract narrow wide wider area small h) file part cut low first.0.sound first.1 second.1

@@ -6,8 +6,7 @@ use Rattle.std.specs.Option.{option_map}
 use Rattle.osm_area.specs.Area.{AreaSpec}
 use Rattle.osm_entity.specs.Entity.{EntitySpec}
 use Rattle.osm_ids.specs.Links.{IsLeast}
-use Rattle.osm_ways.specs.Selection.{Seen, extract}
-use Rattle.osm_ways.specs.Parents.{extract_with_parents}
+use Rattle.osm_ways.specs.Selection.{Seen, Strategy, extract}
 use Rattle.osm_ways.specs.Phases.{WaySets, RelationSets, KeptSets, without_parents, node_pass, start_ways, start_relations}
 use Rattle.osm_ways.specs.Seen.{seen_entity}
 use Rattle.osm_pack.specs.Cuts.{written_file}
@@ -22,26 +21,19 @@ use Rattle.pbf_pass.specs.Judged.{judged_file}
 use Rattle.pbf_pass.specs.HeaderLimit.{HasShortTexts}
 use Rattle.pbf_pass.specs.Pass.{with_seen, with_way, with_relation, file_header}
 
-abbrev pub Choice : Type 0
-Choice = List EntitySpec → List EntitySpec
-
--- the complete-ways extract
-abbrev pub complete_ways : AreaSpec → Choice
-complete_ways area es = extract (seen_entity area) es
-
--- the complete-ways extract with all parents
-abbrev pub all_parents : AreaSpec → Choice
-all_parents area es = extract_with_parents (seen_entity area) es
+-- the stored entities that an extract keeps
+abbrev pub kept_by : Strategy → AreaSpec → List EntitySpec → List EntitySpec
+kept_by by area es = extract by (seen_entity area) es
 
 -- the header in written form, with the box, and the entities that are kept, cut into blocks
-abbrev pub extraction : Choice → AreaSpec → Option (ℕ × HeaderSpec) → List EntitySpec → List ℕ
-extraction choose area None es = []
-extraction choose area (Some header) es = written_file (header_out_for_box area.bounds header.1) (choose es)
+abbrev pub extraction : Strategy → AreaSpec → Option (ℕ × HeaderSpec) → List EntitySpec → List ℕ
+extraction by area None es = []
+extraction by area (Some header) es = written_file (header_out_for_box area.bounds header.1) (kept_by by area es)
 
 -- what is to be written for a file with this verdict: nothing if it has a fault
-abbrev pub extract_bytes : Choice → AreaSpec → Verdict → List ℕ
-extract_bytes choose area (frames, None) = extraction choose area (file_header frames) (stored_entities frames)
-extract_bytes choose area (frames, Some e) = []
+abbrev pub extract_bytes : Strategy → AreaSpec → Verdict → List ℕ
+extract_bytes by area (frames, None) = extraction by area (file_header frames) (stored_entities frames)
+extract_bytes by area (frames, Some e) = []
 
 -- ---- the passes that choose
 

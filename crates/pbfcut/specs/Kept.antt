@@ -8,9 +8,10 @@ use Rattle.pbf_header.specs.Header.{HeaderSpec}
 use Rattle.pbf_frame.specs.declared.frame.TheConstants.{FILE_LIMIT}
 use Rattle.pbf_frame.specs.Verdict.{Verdict, judged_within}
 use Rattle.pbfcut.specs.Converting.{answer_bytes}
+use Rattle.osm_ways.specs.Selection.{Strategy}
 use Rattle.pbf_pass.specs.HeaderLimit.{limited}
 use Rattle.pbf_pass.specs.Counting.{stored_entities}
-use Rattle.pbfcut.specs.Extracting.{Choice, extract_bytes}
+use Rattle.pbfcut.specs.Extracting.{extract_bytes}
 use Rattle.pbf_pass.specs.Judged.{fully}
 use Rattle.pbf_pass.specs.Pass.{file_header}
 
@@ -40,5 +41,5 @@ meaning_read verdict = map entity.decoded (stored_entities verdict.0)
 abbrev pub conversion_of : List ℕ → List ℕ
 conversion_of file = answer_bytes (verdict_on file)
 
-abbrev pub extract_of : Choice → AreaSpec → List ℕ → List ℕ
-extract_of choose area file = extract_bytes choose area (verdict_on file)
+abbrev pub extract_of : Strategy → AreaSpec → List ℕ → List ℕ
+extract_of by area file = extract_bytes by area (verdict_on file)

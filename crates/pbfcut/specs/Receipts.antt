@@ -1,17 +1,13 @@
 -- What a call with a receipt says of what it wrote.
 use Rattle.std.specs.Prelude.{Bool, ℕ, List, ◌∷◌, ◌++◌, Option, Result, IfOk}
 use Rattle.osm_area.specs.Area.{AreaSpec}
-use Rattle.osm_entity.specs.Entity.{Decoded}
-use Rattle.osm_ways.specs.Parents.{extract_with_parents}
-use Rattle.osm_ways.specs.Seen.{seen_decoded}
-use Rattle.osm_ways.specs.Selection.{extract}
+use Rattle.osm_ways.specs.Selection.{Strategy}
 use Rattle.pbf_pass.specs.declared.receipt.Halt.{Halt}
 use Rattle.pbf_pass.specs.declared.receipt.InputReceipt.{InputReceipt}
 use Rattle.pbf_pass.specs.Hashing.{Mark, mark_by}
 use Rattle.pbf_pass.specs.HeaderLimit.{judged_writable}
 use Rattle.pbfcut.specs.Calls.{DrainUse, FeedUse, GaveBy, GaveEach, GaveEachOrNot, IfSame, TookBy}
 use Rattle.pbfcut.specs.Ends.{EndsInFront, EndsPasses}
-use Rattle.pbfcut.specs.Extracting.{Choice, all_parents, complete_ways}
 use Rattle.pbfcut.specs.Kept.{IsWritable, extract_of}
 use Rattle.pbfcut.specs.Theorem.{IsExtraction}
 use Rattle.pbf_pass.specs.declared.hashing.PassCheck.{PassCheck}
@@ -24,28 +20,14 @@ Wrote first spare later out digest spared holds =
 
 -- ---- an extract
 
--- what is chosen of stored entities, what that is of those that they mean, and the area
-pub record Cut : Type 0 where
-  pub choose : Choice
-  pub select : List Decoded → List Decoded
-  pub area : AreaSpec
-
--- the complete-ways extract
-abbrev pub ways_in : AreaSpec → Cut
-ways_in area = record { choose = complete_ways area; select = extract (seen_decoded area); area = area }
-
--- that with all parents
-abbrev pub parents_in : AreaSpec → Cut
-parents_in area = record { choose = all_parents area; select = extract_with_parents (seen_decoded area); area = area }
-
 -- what a call says that writes an extract of the file that its feeds give
-pub record Extracts {D : Type 0} (cut : Cut) (first : FeedUse) (spare later : List FeedUse) (out : DrainUse D) (check : PassCheck) (result : Result InputReceipt Halt) : Type 0 where
+pub record Extracts {D : Type 0} (by : Strategy) (area : AreaSpec) (first : FeedUse) (spare later : List FeedUse) (out : DrainUse D) (check : PassCheck) (result : Result InputReceipt Halt) : Type 0 where
   -- each feed gave a file of the digest `input` by the check, to its end, or those were spared that may be; the first has no fault, and its
   -- header can be written. The drain took bytes: if the files are the same, exactly its extract, and the counts are those of the entities
   -- in it
-  pub receipt : IfOk result (λ receipt. Wrote first spare later out (mark_by check receipt.input) receipt.spared (λ b written. IsExtraction cut.choose cut.select cut.area b receipt.counts written))
+  pub receipt : IfOk result (λ receipt. Wrote first spare later out (mark_by check receipt.input) receipt.spared (λ b written. IsExtraction by area b receipt.counts written))
   -- however it ends: what is refused, of the bytes that were read, and that the drain took nothing then; why it stops; of what bytes it says `Changed`;
   -- and that it keeps its devices
   pub ends : EndsPasses judged_writable first (spare ++ later) out check result
   -- whatever stopped it, if all feeds supply these bytes, a prefix of their extract went out, and nothing if they have a fault
-  pub beginning : EndsInFront (extract_of cut.choose cut.area) (first ∷ spare ++ later) out result
+  pub beginning : EndsInFront (extract_of by area) (first ∷ spare ++ later) out result

@@ -4,7 +4,8 @@
 use Rattle.std.specs.Prelude.{◌≡◌, ℕ, List, Option, Some, None, Result, Ok, Err}
 use Rattle.std.specs.Option.{option_map}
 use Rattle.osm_area.specs.Area.{AreaSpec}
-use Rattle.osm_entity.specs.Entity.{Decoded}
+use Rattle.osm_ways.specs.Seen.{seen_decoded}
+use Rattle.osm_ways.specs.Selection.{Strategy, extract}
 use Rattle.pbf_block.specs.declared.counts.Counts.{Counts}
 use Rattle.pbf_frame.specs.declared.device.Drain as drain
 use Rattle.pbf_frame.specs.declared.stop.Stop.{Stop}
@@ -14,7 +15,7 @@ use Rattle.pbf_frame.specs.Verdict.{Verdict}
 use Rattle.pbf_header.specs.WrittenHeader.{header_out_for_box, header_out_for_convert}
 use Rattle.pbf_pass.specs.Counting.{counts_of, stored_entities}
 use Rattle.pbfcut.specs.Converting.{answer_bytes}
-use Rattle.pbfcut.specs.Extracting.{Choice, extract_bytes}
+use Rattle.pbfcut.specs.Extracting.{extract_bytes, kept_by}
 use Rattle.pbf_pass.specs.Given.{Took}
 use Rattle.pbfcut.specs.Kept.{verdict_within, verdict_on, header_read, meaning_read}
 
@@ -33,25 +34,24 @@ Promised d old new file holds (Err stop) = RefusedFor file (d.taken old) (d.take
 
 -- ---- what the bytes mean
 
--- of `extract`: what is read of them is exactly the extract of what is read of the file, by this choice of stored entities, which is this
--- choice of what entities mean
-pub record IsExtract (choose : Choice) (select : List Decoded → List Decoded) (area : AreaSpec) (file written : Verdict) : Type 0 where
+-- of an extract by a strategy: what is read of them is exactly that of what is read of the file
+pub record IsExtract (by : Strategy) (area : AreaSpec) (file written : Verdict) : Type 0 where
   -- they have no fault, and an extract can be written of them
   pub sound : written.1 ≡ None
   -- their header is the file's in written form, with the box
   pub header : header_read written ≡ option_map (header_out_for_box area.bounds) (header_read file)
-  -- they mean what is selected of what the file means
-  pub meaning : meaning_read written ≡ select (meaning_read file)
-  -- they have the entities that are chosen of the file's, in input order, with all that is stored of them
-  pub entities : stored_entities written.0 ≡ choose (stored_entities file.0)
+  -- they mean the extract of what the file means
+  pub meaning : meaning_read written ≡ extract by (seen_decoded area) (meaning_read file)
+  -- they have the entities of the file that it keeps, in input order, with all that is stored of them
+  pub entities : stored_entities written.0 ≡ kept_by by area (stored_entities file.0)
 
-pub record Extracted (choose : Choice) (select : List Decoded → List Decoded) (area : AreaSpec) (file : List ℕ) (counts : Counts) (written : List ℕ) : Type 0 where
+pub record Extracted (by : Strategy) (area : AreaSpec) (file : List ℕ) (counts : Counts) (written : List ℕ) : Type 0 where
   -- the file has no fault, and its header can be written
   pub sound : (verdict_on file).1 ≡ None
   -- the bytes decode to its extract, however long they are
-  pub extract : IsExtract choose select area (verdict_on file) (verdict_within None written)
+  pub extract : IsExtract by area (verdict_on file) (verdict_within None written)
   -- the counts are those of the entities that are kept
-  pub counted : counts ≡ counts_of (choose (stored_entities (verdict_on file).0))
+  pub counted : counts ≡ counts_of (kept_by by area (stored_entities (verdict_on file).0))
 
 -- of `convert`: what is read of them is exactly what is read of the file
 pub record IsConversion (file written : Verdict) : Type 0 where
@@ -85,8 +85,8 @@ Canonical d old new answer file (Err _) = IsFront (d.taken old) (d.taken new) (a
 -- ---- both
 
 -- what is extracted of a file
-abbrev pub IsExtraction : Choice → (List Decoded → List Decoded) → AreaSpec → List ℕ → Counts → List ℕ → Type 0
-IsExtraction choose select area file counts written = Extracted choose select area file counts written × IsCanonical (extract_bytes choose area) file written
+abbrev pub IsExtraction : Strategy → AreaSpec → List ℕ → Counts → List ℕ → Type 0
+IsExtraction by area file counts written = Extracted by area file counts written × IsCanonical (extract_bytes by area) file written
 
 -- what is converted
 abbrev pub IsConverted : List ℕ → Counts → List ℕ → Type 0

@@ -2,21 +2,19 @@
 
 ghost use Rattle.std.specs.Prelude.{◌≡◌, ℕ, List, [], ◌∷◌, true, false, Some, IfOk, IfErr, OnOk};
 ghost use Rattle.osm_area.specs.Area.{box_area};
-ghost use Rattle.osm_ways.specs.Parents.{extract_with_parents};
-ghost use Rattle.osm_ways.specs.Seen.{seen_decoded};
-ghost use Rattle.osm_ways.specs.Selection.{extract};
+ghost use Rattle.osm_ways.specs.Selection.{all_parents, complete_ways};
 ghost use Rattle.pbf_header.specs.Header.{header_of};
 ghost use Rattle.pbfcut.specs.Calls.{AllSupply, drained, fed, GaveBy, GaveOrNot, StopsPasses};
 ghost use Rattle.pbfcut.specs.Choosing.{EndsChoosing, IsNever, StopsChoosing};
 ghost use Rattle.pbfcut.specs.Theorem.{Extracted, Promised, Canonical};
 ghost use Rattle.pbfcut.specs.Converting.{CanBeWritten};
 ghost use Rattle.pbf_pass.specs.HeaderLimit.{HasShortTexts, judged_writable};
-ghost use Rattle.pbfcut.specs.Extracting.{complete_ways, all_parents, extract_bytes, Begins, IsChoice, IsChoiceWithParents};
+ghost use Rattle.pbfcut.specs.Extracting.{extract_bytes, Begins, IsChoice, IsChoiceWithParents};
 ghost use Rattle.pbf_pass.specs.Given.{GaveFile};
 ghost use Rattle.pbf_pass.specs.declared.hashing.PassCheck.TheVariants as check;
 ghost use Rattle.pbf_pass.specs.Hashing.{mark_by};
 ghost use Rattle.pbfcut.specs.Repeat.{SameDigest};
-ghost use Rattle.pbfcut.specs.Receipts.{Extracts, parents_in, ways_in};
+ghost use Rattle.pbfcut.specs.Receipts.{Extracts};
 ghost use Rattle.pbfcut.specs.Write.{WritesChoice};
 ghost use Rattle.pbf_frame.specs.Keeps.{KeepsFeed};
 
@@ -198,7 +196,7 @@ pub(crate) fn cut<
     drain: &mut D,
     hasher: S,
 ) -> Result<InputReceipt, Halt>
-    ensures extracts { Extracts (ways_in (A.area area)) (fed F.Feed first.old first.new)
+    ensures extracts { Extracts complete_ways (A.area area) (fed F.Feed first.old first.new)
         (fed G.Feed second.old second.new ∷ []) (fed H.Feed third.old third.new ∷ [])
         (drained D.Drain drain.old drain.new) passes.check result }
     ensures spared { IfOk result (λ receipt. IsNever P.has_ways → receipt.spared ≡ false) }
@@ -227,7 +225,7 @@ pub(crate) fn cut_parents<
     drain: &mut D,
     hasher: S,
 ) -> Result<InputReceipt, Halt>
-    ensures extracts { Extracts (parents_in (A.area area)) (fed F.Feed first.old first.new)
+    ensures extracts { Extracts all_parents (A.area area) (fed F.Feed first.old first.new)
         (fed G.Feed second.old second.new ∷ fed H.Feed third.old third.new ∷ [])
         (fed I.Feed fourth.old fourth.new ∷ [])
         (drained D.Drain drain.old drain.new) passes.check result }
@@ -266,14 +264,13 @@ pub fn extract<F: Feed, G: Feed, H: Feed, D: Drain, S: BuildHasher + Drop>(
     ensures promise { (b : List ℕ)
         → AllSupply b (F.remaining first.old ∷ G.remaining second.old ∷ H.remaining third.old ∷ [])
         → Promised D.Drain drain.old drain.new b
-        (Extracted (complete_ways (box_area area)) (extract (seen_decoded (box_area area)))
-        (box_area area) b) result }
+        (Extracted complete_ways (box_area area) b) result }
     // If all feeds supply these bytes: whatever stopped it, what the drain took is a prefix of their extract in canonical form, and nothing
     // if they have a fault; on success it is all of the extract, and an extract of it is the same bytes.
     ensures canonical { (b : List ℕ)
         → AllSupply b (F.remaining first.old ∷ G.remaining second.old ∷ H.remaining third.old ∷ [])
         → Canonical D.Drain drain.old drain.new
-        (extract_bytes (complete_ways (box_area area)) (box_area area)) b result }
+        (extract_bytes complete_ways (box_area area)) b result }
     // The bytes of all feeds have one SHA-256 digest: no files that differ, unless two different lists share a digest.
     ensures digests { OnOk result (SameDigest (F.remaining first.old) (G.remaining second.old)
         × SameDigest (F.remaining first.old) (H.remaining third.old)) }
@@ -300,7 +297,7 @@ pub fn extract_with_receipt<F: Feed, G: Feed, H: Feed, D: Drain, S: BuildHasher 
 ) -> Result<InputReceipt, Halt>
     // Each feed gave a file, of the digest `input` by the check, to its end. If they are the same, the drain took exactly its complete-ways
     // extract. However it ends: what is refused, why it stops, what went out by then, and that the devices are kept.
-    ensures extracts { Extracts (ways_in (box_area area)) (fed F.Feed first.old first.new)
+    ensures extracts { Extracts complete_ways (box_area area) (fed F.Feed first.old first.new)
         (fed G.Feed second.old second.new ∷ []) (fed H.Feed third.old third.new ∷ [])
         (drained D.Drain drain.old drain.new) check.Sha256 result }
     // Each feed was read.
@@ -339,15 +336,14 @@ pub fn extract_parents<F: Feed, G: Feed, H: Feed, I: Feed, D: Drain, S: BuildHas
         → AllSupply b (F.remaining first.old ∷ G.remaining second.old ∷ H.remaining third.old
         ∷ I.remaining fourth.old ∷ [])
         → Promised D.Drain drain.old drain.new b
-        (Extracted (all_parents (box_area area))
-        (extract_with_parents (seen_decoded (box_area area))) (box_area area) b) result }
+        (Extracted all_parents (box_area area) b) result }
     // If all feeds supply these bytes: whatever stopped it, what the drain took is a prefix of their extract in canonical form, and nothing
     // if they have a fault; on success it is all of the extract, and an extract of it is the same bytes.
     ensures canonical { (b : List ℕ)
         → AllSupply b (F.remaining first.old ∷ G.remaining second.old ∷ H.remaining third.old
         ∷ I.remaining fourth.old ∷ [])
         → Canonical D.Drain drain.old drain.new
-        (extract_bytes (all_parents (box_area area)) (box_area area)) b result }
+        (extract_bytes all_parents (box_area area)) b result }
     // The bytes of all feeds have one SHA-256 digest: no files that differ, unless two different lists share a digest.
     ensures digests { OnOk result (SameDigest (F.remaining first.old) (G.remaining second.old)
         × SameDigest (F.remaining first.old) (H.remaining third.old)
@@ -386,7 +382,7 @@ pub fn extract_parents_with_receipt<
 ) -> Result<InputReceipt, Halt>
     // Each feed gave a file, of the digest `input` by the check, to its end. If they are the same, the drain took exactly its complete-ways
     // extract with all parents. However it ends: what is refused, why it stops, what went out by then, and that the devices are kept.
-    ensures extracts { Extracts (parents_in (box_area area)) (fed F.Feed first.old first.new)
+    ensures extracts { Extracts all_parents (box_area area) (fed F.Feed first.old first.new)
         (fed G.Feed second.old second.new ∷ fed H.Feed third.old third.new ∷ [])
         (fed I.Feed fourth.old fourth.new ∷ [])
         (drained D.Drain drain.old drain.new) check.Sha256 result }

@@ -12,10 +12,8 @@ ghost use Rattle.osm_box.specs.BoundingBox.{is_box_within};
 ghost use Rattle.osm_entity.specs.Entity.{EntitySpec};
 ghost use Rattle.osm_entity.specs.Ranges.{EntityFits, EntityTyped};
 ghost use Rattle.osm_entity.specs.Weight.{text_weight};
-ghost use Rattle.osm_ways.specs.Parents.{extract_with_parents};
 ghost use Rattle.osm_area.specs.Area.{AreaSpec, IsAreaWithin, box_area};
-ghost use Rattle.osm_ways.specs.Seen.{seen_decoded};
-ghost use Rattle.osm_ways.specs.Selection.{extract};
+ghost use Rattle.osm_ways.specs.Selection.{Strategy, IsWider};
 ghost use Rattle.osm_pack.specs.Cuts.{written_file};
 ghost use Rattle.pbf_block.specs.declared.counts.Counts.{Counts};
 ghost use Rattle.pbf_header.specs.Header.{HeaderSpec};
@@ -27,7 +25,7 @@ ghost use Rattle.pbf_frame.specs.Refusals.{Refuses};
 ghost use Rattle.pbf_frame.specs.Transfers.{Added};
 ghost use Rattle.pbf_pass.specs.Counting.{stored_entities};
 ghost use Rattle.pbfcut.specs.Converting.{answer_bytes};
-ghost use Rattle.pbfcut.specs.Extracting.{complete_ways, all_parents, extract_bytes};
+ghost use Rattle.pbfcut.specs.Extracting.{extract_bytes};
 ghost use Rattle.pbfcut.specs.FileFaults.{file_faults, file_rank};
 ghost use Rattle.pbf_pass.specs.HeaderLimit.{judged_writable};
 ghost use Rattle.pbf_pass.specs.Judged.{judged_file};
@@ -107,89 +105,53 @@ pub fn converted_file_is_kept()
         → answer_bytes (verdict_within None (conversion_of file)) ≡ conversion_of file }
 {}
 
-/// The complete-ways extract of such a file is bytes without a fault that have the file's header in written form with the box, and of
-/// the file's entities those that the selection keeps, in order, with all that is stored of them; it means the complete-ways extract
-/// of what the file means, with places in nanodegrees and times in milliseconds; and an extract of it by the same box is the same
-/// bytes.
+/// The extract of such a file, by each strategy, is bytes without a fault that have the file's header in written form with the box, and
+/// of the file's entities those that the selection keeps, in order, with all that is stored of them; it means the extract of what the
+/// file means, with places in nanodegrees and times in milliseconds; and an extract of it by the same strategy and box is the same bytes.
 pub fn extracted_file_is_kept(area: BoundingBox)
     // An extract can be written of it, and its bytes decode to exactly the file's extract, and mean the extract of what the file means.
-    ensures kept { (file : List ℕ) → IsWritable file
-        → IsExtract (complete_ways (box_area area)) (extract (seen_decoded (box_area area)))
-        (box_area area) (verdict_on file)
-        (verdict_within None (extract_of (complete_ways (box_area area)) (box_area area) file)) }
-    // An extract of it, by the same box, is the same bytes.
-    ensures again { (file : List ℕ) → IsWritable file
-        → extract_bytes (complete_ways (box_area area)) (box_area area)
-        (verdict_within None (extract_of (complete_ways (box_area area)) (box_area area) file))
-        ≡ extract_of (complete_ways (box_area area)) (box_area area) file }
-    // An extract of it by a box that lies in this one is the same bytes as the file's extract by that box.
-    ensures smaller { (small : BoundingBox) → is_box_within small area ≡ true
+    ensures kept { (by : Strategy) (file : List ℕ) → IsWritable file
+        → IsExtract by (box_area area) (verdict_on file)
+        (verdict_within None (extract_of by (box_area area) file)) }
+    // An extract of it, by the same strategy and box, is the same bytes.
+    ensures again { (by : Strategy) (file : List ℕ) → IsWritable file
+        → extract_bytes by (box_area area)
+        (verdict_within None (extract_of by (box_area area) file))
+        ≡ extract_of by (box_area area) file }
+    // An extract of it by a strategy that is no wider, and by a box that lies in this one, is the same bytes as that of the file.
+    ensures smaller { (narrow wide : Strategy) → IsWider narrow wide
+        → (small : BoundingBox) → is_box_within small area ≡ true
         → (file : List ℕ) → IsWritable file
-        → extract_bytes (complete_ways (box_area small)) (box_area small)
-        (verdict_within None (extract_of (complete_ways (box_area area)) (box_area area) file))
-        ≡ extract_of (complete_ways (box_area small)) (box_area small) file }
+        → extract_bytes narrow (box_area small)
+        (verdict_within None (extract_of wide (box_area area) file))
+        ≡ extract_of narrow (box_area small) file }
 {}
 
-/// The same of the extract with all parents.
-pub fn file_extracted_with_parents_is_kept(area: BoundingBox)
-    // An extract can be written of it, and its bytes decode to exactly the file's extract with all parents, and mean that of what the
-    // file means.
-    ensures kept { (file : List ℕ) → IsWritable file
-        → IsExtract (all_parents (box_area area))
-        (extract_with_parents (seen_decoded (box_area area))) (box_area area) (verdict_on file)
-        (verdict_within None (extract_of (all_parents (box_area area)) (box_area area) file)) }
-    // An extract of it with all parents, by the same box, is the same bytes.
-    ensures again { (file : List ℕ) → IsWritable file
-        → extract_bytes (all_parents (box_area area)) (box_area area)
-        (verdict_within None (extract_of (all_parents (box_area area)) (box_area area) file))
-        ≡ extract_of (all_parents (box_area area)) (box_area area) file }
-    // An extract of it with all parents by a box that lies in this one is the same bytes as that of the file.
-    ensures smaller { (small : BoundingBox) → is_box_within small area ≡ true
-        → (file : List ℕ) → IsWritable file
-        → extract_bytes (all_parents (box_area small)) (box_area small)
-        (verdict_within None (extract_of (all_parents (box_area area)) (box_area area) file))
-        ≡ extract_of (all_parents (box_area small)) (box_area small) file }
-{}
-
-/// Two runs compose, with and without parents. If an extract of a file wrote `part`, and an extract of `part` by an area that lies in
-/// that area wrote `cut`, then `cut` is byte for byte the extract of the file by the smaller area: its header too, which has the smaller
-/// box, and the features, the source and the replication fields that an extract of the file has. A file that is read has at most
-/// `FILE_LIMIT` bytes.
+/// Two runs compose. If an extract of a file wrote `part`, and an extract of `part` by a strategy that is no wider, and by an area that
+/// lies in that area, wrote `cut`, then `cut` is byte for byte what the second run writes of the file: its header too, which has the
+/// smaller box, and the features, the source and the replication fields that an extract of the file has. A file that is read has at
+/// most `FILE_LIMIT` bytes.
 pub fn area_extracts_compose<A: Area>(area: &A)
-    ensures ways { let large = A.area area.now in
-        (small : AreaSpec) → IsAreaWithin small large → (file part cut : List ℕ)
+    ensures { let large = A.area area.now in
+        (narrow wide : Strategy) → IsWider narrow wide
+        → (small : AreaSpec) → IsAreaWithin small large → (file part cut : List ℕ)
         → (counts fewer : Counts) → length part ≤ FILE_LIMIT
-        → IsExtraction (complete_ways large) (extract (seen_decoded large)) large file counts part
-        → IsExtraction (complete_ways small) (extract (seen_decoded small)) small part fewer cut
-        → cut ≡ extract_of (complete_ways small) small file }
-    ensures parents { let large = A.area area.now in
-        (small : AreaSpec) → IsAreaWithin small large → (file part cut : List ℕ)
-        → (counts fewer : Counts) → length part ≤ FILE_LIMIT
-        → IsExtraction (all_parents large) (extract_with_parents (seen_decoded large))
-        large file counts part
-        → IsExtraction (all_parents small) (extract_with_parents (seen_decoded small))
-        small part fewer cut
-        → cut ≡ extract_of (all_parents small) small file }
+        → IsExtraction wide large file counts part
+        → IsExtraction narrow small part fewer cut
+        → cut ≡ extract_of narrow small file }
 {
     let _bounds = area.bounds();
 }
 
 /// The same of two boxes, of which the smaller one lies in the other.
 pub fn extracts_compose(area: BoundingBox, small: BoundingBox)
-    ensures ways { let large = box_area area in let little = box_area small in
-        is_box_within small area ≡ true → (file part cut : List ℕ)
+    ensures { let large = box_area area in let little = box_area small in
+        (narrow wide : Strategy) → IsWider narrow wide
+        → is_box_within small area ≡ true → (file part cut : List ℕ)
         → (counts fewer : Counts) → length part ≤ FILE_LIMIT
-        → IsExtraction (complete_ways large) (extract (seen_decoded large)) large file counts part
-        → IsExtraction (complete_ways little) (extract (seen_decoded little)) little part fewer cut
-        → cut ≡ extract_of (complete_ways little) little file }
-    ensures parents { let large = box_area area in let little = box_area small in
-        is_box_within small area ≡ true → (file part cut : List ℕ)
-        → (counts fewer : Counts) → length part ≤ FILE_LIMIT
-        → IsExtraction (all_parents large) (extract_with_parents (seen_decoded large))
-        large file counts part
-        → IsExtraction (all_parents little) (extract_with_parents (seen_decoded little))
-        little part fewer cut
-        → cut ≡ extract_of (all_parents little) little file }
+        → IsExtraction wide large file counts part
+        → IsExtraction narrow little part fewer cut
+        → cut ≡ extract_of narrow little file }
 {}
 
 /// What a hashing drain took, if anything, the drain below took; and the digest that the hashing drain returns is that of it. So such

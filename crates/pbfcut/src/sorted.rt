@@ -1,15 +1,14 @@
 //! The extracts with one pass fewer, for files whose ways come after their nodes.
 
 ghost use Rattle.std.specs.Prelude.{◌≡◌, ◌⊎◌, ℕ, List, [], ◌∷◌, IfErr, OnOk};
-ghost use Rattle.osm_ways.specs.Seen.{seen_decoded};
-ghost use Rattle.osm_ways.specs.Selection.{extract};
+ghost use Rattle.osm_ways.specs.Selection.{all_parents, complete_ways};
 ghost use Rattle.pbfcut.specs.Calls.{AllSupply, drained, fed, StopsPasses};
 ghost use Rattle.pbfcut.specs.Theorem.{Extracted, Promised, Canonical};
 ghost use Rattle.pbfcut.specs.Converting.{CanBeWritten};
 ghost use Rattle.pbf_pass.specs.HeaderLimit.{judged_writable};
-ghost use Rattle.pbfcut.specs.Extracting.{complete_ways, extract_bytes};
+ghost use Rattle.pbfcut.specs.Extracting.{extract_bytes};
 ghost use Rattle.pbfcut.specs.Repeat.{SameDigest};
-ghost use Rattle.pbfcut.specs.Receipts.{Extracts, parents_in, ways_in};
+ghost use Rattle.pbfcut.specs.Receipts.{Extracts};
 
 use crate::extracting::{cut, cut_parents};
 use osm_area::Area;
@@ -40,14 +39,13 @@ pub fn extract_sorted<A: Area + Copy, F: Feed, G: Feed, H: Feed, D: Drain, S: Bu
     ensures promise { (b : List ℕ)
         → AllSupply b (F.remaining first.old ∷ G.remaining second.old ∷ H.remaining third.old ∷ [])
         → Promised D.Drain drain.old drain.new b
-        (Extracted (complete_ways (A.area area)) (extract (seen_decoded (A.area area)))
-        (A.area area) b) result }
+        (Extracted complete_ways (A.area area) b) result }
     // If all feeds supply these bytes: whatever stopped it, what the drain took is a prefix of their extract in canonical form, and nothing
     // if they have a fault; on success it is all of the extract, and an extract of it is the same bytes.
     ensures canonical { (b : List ℕ)
         → AllSupply b (F.remaining first.old ∷ G.remaining second.old ∷ H.remaining third.old ∷ [])
         → Canonical D.Drain drain.old drain.new
-        (extract_bytes (complete_ways (A.area area)) (A.area area)) b result }
+        (extract_bytes complete_ways (A.area area)) b result }
     // The bytes of all feeds that were read have one SHA-256 digest: no files that differ, unless two different lists share a digest.
     ensures digests { OnOk result ((SameDigest (F.remaining first.old) (G.remaining second.old)
         ⊎ (second.new ≡ second.old))
@@ -87,7 +85,7 @@ pub fn extract_sorted_with_receipt<
     // Each feed gave a file, of the digest `input` by the check, to its end, unless the second was spared. If they are the same, the
     // drain took exactly its complete-ways extract. However it ends: what is refused, why it stops, what went out by then, and
     // that the devices are kept.
-    ensures { Extracts (ways_in (A.area area)) (fed F.Feed first.old first.new)
+    ensures { Extracts complete_ways (A.area area) (fed F.Feed first.old first.new)
         (fed G.Feed second.old second.new ∷ []) (fed H.Feed third.old third.new ∷ [])
         (drained D.Drain drain.old drain.new) passes.check result }
 {
@@ -118,7 +116,7 @@ pub fn extract_parents_sorted_with_receipt<
     // Each feed gave a file, of the digest `input` by the check, to its end, unless the second and the third were spared. If they are the same, the
     // drain took exactly its complete-ways extract with all parents. However it ends: what is refused, why it stops, what went out by then, and
     // that the devices are kept.
-    ensures { Extracts (parents_in (A.area area)) (fed F.Feed first.old first.new)
+    ensures { Extracts all_parents (A.area area) (fed F.Feed first.old first.new)
         (fed G.Feed second.old second.new ∷ fed H.Feed third.old third.new ∷ [])
         (fed I.Feed fourth.old fourth.new ∷ [])
         (drained D.Drain drain.old drain.new) passes.check result }

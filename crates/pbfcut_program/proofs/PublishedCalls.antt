@@ -1,6 +1,7 @@
 -- What pbfcutz's calls report of what went through their devices.
 use Rattle.std.proofs.Common.{arith, ◌≡◌, inl, ℕ, ◌<◌, List, [], ◌∷◌, Bool, true, false, Option, Some, Result, Ok, Err, IfOk, IfErr, refl}
 use Rattle.osm_area.specs.Area.{AreaSpec}
+use Rattle.osm_ways.specs.Selection.{all_parents, complete_ways}
 use Rattle.pbf_frame.specs.declared.device.Feed as feed
 use Rattle.pbf_frame.specs.declared.device.Drain as drain
 use Rattle.pbf_pass.specs.Given.{Took}
@@ -12,7 +13,6 @@ use Rattle.pbf_pass.specs.HeaderLimit.{judged_writable}
 use Rattle.pbf_pass.specs.Stops.{Caused, FaultOf, ReadFailed, WriteFailed}
 use Rattle.pbf_unpack.specs.Unpacked.{unpacked}
 use Rattle.pbfcut.specs.Calls.{drained, fed}
-use Rattle.pbfcut.specs.Receipts.{parents_in, ways_in}
 use Rattle.pbfcut.specs.Kept.{IsWritable}
 use Rattle.pbfcut.specs.Showing.{Shown}
 use Rattle.pbfcut.specs.Theorem.{IsConverted}
@@ -109,7 +109,7 @@ module _ {F D : Type 0} (f : feed.Ghosts F) (d : drain.Ghosts D) (out out_now : 
 
   -- three passes
   pub extract_published : (area : AreaSpec) (one one_now two two_now three three_now : F) (outcome : Result PublishedInput PublishedHalt) (result : Result Report Halted) → AreFresh f (one ∷ two ∷ three ∷ [])
-      → ExtractsPublished (ways_in area) (fed f one one_now) (fed f two two_now ∷ []) (fed f three three_now ∷ []) (drained d out out_now) by outcome → ReportsPublished outcome result
+      → ExtractsPublished complete_ways area (fed f one one_now) (fed f two two_now ∷ []) (fed f three three_now ∷ []) (drained d out out_now) by outcome → ReportsPublished outcome result
       → Works (manner Pbfcutz false digests) by f (extracting area) (one ∷ two ∷ three ∷ []) (one_now ∷ two_now ∷ three_now ∷ []) (d.has_taken out_now log) (WriteFailed d out out_now) result
   extract_published area one one_now two two_now three three_now (Ok receipt) (Ok report) fresh extracts r =
       let first = gave f false digests by receipt.input receipt.raw report.raw r.2 fresh.0.0 extracts.receipt in
@@ -129,7 +129,7 @@ module _ {F D : Type 0} (f : feed.Ghosts F) (d : drain.Ghosts D) (out out_now : 
 
   -- four passes
   pub extract_parents_published : (area : AreaSpec) (one one_now two two_now three three_now four four_now : F) (outcome : Result PublishedInput PublishedHalt) (result : Result Report Halted) → AreFresh f (one ∷ two ∷ three ∷ four ∷ [])
-      → ExtractsPublished (parents_in area) (fed f one one_now) (fed f two two_now ∷ fed f three three_now ∷ []) (fed f four four_now ∷ []) (drained d out out_now) by outcome → ReportsPublished outcome result
+      → ExtractsPublished all_parents area (fed f one one_now) (fed f two two_now ∷ fed f three three_now ∷ []) (fed f four four_now ∷ []) (drained d out out_now) by outcome → ReportsPublished outcome result
       → Works (manner Pbfcutz false digests) by f (extracting_parents area) (one ∷ two ∷ three ∷ four ∷ []) (one_now ∷ two_now ∷ three_now ∷ four_now ∷ []) (d.has_taken out_now log) (WriteFailed d out out_now) result
   extract_parents_published area one one_now two two_now three three_now four four_now (Ok receipt) (Ok report) fresh extracts r =
       let first = gave f false digests by receipt.input receipt.raw report.raw r.2 fresh.0.0 extracts.receipt in

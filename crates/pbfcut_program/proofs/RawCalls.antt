@@ -1,6 +1,7 @@
 -- What pbfcut's calls report of what went through their devices.
 use Rattle.std.proofs.Common.{◌≡◌, ◌⊎◌, inl, inr, ℕ, ◌<◌, suc, ◌+◌, arith, map, length, List, [], ◌∷◌, Bool, true, false, Option, Some, None, Result, Ok, Err, IfOk, refl, sym, subst}
 use Rattle.osm_area.specs.Area.{AreaSpec}
+use Rattle.osm_ways.specs.Selection.{all_parents, complete_ways}
 use Rattle.pbf_frame.specs.declared.device.Feed as feed
 use Rattle.pbf_frame.specs.declared.device.Drain as drain
 use Rattle.pbf_frame.specs.declared.stop.Stop.TheVariants as stop
@@ -20,7 +21,7 @@ use Rattle.pbfcut.specs.Calls.{ChangedLater, GaveOrNot, IfMore, drained, fed}
 use Rattle.pbfcut.specs.Changes.{ChangedAt, GaveOther}
 use Rattle.pbfcut.specs.Ends.{EndsPasses, TookNothing}
 use Rattle.pbfcut.specs.Kept.{IsWritable}
-use Rattle.pbfcut.specs.Receipts.{Extracts, parents_in, ways_in}
+use Rattle.pbfcut.specs.Receipts.{Extracts}
 use Rattle.pbfcut.specs.Showing.{Shown}
 use Rattle.pbfcut.specs.Theorem.{IsConverted}
 use Rattle.pbfcut_cli.specs.declared.endings.Ending.TheVariants as ending
@@ -168,7 +169,7 @@ module _ {F D : Type 0} (f : feed.Ghosts F) (d : drain.Ghosts D) (out out_now : 
 
   -- three passes
   pub extract_works : (area : AreaSpec) (one one_now two two_now three three_now : F) (outcome : Result InputReceipt Halt) (result : Result Report Halted) → AreFresh f (one ∷ two ∷ three ∷ [])
-      → Extracts (ways_in area) (fed f one one_now) (fed f two two_now ∷ []) (fed f three three_now ∷ []) (drained d out out_now) by outcome → ReportsRaw outcome result
+      → Extracts complete_ways area (fed f one one_now) (fed f two two_now ∷ []) (fed f three three_now ∷ []) (drained d out out_now) by outcome → ReportsRaw outcome result
       → Works (manner Pbfcut false digests) by f (extracting area) (one ∷ two ∷ three ∷ []) (one_now ∷ two_now ∷ three_now ∷ []) (d.has_taken out_now log) (WriteFailed d out out_now) result
   extract_works area one one_now two two_now three three_now (Ok receipt) (Ok report) fresh extracts r =
       let known = Known receipt.input report.raw in let is = known_of receipt.input report.raw r.2 in
@@ -186,7 +187,7 @@ module _ {F D : Type 0} (f : feed.Ghosts F) (d : drain.Ghosts D) (out out_now : 
 
   -- four passes
   pub extract_parents_works : (area : AreaSpec) (one one_now two two_now three three_now four four_now : F) (outcome : Result InputReceipt Halt) (result : Result Report Halted) → AreFresh f (one ∷ two ∷ three ∷ four ∷ [])
-      → Extracts (parents_in area) (fed f one one_now) (fed f two two_now ∷ fed f three three_now ∷ []) (fed f four four_now ∷ []) (drained d out out_now) by outcome → ReportsRaw outcome result
+      → Extracts all_parents area (fed f one one_now) (fed f two two_now ∷ fed f three three_now ∷ []) (fed f four four_now ∷ []) (drained d out out_now) by outcome → ReportsRaw outcome result
       → Works (manner Pbfcut false digests) by f (extracting_parents area) (one ∷ two ∷ three ∷ four ∷ []) (one_now ∷ two_now ∷ three_now ∷ four_now ∷ []) (d.has_taken out_now log) (WriteFailed d out out_now) result
   extract_parents_works area one one_now two two_now three three_now four four_now (Ok receipt) (Ok report) fresh extracts r =
       let known = Known receipt.input report.raw in let is = known_of receipt.input report.raw r.2 in

@@ -1,16 +1,13 @@
 -- What a command does with IN: what holds of the files that its passes read, of the counts, and of what it writes.
 use Rattle.std.specs.Prelude.{◌≡◌, ℕ, List, [], ◌∷◌, Bool, true, false, Option, Some}
 use Rattle.osm_area.specs.Area.{AreaSpec}
-use Rattle.osm_ways.specs.Parents.{extract_with_parents}
-use Rattle.osm_ways.specs.Seen.{seen_decoded}
-use Rattle.osm_ways.specs.Selection as select
+use Rattle.osm_ways.specs.Selection.{all_parents, complete_ways}
 use Rattle.pbf_block.specs.declared.counts.Counts.{Counts}
 use Rattle.pbf_frame.specs.Verdict.{Verdict, judged, judged_known}
 use Rattle.pbf_pass.specs.HeaderLimit.{judged_writable}
 use Rattle.pbf_pass.specs.Judged.{fully, judged_file}
 use Rattle.pbf_pass.specs.Pass.{CountsFile}
 use Rattle.pbfcut.specs.Blobs.{lines}
-use Rattle.pbfcut.specs.Extracting.{all_parents, complete_ways}
 use Rattle.pbfcut.specs.Kept.{IsWritable, conversion_of, extract_of}
 use Rattle.pbfcut.specs.Showing.{Shown, answer_text}
 use Rattle.pbfcut.specs.Theorem.{IsConverted, IsExtraction}
@@ -60,9 +57,9 @@ Holds (showing dates) (b ∷ c ∷ []) counts written = CountsFile (judged_file 
 Holds converting (b ∷ c ∷ []) counts written = IsWritable b × (b ≡ c → IsConverted b counts written)
 Holds copying (b ∷ c ∷ []) counts written = CountsFile (judged_file (Some b)) counts × (written ≡ c)
 Holds (extracting area) (b ∷ c ∷ d ∷ []) counts written = IsWritable b
-    × (b ≡ c → b ≡ d → IsExtraction (complete_ways area) (select.extract (seen_decoded area)) area b counts written)
+    × (b ≡ c → b ≡ d → IsExtraction complete_ways area b counts written)
 Holds (extracting_parents area) (b ∷ c ∷ d ∷ e ∷ []) counts written = IsWritable b
-    × (b ≡ c → b ≡ d → b ≡ e → IsExtraction (all_parents area) (extract_with_parents (seen_decoded area)) area b counts written)
+    × (b ≡ c → b ≡ d → b ≡ e → IsExtraction all_parents area b counts written)
 Holds _ files counts written = ⊥
 
 -- what is to be written for a raw file: nothing if it has a fault, but for lines of frames
@@ -72,5 +69,5 @@ answer_of listing_frames file = lines (judged false 0 file).0
 answer_of (showing dates) file = answer_text dates (fully (judged false 0 file))
 answer_of converting file = conversion_of file
 answer_of copying file = file
-answer_of (extracting area) file = extract_of (complete_ways area) area file
-answer_of (extracting_parents area) file = extract_of (all_parents area) area file
+answer_of (extracting area) file = extract_of complete_ways area file
+answer_of (extracting_parents area) file = extract_of all_parents area file

@@ -1,8 +1,7 @@
 use Rattle.std.proofs.Common.{rules, [], ◌∷◌, List, Some, None, refl, ap, ◌∙◌}
 use Rattle.std.proofs.lemmas.Result.{IfOk-weaker, on_err_weaker, err_from_is_err_and}
 use Rattle.pbf_header.specs.Header.{header_of}
-use Rattle.osm_ways.specs.Seen.{seen_decoded}
-use Rattle.osm_ways.specs.Selection.{extract}
+use Rattle.osm_ways.specs.Selection.{complete_ways}
 use Rattle.pbf_frame.specs.Frames.{FrameSpec}
 use Rattle.pbf_frame.specs.Verdict.{Says}
 use Rattle.pbf_pass.specs.declared.receipt.Passes.{Passes}
@@ -10,11 +9,9 @@ use Rattle.pbf_pass.specs.Hashing.{mark_by}
 use Rattle.pbf_pass.specs.Judged.{judged_file}
 use Rattle.pbf_pass.proofs.GivenLemmas.{tells_file}
 use Rattle.pbfcut.specs.Calls.{drained, fed}
-use Rattle.pbfcut.specs.Extracting.{complete_ways}
 use Rattle.pbfcut.proofs.ConvertingLemmas.{nothing_out}
 use Rattle.pbfcut.proofs.ChosenLemmas.{wrote_front, extract_receipt}
 use Rattle.pbfcut.proofs.ExtractingLemmas.{selects_chosen}
-use Rattle.pbfcut.proofs.KeptLaw.{complete_ways_select}
 use Rattle.pbfcut.proofs.LaterLemmas.{choosing_ends, writing_ends}
 use Rattle.pbfcut.proofs.TheoremLemmas.{gave_or_not, told_or_not}
 use Rattle.pbfcut.proofs.extracting.cut.Goals as goal
@@ -47,7 +44,7 @@ returns-clause-extracts g c =
       beginning = on_err_weaker c.write.result (λ front b supply.
           let tells = tells_file g.F.Feed _ _ _ _ one in
           let chosen = told_or_not second _ choice.spared _ one.file b _ tells supply.0 supply.1.0 one.holding in
-          front b supply.1.1.0 (selects_chosen choice.chosen area b _ _ h (tells b supply.0) refl chosen)) (wrote_front third out (complete_ways area) (λ meant. extract (seen_decoded area) meant) (complete_ways_select area) area choice.next choice.chosen h _ c.write.result c.write.ensures);
+          front b supply.1.1.0 (selects_chosen choice.chosen area b _ _ h (tells b supply.0) refl chosen)) (wrote_front third out complete_ways area choice.next choice.chosen h _ c.write.result c.write.ensures);
     }
 
 pub returns-clause-spared : goal.returns-clause-spared

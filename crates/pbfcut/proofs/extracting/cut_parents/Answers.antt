@@ -1,8 +1,7 @@
 use Rattle.std.proofs.Common.{rules, [], ◌∷◌, List, ℕ, Some, None, refl, ap, ◌∙◌}
 use Rattle.std.proofs.lemmas.Result.{IfOk-weaker, on_err_weaker, err_from_is_err_and}
 use Rattle.pbf_header.specs.Header.{header_of}
-use Rattle.osm_ways.specs.Seen.{seen_decoded}
-use Rattle.osm_ways.specs.Parents.{extract_with_parents}
+use Rattle.osm_ways.specs.Selection.{all_parents}
 use Rattle.pbf_frame.specs.Frames.{FrameSpec}
 use Rattle.pbf_frame.specs.Verdict.{Says}
 use Rattle.pbf_pass.specs.declared.receipt.Passes.{Passes}
@@ -10,11 +9,9 @@ use Rattle.pbf_pass.specs.Hashing.{mark_by}
 use Rattle.pbf_pass.specs.Judged.{judged_file}
 use Rattle.pbf_pass.proofs.GivenLemmas.{tells_file}
 use Rattle.pbfcut.specs.Calls.{drained, fed}
-use Rattle.pbfcut.specs.Extracting.{all_parents}
 use Rattle.pbfcut.proofs.ConvertingLemmas.{nothing_out}
 use Rattle.pbfcut.proofs.ChosenLemmas.{wrote_front, parents_receipt}
 use Rattle.pbfcut.proofs.ExtractingLemmas.{selects_parents}
-use Rattle.pbfcut.proofs.KeptLaw.{all_parents_select}
 use Rattle.pbfcut.proofs.LaterLemmas.{choosing_ends, writing_ends}
 use Rattle.pbfcut.proofs.TheoremLemmas.{gave_or_not, told_or_not}
 use Rattle.pbfcut.proofs.extracting.cut_parents.Goals as goal
@@ -50,7 +47,7 @@ returns-clause-extracts g c =
           let tells = tells_file g.F.Feed _ _ _ _ one in
           let three = told_or_not second _ choice.spared _ one.file b _ tells supply.0 supply.1.0 one.holding in
           let chosen = told_or_not third _ choice.spared _ one.file b _ tells supply.0 supply.1.1.0 three in
-          front b supply.1.1.1.0 (selects_parents choice.chosen area b _ _ _ h (ap judged (tells b supply.0)) refl refl chosen.chosen)) (wrote_front fourth out (all_parents area) (λ meant. extract_with_parents (seen_decoded area) meant) (all_parents_select area) area choice.next choice.chosen h _ c.write.result c.write.ensures);
+          front b supply.1.1.1.0 (selects_parents choice.chosen area b _ _ _ h (ap judged (tells b supply.0)) refl refl chosen.chosen)) (wrote_front fourth out all_parents area choice.next choice.chosen h _ c.write.result c.write.ensures);
     }
 
 pub returns-clause-spared : goal.returns-clause-spared

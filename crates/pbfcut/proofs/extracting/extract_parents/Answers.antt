@@ -1,10 +1,8 @@
 use Rattle.std.proofs.Common.{[], ◌∷◌}
 use Rattle.pbfcut.specs.Calls.{drained, fed}
 use Rattle.osm_area.specs.Area.{box_area}
-use Rattle.osm_ways.specs.Seen.{seen_decoded}
-use Rattle.osm_ways.specs.Parents.{extract_with_parents}
+use Rattle.osm_ways.specs.Selection.{all_parents}
 use Rattle.pbfcut.specs.Theorem.{IsExtraction}
-use Rattle.pbfcut.specs.Extracting.{all_parents}
 use Rattle.pbfcut.proofs.ConvertingLemmas.{can_told}
 use Rattle.pbf_pass.proofs.GivenLemmas.{tells_file, told_digest}
 use Rattle.pbfcut.proofs.TheoremLemmas.{gave_all, same_digest, took_of, took_weaker}
@@ -19,13 +17,13 @@ pub returns-clause-promise : goal.returns-clause-promise
 returns-clause-promise g c b supply =
     let area = box_area c.args.area in
     let counts = c.in_ok-extract_parents_with_receipt.field-0.counts in
-    took_weaker g.D.Drain _ _ _ _ (λ written both. both.0) (took_of (fed g.F.Feed c.args.first.now c.extract_parents_with_receipt.new.first) (fed g.G.Feed c.args.second.now c.extract_parents_with_receipt.new.second ∷ fed g.H.Feed c.args.third.now c.extract_parents_with_receipt.new.third ∷ []) (fed g.I.Feed c.args.fourth.now c.extract_parents_with_receipt.new.fourth ∷ []) (drained g.D.Drain c.args.drain.now c.extract_parents_with_receipt.new.drain) _ c.in_ok-extract_parents_with_receipt.field-0.spared (λ file written. IsExtraction (all_parents area) (λ meant. extract_with_parents (seen_decoded area) meant) area file counts written) b c.in_ok-extract_parents_with_receipt.ensures.extracts.receipt supply.0 (supply.1.0, (supply.1.1.0, tt)) supply.1.1.1)
+    took_weaker g.D.Drain _ _ _ _ (λ written both. both.0) (took_of (fed g.F.Feed c.args.first.now c.extract_parents_with_receipt.new.first) (fed g.G.Feed c.args.second.now c.extract_parents_with_receipt.new.second ∷ fed g.H.Feed c.args.third.now c.extract_parents_with_receipt.new.third ∷ []) (fed g.I.Feed c.args.fourth.now c.extract_parents_with_receipt.new.fourth ∷ []) (drained g.D.Drain c.args.drain.now c.extract_parents_with_receipt.new.drain) _ c.in_ok-extract_parents_with_receipt.field-0.spared (λ file written. IsExtraction all_parents area file counts written) b c.in_ok-extract_parents_with_receipt.ensures.extracts.receipt supply.0 (supply.1.0, (supply.1.1.0, tt)) supply.1.1.1)
 
 pub returns-clause-canonical : goal.returns-clause-canonical
 returns-clause-canonical g c b supply =
     let area = box_area c.args.area in
     let counts = c.in_ok-extract_parents_with_receipt.field-0.counts in
-    took_weaker g.D.Drain _ _ _ _ (λ written both. both.1) (took_of (fed g.F.Feed c.args.first.now c.extract_parents_with_receipt.new.first) (fed g.G.Feed c.args.second.now c.extract_parents_with_receipt.new.second ∷ fed g.H.Feed c.args.third.now c.extract_parents_with_receipt.new.third ∷ []) (fed g.I.Feed c.args.fourth.now c.extract_parents_with_receipt.new.fourth ∷ []) (drained g.D.Drain c.args.drain.now c.extract_parents_with_receipt.new.drain) _ c.in_ok-extract_parents_with_receipt.field-0.spared (λ file written. IsExtraction (all_parents area) (λ meant. extract_with_parents (seen_decoded area) meant) area file counts written) b c.in_ok-extract_parents_with_receipt.ensures.extracts.receipt supply.0 (supply.1.0, (supply.1.1.0, tt)) supply.1.1.1)
+    took_weaker g.D.Drain _ _ _ _ (λ written both. both.1) (took_of (fed g.F.Feed c.args.first.now c.extract_parents_with_receipt.new.first) (fed g.G.Feed c.args.second.now c.extract_parents_with_receipt.new.second ∷ fed g.H.Feed c.args.third.now c.extract_parents_with_receipt.new.third ∷ []) (fed g.I.Feed c.args.fourth.now c.extract_parents_with_receipt.new.fourth ∷ []) (drained g.D.Drain c.args.drain.now c.extract_parents_with_receipt.new.drain) _ c.in_ok-extract_parents_with_receipt.field-0.spared (λ file written. IsExtraction all_parents area file counts written) b c.in_ok-extract_parents_with_receipt.ensures.extracts.receipt supply.0 (supply.1.0, (supply.1.1.0, tt)) supply.1.1.1)
 
 pub returns-clause-digests : goal.returns-clause-digests
 returns-clause-digests g c =

@@ -1,9 +1,7 @@
 use Rattle.std.proofs.Common.{[], ◌∷◌}
 use Rattle.pbfcut.specs.Calls.{drained, fed}
-use Rattle.osm_ways.specs.Seen.{seen_decoded}
-use Rattle.osm_ways.specs.Selection.{extract}
+use Rattle.osm_ways.specs.Selection.{complete_ways}
 use Rattle.pbfcut.specs.Theorem.{IsExtraction}
-use Rattle.pbfcut.specs.Extracting.{complete_ways}
 use Rattle.pbfcut.proofs.ConvertingLemmas.{can_told}
 use Rattle.pbf_pass.proofs.GivenLemmas.{tells_file, told_digest}
 use Rattle.pbfcut.proofs.TheoremLemmas.{same_digest, second_digest, gave_or_not, took_of, took_weaker}
@@ -19,13 +17,13 @@ pub returns-clause-promise : goal.returns-clause-promise
 returns-clause-promise g c b supply =
     let area = g.A.Area.area c.args.area in
     let counts = c.in_ok-receipt.receipt.counts in
-    took_weaker g.D.Drain _ _ _ _ (λ written both. both.0) (took_of (fed g.F.Feed c.args.first.now c.extract_sorted_with_receipt.new.first) (fed g.G.Feed c.args.second.now c.extract_sorted_with_receipt.new.second ∷ []) (fed g.H.Feed c.args.third.now c.extract_sorted_with_receipt.new.third ∷ []) (drained g.D.Drain c.args.drain.now c.extract_sorted_with_receipt.new.drain) _ c.in_ok-receipt.receipt.spared (λ file written. IsExtraction (complete_ways area) (λ meant. extract (seen_decoded area) meant) area file counts written) b c.in_ok-receipt.ensures.receipt supply.0 (supply.1.0, tt) supply.1.1)
+    took_weaker g.D.Drain _ _ _ _ (λ written both. both.0) (took_of (fed g.F.Feed c.args.first.now c.extract_sorted_with_receipt.new.first) (fed g.G.Feed c.args.second.now c.extract_sorted_with_receipt.new.second ∷ []) (fed g.H.Feed c.args.third.now c.extract_sorted_with_receipt.new.third ∷ []) (drained g.D.Drain c.args.drain.now c.extract_sorted_with_receipt.new.drain) _ c.in_ok-receipt.receipt.spared (λ file written. IsExtraction complete_ways area file counts written) b c.in_ok-receipt.ensures.receipt supply.0 (supply.1.0, tt) supply.1.1)
 
 pub returns-clause-canonical : goal.returns-clause-canonical
 returns-clause-canonical g c b supply =
     let area = g.A.Area.area c.args.area in
     let counts = c.in_ok-receipt.receipt.counts in
-    took_weaker g.D.Drain _ _ _ _ (λ written both. both.1) (took_of (fed g.F.Feed c.args.first.now c.extract_sorted_with_receipt.new.first) (fed g.G.Feed c.args.second.now c.extract_sorted_with_receipt.new.second ∷ []) (fed g.H.Feed c.args.third.now c.extract_sorted_with_receipt.new.third ∷ []) (drained g.D.Drain c.args.drain.now c.extract_sorted_with_receipt.new.drain) _ c.in_ok-receipt.receipt.spared (λ file written. IsExtraction (complete_ways area) (λ meant. extract (seen_decoded area) meant) area file counts written) b c.in_ok-receipt.ensures.receipt supply.0 (supply.1.0, tt) supply.1.1)
+    took_weaker g.D.Drain _ _ _ _ (λ written both. both.1) (took_of (fed g.F.Feed c.args.first.now c.extract_sorted_with_receipt.new.first) (fed g.G.Feed c.args.second.now c.extract_sorted_with_receipt.new.second ∷ []) (fed g.H.Feed c.args.third.now c.extract_sorted_with_receipt.new.third ∷ []) (drained g.D.Drain c.args.drain.now c.extract_sorted_with_receipt.new.drain) _ c.in_ok-receipt.receipt.spared (λ file written. IsExtraction complete_ways area file counts written) b c.in_ok-receipt.ensures.receipt supply.0 (supply.1.0, tt) supply.1.1)
 
 pub returns-clause-digests : goal.returns-clause-digests
 returns-clause-digests g c =
