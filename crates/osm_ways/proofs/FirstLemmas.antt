@@ -20,7 +20,7 @@ pub broken_stays : (has_ways : Bool) (ids : Ids) (seen : List Seen) → ((fold f
 broken_stays has_ways ids [] = (refl, refl)
 broken_stays has_ways ids (a_node id inside ∷ seen) = broken_stays has_ways (node_step ids (a_node id inside)) seen
 broken_stays has_ways ids (a_way id refs ∷ seen) = broken_stays true ids seen
-broken_stays has_ways ids (a_relation id tags members ∷ seen) = broken_stays has_ways ids seen
+broken_stays has_ways ids (a_relation id whole members ∷ seen) = broken_stays has_ways ids seen
 
 -- there were ways, and no node after one
 abbrev pub going : WaySets → FirstSets
@@ -30,7 +30,7 @@ pub going_on : (ways : WaySets) (ids : Ids) (seen : List Seen) → (fold first_s
 going_on ways ids [] e = (refl, refl)
 going_on ways ids (a_node id inside ∷ seen) e = grind (arith, e, broken_stays true (node_step ways.box_ids (a_node id inside)) seen)
 going_on ways ids (a_way id refs ∷ seen) e = going_on (way_step ways (a_way id refs)) ids seen e
-going_on ways ids (a_relation id tags members ∷ seen) e = going_on ways ids seen e
+going_on ways ids (a_relation id whole members ∷ seen) e = going_on ways ids seen e
 
 -- there was no way
 abbrev pub fresh : Ids → FirstSets
@@ -40,7 +40,7 @@ fresh_on : (ids : Ids) (seen : List Seen) → (fold first_step (fresh ids) seen)
 fresh_on ids [] e = refl
 fresh_on ids (a_node id inside ∷ seen) e = fresh_on (node_step ids (a_node id inside)) seen e
 fresh_on ids (a_way id refs ∷ seen) e = grind (arith, going_on (way_step (start_ways ids) (a_way id refs)) ids seen e)
-fresh_on ids (a_relation id tags members ∷ seen) e = fresh_on ids seen e
+fresh_on ids (a_relation id whole members ∷ seen) e = fresh_on ids seen e
 
 -- ---- the whole list
 
@@ -51,13 +51,13 @@ going_broken : (ways : WaySets) (seen : List Seen) → (fold first_step (going w
 going_broken ways [] e = absurd (cc)
 going_broken ways (a_node id inside ∷ seen) e = (broken_stays true (node_step ways.box_ids (a_node id inside)) seen).1
 going_broken ways (a_way id refs ∷ seen) e = grind (arith, going_broken (way_step ways (a_way id refs)) seen e)
-going_broken ways (a_relation id tags members ∷ seen) e = going_broken ways seen e
+going_broken ways (a_relation id whole members ∷ seen) e = going_broken ways seen e
 
 fresh_broken : (ids : Ids) (seen : List Seen) → (fold first_step (fresh ids) seen).in_order ≡ false → (fold first_step (fresh ids) seen).ways ≡ start_ways (fold node_step ids seen)
 fresh_broken ids [] e = absurd (cc)
 fresh_broken ids (a_node id inside ∷ seen) e = fresh_broken (node_step ids (a_node id inside)) seen e
 fresh_broken ids (a_way id refs ∷ seen) e = grind (arith, going_broken (way_step (start_ways ids) (a_way id refs)) seen e)
-fresh_broken ids (a_relation id tags members ∷ seen) e = fresh_broken ids seen e
+fresh_broken ids (a_relation id whole members ∷ seen) e = fresh_broken ids seen e
 
 pub first_broken : (seen : List Seen) → (first_pass seen).in_order ≡ false → (first_pass seen).ways ≡ start_ways (node_pass seen)
 first_broken seen e = fresh_broken set.empty seen e

@@ -23,7 +23,7 @@ contains-node_pass ids [] id = grind arith
 contains-node_pass ids (a_node own true ∷ seen) id = grind (arith, set.members, contains-node_pass (set.insert ids own) seen id)
 contains-node_pass ids (a_node own false ∷ seen) id = contains-node_pass ids seen id
 contains-node_pass ids (a_way own refs ∷ seen) id = contains-node_pass ids seen id
-contains-node_pass ids (a_relation own tags members ∷ seen) id = contains-node_pass ids seen id
+contains-node_pass ids (a_relation own whole members ∷ seen) id = contains-node_pass ids seen id
 
 -- ---- ways
 
@@ -31,19 +31,19 @@ box_ids-way_pass : (sets : WaySets) (seen : List Seen) → (fold way_step sets s
 box_ids-way_pass sets [] = refl
 box_ids-way_pass sets (a_node own inside ∷ seen) = box_ids-way_pass sets seen
 box_ids-way_pass sets (a_way own refs ∷ seen) = grind (arith, box_ids-way_pass (sets_with_way sets own refs) seen)
-box_ids-way_pass sets (a_relation own tags members ∷ seen) = box_ids-way_pass sets seen
+box_ids-way_pass sets (a_relation own whole members ∷ seen) = box_ids-way_pass sets seen
 
 node_ids-way_pass : (sets : WaySets) (seen : List Seen) (id : ℤ) → set.contains (fold way_step sets seen).node_ids id ≡ (set.contains sets.node_ids id || list_any (is_kept_ref (set.contains sets.box_ids) id) seen)
 node_ids-way_pass sets [] id = grind arith
 node_ids-way_pass sets (a_node own inside ∷ seen) id = node_ids-way_pass sets seen id
 node_ids-way_pass sets (a_way own refs ∷ seen) id = grind (arith, node_ids-way_pass (sets_with_way sets own refs) seen id, contains-insert_all sets.node_ids refs id)
-node_ids-way_pass sets (a_relation own tags members ∷ seen) id = node_ids-way_pass sets seen id
+node_ids-way_pass sets (a_relation own whole members ∷ seen) id = node_ids-way_pass sets seen id
 
 way_ids-way_pass : (sets : WaySets) (seen : List Seen) (id : ℤ) → set.contains (fold way_step sets seen).way_ids id ≡ (set.contains sets.way_ids id || list_any (is_kept_id (set.contains sets.box_ids) id) seen)
 way_ids-way_pass sets [] id = grind arith
 way_ids-way_pass sets (a_node own inside ∷ seen) id = way_ids-way_pass sets seen id
 way_ids-way_pass sets (a_way own refs ∷ seen) id = grind (arith, set.contains-insert int_cmp_total sets.way_ids own id, way_ids-way_pass (sets_with_way sets own refs) seen id)
-way_ids-way_pass sets (a_relation own tags members ∷ seen) id = way_ids-way_pass sets seen id
+way_ids-way_pass sets (a_relation own whole members ∷ seen) id = way_ids-way_pass sets seen id
 
 -- ---- relations
 
@@ -51,7 +51,7 @@ ways-relation_pass : (sets : RelationSets) (seen : List Seen) → (fold relation
 ways-relation_pass sets [] = refl
 ways-relation_pass sets (a_node own inside ∷ seen) = ways-relation_pass sets seen
 ways-relation_pass sets (a_way own refs ∷ seen) = ways-relation_pass sets seen
-ways-relation_pass sets (a_relation own tags members ∷ seen) = ways-relation_pass (sets_with_relation sets own members) seen
+ways-relation_pass sets (a_relation own whole members ∷ seen) = ways-relation_pass (sets_with_relation sets own members) seen
 
 abbrev is_started : WaySets → ℤ → Seen → Bool
 is_started sets = is_selected (set.contains sets.node_ids) (set.contains sets.way_ids) no_ids
@@ -60,7 +60,7 @@ start-relation_pass : (sets : RelationSets) (seen : List Seen) (id : ℤ) → se
 start-relation_pass sets [] id = grind arith
 start-relation_pass sets (a_node own inside ∷ seen) id = start-relation_pass sets seen id
 start-relation_pass sets (a_way own refs ∷ seen) id = start-relation_pass sets seen id
-start-relation_pass sets (a_relation own tags members ∷ seen) id = grind (arith, set.contains-insert int_cmp_total sets.start own id, start-relation_pass (sets_with_relation sets own members) seen id)
+start-relation_pass sets (a_relation own whole members ∷ seen) id = grind (arith, set.contains-insert int_cmp_total sets.start own id, start-relation_pass (sets_with_relation sets own members) seen id)
 
 both_alike : (r s : Ordering) → is_eq (ordering_then r s) ≡ (is_eq s && is_eq r)
 both_alike r s = grind arith
@@ -75,7 +75,7 @@ links-relation_pass : (sets : RelationSets) (seen : List Seen) (l : Link) → se
 links-relation_pass sets [] l = grind arith
 links-relation_pass sets (a_node own inside ∷ seen) l = links-relation_pass sets seen l
 links-relation_pass sets (a_way own refs ∷ seen) l = links-relation_pass sets seen l
-links-relation_pass sets (a_relation own tags members ∷ seen) l = grind (arith, links-relation_pass (sets_with_relation sets own members) seen l, contains-links own sets.links members l)
+links-relation_pass sets (a_relation own whole members ∷ seen) l = grind (arith, links-relation_pass (sets_with_relation sets own members) seen l, contains-links own sets.links members l)
 
 pub none_kept : ◌≡◌ {A = ℤ → Bool} (set.contains {R = int_cmp} set.empty) no_ids
 none_kept = λ i x. set.contains-empty int_cmp x i
@@ -98,7 +98,7 @@ module _ (seen : List Seen) where
   by_sets : (e : Seen) → is_chosen (without_parents (way_pass seen)) e ≡ keeps complete_ways seen e
   by_sets (a_node id inside) = λ i. node_ids-after i id
   by_sets (a_way id refs) = λ i. is_kept_way (box_ids-after i) refs
-  by_sets (a_relation id tags members) = λ i. is_kept_relation (node_ids-after i) (way_ids-after i) (none_kept i) members
+  by_sets (a_relation id whole members) = λ i. is_kept_relation (node_ids-after i) (way_ids-after i) (none_kept i) members
 
   pub chosen_is_kept : is_chosen (without_parents (way_pass seen)) ≡ keeps complete_ways seen
   chosen_is_kept = λ i e. by_sets e i
@@ -124,7 +124,7 @@ module _ (seen : List Seen) where
   by_all_sets : (ids : Ids) → set.contains ids ≡ all_levels all_parents seen → (e : Seen) → is_chosen (record { ways = (relation_pass seen).ways; relation_ids = ids }) e ≡ keeps all_parents seen e
   by_all_sets ids h (a_node id inside) = λ i. all_nodes-after i id
   by_all_sets ids h (a_way id refs) = λ i. is_kept_way (inside-after i) refs
-  by_all_sets ids h (a_relation id tags members) = λ i. is_kept_relation (all_nodes-after i) (all_ways-after i) (h i) members
+  by_all_sets ids h (a_relation id whole members) = λ i. is_kept_relation (all_nodes-after i) (all_ways-after i) (h i) members
 
   pub chosen_with_parents : (ids : Ids) → IsLeast (set.contains (relation_pass seen).links) (relation_pass seen).start ids → is_chosen (record { ways = (relation_pass seen).ways; relation_ids = ids }) ≡ keeps all_parents seen
   chosen_with_parents ids h = λ i e. by_all_sets ids (links_are_parents all_parents seen (relation_pass seen).start ids start-after (subst (λ (test : Link → Bool). IsLeast test (relation_pass seen).start ids) links-after h)) e i

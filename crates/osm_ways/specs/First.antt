@@ -30,7 +30,7 @@ abbrev pub first_step : FirstSets → Seen → FirstSets
 first_step sets (a_node id inside) = record (before_node sets) { ways = start_ways (node_step sets.ways.box_ids (a_node id inside)) }
 first_step sets (a_way id refs) =
     record sets { has_ways = true; ways = if sets.in_order then way_step sets.ways (a_way id refs) else sets.ways }
-first_step sets (a_relation id tags members) = sets
+first_step sets (a_relation id whole members) = sets
 
 abbrev pub first_pass : List Seen → FirstSets
 first_pass seen = fold first_step start_first seen

@@ -21,7 +21,7 @@ is_relation_member _ _ = false
 
 -- a relation that links its member to itself
 abbrev pub has_link : Link → Seen → Bool
-has_link link (a_relation own tags members) = int_eq link.parent own && list_any (is_relation_member link.member) members
+has_link link (a_relation own whole members) = int_eq link.parent own && list_any (is_relation_member link.member) members
 has_link _ _ = false
 
 -- a link from each relation member to its relation

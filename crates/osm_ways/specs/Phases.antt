@@ -4,7 +4,6 @@ use Rattle.std.specs.Coded.{Coded, code_by, coded×, coded_ℤ}
 use Rattle.std.specs.List.{fold}
 use Rattle.std.specs.Ordering.{int_cmp}
 use Rattle.std.specs.FinSet as set
-use Rattle.osm_entity.specs.Entity.{TagSpec}
 use Rattle.osm_ids.specs.Links.{link_cmp, link_code}
 use Rattle.osm_ways.specs.Selection.{MemberSeen, relation_member, Seen, a_node, a_way, a_relation, no_ids, is_kept_way, is_kept_relation}
 
@@ -125,14 +124,14 @@ TakesWays {S} takes step = takes ≡ false → (s : S) (id : ℤ) (refs : List �
 
 -- relations likewise
 abbrev pub TakesRelations : {S : Type 0} → Bool → (S → Seen → S) → Type 0
-TakesRelations {S} takes step = takes ≡ false → (s : S) (id : ℤ) (tags : List TagSpec) (members : List MemberSeen) → step s (a_relation id tags members) ≡ s
+TakesRelations {S} takes step = takes ≡ false → (s : S) (id : ℤ) (whole : Bool) (members : List MemberSeen) → step s (a_relation id whole members) ≡ s
 
 abbrev pub way_step : WaySets → Seen → WaySets
 way_step sets (a_way id refs) = sets_with_way sets id refs
 way_step sets _ = sets
 
 abbrev pub relation_step : RelationSets → Seen → RelationSets
-relation_step sets (a_relation id tags members) = sets_with_relation sets id members
+relation_step sets (a_relation id whole members) = sets_with_relation sets id members
 relation_step sets _ = sets
 
 -- when the nodes end, all nodes of the box are kept, and no way yet
@@ -166,10 +165,10 @@ pub record TakesAll {S : Type 0} (start : S) (step : S → Seen → S) (has_ways
 abbrev pub is_chosen : KeptSets → Seen → Bool
 is_chosen sets (a_node id inside) = set.contains sets.ways.node_ids id
 is_chosen sets (a_way id refs) = is_kept_way (set.contains sets.ways.box_ids) refs
-is_chosen sets (a_relation id tags members) = is_kept_relation (set.contains sets.ways.node_ids) (set.contains sets.ways.way_ids) (set.contains sets.relation_ids) members
+is_chosen sets (a_relation id whole members) = is_kept_relation (set.contains sets.ways.node_ids) (set.contains sets.ways.way_ids) (set.contains sets.relation_ids) members
 
 -- the same, but of ways only those whose id the sets have: in the list that they were gathered from these are all that they choose
 abbrev pub is_taken : KeptSets → Seen → Bool
 is_taken sets (a_node id inside) = is_chosen sets (a_node id inside)
 is_taken sets (a_way id refs) = set.contains sets.ways.way_ids id && is_chosen sets (a_way id refs)
-is_taken sets (a_relation id tags members) = is_chosen sets (a_relation id tags members)
+is_taken sets (a_relation id whole members) = is_chosen sets (a_relation id whole members)

@@ -1,5 +1,5 @@
 -- What the selection sees of entities. A place counts in nanodegrees.
-use Rattle.std.specs.Prelude.{ℤ, map}
+use Rattle.std.specs.Prelude.{ℤ, false, map}
 use Rattle.osm_area.specs.Area.{AreaSpec}
 use Rattle.osm_entity.specs.declared.member.MemberKind.{MemberKind}
 use Rattle.osm_entity.specs.declared.member.MemberKind.TheVariants as kind
@@ -28,13 +28,13 @@ abbrev pub seen_member : MemberSpec → MemberSeen
 seen_member member = member_of_kind member.kind member.id
 
 abbrev pub seen_relation : RelationSpec → Seen
-seen_relation r = a_relation r.id r.tags (map seen_member r.members)
+seen_relation r = a_relation r.id false (map seen_member r.members)
 
 -- what is seen of an entity; its scale is applied, since an area is in degrees
 abbrev pub seen_decoded : AreaSpec → Decoded → Seen
 seen_decoded area (node_at id lat lon meta tags) = a_node id (area.has lat lon)
 seen_decoded area (way_through id meta tags refs locations) = a_way id refs
-seen_decoded area (relation_among id meta tags members) = a_relation id tags (map seen_member members)
+seen_decoded area (relation_among id meta tags members) = a_relation id false (map seen_member members)
 
 -- of a stored entity the same as of what it means
 abbrev pub seen_entity : AreaSpec → EntitySpec → Seen

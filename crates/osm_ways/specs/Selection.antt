@@ -2,7 +2,6 @@
 use Rattle.std.specs.Prelude.{◌≡◌, ℕ, zero, suc, ℤ, Bool, true, false, ◌&&◌, ◌||◌, List, map, length}
 use Rattle.std.specs.List.{list_any, filter}
 use Rattle.std.specs.Ordering.{int_eq}
-use Rattle.osm_entity.specs.Entity.{TagSpec}
 
 -- what the selection sees of a relation's member
 pub data MemberSeen : Type 0 where
@@ -10,12 +9,12 @@ pub data MemberSeen : Type 0 where
   way_member : ℤ → MemberSeen
   relation_member : ℤ → MemberSeen
 
--- what the selection sees of an entity: its id, of a node whether it is inside, of a way its refs, of a relation its tags and
--- its members
+-- what the selection sees of an entity: its id, of a node whether it is inside, of a way its refs, of a relation whether it is of a
+-- type that is wanted whole, and its members
 pub data Seen : Type 0 where
   a_node : (id : ℤ) (inside : Bool) → Seen
   a_way : (id : ℤ) (refs : List ℤ) → Seen
-  a_relation : (id : ℤ) (tags : List TagSpec) (members : List MemberSeen) → Seen
+  a_relation : (id : ℤ) (whole : Bool) (members : List MemberSeen) → Seen
 
 -- what is kept besides the nodes inside, the ways with one of them, and the relations of these nodes and ways
 pub record Strategy : Type 0 where
@@ -27,20 +26,16 @@ pub record Strategy : Type 0 where
   pub parents : Bool
   -- the nodes and ways of relations that are wanted whole, if a node or a way selects them
   pub members : Bool
-  -- which relations are wanted whole, by their tags
-  pub whole : List TagSpec → Bool
-
-abbrev pub none_whole : List TagSpec → Bool
-none_whole tags = false
 
 abbrev pub complete_ways : Strategy
-complete_ways = record { refs = true; of_refs = true; parents = false; members = false; whole = none_whole }
+complete_ways = record { refs = true; of_refs = true; parents = false; members = false }
 
 abbrev pub all_parents : Strategy
-all_parents = record { refs = true; of_refs = true; parents = true; members = false; whole = none_whole }
+all_parents = record { refs = true; of_refs = true; parents = true; members = false }
 
-abbrev pub smart : (List TagSpec → Bool) → Strategy
-smart whole = record { refs = true; of_refs = true; parents = true; members = true; whole = whole }
+-- the widest
+abbrev pub smart : Strategy
+smart = record { refs = true; of_refs = true; parents = true; members = true }
 
 abbrev pub IdTest : Type 0
 IdTest = ℤ → Bool
@@ -97,7 +92,7 @@ is_kept_relation nodes ways relations members = list_any (is_selecting nodes way
 
 -- a relation of this id that has a selecting member
 abbrev pub is_selected : IdTest → IdTest → IdTest → ℤ → Seen → Bool
-is_selected nodes ways relations id (a_relation own tags members) = is_kept_relation nodes ways relations members && int_eq id own
+is_selected nodes ways relations id (a_relation own whole members) = is_kept_relation nodes ways relations members && int_eq id own
 is_selected _ _ _ _ _ = false
 
 -- the ids of the relations that have a selecting member
@@ -125,13 +120,13 @@ is_member (way_member id) (way_member own) = int_eq id own
 is_member _ _ = false
 
 -- a relation that is wanted whole, that a node or a way selects, and that has this member
-abbrev pub has_member : (List TagSpec → Bool) → IdTest → IdTest → MemberSeen → Seen → Bool
-has_member whole nodes ways member (a_relation own tags members) = (whole tags && is_kept_relation nodes ways no_ids members) && list_any (is_member member) members
-has_member _ _ _ _ _ = false
+abbrev pub has_member : IdTest → IdTest → MemberSeen → Seen → Bool
+has_member nodes ways member (a_relation own whole members) = (whole && is_kept_relation nodes ways no_ids members) && list_any (is_member member) members
+has_member _ _ _ _ = false
 
 -- what is added for their sake; it selects nothing
 abbrev pub is_added : Strategy → List Seen → MemberSeen → Bool
-is_added by seen member = by.members && list_any (has_member by.whole (node_ids by seen) (way_ids seen) member) seen
+is_added by seen member = by.members && list_any (has_member (node_ids by seen) (way_ids seen) member) seen
 
 -- ---- the extract
 
@@ -145,7 +140,7 @@ keeps_node by seen id = is_added by seen (node_member id) || (box_ids seen id ||
 abbrev pub keeps : Strategy → List Seen → Seen → Bool
 keeps by seen (a_node id inside) = keeps_node by seen id
 keeps by seen (a_way id refs) = keeps_way by seen id refs
-keeps by seen (a_relation id tags members) = is_kept_relation (node_ids by seen) (way_ids seen) (relation_ids by seen) members
+keeps by seen (a_relation id whole members) = is_kept_relation (node_ids by seen) (way_ids seen) (relation_ids by seen) members
 
 -- the extract of a list of any type, by what the selection sees of each element: the sublist of what is kept
 abbrev pub extract : Strategy → {X : Type 0} → (X → Seen) → List X → List X
@@ -159,11 +154,12 @@ pub record IsWider (narrow wide : Strategy) : Type 0 where
   pub of_refs : narrow.of_refs ≡ true → wide.of_refs ≡ true
   pub parents : narrow.parents ≡ true → wide.parents ≡ true
   pub members : narrow.members ≡ true → wide.members ≡ true
-  pub whole : (tags : List TagSpec) → narrow.whole tags ≡ true → wide.whole tags ≡ true
 
--- a small look and a large one see an entity alike, but a node that is outside by the small one may be inside by the large one
+-- a small look and a large one see an entity alike, but a node that is outside by the small one may be inside by the large one, and a
+-- relation may be wanted whole by the large one alone
 abbrev pub IsSeenWithin : Seen → Seen → Type 0
 IsSeenWithin (a_node id inside) (a_node own within) = (id ≡ own) × (inside ≡ true → within ≡ true)
+IsSeenWithin (a_relation id whole members) (a_relation own wider others) = (id ≡ own) × ((whole ≡ true → wider ≡ true) × (members ≡ others))
 IsSeenWithin some other = some ≡ other
 
 -- so they see each element

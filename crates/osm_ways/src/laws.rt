@@ -1,14 +1,14 @@
 //! The laws of the selection. Each is the contract of a function that does nothing: a proof that needs the law calls it, or
 //! takes the lemma of that name from this crate's `proofs/`.
 
-ghost use Rattle.std.specs.Prelude.{◌≡◌, Bool, true, false, List, map};
+ghost use Rattle.std.specs.Prelude.{◌≡◌, true, false, List, map};
 ghost use Rattle.std.specs.List.{filter};
 ghost use Rattle.std.specs.Ordering.{int_cmp};
 ghost use Rattle.std.specs.FinSet as set;
 ghost use Rattle.osm_area.specs.Area.{AreaSpec, IsAreaWithin, box_area};
 ghost use Rattle.osm_box.specs.declared.bounding_box.BoundingBox.{BoundingBox};
 ghost use Rattle.osm_box.specs.BoundingBox.{is_box_within};
-ghost use Rattle.osm_entity.specs.Entity.{EntitySpec, TagSpec, decoded};
+ghost use Rattle.osm_entity.specs.Entity.{EntitySpec, decoded};
 ghost use Rattle.osm_ids.specs.Links.{IsLeast};
 ghost use Rattle.osm_ways.specs.Selection.{Seen, Strategy, complete_ways, all_parents, smart, node_ids, way_ids, all_levels, keeps, extract, IsWider, IsWithin};
 ghost use Rattle.osm_ways.specs.Seen.{seen_entity, seen_decoded};
@@ -40,19 +40,14 @@ pub fn larger_look_is_needed()
 
 /// And the strategy has to be as wide: there is a list whose smart extract is more than that of its complete-ways extract.
 pub fn larger_strategy_is_needed()
-    ensures { ((whole : List TagSpec → Bool) (look : Seen → Seen) (xs : List Seen)
-        → extract (smart whole) look (extract complete_ways look xs)
-        ≡ extract (smart whole) look xs) → ⊥ }
+    ensures { ((look : Seen → Seen) (xs : List Seen)
+        → extract smart look (extract complete_ways look xs) ≡ extract smart look xs) → ⊥ }
 {}
 
-/// Each strategy keeps what those before it keep, and a smart one for more relations keeps more: so any extract can be cut out of
-/// a smart one.
+/// Each strategy keeps what those before it keep: so any extract can be cut out of a smart one.
 pub fn strategies_are_a_chain()
     ensures parents { IsWider complete_ways all_parents }
-    ensures smart { (whole : List TagSpec → Bool) → IsWider all_parents (smart whole) }
-    ensures types { (some more : List TagSpec → Bool)
-        → ((tags : List TagSpec) → some tags ≡ true → more tags ≡ true)
-        → IsWider (smart some) (smart more) }
+    ensures smart { IsWider all_parents smart }
 {}
 
 /// A large look's extract of a small look's extract is all of it, if it is by a strategy that is as wide.

@@ -29,7 +29,7 @@ use Rattle.pbf_pass.specs.HeaderLimit.{HasShortTexts, header_limit, judged_writa
 use Rattle.pbf_pass.specs.Counting.{stored_entities}
 use Rattle.pbfcut.specs.Calls.{FeedUse, GaveOrNot}
 use Rattle.pbfcut.specs.Theorem.{IsExtraction}
-use Rattle.pbfcut.specs.Extracting.{extraction, kept_by, extract_bytes, Begins, Chooses, ChoosesParents, IsChoice, IsChoiceWithParents}
+use Rattle.pbfcut.specs.Extracting.{extraction, kept_entities, extract_bytes, Begins, Chooses, ChoosesParents, IsChoice, IsChoiceWithParents}
 use Rattle.pbfcut.specs.Kept.{verdict_on, extract_of, IsWritable}
 use Rattle.pbf_pass.proofs.GivenLemmas.{gave_file_less}
 use Rattle.pbfcut.proofs.KeptLaw.{same_verdict, extract_kept}
@@ -71,20 +71,20 @@ taken_is area sets e = grind arith
 
 -- sets that were gathered from a whole list, and keep what it does
 taken_as : (area : AreaSpec) (es : List EntitySpec) (sets : KeptSets) (by : Strategy) → sets.ways ≡ way_pass (map (seen_entity area) es) → is_chosen sets ≡ keeps by (map (seen_entity area) es)
-    → filter (taken_by sets) es ≡ kept_by by area es
+    → filter (taken_by sets) es ≡ kept_entities by area es
 taken_as area es sets by ways all =
     filter_agree (taken_by sets) (λ e. is_taken sets (seen_entity area e)) (taken_is area sets) es
     ∙ subst (λ (w : WaySets). filter (λ e. is_taken (record { ways = w; relation_ids = sets.relation_ids }) (seen_entity area e)) es ≡ filter (λ e. is_chosen (record { ways = w; relation_ids = sets.relation_ids }) (seen_entity area e)) es) (sym ways) (taken_are_chosen (seen_entity area) sets.relation_ids es)
     ∙ ap (λ (k : Seen → Bool). filter (λ e. k (seen_entity area e)) es) all
 
 -- what the sets keep is the complete-ways extract
-pub taken_are : (area : AreaSpec) (es : List EntitySpec) → filter (taken_by (without_parents (way_pass (map (seen_entity area) es)))) es ≡ kept_by complete_ways area es
+pub taken_are : (area : AreaSpec) (es : List EntitySpec) → filter (taken_by (without_parents (way_pass (map (seen_entity area) es)))) es ≡ kept_entities complete_ways area es
 taken_are area es = taken_as area es (without_parents (way_pass (map (seen_entity area) es))) complete_ways refl (chosen_is_kept (map (seen_entity area) es))
 
 -- ---- the bytes that are to be written
 
 -- the header of a file that has one
-header_from : (area : AreaSpec) (o : Option (ℕ × HeaderSpec)) (h : HeaderSpec) → option_map (λ p. header_out_for_box area.bounds p.1) o ≡ Some h → (by : Strategy) (es : List EntitySpec) → extraction by area o es ≡ written_file h (kept_by by area es)
+header_from : (area : AreaSpec) (o : Option (ℕ × HeaderSpec)) (h : HeaderSpec) → option_map (λ p. header_out_for_box area.bounds p.1) o ≡ Some h → (by : Strategy) (es : List EntitySpec) → extraction by area o es ≡ written_file h (kept_entities by area es)
 header_from area o h h3 by es = grind (arith, none_some)
 
 -- a selection that keeps what the strategy does of the frames that the passes read
@@ -92,8 +92,8 @@ pub record Selects (b : List ℕ) (by : Strategy) (area : AreaSpec) (pick : Pick
   pub frames : List FrameSpec
   pub judged : judged_file (Some b) ≡ Some (frames, None)
   pub writable : judged_writable (Some b) ≡ Some (frames, None)
-  pub bytes : extract_bytes by area (frames, None) ≡ written_file h (kept_by by area (stored_entities frames))
-  pub picked : filter pick (stored_entities frames) ≡ kept_by by area (stored_entities frames)
+  pub bytes : extract_bytes by area (frames, None) ≡ written_file h (kept_entities by area (stored_entities frames))
+  pub picked : filter pick (stored_entities frames) ≡ kept_entities by area (stored_entities frames)
   pub typed : EdgesTyped (edges_of area.bounds)
 
 -- of what was chosen in two passes of the same file
@@ -104,7 +104,7 @@ module _ (area : AreaSpec) (b : List ℕ) (first second : Option Verdict) (sets 
   its_ways : sets ≡ way_pass (map (seen_entity area) (stored_entities c.frames))
   its_ways = c.chosen c.frames (too ∙ its_frames) ∙ sets_are area (stored_entities c.frames)
 
-  selects : (by : Strategy) (pick : Pick) → filter pick (stored_entities c.frames) ≡ kept_by by area (stored_entities c.frames) → Selects b by area pick h
+  selects : (by : Strategy) (pick : Pick) → filter pick (stored_entities c.frames) ≡ kept_entities by area (stored_entities c.frames) → Selects b by area pick h
   selects by pick picked = record {
     frames = c.frames;
     judged = its_frames;
@@ -179,7 +179,7 @@ relations_folded area sets (relation r ∷ es) = relations_folded area (with_rel
 
 -- what the sets keep is the extract with all parents
 parents_are : (area : AreaSpec) (es : List EntitySpec) (sets : KeptSets) → sets.ways ≡ (relation_pass (map (seen_entity area) es)).ways
-    → IsLeast (set.contains (relation_pass (map (seen_entity area) es)).links) (relation_pass (map (seen_entity area) es)).start sets.relation_ids → filter (taken_by sets) es ≡ kept_by all_parents area es
+    → IsLeast (set.contains (relation_pass (map (seen_entity area) es)).links) (relation_pass (map (seen_entity area) es)).start sets.relation_ids → filter (taken_by sets) es ≡ kept_entities all_parents area es
 parents_are area es sets ways least =
     let seen = map (seen_entity area) es in
     taken_as area es sets all_parents (ways ∙ ways_stay seen) (ap (λ (w : WaySets). is_chosen (record { ways = w; relation_ids = sets.relation_ids })) ways ∙ chosen_with_parents seen sets.relation_ids least)

@@ -36,7 +36,7 @@ use Rattle.pbf_pass.proofs.SoundLemmas.{ends_well}
 use Rattle.pbfcut.specs.Converting.{answer_bytes}
 use Rattle.pbf_pass.specs.HeaderLimit.{header_limit, has_short_texts, with_limit, limited, judged_writable}
 use Rattle.pbf_pass.specs.Counting.{entities_in, frame_entities, stored_entities}
-use Rattle.pbfcut.specs.Extracting.{extract_bytes, kept_by}
+use Rattle.pbfcut.specs.Extracting.{extract_bytes, kept_entities}
 use Rattle.pbf_pass.specs.Judged.{fault_in, payload_fault, sound_first, sound_front, fully}
 use Rattle.pbfcut.specs.Kept.{verdict_within, verdict_on, IsWritable, conversion_of, extract_of}
 use Rattle.pbfcut.specs.Theorem.{IsConversion, IsExtract, IsExtraction, IsCanonical}
@@ -155,7 +155,7 @@ module _ (read : Verdict) (h : HeaderSpec) (es : List EntitySpec) (is : IsFileOf
   converted_is : answer_bytes read ≡ written_file h es
   converted_is = grind arith
 
-  extracted_is : (by : Strategy) (area : AreaSpec) → extract_bytes by area read ≡ written_file (header_out_for_box area.bounds h) (kept_by by area es)
+  extracted_is : (by : Strategy) (area : AreaSpec) → extract_bytes by area read ≡ written_file (header_out_for_box area.bounds h) (kept_entities by area es)
   extracted_is by area = grind arith
 
 pub same_verdict : (file : List ℕ) (frames : List FrameSpec) → judged_writable (Some file) ≡ Some (frames, None) → verdict_on file ≡ (frames, None)
@@ -198,10 +198,10 @@ conversion_kept file sound =
 
 -- what is kept of stored entities is what is kept of what they mean, and of it the same is kept again
 record IsSelection (by : Strategy) (area : AreaSpec) : Type 0 where
-  pub fit : (es : List EntitySpec) → AllByRecursion EntityFits es → AllByRecursion EntityFits (kept_by by area es)
-  pub typed : (es : List EntitySpec) → AllByRecursion EntityTyped es → AllByRecursion EntityTyped (kept_by by area es)
-  pub twice : (es : List EntitySpec) → kept_by by area (kept_by by area es) ≡ kept_by by area es
-  pub meaning : (es : List EntitySpec) → map entity.decoded (kept_by by area es) ≡ extract by (seen_decoded area) (map entity.decoded es)
+  pub fit : (es : List EntitySpec) → AllByRecursion EntityFits es → AllByRecursion EntityFits (kept_entities by area es)
+  pub typed : (es : List EntitySpec) → AllByRecursion EntityTyped es → AllByRecursion EntityTyped (kept_entities by area es)
+  pub twice : (es : List EntitySpec) → kept_entities by area (kept_entities by area es) ≡ kept_entities by area es
+  pub meaning : (es : List EntitySpec) → map entity.decoded (kept_entities by area es) ≡ extract by (seen_decoded area) (map entity.decoded es)
 
 is_selection : (by : Strategy) (area : AreaSpec) → IsSelection by area
 is_selection by area = grind (arith, all_filter EntityFits, all_filter EntityTyped, extract_twice by (seen_entity area), extract_viewed by entity.decoded (seen_entity area) (seen_decoded area) (seen_alike area), seen_alike area)
@@ -215,20 +215,20 @@ module _ (by : Strategy) (area : AreaSpec) (edges : EdgesTyped (edges_of area.bo
     pub extract : IsExtract by area read (verdict_within None written)
     pub again : extract_bytes by area (verdict_within None written) ≡ written
 
-  can_extract : (h : HeaderSpec) (es : List EntitySpec) → CanWrite h es → CanWrite (header_out_for_box area.bounds h) (kept_by by area es)
+  can_extract : (h : HeaderSpec) (es : List EntitySpec) → CanWrite h es → CanWrite (header_out_for_box area.bounds h) (kept_entities by area es)
   can_extract h es can = grind (arith, out_fits (Some (edges_of area.bounds)) (header_out_for_box area.bounds h) edges can.fits.timestamp can.fits.sequence, edges_of area.bounds, selection.fit es can.fit, selection.typed es can.typed)
 
-  extract_written : (read : Verdict) (h : HeaderSpec) (es : List EntitySpec) → IsFileOf read h es → CanWrite h es → IsKeptExtract read (written_file (header_out_for_box area.bounds h) (kept_by by area es))
+  extract_written : (read : Verdict) (h : HeaderSpec) (es : List EntitySpec) → IsFileOf read h es → CanWrite h es → IsKeptExtract read (written_file (header_out_for_box area.bounds h) (kept_entities by area es))
   extract_written read h es is can =
       let out = header_out_for_box area.bounds h in
-      let kept = kept_by by area es in
+      let kept = kept_entities by area es in
       let written = verdict_within None (written_file out kept) in
       let once : header_out_for_convert out ≡ out = header_out_twice (Some (edges_of area.bounds)) (Some (edges_of area.bounds)) h in
       let again = subst (λ (g : HeaderSpec). IsFileOf written g kept) once (written_out_is_file out kept (can_extract h es can)) in
-      let entities = entities_are written out kept again ∙ ap (kept_by by area) (sym (entities_are read h es is)) in
+      let entities = entities_are written out kept again ∙ ap (kept_entities by area) (sym (entities_are read h es is)) in
       record {
         extract = grind (arith, is_sound written out kept again, header_is written out kept again, header_is read h es is, selection.meaning (stored_entities read.0));
-        again = extracted_is written out kept again by area ∙ (ap (λ (g : HeaderSpec). written_file g (kept_by by area kept)) once ∙ ap (λ (l : List EntitySpec). written_file out l) (selection.twice es));
+        again = extracted_is written out kept again by area ∙ (ap (λ (g : HeaderSpec). written_file g (kept_entities by area kept)) once ∙ ap (λ (l : List EntitySpec). written_file out l) (selection.twice es));
       }
 
   pub extract_kept : (file : List ℕ) → IsWritable file → IsKeptExtract (verdict_on file) (extract_of by area file)
@@ -238,28 +238,28 @@ module _ (by : Strategy) (area : AreaSpec) (edges : EdgesTyped (edges_of area.bo
       subst (λ (w : List ℕ). IsKeptExtract (verdict_on file) w) (sym e) (extract_written (verdict_on file) r.header r.entities r.is r.can)
 
   -- an extract that needs no more than what this one keeps is the same of it as of the file
-  pub extract_of_extract : (fewer : Strategy) (other : AreaSpec) → ((es : List EntitySpec) → kept_by fewer other (kept_by by area es) ≡ kept_by fewer other es) → (file : List ℕ) → IsWritable file → extract_bytes fewer other (verdict_within None (extract_of by area file)) ≡ extract_of fewer other file
+  pub extract_of_extract : (fewer : Strategy) (other : AreaSpec) → ((es : List EntitySpec) → kept_entities fewer other (kept_entities by area es) ≡ kept_entities fewer other es) → (file : List ℕ) → IsWritable file → extract_bytes fewer other (verdict_within None (extract_of by area file)) ≡ extract_of fewer other file
   extract_of_extract fewer other enough file sound =
       let r = readable file sound in
       let out = header_out_for_box area.bounds r.header in
-      let kept = kept_by by area r.entities in
+      let kept = kept_entities by area r.entities in
       let written = verdict_within None (written_file out kept) in
       let once : header_out_for_convert out ≡ out = header_out_twice (Some (edges_of area.bounds)) (Some (edges_of area.bounds)) r.header in
       let again = subst (λ (g : HeaderSpec). IsFileOf written g kept) once (written_out_is_file out kept (can_extract r.header r.entities r.can)) in
       ap (λ (w : List ℕ). extract_bytes fewer other (verdict_within None w)) (extracted_is (verdict_on file) r.header r.entities r.is by area)
       ∙ (extracted_is written out kept again fewer other
-      ∙ (ap (λ (g : HeaderSpec). written_file g (kept_by fewer other kept)) (header_out_twice (Some (edges_of other.bounds)) (Some (edges_of area.bounds)) r.header)
+      ∙ (ap (λ (g : HeaderSpec). written_file g (kept_entities fewer other kept)) (header_out_twice (Some (edges_of other.bounds)) (Some (edges_of area.bounds)) r.header)
       ∙ (ap (λ (l : List EntitySpec). written_file (header_out_for_box other.bounds r.header) l) (enough r.entities)
       ∙ sym (extracted_is (verdict_on file) r.header r.entities r.is fewer other))))
 
   -- and so it is of the bytes that two runs wrote
-  pub run_of_run : (fewer : Strategy) (other : AreaSpec) → ((es : List EntitySpec) → kept_by fewer other (kept_by by area es) ≡ kept_by fewer other es) → (file part cut : List ℕ) → length part ≤ FILE_LIMIT → IsWritable file → IsCanonical (extract_bytes by area) file part → IsCanonical (extract_bytes fewer other) part cut → cut ≡ extract_of fewer other file
+  pub run_of_run : (fewer : Strategy) (other : AreaSpec) → ((es : List EntitySpec) → kept_entities fewer other (kept_entities by area es) ≡ kept_entities fewer other es) → (file part cut : List ℕ) → length part ≤ FILE_LIMIT → IsWritable file → IsCanonical (extract_bytes by area) file part → IsCanonical (extract_bytes fewer other) part cut → cut ≡ extract_of fewer other file
   run_of_run fewer other enough file part cut low sound first second = grind (arith, extract_kept file sound, same_as_a_file part low (subst (λ (w : List ℕ). (verdict_within None w).1 ≡ None) (sym first.is) (extract_kept file sound).extract.sound), extract_of_extract fewer other enough file sound)
 
 -- ---- two runs
 
 -- an extract by a strategy that is no wider, and by a smaller area
-pub smaller_extract : (narrow wide : Strategy) → IsWider narrow wide → (area small : AreaSpec) → IsAreaWithin small area → (es : List EntitySpec) → kept_by narrow small (kept_by wide area es) ≡ kept_by narrow small es
+pub smaller_extract : (narrow wide : Strategy) → IsWider narrow wide → (area small : AreaSpec) → IsAreaWithin small area → (es : List EntitySpec) → kept_entities narrow small (kept_entities wide area es) ≡ kept_entities narrow small es
 smaller_extract narrow wide wider area small h es = extract_of_larger narrow wide wider (seen_entity small) (seen_entity area) (seen_entity-within small area h) es
 
 pub runs_compose : (narrow wide : Strategy) → IsWider narrow wide → (area small : AreaSpec) → EdgesTyped (edges_of area.bounds) → IsAreaWithin small area → (file part cut : List ℕ) (counts fewer : Counts) → length part ≤ FILE_LIMIT

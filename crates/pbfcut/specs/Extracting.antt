@@ -22,13 +22,13 @@ use Rattle.pbf_pass.specs.HeaderLimit.{HasShortTexts}
 use Rattle.pbf_pass.specs.Pass.{with_seen, with_way, with_relation, file_header}
 
 -- the stored entities that an extract keeps
-abbrev pub kept_by : Strategy → AreaSpec → List EntitySpec → List EntitySpec
-kept_by by area es = extract by (seen_entity area) es
+abbrev pub kept_entities : Strategy → AreaSpec → List EntitySpec → List EntitySpec
+kept_entities by area es = extract by (seen_entity area) es
 
 -- the header in written form, with the box, and the entities that are kept, cut into blocks
 abbrev pub extraction : Strategy → AreaSpec → Option (ℕ × HeaderSpec) → List EntitySpec → List ℕ
 extraction by area None es = []
-extraction by area (Some header) es = written_file (header_out_for_box area.bounds header.1) (kept_by by area es)
+extraction by area (Some header) es = written_file (header_out_for_box area.bounds header.1) (kept_entities by area es)
 
 -- what is to be written for a file with this verdict: nothing if it has a fault
 abbrev pub extract_bytes : Strategy → AreaSpec → Verdict → List ℕ

@@ -15,7 +15,7 @@ use Rattle.pbf_frame.specs.Verdict.{Verdict}
 use Rattle.pbf_header.specs.WrittenHeader.{header_out_for_box, header_out_for_convert}
 use Rattle.pbf_pass.specs.Counting.{counts_of, stored_entities}
 use Rattle.pbfcut.specs.Converting.{answer_bytes}
-use Rattle.pbfcut.specs.Extracting.{extract_bytes, kept_by}
+use Rattle.pbfcut.specs.Extracting.{extract_bytes, kept_entities}
 use Rattle.pbf_pass.specs.Given.{Took}
 use Rattle.pbfcut.specs.Kept.{verdict_within, verdict_on, header_read, meaning_read}
 
@@ -43,7 +43,7 @@ pub record IsExtract (by : Strategy) (area : AreaSpec) (file written : Verdict) 
   -- they mean the extract of what the file means
   pub meaning : meaning_read written ≡ extract by (seen_decoded area) (meaning_read file)
   -- they have the entities of the file that it keeps, in input order, with all that is stored of them
-  pub entities : stored_entities written.0 ≡ kept_by by area (stored_entities file.0)
+  pub entities : stored_entities written.0 ≡ kept_entities by area (stored_entities file.0)
 
 pub record Extracted (by : Strategy) (area : AreaSpec) (file : List ℕ) (counts : Counts) (written : List ℕ) : Type 0 where
   -- the file has no fault, and its header can be written
@@ -51,7 +51,7 @@ pub record Extracted (by : Strategy) (area : AreaSpec) (file : List ℕ) (counts
   -- the bytes decode to its extract, however long they are
   pub extract : IsExtract by area (verdict_on file) (verdict_within None written)
   -- the counts are those of the entities that are kept
-  pub counted : counts ≡ counts_of (kept_by by area (stored_entities (verdict_on file).0))
+  pub counted : counts ≡ counts_of (kept_entities by area (stored_entities (verdict_on file).0))
 
 -- of `convert`: what is read of them is exactly what is read of the file
 pub record IsConversion (file written : Verdict) : Type 0 where
