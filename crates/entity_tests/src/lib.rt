@@ -6,6 +6,8 @@ mod entity;
 #[cfg(test)]
 mod ids;
 #[cfg(test)]
+mod members;
+#[cfg(test)]
 mod text;
 #[cfg(test)]
 mod ways;

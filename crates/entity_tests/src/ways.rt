@@ -18,7 +18,7 @@ const AREA: BoundingBox = BoundingBox {
     top: 1_000_000_000,
 };
 
-const SCALE: Scale = Scale {
+pub(crate) const SCALE: Scale = Scale {
     granularity: 100,
     date_granularity: 1000,
     lat_offset: 0,
@@ -26,15 +26,15 @@ const SCALE: Scale = Scale {
 };
 
 /// The id of a node, and its latitude on the first meridian of the box: inside from 0 on.
-type NodeRow = (i64, i64);
+pub(crate) type NodeRow = (i64, i64);
 
 /// The id of a way, its refs, and whether it is kept.
-type WayRow<'a> = (i64, &'a [i64], bool);
+pub(crate) type WayRow<'a> = (i64, &'a [i64], bool);
 
 /// The id of a relation, the kind and the id of its one member, and whether it is kept.
 type RelationRow = (i64, MemberKind, i64, bool);
 
-fn no_meta() -> Meta {
+pub(crate) fn no_meta() -> Meta {
     Meta {
         version: None,
         timestamp: None,
@@ -56,7 +56,7 @@ fn node(alloc: Global, row: NodeRow) -> Node {
     }
 }
 
-fn way(alloc: Global, row: WayRow<'_>) -> Result<Way, AllocError> {
+pub(crate) fn way(alloc: Global, row: WayRow<'_>) -> Result<Way, AllocError> {
     Ok(Way {
         id: row.0,
         meta: no_meta(),
@@ -99,7 +99,7 @@ fn take_relation(
     phase.take_relation(&relation(alloc, row)?.view())
 }
 
-fn chosen(alloc: Global, nodes: &[NodeRow], ways: &[WayRow<'_>]) -> Result<Chosen, AllocError> {
+pub(crate) fn chosen(alloc: Global, nodes: &[NodeRow], ways: &[WayRow<'_>]) -> Result<Chosen, AllocError> {
     let mut phase = NodePhase::new(alloc, AREA);
     for row in nodes {
         take_node(&mut phase, alloc, *row)?;
@@ -177,7 +177,7 @@ fn chosen_parents(alloc: Global, relations: &[RelationRow]) -> Result<ChosenPare
 }
 
 /// Whether nodes of each id are kept, or not, as expected.
-fn keeps_nodes(chosen: &Chosen, expected: &[(i64, bool)]) -> bool {
+pub(crate) fn keeps_nodes(chosen: &Chosen, expected: &[(i64, bool)]) -> bool {
     for (id, is_kept) in expected {
         if chosen.keeps_node(*id) != *is_kept {
             return false;
@@ -187,7 +187,7 @@ fn keeps_nodes(chosen: &Chosen, expected: &[(i64, bool)]) -> bool {
 }
 
 /// Whether the ways are kept that are to be kept, and no others.
-fn keeps_ways(alloc: Global, chosen: &Chosen, rows: &[WayRow<'_>]) -> Result<bool, AllocError> {
+pub(crate) fn keeps_ways(alloc: Global, chosen: &Chosen, rows: &[WayRow<'_>]) -> Result<bool, AllocError> {
     for row in rows {
         if chosen.keeps_way(&way(alloc, *row)?.view()) != row.2 {
             return Ok(false);

@@ -42,13 +42,13 @@ after_on : (has_ways : Bool) (ways : WaySets) (found : Found) (seen : List Seen)
 after_on has_ways ways found [] e = ((λ ids. refl, refl), (refl, refl))
 after_on has_ways ways found (a_node id inside ∷ seen) e = grind (arith, e, lost has_ways (node_step ways.box_ids (a_node id inside)) seen)
 after_on has_ways ways found (a_way id refs ∷ seen) e = grind (arith, e, lost true ways.box_ids seen)
-after_on has_ways ways found (a_relation id whole members ∷ seen) e = after_on has_ways ways (found_with ways found id members) seen e
+after_on has_ways ways found (a_relation id whole members ∷ seen) e = after_on has_ways ways (found_with ways found id whole members) seen e
 
 after_broken : (has_ways : Bool) (ways : WaySets) (found : Found) (seen : List Seen) → (ends (after has_ways ways found) seen).first.in_order ≡ false → NodesAlone (fold node_step ways.box_ids seen) (ends (after has_ways ways found) seen)
 after_broken has_ways ways found [] e = absurd (cc)
 after_broken has_ways ways found (a_node id inside ∷ seen) e = (lost has_ways (node_step ways.box_ids (a_node id inside)) seen).1
 after_broken has_ways ways found (a_way id refs ∷ seen) e = (lost true ways.box_ids seen).1
-after_broken has_ways ways found (a_relation id whole members ∷ seen) e = after_broken has_ways ways (found_with ways found id members) seen e
+after_broken has_ways ways found (a_relation id whole members ∷ seen) e = after_broken has_ways ways (found_with ways found id whole members) seen e
 
 -- ---- there were ways
 
@@ -57,13 +57,13 @@ going_on : (ways : WaySets) (seen : List Seen) → (ends (sorted false (going wa
 going_on ways [] e = (λ ids. refl, (refl, refl))
 going_on ways (a_node id inside ∷ seen) e = grind (arith, e, lost true (node_step ways.box_ids (a_node id inside)) seen)
 going_on ways (a_way id refs ∷ seen) e = going_on (way_step ways (a_way id refs)) seen e
-going_on ways (a_relation id whole members ∷ seen) e = grind (arith, after_on true ways (found_with ways nothing_found id members) seen e)
+going_on ways (a_relation id whole members ∷ seen) e = grind (arith, after_on true ways (found_with ways nothing_found id whole members) seen e)
 
 going_broken : (ways : WaySets) (seen : List Seen) → (ends (sorted false (going ways) nothing_found) seen).first.in_order ≡ false → NodesAlone (fold node_step ways.box_ids seen) (ends (sorted false (going ways) nothing_found) seen)
 going_broken ways [] e = absurd (cc)
 going_broken ways (a_node id inside ∷ seen) e = (lost true (node_step ways.box_ids (a_node id inside)) seen).1
 going_broken ways (a_way id refs ∷ seen) e = grind (arith, going_broken (way_step ways (a_way id refs)) seen e)
-going_broken ways (a_relation id whole members ∷ seen) e = after_broken true ways (found_with ways nothing_found id members) seen e
+going_broken ways (a_relation id whole members ∷ seen) e = after_broken true ways (found_with ways nothing_found id whole members) seen e
 
 -- ---- there were only nodes
 
@@ -72,13 +72,13 @@ fresh_on : (ids : Ids) (seen : List Seen) → (ends (sorted false (fresh ids) no
 fresh_on ids [] e = (refl, refl)
 fresh_on ids (a_node id inside ∷ seen) e = fresh_on (node_step ids (a_node id inside)) seen e
 fresh_on ids (a_way id refs ∷ seen) e = grind (arith, going_on (way_step (start_ways ids) (a_way id refs)) seen e)
-fresh_on ids (a_relation id whole members ∷ seen) e = grind (arith, after_on false (start_ways ids) (found_with (start_ways ids) nothing_found id members) seen e)
+fresh_on ids (a_relation id whole members ∷ seen) e = grind (arith, after_on false (start_ways ids) (found_with (start_ways ids) nothing_found id whole members) seen e)
 
 fresh_broken : (ids : Ids) (seen : List Seen) → (ends (sorted false (fresh ids) nothing_found) seen).first.in_order ≡ false → NodesAlone (fold node_step ids seen) (ends (sorted false (fresh ids) nothing_found) seen)
 fresh_broken ids [] e = absurd (cc)
 fresh_broken ids (a_node id inside ∷ seen) e = fresh_broken (node_step ids (a_node id inside)) seen e
 fresh_broken ids (a_way id refs ∷ seen) e = grind (arith, going_broken (way_step (start_ways ids) (a_way id refs)) seen e)
-fresh_broken ids (a_relation id whole members ∷ seen) e = after_broken false (start_ways ids) (found_with (start_ways ids) nothing_found id members) seen e
+fresh_broken ids (a_relation id whole members ∷ seen) e = after_broken false (start_ways ids) (found_with (start_ways ids) nothing_found id whole members) seen e
 
 -- ---- the whole list
 

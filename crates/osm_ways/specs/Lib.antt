@@ -5,3 +5,4 @@ pub mod First
 pub mod InArea
 pub mod Seen
 pub mod Sorted
+pub mod Added

@@ -1,10 +1,11 @@
 -- What the passes do with each entity of a list, and the sets that they gather.
-use Rattle.std.specs.Prelude.{◌≡◌, ℤ, Bool, true, false, ◌&&◌, if◌then◌else◌, List, refl, Option, Some, None, Result, OnOk, OnErr}
+use Rattle.std.specs.Prelude.{◌≡◌, ℤ, Bool, true, false, ◌&&◌, ◌||◌, if◌then◌else◌, List, refl, Option, Some, None, Result, OnOk, OnErr}
 use Rattle.std.specs.Coded.{Coded, code_by, coded×, coded_ℤ}
 use Rattle.std.specs.List.{fold}
 use Rattle.std.specs.Ordering.{int_cmp}
 use Rattle.std.specs.FinSet as set
 use Rattle.osm_ids.specs.Links.{link_cmp, link_code}
+use Rattle.osm_ways.specs.Added.{AddedSets, added_code, members_if, nothing_added, with_added_refs}
 use Rattle.osm_ways.specs.Selection.{MemberSeen, relation_member, Seen, a_node, a_way, a_relation, no_ids, is_kept_way, is_kept_relation}
 
 abbrev pub Ids : Type 0
@@ -28,43 +29,47 @@ pub record WaySets : Type 0 where
 abbrev pub sets_of : Ids → Ids → Ids → WaySets
 sets_of in_box refs ways = record { box_ids = in_box; node_ids = set.union in_box refs; way_ids = ways }
 
--- of the relations besides: those that nodes and ways select, and a link from each relation member to its relation
+-- of the relations besides: those that nodes and ways select, a link from each relation member to its relation, and what is added for
+-- those that are wanted whole
 pub record RelationSets : Type 0 where
   pub ways : WaySets
   pub start : Ids
   pub links : LinkSet
+  pub added : AddedSets
 
--- what relations gave: those that nodes and ways select, and their links
+-- what relations gave: those that nodes and ways select, their links, and what is added
 pub record Found : Type 0 where
   pub start : Ids
   pub links : LinkSet
+  pub added : AddedSets
 
--- all that selects: those of all parents besides, if they are kept
+-- all that selects: those of all parents besides, if they are kept; and what is added
 pub record KeptSets : Type 0 where
   pub ways : WaySets
   pub relation_ids : Ids
+  pub added : AddedSets
 
 abbrev pub way_sets_code : Coded WaySets
 way_sets_code = code_by (Ids × (Ids × Ids)) (coded× ids_code (coded× ids_code ids_code)) (λ s. (s.box_ids, (s.node_ids, s.way_ids))) (λ p. record { box_ids = p.0; node_ids = p.1.0; way_ids = p.1.1 }) (λ _. refl)
 
 abbrev pub relation_sets_code : Coded RelationSets
-relation_sets_code = code_by (WaySets × (Ids × LinkSet)) (coded× way_sets_code (coded× ids_code (set.code link_code))) (λ s. (s.ways, (s.start, s.links))) (λ p. record { ways = p.0; start = p.1.0; links = p.1.1 }) (λ _. refl)
+relation_sets_code = code_by (WaySets × (Ids × (LinkSet × AddedSets))) (coded× way_sets_code (coded× ids_code (coded× (set.code link_code) added_code))) (λ s. (s.ways, (s.start, (s.links, s.added)))) (λ p. record { ways = p.0; start = p.1.0; links = p.1.1.0; added = p.1.1.1 }) (λ _. refl)
 
 abbrev pub kept_sets_code : Coded KeptSets
-kept_sets_code = code_by (WaySets × Ids) (coded× way_sets_code ids_code) (λ s. (s.ways, s.relation_ids)) (λ p. record { ways = p.0; relation_ids = p.1 }) (λ _. refl)
+kept_sets_code = code_by (WaySets × (Ids × AddedSets)) (coded× way_sets_code (coded× ids_code added_code)) (λ s. (s.ways, (s.relation_ids, s.added))) (λ p. record { ways = p.0; relation_ids = p.1.0; added = p.1.1 }) (λ _. refl)
 
 abbrev pub found_code : Coded Found
-found_code = code_by (Ids × LinkSet) (coded× ids_code (set.code link_code)) (λ f. (f.start, f.links)) (λ p. record { start = p.0; links = p.1 }) (λ _. refl)
+found_code = code_by (Ids × (LinkSet × AddedSets)) (coded× ids_code (coded× (set.code link_code) added_code)) (λ f. (f.start, (f.links, f.added))) (λ p. record { start = p.0; links = p.1.0; added = p.1.1 }) (λ _. refl)
 
 abbrev pub nothing_found : Found
-nothing_found = record { start = set.empty; links = set.empty }
+nothing_found = record { start = set.empty; links = set.empty; added = nothing_added }
 
 abbrev pub relations_from : WaySets → Found → RelationSets
-relations_from sets found = record { ways = sets; start = found.start; links = found.links }
+relations_from sets found = record { ways = sets; start = found.start; links = found.links; added = found.added }
 
--- no parents besides
+-- no parents besides, and nothing added
 abbrev pub without_parents : WaySets → KeptSets
-without_parents sets = record { ways = sets; relation_ids = set.empty }
+without_parents sets = record { ways = sets; relation_ids = set.empty; added = nothing_added }
 
 abbrev pub ids_or_none : Option Ids → Ids
 ids_or_none None = set.empty
@@ -92,15 +97,16 @@ with_link _ links _ = links
 abbrev pub is_start : WaySets → List MemberSeen → Bool
 is_start sets members = is_kept_relation (set.contains sets.node_ids) (set.contains sets.way_ids) no_ids members
 
--- by whether a node or a way selects it
-abbrev pub found_if : Bool → Found → ℤ → List MemberSeen → Found
-found_if starts found id members = record { start = if starts then set.insert found.start id else found.start; links = fold (with_link id) found.links members }
+-- by whether a node or a way selects it, and whether it is wanted whole
+abbrev pub found_if : (starts whole : Bool) → Found → ℤ → List MemberSeen → Found
+found_if starts whole found id members =
+    record { start = if starts then set.insert found.start id else found.start; links = fold (with_link id) found.links members; added = members_if (whole && starts) found.added members }
 
-abbrev pub found_with : WaySets → Found → ℤ → List MemberSeen → Found
-found_with sets found id members = found_if (is_start sets members) found id members
+abbrev pub found_with : WaySets → Found → ℤ → Bool → List MemberSeen → Found
+found_with sets found id whole members = found_if (is_start sets members) whole found id members
 
-abbrev pub sets_with_relation : RelationSets → ℤ → List MemberSeen → RelationSets
-sets_with_relation sets id members = relations_from sets.ways (found_with sets.ways (record { start = sets.start; links = sets.links }) id members)
+abbrev pub sets_with_relation : RelationSets → ℤ → Bool → List MemberSeen → RelationSets
+sets_with_relation sets id whole members = relations_from sets.ways (found_with sets.ways (record { start = sets.start; links = sets.links; added = sets.added }) id whole members)
 
 -- ---- the passes
 
@@ -131,15 +137,19 @@ way_step sets (a_way id refs) = sets_with_way sets id refs
 way_step sets _ = sets
 
 abbrev pub relation_step : RelationSets → Seen → RelationSets
-relation_step sets (a_relation id whole members) = sets_with_relation sets id members
+relation_step sets (a_relation id whole members) = sets_with_relation sets id whole members
 relation_step sets _ = sets
+
+abbrev pub member_step : KeptSets → Seen → KeptSets
+member_step sets (a_way id refs) = record sets { added = with_added_refs sets.added id refs }
+member_step sets _ = sets
 
 -- when the nodes end, all nodes of the box are kept, and no way yet
 abbrev pub start_ways : Ids → WaySets
 start_ways ids = record { box_ids = ids; node_ids = ids; way_ids = set.empty }
 
 abbrev pub start_relations : WaySets → RelationSets
-start_relations sets = record { ways = sets; start = set.empty; links = set.empty }
+start_relations sets = record { ways = sets; start = set.empty; links = set.empty; added = nothing_added }
 
 abbrev pub node_pass : List Seen → Ids
 node_pass seen = fold node_step set.empty seen
@@ -149,6 +159,11 @@ way_pass seen = fold way_step (start_ways (node_pass seen)) seen
 
 abbrev pub relation_pass : List Seen → RelationSets
 relation_pass seen = fold relation_step (start_relations (way_pass seen)) seen
+
+-- what relations gave, the least set of the relations that are kept, and a pass more
+abbrev pub member_pass : Ids → List Seen → KeptSets
+member_pass relations seen =
+    let sets = relation_pass seen in fold member_step (record { ways = sets.ways; relation_ids = relations; added = sets.added }) seen
 
 -- a first phase, which takes nodes and maybe more: if it has all ways, it ends as the second pass does, and otherwise as the first
 pub record TakesFirst {S : Type 0} (start : S) (step : S → Seen → S) (has_ways : S → Bool) (ended : S → WaySets) : Type 0 where
@@ -162,13 +177,17 @@ pub record TakesAll {S : Type 0} (start : S) (step : S → Seen → S) (has_ways
 
 -- ---- what they keep
 
+abbrev pub keeps_id : KeptSets → ℤ → Bool
+keeps_id sets id = set.contains sets.added.nodes id || set.contains sets.ways.node_ids id
+
 abbrev pub is_chosen : KeptSets → Seen → Bool
-is_chosen sets (a_node id inside) = set.contains sets.ways.node_ids id
-is_chosen sets (a_way id refs) = is_kept_way (set.contains sets.ways.box_ids) refs
+is_chosen sets (a_node id inside) = keeps_id sets id
+is_chosen sets (a_way id refs) = set.contains sets.added.ways id || is_kept_way (set.contains sets.ways.box_ids) refs
 is_chosen sets (a_relation id whole members) = is_kept_relation (set.contains sets.ways.node_ids) (set.contains sets.ways.way_ids) (set.contains sets.relation_ids) members
 
--- the same, but of ways only those whose id the sets have: in the list that they were gathered from these are all that they choose
+-- the same, but of ways by their refs only those whose id the sets have: in the list that they were gathered from these are all that they
+-- choose
 abbrev pub is_taken : KeptSets → Seen → Bool
 is_taken sets (a_node id inside) = is_chosen sets (a_node id inside)
-is_taken sets (a_way id refs) = set.contains sets.ways.way_ids id && is_chosen sets (a_way id refs)
+is_taken sets (a_way id refs) = set.contains sets.added.ways id || (set.contains sets.ways.way_ids id && is_kept_way (set.contains sets.ways.box_ids) refs)
 is_taken sets (a_relation id whole members) = is_chosen sets (a_relation id whole members)

@@ -1,5 +1,5 @@
 -- What the selection sees of entities. A place counts in nanodegrees.
-use Rattle.std.specs.Prelude.{ℤ, false, map}
+use Rattle.std.specs.Prelude.{ℤ, Bool, false, map}
 use Rattle.osm_area.specs.Area.{AreaSpec}
 use Rattle.osm_entity.specs.declared.member.MemberKind.{MemberKind}
 use Rattle.osm_entity.specs.declared.member.MemberKind.TheVariants as kind
@@ -27,8 +27,13 @@ member_of_kind kind.Relation id = relation_member id
 abbrev pub seen_member : MemberSpec → MemberSeen
 seen_member member = member_of_kind member.kind member.id
 
+-- by whether it is wanted whole
+abbrev pub seen_as : (whole : Bool) → RelationSpec → Seen
+seen_as whole r = a_relation r.id whole (map seen_member r.members)
+
+-- of no type that is wanted whole
 abbrev pub seen_relation : RelationSpec → Seen
-seen_relation r = a_relation r.id false (map seen_member r.members)
+seen_relation = seen_as false
 
 -- what is seen of an entity; its scale is applied, since an area is in degrees
 abbrev pub seen_decoded : AreaSpec → Decoded → Seen

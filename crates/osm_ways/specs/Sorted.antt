@@ -33,7 +33,7 @@ abbrev pub sorted_step : SortedSets → Seen → SortedSets
 sorted_step sets (a_node id inside) = with_more (before_more sets) (a_node id inside)
 sorted_step sets (a_way id refs) = with_more (before_more sets) (a_way id refs)
 sorted_step sets (a_relation id whole members) =
-    if sets.first.in_order then record { has_relations = true; first = sets.first; found = found_with sets.first.ways sets.found id members } else sets
+    if sets.first.in_order then record { has_relations = true; first = sets.first; found = found_with sets.first.ways sets.found id whole members } else sets
 
 abbrev pub sorted_pass : List Seen → SortedSets
 sorted_pass seen = fold sorted_step start_sorted seen

@@ -1,15 +1,18 @@
 //! Which entities are kept, for many of them one after another.
 
-ghost use Rattle.std.specs.Prelude.{◌≡◌};
+ghost use Rattle.std.specs.Prelude.{◌≡◌, ℤ, true, false};
 ghost use Rattle.std.specs.FinSet as set;
 ghost use Rattle.osm_entity.specs.Sources.{lent_member, refs_left};
 ghost use Rattle.osm_entity.specs.Views.{way_of, relation_of};
-ghost use Rattle.osm_ids.specs.Windows.{Lacks, HasAll};
+ghost use Rattle.osm_ids.specs.Windows.{HasAll, Lacks};
+ghost use Rattle.pbf_wire.specs.Spans.{is_in};
 ghost use Rattle.osm_ids.specs.Looking.{LooksUp};
-ghost use Rattle.osm_ways.specs.Selection.{is_selecting, is_kept_way};
+ghost use Rattle.osm_ways.specs.Selection.{is_kept_way, is_selecting};
 ghost use Rattle.osm_ways.specs.Seen.{seen_way, seen_refs, seen_member, seen_relation};
-ghost use Rattle.osm_ways.specs.Phases.{is_chosen, is_taken, ids_or_none};
+ghost use Rattle.osm_ways.specs.Added.{added_or_none};
+ghost use Rattle.osm_ways.specs.Phases.{ids_or_none, is_chosen, is_taken, keeps_id};
 
+use crate::members::SealedAdded;
 use crate::parents::ChosenParents;
 use crate::phases::{Chosen, SeenWay, is_kept_by};
 use osm_entity::{MemberKind, MemberRef, Refs, RelationRef, WayRef};
@@ -78,6 +81,55 @@ impl<'a> Near<'a> {
     }
 }
 
+/// What was added for relations that are wanted whole, and what look-ups in it learnt.
+#[derive(Drop)]
+struct NearAdded<'a> {
+    nodes: Near<'a>,
+    ways: Near<'a>,
+}
+
+impl<'a> Model for NearAdded<'a> {
+    ghost use Rattle.osm_ways.specs.Added.{AddedSets, added_code};
+
+    ghost Value = { AddedSets };
+
+    ghost coded = { added_code };
+
+    ghost view = { λ a. record { nodes = a.nodes; ways = a.ways } };
+}
+
+impl<'a> NearAdded<'a> {
+    /// Nothing is learnt yet.
+    fn new(added: &'a SealedAdded) -> NearAdded<'a>
+        ensures { result ≡ added.now }
+    {
+        NearAdded {
+            nodes: Near::new(&added.nodes),
+            ways: Near::new(&added.ways),
+        }
+    }
+}
+
+/// Whether a node was added.
+fn adds_node(added: &mut Option<NearAdded<'_>>, id: i64) -> bool
+    ensures { LooksUp (set.contains (added_or_none added.old).nodes id) added.old added.new result }
+{
+    match added {
+        Some(added) => added.nodes.has(id),
+        None => false,
+    }
+}
+
+/// Whether a way was added.
+fn adds_way(added: &mut Option<NearAdded<'_>>, id: i64) -> bool
+    ensures { LooksUp (set.contains (added_or_none added.old).ways id) added.old added.new result }
+{
+    match added {
+        Some(added) => added.ways.has(id),
+        None => false,
+    }
+}
+
 /// What was chosen, to test many entities one after another: each look-up begins where the last one ended, so ids that
 /// lie close together are cheap. It does not allocate.
 #[derive(Drop)]
@@ -87,10 +139,13 @@ pub struct Chooser<'a> {
     way_ids: Near<'a>,
     /// Those of all parents, if they were chosen too.
     relation_ids: Option<Near<'a>>,
+    /// What was added for relations that are wanted whole, if they were asked for.
+    added: Option<NearAdded<'a>>,
 }
 
 impl<'a> Model for Chooser<'a> {
     ghost use Rattle.std.specs.FinSet as set;
+    ghost use Rattle.osm_ways.specs.Added.{added_or_none};
     ghost use Rattle.osm_ways.specs.Phases.{KeptSets, kept_sets_code, ids_or_none};
 
     ghost Value = { KeptSets };
@@ -104,6 +159,7 @@ impl<'a> Model for Chooser<'a> {
         way_ids = a.way_ids;
       };
       relation_ids = ids_or_none a.relation_ids;
+      added = added_or_none a.added;
     } };
 }
 
@@ -118,8 +174,16 @@ fn has(ids: &mut Option<Near<'_>>, id: i64) -> bool
 }
 
 impl<'a> Chooser<'a> {
-    /// Whether nodes of this id are kept: it is that of a node in the box, or a ref of a kept way. The choice stays the same.
+    /// Whether nodes of this id are kept: it is that of a node in the box, a ref of a kept way, or that of one that was added. The choice
+    /// stays the same.
     pub fn keeps_node(&mut self, id: i64) -> bool
+        ensures { LooksUp (keeps_id self.old id) self.old self.new result }
+    {
+        self.selects_by_node(id) || adds_node(&mut self.added, id)
+    }
+
+    /// Whether a node of this id selects relations: it is that of a node in the box, or a ref of a way with such a node.
+    fn selects_by_node(&mut self, id: i64) -> bool
         ensures { LooksUp (set.contains self.old.ways.node_ids id) self.old self.new result }
     {
         self.box_ids.has(id) || self.refs.has(id)
@@ -127,40 +191,51 @@ impl<'a> Chooser<'a> {
 
     /// Ids of which no node is kept, as far as the last look-ups showed: none if they showed nothing.
     pub fn absent(&self) -> Span
-        ensures { Lacks self.now.ways.node_ids result }
+        ensures { (id : ℤ) → is_in result id ≡ true → keeps_id self.now id ≡ false }
     {
-        self.box_ids.absent().common(self.refs.absent())
+        let span = self.box_ids.absent().common(self.refs.absent());
+        match &self.added {
+            Some(added) => span.common(added.nodes.absent()),
+            None => span,
+        }
     }
 
     /// Ids of which all nodes are kept, as far as the last look-up of the ids in the box showed: none if it showed nothing.
     pub fn present(&self) -> Span
-        ensures { HasAll self.now.ways.node_ids result }
+        ensures { (id : ℤ) → is_in result id ≡ true → keeps_id self.now id ≡ true }
     {
         self.box_ids.present()
     }
 
-    /// Whether the way is kept: one of its refs is a node in the box. Of two ways of one id each is judged by itself.
+    /// Whether the way is kept: one of its refs is a node in the box, or it was added. Of two ways of one id each is judged by itself.
     pub fn keeps_way(&mut self, way: &WayRef<'_>) -> bool
         ensures { LooksUp (is_chosen self.old (seen_way (way_of way.now)))
             self.old self.new result }
     {
-        self.keeps_refs(way.refs())
+        self.keeps_seen(SeenWay::of(way))
     }
 
-    /// The same of a way by its refs, which are all that counts of it.
-    pub fn keeps_refs(&mut self, refs: Refs<'_>) -> bool
+    /// The same of a way by its id and its refs, which are all that counts of it.
+    pub fn keeps_seen(&mut self, way: SeenWay<'_>) -> bool
+        ensures { LooksUp (is_chosen self.old (seen_refs way.entry)) self.old self.new result }
+    {
+        self.keeps_refs(way.refs) || adds_way(&mut self.added, way.id)
+    }
+
+    /// Whether one of these refs is a node in the box.
+    fn keeps_refs(&mut self, refs: Refs<'_>) -> bool
         ensures { LooksUp (is_kept_way (set.contains self.old.ways.box_ids) (refs_left refs.entry))
             self.old self.new result }
     {
         self.box_ids.has_any(refs)
     }
 
-    /// Whether the way is kept, in the file that the choice was made from: by its id first, so that of a way whose id was not chosen
-    /// no ref is looked up. Of two ways of one id each is judged by itself.
+    /// Whether the way is kept, in the file that the choice was made from: by its id first, so that of a way whose id was neither chosen
+    /// nor added no ref is looked up. Of two ways of one id each is judged by itself.
     pub fn takes_way(&mut self, way: SeenWay<'_>) -> bool
         ensures { LooksUp (is_taken self.old (seen_refs way.entry)) self.old self.new result }
     {
-        self.way_ids.has(way.id) && self.keeps_refs(way.refs)
+        (self.way_ids.has(way.id) && self.keeps_refs(way.refs)) || adds_way(&mut self.added, way.id)
     }
 
     /// Whether the relation is kept: a node or a way among its members is, or a relation, with all parents. Of two relations of one
@@ -184,7 +259,7 @@ impl<'a> Chooser<'a> {
             (seen_member (lent_member member.now))) self.old self.new result }
     {
         match member.kind {
-            MemberKind::Node => self.keeps_node(member.id),
+            MemberKind::Node => self.selects_by_node(member.id),
             MemberKind::Way => self.way_ids.has(member.id),
             MemberKind::Relation => has(&mut self.relation_ids, member.id),
         }
@@ -200,22 +275,28 @@ impl Chosen {
             Some(ids) => Some(Near::new(ids)),
             None => None,
         };
+        let added = match &self.added {
+            Some(added) => Some(NearAdded::new(added)),
+            None => None,
+        };
         Chooser {
             box_ids: Near::new(&self.box_ids),
             refs: Near::new(&self.refs),
             way_ids: Near::new(&self.way_ids),
             relation_ids,
+            added,
         }
     }
 
-    /// Whether nodes of this id are kept: it is that of a node in the box, or a ref of a kept way. The choice stays the same.
+    /// Whether nodes of this id are kept: it is that of a node in the box, a ref of a kept way, or that of one that was added. The choice
+    /// stays the same.
     pub fn keeps_node(&self, id: i64) -> bool
-        ensures { result ≡ set.contains self.now.ways.node_ids id }
+        ensures { result ≡ keeps_id self.now id }
     {
         self.chooser().keeps_node(id)
     }
 
-    /// Whether the way is kept: one of its refs is a node in the box. Of two ways of one id each is judged by itself.
+    /// Whether the way is kept: one of its refs is a node in the box, or it was added. Of two ways of one id each is judged by itself.
     pub fn keeps_way(&self, way: &WayRef<'_>) -> bool
         ensures { result ≡ is_chosen self.now (seen_way (way_of way.now)) }
     {
@@ -248,7 +329,7 @@ impl ChosenParents {
 
     /// Whether nodes of this id are kept, as without parents.
     pub fn keeps_node(&self, id: i64) -> bool
-        ensures { result ≡ set.contains self.now.ways.node_ids id }
+        ensures { result ≡ keeps_id self.now id }
     {
         self.chosen.keeps_node(id)
     }

@@ -180,7 +180,11 @@ impl NodeTaker for FirstPhase {
         false
     }
 
-    fn take_relation(&mut self, _relation: &RelationRef<'_>) -> Result<(), AllocError> {
+    fn take_relation(
+        &mut self,
+        _relation: &RelationRef<'_>,
+        _whole: bool,
+    ) -> Result<(), AllocError> {
         Ok(())
     }
 

@@ -4,7 +4,7 @@ ghost use Rattle.std.specs.Prelude.{◌≡◌, Bool, ℤ, false, true, IfOk, OnO
 ghost use Rattle.osm_entity.specs.Views.{node_of, relation_of};
 ghost use Rattle.osm_ways.specs.InArea.{stepped};
 ghost use Rattle.osm_ways.specs.Phases.{Found, PassesOver, TakesAll, TakesFirst, TakesNode, TakesRelations, TakesWays, WaySets};
-ghost use Rattle.osm_ways.specs.Seen.{seen_node, seen_refs, seen_relation};
+ghost use Rattle.osm_ways.specs.Seen.{seen_as, seen_node, seen_refs};
 ghost use Rattle.osm_ways.specs.Selection.{Seen, a_node};
 
 use crate::parents::FoundRelations;
@@ -61,14 +61,14 @@ pub trait NodeTaker {
     fn takes_relations() -> bool
         ensures { TakesRelations result step };
 
-    /// Takes a relation.
+    /// Takes a relation, which may be wanted whole.
     ///
     /// # Errors
     ///
     /// If memory is refused, the phase may only be dropped.
-    fn take_relation(&mut self, relation: &RelationRef<'_>) -> Result<(), AllocError>
+    fn take_relation(&mut self, relation: &RelationRef<'_>, whole: bool) -> Result<(), AllocError>
         ensures { OnOk result
-            (self.new ≡ step self.old (seen_relation (relation_of relation.now))) };
+            (self.new ≡ step self.old (seen_as whole (relation_of relation.now))) };
 
     /// Whether all ways were taken too. Otherwise the phase of ways takes them.
     fn has_all_ways(&self) -> bool

@@ -2,7 +2,7 @@
 //! takes the lemma of that name from this crate's `proofs/`.
 
 ghost use Rattle.std.specs.Prelude.{◌≡◌, true, false, List, map};
-ghost use Rattle.std.specs.List.{filter};
+ghost use Rattle.std.specs.List.{filter, fold};
 ghost use Rattle.std.specs.Ordering.{int_cmp};
 ghost use Rattle.std.specs.FinSet as set;
 ghost use Rattle.osm_area.specs.Area.{AreaSpec, IsAreaWithin, box_area};
@@ -13,8 +13,9 @@ ghost use Rattle.osm_ids.specs.Links.{IsLeast};
 ghost use Rattle.osm_ways.specs.Selection.{Seen, Strategy, complete_ways, all_parents, smart, node_ids, way_ids, all_levels, keeps, extract, IsWider, IsWithin};
 ghost use Rattle.osm_ways.specs.Seen.{seen_entity, seen_decoded};
 ghost use Rattle.osm_ways.specs.Parents.{IsLeastSelected, links_in, start_in};
+ghost use Rattle.osm_ways.specs.Added.{nothing_added};
 ghost use Rattle.osm_ways.specs.First.{first_pass};
-ghost use Rattle.osm_ways.specs.Phases.{start_ways, node_pass, nothing_found, relations_from, way_pass, relation_pass, without_parents, is_chosen, is_taken};
+ghost use Rattle.osm_ways.specs.Phases.{KeptSets, start_ways, node_pass, nothing_found, relations_from, way_pass, relation_pass, member_pass, member_step, without_parents, is_chosen, is_taken};
 ghost use Rattle.osm_ways.specs.Sorted.{sorted_pass};
 
 /// An extract of an extract is the extract, by each strategy.
@@ -108,24 +109,28 @@ pub fn one_pass_is_three()
 {}
 
 /// Over a whole list the passes keep what the extract keeps: of two passes, of nodes and of ways, the extract; of a third one,
-/// of relations, and the least set over its links, the extract with all parents.
+/// of relations, and the least set over its links, the extract with all parents; and of a fourth one, of the ways that were added,
+/// the smart extract. If none was added, the fourth changes nothing.
 pub fn passes_are_extract()
     ensures ways { (seen : List Seen) → is_chosen (without_parents (way_pass seen))
         ≡ keeps complete_ways seen }
     ensures kept { (seen : List Seen) → (relation_pass seen).ways ≡ way_pass seen }
     ensures parents { (seen : List Seen) (ids : set.FinSet int_cmp)
         → IsLeast (set.contains (relation_pass seen).links) (relation_pass seen).start ids
-        → is_chosen (record { ways = (relation_pass seen).ways; relation_ids = ids })
+        → is_chosen (record { ways = (relation_pass seen).ways; relation_ids = ids; added = nothing_added })
         ≡ keeps all_parents seen }
+    ensures members { (seen : List Seen) (ids : set.FinSet int_cmp)
+        → IsLeast (set.contains (relation_pass seen).links) (relation_pass seen).start ids
+        → is_chosen (member_pass ids seen) ≡ keeps smart seen }
+    ensures spared { (sets : KeptSets) → sets.added.ways ≡ set.empty → (seen : List Seen)
+        → fold member_step sets seen ≡ sets }
 {}
 
 /// Of the list that the sets were gathered from they take by id and refs what they choose by the refs.
 pub fn taken_are_chosen<X>()
-    ensures { (look : X → Seen) (ids : set.FinSet int_cmp) (xs : List X)
-        → filter (λ x. is_taken (record { ways = way_pass (map look xs); relation_ids = ids })
-        (look x)) xs
-        ≡ filter (λ x. is_chosen (record { ways = way_pass (map look xs); relation_ids = ids })
-        (look x)) xs }
+    ensures { (look : X → Seen) (sets : KeptSets) (xs : List X)
+        → sets.ways ≡ way_pass (map look xs)
+        → filter (λ x. is_taken sets (look x)) xs ≡ filter (λ x. is_chosen sets (look x)) xs }
 {}
 
 /// The extract of stored entities is that of decoded ones: the selection sees both alike.

@@ -1,10 +1,11 @@
-//! Which entities of a list are kept: the complete-ways extract, with and without all parents.
+//! Which entities of a list are kept: the complete-ways extract, with and without all parents, and with the members of relations that are wanted whole.
 #![tactic(auto)]
 
 mod choosing;
 mod first;
 mod in_area;
 pub mod laws;
+mod members;
 mod parents;
 mod phases;
 mod sorted;
@@ -12,6 +13,7 @@ mod sorted;
 pub use choosing::Chooser;
 pub use first::FirstPhase;
 pub use in_area::{InArea, NodePhase, NodeTaker, RelationTaker};
+pub use members::MemberPhase;
 pub use parents::{ChosenParents, FoundRelations, RelationPhase};
 pub use phases::{Chosen, NodeIds, SeenWay, WayPhase};
 pub use sorted::SortedPhase;

@@ -6,12 +6,14 @@ ghost use Rattle.std.specs.FinSet as set;
 ghost use Rattle.osm_ids.specs.Links.{IsLeast};
 ghost use Rattle.osm_entity.specs.Sources.{members_left};
 ghost use Rattle.osm_entity.specs.Views.{relation_of};
-ghost use Rattle.osm_ways.specs.Seen.{seen_member, seen_relation};
+ghost use Rattle.osm_ways.specs.Added.{nothing_added};
+ghost use Rattle.osm_ways.specs.Seen.{seen_as, seen_member, seen_relation};
 ghost use Rattle.osm_ways.specs.Phases.{found_if, is_start, nothing_found, relation_step, relations_from, start_relations, with_link};
 
+use crate::members::{AddedIds, MemberPhase};
 use crate::phases::{Chosen, sealed};
 use osm_entity::{MemberKind, Members, RelationRef};
-use osm_ids::{IdSet, Links};
+use osm_ids::{IdSet, Links, Window};
 use std::alloc::{AllocError, Global};
 use std::marker::Model;
 
@@ -31,6 +33,7 @@ impl Chosen {
         RelationPhase {
             chosen: Chosen {
                 relation_ids: None,
+                added: None,
                 ..self
             },
             found,
@@ -38,11 +41,13 @@ impl Chosen {
     }
 }
 
-/// What relations gave: the ids of those that nodes and ways select, and a link from each relation member to its relation.
+/// What relations gave: the ids of those that nodes and ways select, a link from each relation member to its relation, and the members
+/// that are added for those that are wanted whole.
 #[derive(Drop)]
 pub struct FoundRelations {
     start: IdSet,
     links: Links,
+    added: AddedIds,
 }
 
 impl Model for FoundRelations {
@@ -52,7 +57,7 @@ impl Model for FoundRelations {
 
     ghost coded = { found_code };
 
-    ghost view = { λ a. record { start = a.start; links = a.links } };
+    ghost view = { λ a. record { start = a.start; links = a.links; added = a.added } };
 }
 
 impl FoundRelations {
@@ -63,20 +68,30 @@ impl FoundRelations {
         FoundRelations {
             start: IdSet::new(alloc),
             links: Links::new(alloc),
+            added: AddedIds::new(alloc),
         }
     }
 
-    /// Adds a relation, and whether a node or a way selects it.
+    /// Adds a relation, and whether a node or a way selects it, and whether it is wanted whole.
     ///
     /// # Errors
     ///
     /// If memory is refused, it may only be dropped.
-    pub(crate) fn add(&mut self, relation: &RelationRef<'_>, starts: bool) -> Result<(), AllocError>
-        ensures { OnOk result (self.new ≡ found_if starts self.old (relation_of relation.now).id
+    pub(crate) fn add(
+        &mut self,
+        relation: &RelationRef<'_>,
+        starts: bool,
+        whole: bool,
+    ) -> Result<(), AllocError>
+        ensures { OnOk result (self.new ≡ found_if starts whole self.old
+            (relation_of relation.now).id
             (map seen_member (relation_of relation.now).members)) }
     {
         if starts {
             self.start.add(relation.id())?;
+        }
+        if whole && starts {
+            self.added.add(relation.members())?;
         }
         add_links(&mut self.links, relation.id(), relation.members())?;
         Ok(())
@@ -94,6 +109,7 @@ pub struct RelationPhase {
 impl Model for RelationPhase {
     ghost use Rattle.std.specs.Prelude.{◌≡◌};
     ghost use Rattle.std.specs.FinSet as set;
+    ghost use Rattle.osm_ways.specs.Added.{nothing_added};
     ghost use Rattle.osm_ways.specs.Phases.{RelationSets, relation_sets_code, relations_from};
 
     ghost Value = { RelationSets };
@@ -102,7 +118,8 @@ impl Model for RelationPhase {
 
     ghost view = { λ a. relations_from a.chosen.ways a.found };
 
-    ghost invariant = { λ a. a.chosen.relation_ids ≡ set.empty };
+    ghost invariant = { λ a. (a.chosen.relation_ids ≡ set.empty)
+        × (a.chosen.added ≡ nothing_added) };
 }
 
 impl RelationPhase {
@@ -116,8 +133,20 @@ impl RelationPhase {
         ensures { OnOk result
             (self.new ≡ relation_step self.old (seen_relation (relation_of relation.now))) }
     {
+        self.take_whole(relation, false)
+    }
+
+    /// The same of one that may be wanted whole: then its members are added, if a node or a way selects it.
+    ///
+    /// # Errors
+    ///
+    /// If memory is refused, the phase may only be dropped, as there.
+    pub fn take_whole(&mut self, relation: &RelationRef<'_>, whole: bool) -> Result<(), AllocError>
+        ensures { OnOk result
+            (self.new ≡ relation_step self.old (seen_as whole (relation_of relation.now))) }
+    {
         let starts = is_start(&self.chosen, relation);
-        self.found.add(relation, starts)
+        self.found.add(relation, starts, whole)
     }
 
     /// All relations are taken: the ids of those that are kept are the least set that has what nodes and ways select, and with
@@ -130,17 +159,57 @@ impl RelationPhase {
         ensures ways { IfOk result (λ chosen. chosen.ways ≡ self.ways) }
         ensures least { IfOk result
             (λ chosen. IsLeast (set.contains self.links) self.start chosen.relation_ids) }
+        ensures added { IfOk result (λ chosen. chosen.added ≡ nothing_added) }
+    {
+        let (chosen, _added) = self.closed()?;
+        Ok(ChosenParents { chosen })
+    }
+
+    /// The same with the members of relations that are wanted whole: the phase follows that takes the refs of ways among them.
+    ///
+    /// # Errors
+    ///
+    /// If memory is refused, the phase is gone.
+    pub fn begin_members(self) -> Result<MemberPhase, AllocError>
+        ensures ways { IfOk result (λ phase. phase.ways ≡ self.ways) }
+        ensures least { IfOk result
+            (λ phase. IsLeast (set.contains self.links) self.start phase.relation_ids) }
+        ensures added { IfOk result (λ phase. phase.added ≡ self.added) }
+    {
+        let (chosen, added) = self.closed()?;
+        let AddedIds { nodes, ways } = added;
+        let ways = sealed(ways)?;
+        Ok(MemberPhase {
+            chosen,
+            nodes,
+            ways,
+            window: Window::new(),
+        })
+    }
+
+    /// What was chosen, with all parents; and what is added.
+    fn closed(self) -> Result<(Chosen, AddedIds), AllocError>
+        ensures ways { IfOk result (λ both. both.0.ways ≡ self.ways) }
+        ensures least { IfOk result
+            (λ both. IsLeast (set.contains self.links) self.start both.0.relation_ids) }
+        ensures none { IfOk result (λ both. both.0.added ≡ nothing_added) }
+        ensures added { IfOk result (λ both. both.1 ≡ self.added) }
     {
         let RelationPhase { chosen, found } = self;
-        let FoundRelations { start, links } = found;
+        let FoundRelations {
+            start,
+            links,
+            added,
+        } = found;
         let ids = links.close(start)?;
         let relation_ids = Some(sealed(ids)?);
-        Ok(ChosenParents {
-            chosen: Chosen {
+        Ok((
+            Chosen {
                 relation_ids,
                 ..chosen
             },
-        })
+            added,
+        ))
     }
 }
 

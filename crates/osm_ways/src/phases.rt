@@ -11,6 +11,7 @@ ghost use Rattle.osm_ways.specs.Seen.{seen_way, seen_refs};
 ghost use Rattle.osm_ways.specs.Phases.{node_step, nothing_found, start_ways, way_step, refs_if, without_parents};
 
 use crate::in_area::{NodeTaker, RelationTaker};
+use crate::members::SealedAdded;
 use crate::parents::FoundRelations;
 use osm_entity::{Refs, RelationRef, WayRef};
 use osm_ids::{IdLookup, IdSet, SealedIds, Window};
@@ -69,7 +70,11 @@ impl NodeTaker for NodeIds {
         false
     }
 
-    fn take_relation(&mut self, _relation: &RelationRef<'_>) -> Result<(), AllocError> {
+    fn take_relation(
+        &mut self,
+        _relation: &RelationRef<'_>,
+        _whole: bool,
+    ) -> Result<(), AllocError> {
         Ok(())
     }
 
@@ -173,6 +178,7 @@ impl WayPhase {
             refs,
             way_ids,
             relation_ids: None,
+            added: None,
             alloc,
         })
     }
@@ -275,8 +281,8 @@ pub(crate) fn add_refs_of<I: IdLookup>(
     Ok(true)
 }
 
-/// What was chosen: the ids of the box's nodes, of all nodes that are kept, and of the ways that are kept; and if all parents are
-/// kept, of all relations that are.
+/// What was chosen: the ids of the box's nodes, of all nodes that are kept, and of the ways that are kept; if all parents are
+/// kept, of all relations that are; and if relations are wanted whole, what is added for their sake.
 #[derive(Drop)]
 pub struct Chosen {
     pub(crate) box_ids: SealedIds,
@@ -285,10 +291,13 @@ pub struct Chosen {
     pub(crate) way_ids: SealedIds,
     /// Those of all parents, if they were chosen too.
     pub(crate) relation_ids: Option<SealedIds>,
+    /// What was added for relations that are wanted whole, if they were asked for.
+    pub(crate) added: Option<SealedAdded>,
     pub(crate) alloc: Global,
 }
 
 impl Model for Chosen {
+    ghost use Rattle.osm_ways.specs.Added.{added_or_none};
     ghost use Rattle.osm_ways.specs.Phases.{KeptSets, kept_sets_code, sets_of, ids_or_none};
 
     ghost Value = { KeptSets };
@@ -298,5 +307,6 @@ impl Model for Chosen {
     ghost view = { λ a. record {
       ways = sets_of a.box_ids a.refs a.way_ids;
       relation_ids = ids_or_none a.relation_ids;
+      added = added_or_none a.added;
     } };
 }

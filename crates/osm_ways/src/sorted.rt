@@ -96,8 +96,12 @@ impl NodeTaker for SortedPhase {
         true
     }
 
-    /// If the order holds, adds what it gives: whether a node or a way selects it, and its links.
-    fn take_relation(&mut self, relation: &RelationRef<'_>) -> Result<(), AllocError> {
+    /// If the order holds, adds what it gives: whether a node or a way selects it, its links, and its members if it is wanted whole.
+    fn take_relation(
+        &mut self,
+        relation: &RelationRef<'_>,
+        whole: bool,
+    ) -> Result<(), AllocError> {
         if !self.first.has_all_ways() {
             return Ok(());
         }
@@ -106,7 +110,7 @@ impl NodeTaker for SortedPhase {
             self.has_relations = true;
         }
         let starts = self.first.selects(relation);
-        self.found.add(relation, starts)
+        self.found.add(relation, starts, whole)
     }
 
     fn has_all_ways(&self) -> bool {

@@ -10,7 +10,7 @@ use Rattle.osm_area.specs.Area.{AreaSpec, box_area}
 use Rattle.osm_box.specs.declared.bounding_box.BoundingBox.{BoundingBox}
 use Rattle.osm_ways.specs.declared.in_area.InArea.{InArea}
 use Rattle.osm_ways.specs.InArea.{stepped}
-use Rattle.osm_ways.specs.Phases.{PassesOver, WaySets, RelationSets}
+use Rattle.osm_ways.specs.Phases.{KeptSets, PassesOver, RelationSets, WaySets}
 use Rattle.osm_ways.specs.Selection.{Seen, a_node}
 use Rattle.pbf_dense.specs.declared.places.Place.{Place}
 use Rattle.pbf_dense.specs.declared.places.Places.{Places}
@@ -21,7 +21,7 @@ use Rattle.pbf_block.specs.Kinds.{is_among}
 use Rattle.pbf_block.specs.Runs.{joined_runs}
 use Rattle.pbf_frame.specs.Frames.{FrameSpec}
 use Rattle.pbf_pass.specs.Counting.{stored_entities, frame_entities}
-use Rattle.pbf_pass.specs.Pass.{as_it_was, with_inside, with_seen, with_seen_in, with_way, with_relation}
+use Rattle.pbf_pass.specs.Pass.{as_it_was, with_inside, with_seen, with_seen_in, with_way, with_relation, with_added_way}
 use Rattle.pbf_pass.proofs.CountLemmas.{stored_one}
 
 -- one frame more is gathered
@@ -105,3 +105,7 @@ ways_of_nodes sets (n ∷ ns) = ways_of_nodes sets ns
 pub relations_of_nodes : (sets : RelationSets) (ns : List NodeSpec) → sets ≡ fold with_relation sets (map node ns)
 relations_of_nodes sets [] = refl
 relations_of_nodes sets (n ∷ ns) = relations_of_nodes sets ns
+
+pub added_ways_of_nodes : (sets : KeptSets) (ns : List NodeSpec) → sets ≡ fold with_added_way sets (map node ns)
+added_ways_of_nodes sets [] = refl
+added_ways_of_nodes sets (n ∷ ns) = added_ways_of_nodes sets ns

@@ -7,7 +7,7 @@ use Rattle.osm_area.specs.Area.{AreaSpec, box_area}
 use Rattle.osm_box.specs.declared.bounding_box.BoundingBox.{BoundingBox}
 use Rattle.osm_ways.specs.declared.in_area.InArea.{InArea}
 use Rattle.osm_ways.specs.Selection.{Seen, a_node}
-use Rattle.osm_ways.specs.Phases.{Ids, WaySets, RelationSets, node_step, way_step, relation_step}
+use Rattle.osm_ways.specs.Phases.{Ids, WaySets, RelationSets, KeptSets, node_step, way_step, relation_step, member_step}
 use Rattle.osm_ways.specs.Seen.{seen_node, seen_way, seen_relation}
 use Rattle.pbf_header.specs.Header.{HeaderSpec, header_of, header_in}
 use Rattle.pbf_block.specs.declared.counts.Counts.{Counts}
@@ -105,6 +105,11 @@ with_way sets _ = sets
 abbrev pub with_relation : RelationSets → EntitySpec → RelationSets
 with_relation sets (relation r) = relation_step sets (seen_relation r)
 with_relation sets _ = sets
+
+-- the refs of the ways that were added
+abbrev pub with_added_way : KeptSets → EntitySpec → KeptSets
+with_added_way sets (way w) = member_step sets (seen_way w)
+with_added_way sets _ = sets
 
 -- ---- of a payload, and of a frame
 

@@ -31,7 +31,7 @@ impl<A: Area, P: NodeTaker> Gather for InArea<A, P> {
         match entity {
             EntityRef::Node(node) => self.take_node(node),
             EntityRef::Way(way) => self.phase.take_refs(SeenWay::of(way)),
-            EntityRef::Relation(relation) => self.phase.take_relation(relation),
+            EntityRef::Relation(relation) => self.phase.take_relation(relation, false),
         }
     }
 

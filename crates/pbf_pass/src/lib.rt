@@ -6,6 +6,7 @@ mod hashed;
 mod hashing;
 mod header_limit;
 mod in_area;
+mod members;
 mod pass;
 mod receipt;
 mod unjudged;

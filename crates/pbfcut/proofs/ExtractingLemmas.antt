@@ -10,6 +10,7 @@ use Rattle.osm_entity.specs.Ranges.{IsInt64}
 use Rattle.std.specs.Int.Signed.{mag}
 use Rattle.osm_entity.specs.Entity.{EntitySpec, node, way, relation}
 use Rattle.osm_ids.specs.Links.{IsLeast}
+use Rattle.osm_ways.specs.Added.{nothing_added}
 use Rattle.osm_ways.specs.Phases.{Found, TakesAll, TakesFirst, WaySets, RelationSets, KeptSets, nothing_found, relations_from, way_step, relation_step, start_ways, start_relations, node_pass, without_parents, way_pass, relation_pass, is_chosen, is_taken}
 use Rattle.osm_ways.specs.Seen.{seen_entity, seen_member}
 use Rattle.osm_ways.specs.Selection.{MemberSeen, Seen, a_relation, Strategy, all_parents, complete_ways, keeps}
@@ -74,7 +75,7 @@ taken_as : (area : AreaSpec) (es : List EntitySpec) (sets : KeptSets) (by : Stra
     → filter (taken_by sets) es ≡ kept_entities by area es
 taken_as area es sets by ways all =
     filter_agree (taken_by sets) (λ e. is_taken sets (seen_entity area e)) (taken_is area sets) es
-    ∙ subst (λ (w : WaySets). filter (λ e. is_taken (record { ways = w; relation_ids = sets.relation_ids }) (seen_entity area e)) es ≡ filter (λ e. is_chosen (record { ways = w; relation_ids = sets.relation_ids }) (seen_entity area e)) es) (sym ways) (taken_are_chosen (seen_entity area) sets.relation_ids es)
+    ∙ taken_are_chosen (seen_entity area) sets es ways
     ∙ ap (λ (k : Seen → Bool). filter (λ e. k (seen_entity area e)) es) all
 
 -- what the sets keep is the complete-ways extract
@@ -178,11 +179,11 @@ relations_folded area sets (way w ∷ es) = relations_folded area sets es
 relations_folded area sets (relation r ∷ es) = relations_folded area (with_relation sets (relation r)) es
 
 -- what the sets keep is the extract with all parents
-parents_are : (area : AreaSpec) (es : List EntitySpec) (sets : KeptSets) → sets.ways ≡ (relation_pass (map (seen_entity area) es)).ways
+parents_are : (area : AreaSpec) (es : List EntitySpec) (sets : KeptSets) → sets.ways ≡ (relation_pass (map (seen_entity area) es)).ways → sets.added ≡ nothing_added
     → IsLeast (set.contains (relation_pass (map (seen_entity area) es)).links) (relation_pass (map (seen_entity area) es)).start sets.relation_ids → filter (taken_by sets) es ≡ kept_entities all_parents area es
-parents_are area es sets ways least =
+parents_are area es sets ways none least =
     let seen = map (seen_entity area) es in
-    taken_as area es sets all_parents (ways ∙ ways_stay seen) (ap (λ (w : WaySets). is_chosen (record { ways = w; relation_ids = sets.relation_ids })) ways ∙ chosen_with_parents seen sets.relation_ids least)
+    taken_as area es sets all_parents (ways ∙ ways_stay seen) ((λ i. is_chosen (record { ways = ways i; relation_ids = sets.relation_ids; added = none i })) ∙ chosen_with_parents seen sets.relation_ids least)
 
 pub selects_parents : (sets : KeptSets) (area : AreaSpec) (b : List ℕ) (first second third : Option Verdict) (h : HeaderSpec) → first ≡ judged_file (Some b) → second ≡ judged_file (Some b) → third ≡ judged_file (Some b)
     → ChoosesParents area first second third sets h → Selects b all_parents area (taken_by sets) h
@@ -192,7 +193,7 @@ selects_parents sets area b first second third h is too more p =
     let relations : p.relations ≡ relation_pass (map (seen_entity area) es) =
     p.gathered c.frames (more ∙ its_frames area b first second _ h is too c) ∙ (ap (λ (w : WaySets). fold with_relation (start_relations w) es) (its_ways area b first second _ h is too c) ∙ relations_folded area (start_relations (way_pass (map (seen_entity area) es))) es) in
     selects area b first second _ h is too c all_parents (taken_by sets)
-    (parents_are area es sets (p.kept ∙ ap (λ (r : RelationSets). r.ways) relations) (subst (λ (r : RelationSets). IsLeast (set.contains r.links) r.start sets.relation_ids) relations p.least))
+    (parents_are area es sets (p.kept ∙ ap (λ (r : RelationSets). r.ways) relations) p.added (subst (λ (r : RelationSets). IsLeast (set.contains r.links) r.start sets.relation_ids) relations p.least))
 
 -- ---- if passes may be left out
 
@@ -240,7 +241,7 @@ module _ {S : Type 0} (start : S) (step : S → Seen → S) (has_ways : S → Bo
 
     -- and a third one, for relations
     module _ (found_of : S → Found) (takes_all : TakesAll start step has_ways ended found_of) (third : FeedUse) (found : Found) (founds : found ≡ found_of phase) (begun_relations relations : RelationSets) (begins_with : begun_relations ≡ relations_from sets.ways found)
-        (last now : KeptSets) (keeps : last.ways ≡ relations.ways) (least : IsLeast (set.contains relations.links) relations.start last.relation_ids) (handed : now ≡ last) where
+        (last now : KeptSets) (keeps : last.ways ≡ relations.ways) (least : IsLeast (set.contains relations.links) relations.start last.relation_ids) (none : last.added ≡ nothing_added) (handed : now ≡ last) where
       sets_ways : sets.ways ≡ ways
       sets_ways = ap (λ (s : KeptSets). s.ways) kept
 
@@ -254,6 +255,7 @@ module _ {S : Type 0} (start : S) (step : S → Seen → S) (has_ways : S → Bo
           gathered = gathered;
           kept = ap (λ (s : KeptSets). s.ways) handed ∙ keeps;
           least = subst (λ (s : KeptSets). IsLeast (set.contains relations.links) relations.start s.relation_ids) (sym handed) least;
+          added = ap (λ (s : KeptSets). s.added) handed ∙ none;
         };
         short = p.short;
       }

@@ -7,6 +7,7 @@ use Rattle.osm_area.specs.Area.{AreaSpec}
 use Rattle.osm_entity.specs.Entity.{EntitySpec}
 use Rattle.osm_ids.specs.Links.{IsLeast}
 use Rattle.osm_ways.specs.Selection.{Seen, Strategy, extract}
+use Rattle.osm_ways.specs.Added.{nothing_added}
 use Rattle.osm_ways.specs.Phases.{WaySets, RelationSets, KeptSets, without_parents, node_pass, start_ways, start_relations}
 use Rattle.osm_ways.specs.Seen.{seen_entity}
 use Rattle.osm_pack.specs.Cuts.{written_file}
@@ -66,6 +67,7 @@ pub record ChoosesParents (area : AreaSpec) (first second third : Option Verdict
   pub gathered : GathersFile with_relation third (start_relations ways) relations
   pub kept : sets.ways ≡ relations.ways
   pub least : IsLeast (set.contains relations.links) relations.start sets.relation_ids
+  pub added : sets.added ≡ nothing_added
 
 -- what the passes before the one that writes report of files: what was chosen, and the header that is written
 pub record IsChoice (area : AreaSpec) (first second : List ℕ) (sets : KeptSets) (h : HeaderSpec) : Type 0 where

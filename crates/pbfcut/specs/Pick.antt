@@ -1,12 +1,11 @@
 -- Entities that are picked, on their way into the drain.
 use Rattle.std.specs.Prelude.{◌≡◌, ◌≤◌, ◌⊎◌, ◌+◌, ℕ, ℤ, List, [], ◌++◌, Bool, true, false, Option, Some, None, Result, Err, OnOk, IfErr}
 use Rattle.std.specs.Borrow.{Bor}
-use Rattle.std.specs.FinSet as set
 use Rattle.std.specs.List.{AllByRecursion, filter}
 use Rattle.std.specs.Option.{option_map}
 use Rattle.osm_entity.specs.Entity.{EntitySpec, node, way, relation}
 use Rattle.osm_entity.specs.Ranges.{EntityFits}
-use Rattle.osm_ways.specs.Phases.{KeptSets, is_chosen, is_taken}
+use Rattle.osm_ways.specs.Phases.{KeptSets, is_chosen, is_taken, keeps_id}
 use Rattle.osm_ways.specs.Selection.{Seen}
 use Rattle.osm_ways.specs.Seen.{seen_way, seen_relation}
 use Rattle.osm_pack.specs.declared.open_block.TheConstants.{MOST_HELD}
@@ -45,7 +44,7 @@ everything e = true
 
 -- nodes by the sets' ids, ways and relations by a test
 abbrev pub kept_by : (KeptSets → Seen → Bool) → KeptSets → Pick
-kept_by test sets (node n) = set.contains sets.ways.node_ids n.id
+kept_by test sets (node n) = keeps_id sets n.id
 kept_by test sets (way w) = test sets (seen_way w)
 kept_by test sets (relation r) = test sets (seen_relation r)
 
@@ -83,7 +82,7 @@ picks_of picker = picks_by picker.by_ids picker.chooser
 -- which nodes are, by their id
 abbrev pub id_picked : Option KeptSets → ℤ → Bool
 id_picked None id = true
-id_picked (Some sets) id = set.contains sets.ways.node_ids id
+id_picked (Some sets) id = keeps_id sets id
 
 unfoldable pub picks_id : Picker → ℤ → Bool
 picks_id picker id = id_picked picker.chooser id

@@ -97,11 +97,15 @@ impl<'a> Picker<'a> {
     {
         match &mut self.chooser {
             None => true,
-            Some(chooser) if self.by_ids => {
+            Some(chooser) => {
                 let (id, refs) = unmade.id_and_refs();
-                chooser.takes_way(SeenWay { id, refs })
+                let way = SeenWay { id, refs };
+                if self.by_ids {
+                    chooser.takes_way(way)
+                } else {
+                    chooser.keeps_seen(way)
+                }
             }
-            Some(chooser) => chooser.keeps_refs(unmade.refs()),
         }
     }
 
