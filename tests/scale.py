@@ -3,7 +3,7 @@
 
 usage: tests/scale.py PROGRAM
 
-They are the same bytes, with all parents and without them. A cut that was interrupted is made again, and a box that leaves the one around it is
+They are the same bytes, with all parents and without them, and if only the larger one is with them. A cut that was interrupted is made again, and a box that leaves the one around it is
 refused. The script of docs/SCALE.md, one cut after another as a job array runs it, makes the same cuts. Without bash, GNU make, awk or cmp the test has
 nothing to run, and its status is 77.
 """
@@ -95,6 +95,15 @@ class Tree:
         os.remove(self.file(name))
 
 
+def cut_out_of_wider(wide: Tree, cuts: dict):
+    """A cut without parents out of one with them has the bytes of one without them."""
+    for name, above in listed("from").items():
+        narrow = wide.file(f"{name}.narrow")
+        succeed([wide.program, "extract", f"--box={listed('box')[name]}", wide.file(above), narrow])
+        if contents(narrow) != cuts[name]:
+            fail(f"{name} without parents, out of {above} with them, has other bytes")
+
+
 def refuses_box(program: str, folder: str):
     """A box that leaves the one around it is no part of the tree."""
     done = run([*Tree(program, folder, False).words(), "box.town=9.9,49.997,10.004,50.004"])
@@ -136,6 +145,7 @@ def main():
         cuts = [tree.compare_all() for tree in trees]
         if any(cuts[0][name] == cuts[1][name] for name in cuts[0]):
             fail("a cut with parents has the bytes of one without them")
+        cut_out_of_wider(trees[1], cuts[0])
         trees[0].interrupt("town")
         if trees[0].compare_all() != cuts[0]:
             fail("a cut that was made again has other bytes")
