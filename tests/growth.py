@@ -211,6 +211,16 @@ def a_parent_of_many(size: int) -> list:
     return [block(nodes(1)), block(field(2, parent + children + relation(1, b"\x02", b"\x00")))]
 
 
+def ways_and_relations_in_turn(size: int) -> list:
+    """Each way is a member of the relation after it. The ways have a node in the box and ten that are nowhere, whose ids fall: a set of them has to be
+    sorted before it is asked for a relation, and each way but the first comes after a relation."""
+    pairs = b""
+    for number in range(1, 1 + 1_000 * size):
+        refs = deltas([1, *((1 << 40) - 10 * number - index for index in range(10))])
+        pairs += field(2, way(number, refs)) + field(2, relation(number, varint(zigzag(number)), b"\x01"))
+    return [block(nodes(10_000 * size)), (b"OSMData", TABLE + pairs)]
+
+
 def an_id_column_in_single_numbers(size: int) -> list:
     """Each number of the columns is an occurrence of its field by itself."""
     count = 12_500 * size
@@ -286,6 +296,12 @@ def nodes_with_metadata_that_differs(size: int) -> list:
     return [block(field(2, group * (1_000 * size)))]
 
 
+def a_header_of_many_features(size: int) -> list:
+    """Each of the optional features is another short text."""
+    features = b"".join(field(5, b"%d" % number) for number in range(20_000 * size))
+    return [(b"OSMHeader", features), block(nodes(2))]
+
+
 def tiny_frames(size: int) -> list:
     return [(b"OSMData", TABLE)] * (3_000 * size)
 
@@ -305,8 +321,13 @@ def framed(kind: bytes, blob: bytes) -> bytes:
     return struct.pack(">I", len(header)) + header + blob
 
 
+def begin_of(frames: list) -> bytes:
+    """The header that comes before these frames, if they don't begin with one."""
+    return b"" if frames[0][0] == b"OSMHeader" else EMPTY_HEADER
+
+
 def raw_file(frames: list) -> bytes:
-    return EMPTY_HEADER + b"".join(framed(kind, field(1, payload)) for kind, payload in frames)
+    return begin_of(frames) + b"".join(framed(kind, field(1, payload)) for kind, payload in frames)
 
 
 def zlib_file(frames: list, pack=lambda payload: zlib.compress(payload, 1), has_size: bool = True) -> bytes:
@@ -314,7 +335,7 @@ def zlib_file(frames: list, pack=lambda payload: zlib.compress(payload, 1), has_
         return (scalar(2, len(payload)) if has_size else b"") + field(3, pack(payload))
 
     made = {frame: framed(frame[0], blob(frame[1])) for frame in set(frames)}
-    return EMPTY_HEADER + b"".join(made[frame] for frame in frames)
+    return begin_of(frames) + b"".join(made[frame] for frame in frames)
 
 
 def stored(payload: bytes) -> bytes:
@@ -452,11 +473,13 @@ COMMANDS = {
     "pack": (["pack", "in", "out"], 2),
     "unpack": (["unpack", "in", "out"], 2),
     "info": (["info", "in"], 1),
+    "info --json": (["info", "--json", "in"], 1),
 }
-# those of any file, and those that only pbfcutz has
+# those of any file, and those that only pbfcutz has; `info --json` differs from `info` only by the header
 ANY, ZLIB_ONLY = ("check", "show", "convert", "extract", "extract --parents"), ("pack", "unpack", "info")
 # what these say in full is longer than the file by far
 NOT_SHOWN = {nodes_of_a_long_user, a_long_key_in_each_node, a_long_key_in_each_way}
+OF_THE_HEADER = {a_header_of_many_features}
 
 
 def files_of(shape, size: int) -> dict:
@@ -598,8 +621,9 @@ def rows_of(shape) -> list:
         read.update(made_apart(lambda: {f"{name}.{size}": made for name, made in files_of(shape, size).items()}))
     name = shape.__name__.replace("_", " ") if callable(shape) else shape
     commands = ["extract --polygon"] if shape in POLYGONS else [command for command in ANY if not (shape in NOT_SHOWN and command == "show")]
+    of_zlib = [*ZLIB_ONLY, "info --json"] if shape in OF_THE_HEADER else list(ZLIB_ONLY)
     programs = [program for program in ("pbfcut", "pbfcutz") if f"{program}.{SIZES[0]}" in read]
-    rows = [Row(name, program, command, read) for program in programs for command in commands + list(ZLIB_ONLY if program == "pbfcutz" else ())]
+    rows = [Row(name, program, command, read) for program in programs for command in commands + (of_zlib if program == "pbfcutz" else [])]
     for row in rows:
         row.run()
         for _ in range(TRIES):

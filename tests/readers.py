@@ -177,7 +177,8 @@ class Bench:
 
     def packed(self, words: list, source: str):
         """What pbfcutz writes, to all readers."""
-        self.ask(self.written("pbfcutz", [*words, source], f"{words[0]}-of-{os.path.basename(source).split('.')[0]}"), False)
+        name = "-".join(word.lstrip("-") for word in words if word != BOX)
+        self.ask(self.written("pbfcutz", [*words, source], f"{name}-of-{os.path.basename(source).split('.')[0]}"), False)
 
     def raw(self, name: str):
         """What both programs write raw, to the readers that read that."""
@@ -204,6 +205,7 @@ def main():
             bench.raw(name)
             bench.packed(["extract", BOX], bench.path(name))
         bench.packed(["extract", BOX], bench.path("town-raw"))
+        bench.packed(["extract", "--parents", BOX], bench.path("town"))
         bench.packed(["convert"], bench.path("town"))
         bench.packed(["pack"], bench.path("town-raw"))
     print(f"{bench.count} files read by {len(readers)} programs" + (f"; not there: {', '.join(absent)}" if absent else ""))

@@ -46,7 +46,7 @@ fn put_listed(out: &mut Vec<u8>, texts: &[Vec<u8>]) -> Result<(), AllocError>
 }
 
 /// Appends the member of a list of texts.
-fn put_list(out: &mut Vec<u8>, word: &[u8], texts: &[Vec<u8>]) -> Result<(), AllocError>
+fn put_list_member(out: &mut Vec<u8>, word: &[u8], texts: &[Vec<u8>]) -> Result<(), AllocError>
     ensures { OnOk result
         (out.new.items ≡ out.old.items ++ list_member word.now (map text_of texts.now)) }
 {
@@ -58,7 +58,7 @@ fn put_list(out: &mut Vec<u8>, word: &[u8], texts: &[Vec<u8>]) -> Result<(), All
 }
 
 /// Appends the member of a text, if there is one.
-fn put_maybe_text(out: &mut Vec<u8>, word: &[u8], text: &Option<Vec<u8>>) -> Result<(), AllocError>
+fn put_text_member(out: &mut Vec<u8>, word: &[u8], text: &Option<Vec<u8>>) -> Result<(), AllocError>
     ensures { OnOk result (out.new.items
         ≡ out.old.items ++ maybe_text_member word.now (option_map text_of text.now)) }
 {
@@ -71,7 +71,7 @@ fn put_maybe_text(out: &mut Vec<u8>, word: &[u8], text: &Option<Vec<u8>>) -> Res
 }
 
 /// Appends the member of a number, if there is one.
-fn put_maybe_number(out: &mut Vec<u8>, word: &[u8], number: Option<i64>) -> Result<(), AllocError>
+fn put_number_member(out: &mut Vec<u8>, word: &[u8], number: Option<i64>) -> Result<(), AllocError>
     ensures { OnOk result (out.new.items ≡ out.old.items ++ maybe_number_member word.now number) }
 {
     if let Some(number) = number {
@@ -84,7 +84,7 @@ fn put_maybe_number(out: &mut Vec<u8>, word: &[u8], number: Option<i64>) -> Resu
 
 /// Appends two numbers with a comma between.
 #[tactic(auto, unfolding(crate::specs::HeaderJson::number_pair))]
-fn put_pair(out: &mut Vec<u8>, first: i64, second: i64) -> Result<(), AllocError>
+fn put_number_pair(out: &mut Vec<u8>, first: i64, second: i64) -> Result<(), AllocError>
     ensures { OnOk result (out.new.items ≡ out.old.items ++ number_pair first second) }
 {
     put_signed(out, i128::from(first))?;
@@ -93,24 +93,24 @@ fn put_pair(out: &mut Vec<u8>, first: i64, second: i64) -> Result<(), AllocError
 }
 
 /// Appends the edges of a box in brackets.
-fn put_edges(out: &mut Vec<u8>, edges: HeaderBox) -> Result<(), AllocError>
+fn put_edges_value(out: &mut Vec<u8>, edges: HeaderBox) -> Result<(), AllocError>
     ensures { OnOk result (out.new.items ≡ out.old.items ++ edges_value edges) }
 {
     out.push(b'[')?;
-    put_pair(out, edges.left, edges.bottom)?;
+    put_number_pair(out, edges.left, edges.bottom)?;
     out.push(b',')?;
-    put_pair(out, edges.right, edges.top)?;
+    put_number_pair(out, edges.right, edges.top)?;
     out.push(b']')?;
     Ok(())
 }
 
 /// Appends the member of the box, if there is one.
-fn put_maybe_box(out: &mut Vec<u8>, bbox: Option<HeaderBox>) -> Result<(), AllocError>
+fn put_box_member(out: &mut Vec<u8>, bbox: Option<HeaderBox>) -> Result<(), AllocError>
     ensures { OnOk result (out.new.items ≡ out.old.items ++ maybe_box_member bbox) }
 {
     if let Some(edges) = bbox {
         put_key(out, b"bbox")?;
-        put_edges(out, edges)?;
+        put_edges_value(out, edges)?;
         out.push(b',')?;
     }
     Ok(())
@@ -123,12 +123,12 @@ fn put_maybe_box(out: &mut Vec<u8>, bbox: Option<HeaderBox>) -> Result<(), Alloc
 pub fn put_header_members(out: &mut Vec<u8>, header: &Header) -> Result<(), AllocError>
     ensures { OnOk result (out.new.items ≡ out.old.items ++ header_members (header_of header.now)) }
 {
-    put_maybe_box(out, header.bbox)?;
-    put_list(out, b"required", &header.required)?;
-    put_list(out, b"optional", &header.optional)?;
-    put_maybe_text(out, b"program", &header.program)?;
-    put_maybe_text(out, b"source", &header.source)?;
-    put_maybe_number(out, b"timestamp", header.timestamp)?;
-    put_maybe_number(out, b"sequence", header.sequence)?;
-    put_maybe_text(out, b"url", &header.url)
+    put_box_member(out, header.bbox)?;
+    put_list_member(out, b"required", &header.required)?;
+    put_list_member(out, b"optional", &header.optional)?;
+    put_text_member(out, b"program", &header.program)?;
+    put_text_member(out, b"source", &header.source)?;
+    put_number_member(out, b"timestamp", header.timestamp)?;
+    put_number_member(out, b"sequence", header.sequence)?;
+    put_text_member(out, b"url", &header.url)
 }

@@ -46,6 +46,9 @@ fn put_quoted_byte(
 }
 
 /// Appends a text between quotation marks, with a mark before the digits of a byte that has no form.
+///
+/// `show` does this for each text of a file. Inlined, it has the mark as a constant.
+#[inline(always)]
 fn put_quoted_by(out: &mut Vec<u8>, mark: &[u8], text: &[u8]) -> Result<(), AllocError>
     ensures { OnOk result (out.new.items ≡ out.old.items ++ quoted_by mark.now text.now) }
 {

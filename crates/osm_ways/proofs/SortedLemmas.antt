@@ -1,9 +1,9 @@
 -- Nodes, ways and relations in one pass: the sets are those of the three passes, if the order holds.
-use Rattle.std.proofs.Common.{arith, ◌≡◌, ℤ, Bool, true, false, ◌&&◌, not, List, [], ◌∷◌, refl, sym, ap, ◌∙◌}
+use Rattle.std.proofs.Common.{arith, ◌≡◌, ℤ, Bool, true, false, ◌&&◌, not, List, [], ◌∷◌, refl, ap, ◌∙◌}
 use Rattle.std.specs.List.{fold}
 use Rattle.std.specs.FinSet as set
-use Rattle.osm_ways.specs.Selection.{MemberSeen, Seen, a_node, a_way, a_relation}
-use Rattle.osm_ways.specs.Phases.{Found, Ids, RelationSets, TakesAll, TakesFirst, WaySets, PassesOver, found_with, node_pass, node_step, nothing_found, relation_pass, relation_step, relations_from, start_relations, start_ways, way_pass, way_step}
+use Rattle.osm_ways.specs.Selection.{Seen, a_node, a_way, a_relation}
+use Rattle.osm_ways.specs.Phases.{Found, Ids, RelationSets, TakesAll, TakesFirst, WaySets, PassesOver, found_with, node_step, nothing_found, relation_step, relations_from, start_relations, start_ways, way_step}
 use Rattle.osm_ways.specs.First.{FirstSets, before_node, first_step}
 use Rattle.osm_ways.specs.Sorted.{SortedSets, before_more, sorted_pass, sorted_step, start_sorted, without_ways}
 use Rattle.osm_ways.proofs.FirstLemmas.{broken, first_step-passes_over, fresh, going}

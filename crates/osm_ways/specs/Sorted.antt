@@ -1,4 +1,5 @@
--- Nodes, ways and relations in one pass: if no node comes after a way, and neither after a relation, the sets are those of the three passes.
+-- Nodes, ways and relations in one pass. If all nodes come before all ways, and these before all relations, the sets are those of the three passes.
+-- If not, the order is broken, and this pass gives only the nodes: ways and relations need passes of their own.
 use Rattle.std.specs.Prelude.{Bool, true, false, if◌then◌else◌, List, refl}
 use Rattle.std.specs.Coded.{Coded, code_by, coded×, coded_bool}
 use Rattle.std.specs.List.{fold}
@@ -6,7 +7,8 @@ use Rattle.osm_ways.specs.First.{FirstSets, first_sets_code, first_step, start_f
 use Rattle.osm_ways.specs.Phases.{Found, found_code, found_with, nothing_found, start_ways}
 use Rattle.osm_ways.specs.Selection.{Seen, a_node, a_way, a_relation}
 
--- whether there was a relation; what nodes and ways gave; and what relations did, which is nothing if the order was broken
+-- whether a relation was taken; what nodes and ways gave; and what relations gave. Once the order is broken, no relation counts as taken, and what
+-- ways and relations gave is empty
 pub record SortedSets : Type 0 where
   pub has_relations : Bool
   pub first : FirstSets
@@ -18,11 +20,12 @@ sorted_sets_code = code_by (Bool × (FirstSets × Found)) (coded× coded_bool (c
 abbrev pub start_sorted : SortedSets
 start_sorted = record { has_relations = false; first = start_first; found = nothing_found }
 
--- only the nodes are kept
+-- what is left of nodes and ways once the order is broken: only the nodes
 abbrev pub without_ways : FirstSets → FirstSets
 without_ways sets = record { has_ways = sets.has_ways; in_order = false; ways = start_ways sets.ways.box_ids }
 
--- relations that came before a node or a way are dropped, and the ways with them: it may be among their members
+-- what is left when a node or a way comes. If a relation came before it, the order is broken here: whether that relation is kept may depend on it.
+-- So the relations are dropped, and the ways with them, and from here on only nodes are kept
 abbrev pub before_more : SortedSets → SortedSets
 before_more sets = if sets.has_relations then record { has_relations = false; first = without_ways sets.first; found = nothing_found } else sets
 

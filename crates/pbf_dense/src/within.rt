@@ -103,6 +103,8 @@ impl<'a> Iterator for IdsWithin<'a> {
 
     ghost remaining = { item_count ids_within_left };
 
+    // Each first phase has a loop of its own over these, into which a call would not be inlined.
+    #[inline(always)]
     fn next(&mut self) -> Option<i64> {
         'nodes: while let Some(lon) = self.next_lon() {
             let id = self.ids.next()?;

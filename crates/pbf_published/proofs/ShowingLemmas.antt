@@ -1,7 +1,6 @@
 -- What is said of a published file.
-use Rattle.std.proofs.Common.{◌≡◌, arith, ℕ, suc, Bool, true, false, List, [], Option, Some, None, Result, IfErr, IfSome, refl, sym, ap, subst, ◌∙◌}
+use Rattle.std.proofs.Common.{◌≡◌, arith, ℕ, Bool, false, List, [], Option, Some, None, IfSome, refl, sym, ap, subst, ◌∙◌}
 use Rattle.pbf_frame.specs.declared.device.Feed as feed
-use Rattle.pbf_frame.specs.declared.stop.Stop.{Stop}
 use Rattle.pbf_frame.specs.Devices.{IsAtEnd, prepend}
 use Rattle.pbf_frame.specs.Frames.{FrameSpec, is_data, is_header}
 use Rattle.pbf_frame.specs.Verdict.{Says, Verdict, judged_known}
@@ -10,15 +9,12 @@ use Rattle.pbf_pass.specs.Given.{GaveFile}
 use Rattle.pbf_pass.specs.Hashing.{Mark}
 use Rattle.pbf_pass.proofs.GivenLemmas.{Tells, tells_file}
 use Rattle.pbf_unpack.specs.declared.stored.Stored.{Stored}
-use Rattle.pbf_unpack.specs.declared.feed.UnpackedFeed.{UnpackedFeed}
-use Rattle.pbf_unpack.specs.Reports.{GavePacked}
 use Rattle.pbf_unpack.specs.Stored.{stored_from}
 use Rattle.pbf_unpack.specs.Unpacked.{unpacked}
 use Rattle.pbfcut.specs.declared.summary.Summary.{Summary}
 use Rattle.pbfcut.specs.Summary.{IsSummary, count_of, first_header, header_lines, is_other, members_of}
-use Rattle.pbf_published.specs.Published.{HasTraced, log_number, raw_of}
+use Rattle.pbf_published.specs.Published.{raw_of}
 use Rattle.pbf_published.specs.Showing.{TellsInfo, info_text, summary_text}
-use Rattle.pbf_published.proofs.TracedLemmas.{traced_all}
 
 says_frames : (known : Option (List ℕ)) (file : List ℕ) (v : Verdict) → Tells known file → Says (judged_known false 0 (Some file)) v → Says (judged_known false 0 known) v
 says_frames None file v tells says = tt
@@ -30,8 +26,7 @@ none_left old new file all h4 h5 h6 = grind arith
 -- what is said by the summary of frames is what is said of them
 said_so : (json : Bool) (frames : List FrameSpec) (s : Summary) (stored : Stored) → s.lines.items ≡ header_lines (first_header frames) → s.members.items ≡ members_of (first_header frames)
     → s.headers ≡ count_of is_header frames → s.blocks ≡ count_of is_data frames → s.others ≡ count_of is_other frames → summary_text json s stored ≡ info_text json frames stored
-said_so false frames s stored lines members headers blocks others = rw (lines, headers, blocks, others) refl
-said_so true frames s stored lines members headers blocks others = rw (members, headers, blocks, others) refl
+said_so json frames s stored lines members headers blocks others = rw (lines, members, headers, blocks, others) refl
 
 -- a summary of the file that a feed gave, whose blobs are stored so if it reports its bytes, is what is to be said of it
 pub tells_info : {U : Type 0} (u : feed.Ghosts U) (json : Bool) (old new : U) (digest : Mark) (s : Summary) (stored : Stored) (has : Option (List ℕ)) (text : List ℕ) → u.remaining old ≡ raw_of has → GaveFile u old new digest (λ file. IsSummary (judged_known false 0 (Some file)) s)

@@ -1,11 +1,11 @@
 -- What `show_info` writes, as lines or in JSON.
 use Rattle.std.specs.Prelude.{◌≡◌, Bool, true, false, if◌then◌else◌, ℕ, List, ◌++◌, codes, Option, None, IfSome}
-use Rattle.pbf_frame.specs.Frames.{FrameSpec}
+use Rattle.pbf_frame.specs.Frames.{FrameSpec, is_data, is_header}
 use Rattle.pbf_frame.specs.Verdict.{Says, judged_known}
 use Rattle.pbf_unpack.specs.declared.stored.Stored.{Stored}
 use Rattle.pbf_unpack.specs.Stored.{stored_from}
 use Rattle.pbfcut.specs.declared.summary.Summary.{Summary}
-use Rattle.pbfcut.specs.Summary.{counts_line, counts_object, first_header, frames_line, frames_object, header_lines, members_of}
+use Rattle.pbfcut.specs.Summary.{count_of, counts_line, counts_object, first_header, header_lines, is_other, members_of}
 use Rattle.pbf_published.specs.Published.{raw_of}
 
 -- how all blobs are stored
@@ -24,19 +24,20 @@ info_object members stored frames =
     codes "{" ++ members ++ codes "\"stored\":" ++ storage stored
     ++ codes ",\"frames\":" ++ frames ++ codes "}\n"
 
+-- one or the other, by the header in both forms and by how many frames there are of each type
+abbrev pub text_by : (json : Bool) (lines members : List ℕ) → Stored → (headers blocks others : ℕ) → List ℕ
+text_by false lines members stored headers blocks others = info_lines lines stored (counts_line headers blocks others)
+text_by true lines members stored headers blocks others = info_object members stored (counts_object headers blocks others)
+
 -- what is said of these frames, of which the first header counts
 abbrev pub info_text : (json : Bool) → List FrameSpec → Stored → List ℕ
-info_text false frames stored =
-    info_lines (header_lines (first_header frames)) stored (frames_line frames)
-info_text true frames stored =
-    info_object (members_of (first_header frames)) stored (frames_object frames)
+info_text json frames stored =
+    text_by json (header_lines (first_header frames)) (members_of (first_header frames)) stored
+        (count_of is_header frames) (count_of is_data frames) (count_of is_other frames)
 
 -- the same, by a summary of the frames
 abbrev pub summary_text : (json : Bool) → Summary → Stored → List ℕ
-summary_text false s stored =
-    info_lines s.lines.items stored (counts_line s.headers s.blocks s.others)
-summary_text true s stored =
-    info_object s.members.items stored (counts_object s.headers s.blocks s.others)
+summary_text json s stored = text_by json s.lines.items s.members.items stored s.headers s.blocks s.others
 
 -- these bytes are what is said of the raw file that published bytes mean, none of whose frames has a fault, and of how those are stored
 pub record TellsInfo (json : Bool) (has : Option (List ℕ)) (written : List ℕ) : Type 0 where

@@ -1,5 +1,5 @@
 -- A later pass that stopped for a change: what its feed gave isn't the first feed's file.
-use Rattle.std.proofs.Common.{arith, ◌≡◌, ℕ, Bool, true, List, Option, subst, ◌∙◌}
+use Rattle.std.proofs.Common.{arith, ◌≡◌, ℕ, List, Option, subst}
 use Rattle.pbf_wire.specs.declared.fault.Fault.{Fault}
 use Rattle.pbf_frame.specs.declared.device.Feed as feed
 use Rattle.pbf_frame.specs.declared.stop.Stop.{Stop}

@@ -25,7 +25,7 @@ use Rattle.pbf_pass.specs.Refused.{RefusesRest}
 use Rattle.pbf_pass.proofs.UnjudgedLemmas.{refuses_less}
 use Rattle.pbf_pass.specs.Visit.{Takes, Fails, Visited, VisitsAll, StopsVisit, RefusesVisit}
 use Rattle.pbfcut.specs.declared.showing.LineWriter.{LineWriter}
-use Rattle.pbfcut.specs.Showing.{frame_text, file_text, Shown, ShowsFront, StopsShowing, WritesFront, WritesLines, ShowsNext, FailsToShowNext}
+use Rattle.pbfcut.specs.Showing.{frame_text, file_text, Shown, ShowsFront, WritesFront, WritesLines, ShowsNext, FailsToShowNext}
 use Rattle.pbf_pass.specs.Stops.{Caused, FaultOf, Only, unchanged, WriteFailed}
 use Rattle.pbf_frame.specs.Keeps.{KeepsDrain}
 use Rattle.pbf_frame.proofs.Beginnings.{front_whole, front_longer, front_then}

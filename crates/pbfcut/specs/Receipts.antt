@@ -1,5 +1,5 @@
 -- What a call with a receipt says of what it wrote.
-use Rattle.std.specs.Prelude.{Bool, ℕ, List, ◌∷◌, ◌++◌, Option, Result, IfOk}
+use Rattle.std.specs.Prelude.{Bool, ℕ, List, ◌∷◌, ◌++◌, Result, IfOk}
 use Rattle.osm_area.specs.Area.{AreaSpec}
 use Rattle.osm_ways.specs.Selection.{Strategy}
 use Rattle.pbf_pass.specs.declared.receipt.Halt.{Halt}

@@ -49,18 +49,11 @@ count_of is (f ∷ fs) = if is (frame_kind f) then count_of is fs + 1 else count
 abbrev pub counts_line : (headers blocks others : ℕ) → List ℕ
 counts_line headers blocks others = codes "H frames OSMHeader " ++ decimal headers ++ codes " OSMData " ++ decimal blocks ++ codes " other " ++ decimal others ++ codes "\n"
 
-abbrev pub frames_line : List FrameSpec → List ℕ
-frames_line frames = counts_line (count_of is_header frames) (count_of is_data frames) (count_of is_other frames)
-
 -- the same in JSON
 abbrev pub counts_object : (headers blocks others : ℕ) → List ℕ
 counts_object headers blocks others =
     codes "{\"OSMHeader\":" ++ decimal headers ++ codes ",\"OSMData\":" ++ decimal blocks
     ++ codes ",\"other\":" ++ decimal others ++ codes "}"
-
-abbrev pub frames_object : List FrameSpec → List ℕ
-frames_object frames =
-    counts_object (count_of is_header frames) (count_of is_data frames) (count_of is_other frames)
 
 -- ---- the verdict on frames and headers
 

@@ -69,7 +69,7 @@ fn markup(start: &[u8]) -> Form {
 }
 
 /// What a JSON text is.
-fn json(start: &[u8]) -> Form {
+fn json_form(start: &[u8]) -> Form {
     let is_area = has(start, b"Feature") || has(start, b"Polygon") || has(start, b"coordinates");
     if is_area { Form::GeoJson } else { Form::Json }
 }
@@ -86,7 +86,7 @@ pub(crate) fn form_of(start: &[u8]) -> Form {
     let text = text.trim_ascii_start();
     match text.first() {
         Some(b'<') => markup(text),
-        Some(b'{' | b'[') => json(text),
+        Some(b'{' | b'[') => json_form(text),
         _ if is_opl(text) => Form::Opl,
         _ => Form::Other,
     }

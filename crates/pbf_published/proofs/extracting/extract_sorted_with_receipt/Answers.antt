@@ -1,4 +1,4 @@
-use Rattle.std.proofs.Common.{true, inl, inr, refl, rules, sym, ap, ◌∙◌}
+use Rattle.std.proofs.Common.{inl, inr, refl, rules, sym, ap, ◌∙◌}
 use Rattle.std.proofs.lemmas.Result.{err_from_is_err_and}
 use Rattle.pbf_pass.specs.HeaderLimit.{judged_writable}
 use Rattle.pbf_published.proofs.PublishedLemmas.{published_of, published_or_none, digest_told, closed_below, same_by, outcome_receipt, outcome_stops, outcome_beginning, with_nothing, read_below, either_of, fault_as, none_lacks, nothing_went_out, packed_differ, changed_stop, first_unknown, second_differs, later_differ, rest_of}

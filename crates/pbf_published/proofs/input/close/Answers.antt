@@ -1,4 +1,4 @@
-use Rattle.std.proofs.Common.{ℕ, List, ap, sym, ◌∙◌}
+use Rattle.std.proofs.Common.{ap, sym, ◌∙◌}
 use Rattle.std.proofs.lemmas.Option.{none-some}
 use Rattle.pbf_unpack.specs.Unpacked.{Unpacked}
 use Rattle.pbf_unpack.proofs.ReportLemmas.{all_supplied}

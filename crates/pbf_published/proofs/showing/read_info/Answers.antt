@@ -1,4 +1,4 @@
-use Rattle.std.proofs.Common.{[], sym, ◌∙◌}
+use Rattle.std.proofs.Common.{[], ◌∙◌}
 use Rattle.pbf_pass.specs.Hashing.{hash_log}
 use Rattle.pbf_pass.specs.declared.hashing.PassCheck.TheVariants as check
 use Rattle.pbf_published.specs.Published.{log_number}

@@ -1,4 +1,4 @@
-use Rattle.std.proofs.Common.{true, ℕ, List, Option, inl, inr, refl, rules, subst, sym, ap, ◌∙◌}
+use Rattle.std.proofs.Common.{ℕ, List, Option, inl, inr, refl, rules, subst, sym, ap, ◌∙◌}
 use Rattle.std.proofs.lemmas.Result.{err_from_is_err_and}
 use Rattle.pbf_pass.specs.Judged.{judged_file}
 use Rattle.pbfcut.specs.Showing.{ShowsFront}

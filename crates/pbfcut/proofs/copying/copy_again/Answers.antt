@@ -1,4 +1,4 @@
-use Rattle.std.proofs.Common.{[], Bool, rules, refl, subst, ◌∙◌}
+use Rattle.std.proofs.Common.{[], Bool, rules, refl, subst}
 use Rattle.std.proofs.lemmas.Result.{IfErr-weaker, on_ok_weaker}
 use Rattle.pbf_frame.specs.Devices.{IsAtEnd}
 use Rattle.pbf_frame.specs.Transfers.{Supplied}

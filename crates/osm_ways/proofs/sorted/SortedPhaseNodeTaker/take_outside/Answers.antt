@@ -1,4 +1,4 @@
-use Rattle.std.proofs.Common.{arith, ap, ◌∙◌, ◌≡◌, sym, rules}
+use Rattle.std.proofs.Common.{arith}
 use Rattle.osm_ways.proofs.SortedLemmas.{sorted_step-passes_over}
 use Rattle.osm_ways.proofs.sorted.SortedPhaseNodeTaker.take_outside.Goals as goal
 
