@@ -3,6 +3,7 @@ pub mod Judged
 pub mod Counting
 pub mod Stops
 pub mod Visit
+pub mod Each
 pub mod Pass
 pub mod Unjudged
 pub mod HeaderLimit

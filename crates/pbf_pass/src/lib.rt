@@ -2,6 +2,7 @@
 #![tactic(auto)]
 
 mod checking;
+mod each;
 mod hashed;
 mod hashing;
 mod header_limit;
@@ -12,6 +13,7 @@ mod unjudged;
 mod visit;
 
 pub use checking::{check, check_with_receipt};
+pub use each::Each;
 pub use hashed::{HashedDrain, PassFeed};
 pub use hashing::{PassCheck, PassHasher};
 pub use header_limit::writable_header;

@@ -1,0 +1,25 @@
+-- What several visitors or gatherers do as one: each does what it would do alone.
+use Rattle.std.specs.Prelude.{◌≡◌, ◌⊎◌, ℕ, List, [], ◌∷◌, Option, map}
+use Rattle.std.specs.List.{AllZip}
+use Rattle.osm_entity.specs.Entity.{EntitySpec}
+use Rattle.pbf_frame.specs.declared.stop.Stop.{Stop}
+use Rattle.pbf_frame.specs.Frames.{FrameSpec}
+use Rattle.pbf_frame.specs.Verdict.{Verdict}
+use Rattle.pbf_pass.specs.Visit.{Takes, Fails, VisitsAll}
+
+-- each of them took the frame
+abbrev pub EachTook : {V : Type 0} → Takes V → List V → FrameSpec → List V → Type 0
+EachTook took olds f news = AllZip (λ old new. took old f new) olds news
+
+-- one of them stopped at the frame: those before it took the frame, and those after it are as they were
+abbrev pub OneFailed : {V : Type 0} → Takes V → Fails V → List V → FrameSpec → List V → Stop → Type 0
+OneFailed took failed (old ∷ olds) f (new ∷ news) stop = (failed old f new stop × (news ≡ olds)) ⊎ (took old f new × OneFailed took failed olds f news stop)
+OneFailed took failed _ f _ stop = ⊥
+
+-- each of them took all frames of a verdict without a fault, of which there are so many
+abbrev pub EachVisitsAll : {V : Type 0} → Takes V → Option Verdict → (count : ℕ) → (olds news : List V) → Type 0
+EachVisitsAll took known count olds news = AllZip (VisitsAll took known count) olds news
+
+-- each of them gathered an entity
+abbrev pub each_gathered : {G : Type 0} → (G → EntitySpec → G) → List G → EntitySpec → List G
+each_gathered gathered each e = map (λ g. gathered g e) each
