@@ -1,11 +1,13 @@
--- What several visitors or gatherers do as one: each does what it would do alone.
-use Rattle.std.specs.Prelude.{◌≡◌, ◌⊎◌, ℕ, List, [], ◌∷◌, Option, map}
+-- What several visitors or gatherers do as one: each does what it does by itself.
+use Rattle.std.specs.Prelude.{◌≡◌, ◌⊎◌, ℕ, List, ◌∷◌, Option, map}
 use Rattle.std.specs.List.{AllZip}
 use Rattle.osm_entity.specs.Entity.{EntitySpec}
 use Rattle.pbf_frame.specs.declared.stop.Stop.{Stop}
 use Rattle.pbf_frame.specs.Frames.{FrameSpec}
-use Rattle.pbf_frame.specs.Verdict.{Verdict}
-use Rattle.pbf_pass.specs.Visit.{Takes, Fails, VisitsAll}
+use Rattle.pbf_frame.specs.Verdict.{Verdict, VerdictAfter}
+use Rattle.pbf_pass.specs.Visit.{Takes, Fails, Visited, VisitsAll, StopsVisit}
+
+-- ---- visitors
 
 -- each of them took the frame
 abbrev pub EachTook : {V : Type 0} → Takes V → List V → FrameSpec → List V → Type 0
@@ -19,6 +21,19 @@ OneFailed took failed _ f _ stop = ⊥
 -- each of them took all frames of a verdict without a fault, of which there are so many
 abbrev pub EachVisitsAll : {V : Type 0} → Takes V → Option Verdict → (count : ℕ) → (olds news : List V) → Type 0
 EachVisitsAll took known count olds news = AllZip (VisitsAll took known count) olds news
+
+-- a visitor took the frames with which this verdict begins, up to where another one stopped
+pub record VisitsFront {V : Type 0} (took : Takes V) (known : Option Verdict) (before now : V) : Type 0 where
+  pub frames : List FrameSpec
+  pub rest : Option Verdict
+  pub gone : VerdictAfter known frames rest
+  pub visited : Visited took before frames now
+
+-- each of them stopped as in a pass of its own, or took the frames up to where another one stopped
+abbrev pub EachStops : {V : Type 0} → Takes V → Fails V → Option Verdict → (read : Type 0) → (olds news : List V) → Stop → Type 0
+EachStops took failed known read olds news stop = AllZip (λ old new. StopsVisit took failed known read old new stop ⊎ VisitsFront took known old new) olds news
+
+-- ---- gatherers
 
 -- each of them gathered an entity
 abbrev pub each_gathered : {G : Type 0} → (G → EntitySpec → G) → List G → EntitySpec → List G

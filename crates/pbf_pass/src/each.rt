@@ -65,11 +65,7 @@ impl<V: Visit> Visit for Each<V> {
 }
 
 /// Visits a frame by each of the visitors.
-fn visit_each<V: Visit>(
-    visitors: &mut [V],
-    alloc: Global,
-    frame: &Frame<'_>,
-) -> Result<(), Stop>
+fn visit_each<V: Visit>(visitors: &mut [V], alloc: Global, frame: &Frame<'_>) -> Result<(), Stop>
     requires { AllByRecursion V.ready visitors.old }
     ensures took { OnOk result ((f : FrameSpec) → Shows frame.now f
         → EachTook V.took visitors.old f visitors.new) }
@@ -109,10 +105,7 @@ impl<G: Gather> Gather for Each<G> {
 }
 
 /// Gathers an entity by each of the gatherers.
-fn gather_each<G: Gather>(
-    gatherers: &mut [G],
-    entity: &EntityRef<'_>,
-) -> Result<(), AllocError>
+fn gather_each<G: Gather>(gatherers: &mut [G], entity: &EntityRef<'_>) -> Result<(), AllocError>
     ensures { OnOk result
         (gatherers.new ≡ map (λ g. G.gathered g (entity_of entity.now)) gatherers.old) }
 {
@@ -124,10 +117,7 @@ fn gather_each<G: Gather>(
 }
 
 /// Gathers a way that is not made yet by each of the gatherers.
-fn gather_way_each<G: Gather>(
-    gatherers: &mut [G],
-    unmade: &UnmadeWay<'_>,
-) -> Result<(), AllocError>
+fn gather_way_each<G: Gather>(gatherers: &mut [G], unmade: &UnmadeWay<'_>) -> Result<(), AllocError>
     ensures { OnOk result
         (gatherers.new ≡ map (λ g. G.gathered g (way (way_from unmade.now))) gatherers.old) }
 {
@@ -139,10 +129,7 @@ fn gather_way_each<G: Gather>(
 }
 
 /// Gathers the nodes of a dense message by each of the gatherers.
-fn gather_dense_each<G: Gather>(
-    gatherers: &mut [G],
-    dense: &Dense<'_>,
-) -> Result<(), AllocError>
+fn gather_dense_each<G: Gather>(gatherers: &mut [G], dense: &Dense<'_>) -> Result<(), AllocError>
     ensures { OnOk result (gatherers.new
         ≡ map (λ g. fold G.gathered g (map node (dense_left dense.now))) gatherers.old) }
 {

@@ -7,6 +7,7 @@ mod hashed;
 mod hashing;
 mod header_limit;
 mod in_area;
+pub mod laws;
 mod pass;
 mod receipt;
 mod unjudged;
