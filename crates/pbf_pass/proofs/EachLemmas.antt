@@ -2,17 +2,42 @@
 use Rattle.std.proofs.Common.{◌≡◌, ◌∙◌, ◌⊎◌, inl, inr, ℕ, List, [], ◌∷◌, ◌++◌, length, take, drop, map, Option, refl, sym, ap, subst, arith}
 use Rattle.std.specs.List.{AllZip, fold}
 use Rattle.std.proofs.lemmas.List.{append-nil, drop_all, map-id, take_all}
+use Rattle.osm_entity.specs.Entity.{EntitySpec}
 use Rattle.pbf_frame.proofs.VerdictLemmas.{gone_more}
 use Rattle.pbf_frame.specs.declared.stop.Stop.{Stop}
 use Rattle.pbf_frame.specs.Frames.{FrameSpec}
 use Rattle.pbf_frame.specs.Verdict.{Verdict}
+use Rattle.pbf_pass.specs.declared.pass.Pass.{Pass}
+use Rattle.pbf_pass.specs.Counting.{stored_entities}
+use Rattle.pbf_pass.specs.Pass.{TakesFile}
 use Rattle.pbf_pass.proofs.VisitLemmas.{visited_more}
-use Rattle.pbf_pass.specs.Each.{EachStops, EachTook, EachVisitsAll, OneFailed, VisitsFront}
+use Rattle.pbf_pass.specs.Each.{EachStops, EachTakesFile, EachTook, EachVisitsAll, OneFailed, VisitsFront, each_gathered}
 use Rattle.pbf_pass.specs.Visit.{Takes, Fails, Visited, VisitsAll, StopsVisit}
 
 -- a list that is written back whole
 pub all_back : {T : Type 0} (n : ℕ) (olds news : List T) → n ≡ length olds → length news ≡ length olds → take n (news ++ drop (length news) olds) ≡ news
 all_back n olds news is same = grind (arith, append-nil news, drop_all, take_all)
+
+-- ---- what holds of two lists, place by place
+
+all_same : {X : Type 0} (R : X → X → Type 0) → ((x : X) → R x x) → (xs : List X) → AllZip R xs xs
+all_same R h [] = tt
+all_same R h (x ∷ xs) = (h x, all_same R h xs)
+
+all_mapped : {X : Type 0} (f : X → X) (xs : List X) → AllZip (λ x y. y ≡ f x) xs (map f xs)
+all_mapped f [] = tt
+all_mapped f (x ∷ xs) = (refl, all_mapped f xs)
+
+all_then : {X : Type 0} (R Q P : X → X → Type 0) → ((x y z : X) → R x y → Q y z → P x z) → (xs ys zs : List X) → AllZip R xs ys → AllZip Q ys zs → AllZip P xs zs
+all_then R Q P h [] [] [] all more = tt
+all_then R Q P h (x ∷ xs) (y ∷ ys) (z ∷ zs) all more = (h x y z all.0 more.0, all_then R Q P h xs ys zs all.1 more.1)
+all_then R Q P h [] [] (z ∷ zs) all more = absurd more
+all_then R Q P h (x ∷ xs) (y ∷ ys) [] all more = absurd more
+all_then R Q P h [] (y ∷ ys) zs all more = absurd all
+all_then R Q P h (x ∷ xs) [] zs all more = absurd all
+
+all_weaker : {X : Type 0} (R Q : X → X → Type 0) → ((x y : X) → R x y → Q x y) → (xs ys : List X) → AllZip R xs ys → AllZip Q xs ys
+all_weaker R Q h xs ys all = all_then (λ x y. x ≡ y) R Q (λ x y z same one. h x z (subst (λ w. R w z) (sym same) one)) xs xs ys (all_same _ (λ x. refl) xs) all
 
 -- ---- gatherers
 
@@ -29,25 +54,13 @@ pub fold_each : {S E : Type 0} (step : S → E → S) (each : List S) (es : List
 fold_each step each [] = sym (map-id each)
 fold_each {S} step each (e ∷ es) = fold_each step (map (λ (s : S). step s e) each) es ∙ map_twice (λ (s : S). step s e) (λ (s : S). fold step s es) each
 
+pub each_takes_file : {G : Type 0} (gathered : G → EntitySpec → G) (known : Option Verdict) (befores nows : List G) (pass : Pass) → TakesFile (each_gathered gathered) known befores nows pass → EachTakesFile gathered known befores nows pass
+each_takes_file gathered known befores nows pass t = subst (λ l. EachTakesFile gathered known befores l pass) (sym (t.gathered_all ∙ fold_each gathered befores es))
+    (all_weaker _ _ (λ before now is. record { frames = t.frames; says = t.says; counted = t.counted; header = t.header; gathered_all = is }) befores _ (all_mapped (λ g. fold gathered g es) befores)) where
+      es : List EntitySpec
+      es = stored_entities t.frames
+
 -- ---- visitors
-
-all_same : {X : Type 0} (R : X → X → Type 0) → ((x : X) → R x x) → (xs : List X) → AllZip R xs xs
-all_same R h [] = tt
-all_same R h (x ∷ xs) = (h x, all_same R h xs)
-
-all_weaker : {X : Type 0} (R Q : X → X → Type 0) → ((x y : X) → R x y → Q x y) → (xs ys : List X) → AllZip R xs ys → AllZip Q xs ys
-all_weaker R Q h [] [] all = tt
-all_weaker R Q h (x ∷ xs) (y ∷ ys) all = (h x y all.0, all_weaker R Q h xs ys all.1)
-all_weaker R Q h [] (y ∷ ys) all = absurd all
-all_weaker R Q h (x ∷ xs) [] all = absurd all
-
-all_then : {X : Type 0} (R Q P : X → X → Type 0) → ((x y z : X) → R x y → Q y z → P x z) → (xs ys zs : List X) → AllZip R xs ys → AllZip Q ys zs → AllZip P xs zs
-all_then R Q P h [] [] [] all more = tt
-all_then R Q P h (x ∷ xs) (y ∷ ys) (z ∷ zs) all more = (h x y z all.0 more.0, all_then R Q P h xs ys zs all.1 more.1)
-all_then R Q P h [] [] (z ∷ zs) all more = absurd more
-all_then R Q P h (x ∷ xs) (y ∷ ys) [] all more = absurd more
-all_then R Q P h [] (y ∷ ys) zs all more = absurd all
-all_then R Q P h (x ∷ xs) [] zs all more = absurd all
 
 module _ {V : Type 0} (took : Takes V) where
   each_visited : (fs : List FrameSpec) (olds news : List V) → Visited (EachTook took) olds fs news → AllZip (λ old new. Visited took old fs new) olds news

@@ -5,6 +5,8 @@ use Rattle.osm_entity.specs.Entity.{EntitySpec}
 use Rattle.pbf_frame.specs.declared.stop.Stop.{Stop}
 use Rattle.pbf_frame.specs.Frames.{FrameSpec}
 use Rattle.pbf_frame.specs.Verdict.{Verdict, VerdictAfter}
+use Rattle.pbf_pass.specs.declared.pass.Pass.{Pass}
+use Rattle.pbf_pass.specs.Pass.{TakesFile}
 use Rattle.pbf_pass.specs.Visit.{Takes, Fails, Visited, VisitsAll, StopsVisit}
 
 -- ---- visitors
@@ -22,14 +24,14 @@ OneFailed took failed _ f _ stop = ⊥
 abbrev pub EachVisitsAll : {V : Type 0} → Takes V → Option Verdict → (count : ℕ) → (olds news : List V) → Type 0
 EachVisitsAll took known count olds news = AllZip (VisitsAll took known count) olds news
 
--- a visitor took the frames with which this verdict begins, up to where another one stopped
+-- a visitor took the first frames of this verdict
 pub record VisitsFront {V : Type 0} (took : Takes V) (known : Option Verdict) (before now : V) : Type 0 where
   pub frames : List FrameSpec
   pub rest : Option Verdict
   pub gone : VerdictAfter known frames rest
   pub visited : Visited took before frames now
 
--- each of them stopped as in a pass of its own, or took the frames up to where another one stopped
+-- each of them stopped as in a pass of its own, or took the first frames before another one stopped
 abbrev pub EachStops : {V : Type 0} → Takes V → Fails V → Option Verdict → (read : Type 0) → (olds news : List V) → Stop → Type 0
 EachStops took failed known read olds news stop = AllZip (λ old new. StopsVisit took failed known read old new stop ⊎ VisitsFront took known old new) olds news
 
@@ -38,3 +40,7 @@ EachStops took failed known read olds news stop = AllZip (λ old new. StopsVisit
 -- each of them gathered an entity
 abbrev pub each_gathered : {G : Type 0} → (G → EntitySpec → G) → List G → EntitySpec → List G
 each_gathered gathered each e = map (λ g. gathered g e) each
+
+-- each of them gathered all entities of a file without a fault, and the pass has its header and the numbers of its entities
+abbrev pub EachTakesFile : {G : Type 0} → (G → EntitySpec → G) → Option Verdict → (befores nows : List G) → Pass → Type 0
+EachTakesFile gathered known befores nows pass = AllZip (λ before now. TakesFile gathered known before now pass) befores nows

@@ -3,8 +3,8 @@ pub mod Judged
 pub mod Counting
 pub mod Stops
 pub mod Visit
-pub mod Each
 pub mod Pass
+pub mod Each
 pub mod Unjudged
 pub mod HeaderLimit
 pub mod Hashing

@@ -84,6 +84,7 @@ fn visit_each<V: Visit>(visitors: &mut [V], alloc: Global, frame: &Frame<'_>) ->
 impl<G: Gather> Gather for Each<G> {
     ghost gathered = { each_gathered G.gathered };
 
+    #[tactic(auto, using(crate::proofs::EachLemmas::none_gathered))]
     fn kinds() -> Kinds {
         G::kinds()
     }

@@ -6,7 +6,9 @@ ghost use Rattle.std.specs.List.{fold};
 ghost use Rattle.osm_entity.specs.Entity.{EntitySpec};
 ghost use Rattle.pbf_frame.specs.declared.stop.Stop.{Stop};
 ghost use Rattle.pbf_frame.specs.Verdict.{Verdict};
-ghost use Rattle.pbf_pass.specs.Each.{EachStops, EachTook, EachVisitsAll, OneFailed, each_gathered};
+ghost use Rattle.pbf_pass.specs.Each.{EachStops, EachTakesFile, EachTook, EachVisitsAll, OneFailed, each_gathered};
+ghost use Rattle.pbf_pass.specs.declared.pass.Pass.{Pass};
+ghost use Rattle.pbf_pass.specs.Pass.{TakesFile};
 ghost use Rattle.pbf_pass.specs.Stops.{ReadFailed};
 ghost use Rattle.pbf_pass.specs.Visit.{StopsVisit, VisitsAll};
 
@@ -14,7 +16,7 @@ use crate::visit::Visit;
 use pbf_frame::Feed;
 
 /// If several visitors visit a whole file as one, each of them visits it as in a pass of its own. If the pass stops, each of them stopped
-/// as in a pass of its own, or took the frames up to where another one stopped.
+/// as in a pass of its own, or took the first frames of the file before another one stopped.
 pub fn each_visits_by_itself<F: Feed, V: Visit>()
     ensures all { (known : Option Verdict) (count : ℕ) (olds news : List V)
         → VisitsAll (EachTook V.took) known count olds news
@@ -25,8 +27,13 @@ pub fn each_visits_by_itself<F: Feed, V: Visit>()
         → EachStops V.took V.failed known (ReadFailed F.Feed start end) olds news stop }
 {}
 
-/// If several gatherers gather entities as one, each of them gathers them as it does by itself.
+/// If several gatherers gather entities as one, each of them gathers them as it does by itself. So what is said of a pass that judges a
+/// file holds of each of them.
 pub fn each_gathers_by_itself<G>()
-    ensures { (gathered : G → EntitySpec → G) (each : List G) (es : List EntitySpec)
+    ensures entities { (gathered : G → EntitySpec → G) (each : List G) (es : List EntitySpec)
         → fold (each_gathered gathered) each es ≡ map (λ g. fold gathered g es) each }
+    ensures judged { (gathered : G → EntitySpec → G) (known : Option Verdict)
+        (befores nows : List G) (pass : Pass)
+        → TakesFile (each_gathered gathered) known befores nows pass
+        → EachTakesFile gathered known befores nows pass }
 {}
