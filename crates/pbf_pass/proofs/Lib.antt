@@ -10,3 +10,4 @@ pub mod GivenLemmas
 pub mod LimitLemmas
 pub mod HaltingLemmas
 pub mod HashLemmas
+pub mod EachLemmas

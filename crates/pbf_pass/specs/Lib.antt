@@ -4,6 +4,7 @@ pub mod Counting
 pub mod Stops
 pub mod Visit
 pub mod Pass
+pub mod Each
 pub mod Unjudged
 pub mod HeaderLimit
 pub mod Hashing

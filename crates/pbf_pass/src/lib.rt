@@ -2,10 +2,12 @@
 #![tactic(auto)]
 
 mod checking;
+mod each;
 mod hashed;
 mod hashing;
 mod header_limit;
 mod in_area;
+pub mod laws;
 mod members;
 mod pass;
 mod receipt;
@@ -13,6 +15,7 @@ mod unjudged;
 mod visit;
 
 pub use checking::{check, check_with_receipt};
+pub use each::Each;
 pub use hashed::{HashedDrain, PassFeed};
 pub use hashing::{PassCheck, PassHasher};
 pub use header_limit::writable_header;

@@ -13,6 +13,8 @@ mod recorder;
 #[cfg(test)]
 mod runs;
 #[cfg(test)]
+mod several;
+#[cfg(test)]
 mod show;
 #[cfg(test)]
 mod sorted;
