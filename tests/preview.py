@@ -178,7 +178,7 @@ def count_hand_made(folder: Folder):
                  "<td><bdi>w34</bdi></td><td><bdi>highway=path</bdi></td><td><bdi>Way 34</bdi></td>",
                  "<td><bdi>r51</bdi></td><td><bdi>natural=water</bdi></td><td><bdi></bdi></td><td><bdi>2</bdi></td>",
                  # The box is 20,000 units high and 20,000 cos 50.005 = 12,854.4 wide. Way 32 is at the half of it; way 31 leads from there to 1.5 of it.
-                 '<path class="across" d="M6427 30000l0-40000', 'M6427 10000l12855 0'):
+                 '<g class="across"><path d="M6427 30000l0-40000', 'M6427 10000l12855 0'):
         if part not in page:
             fail(f"the page of the file made by hand lacks {part}")
     for name, data in {"packed": file_of(blocks(), zlib_frame), "unsorted": file_of(blocks()[::-1])}.items():

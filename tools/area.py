@@ -87,8 +87,12 @@ def boxes_meet(one: tuple, other: tuple) -> bool:
 
 def bounds_of(places) -> tuple:
     """The least box that has these places."""
-    lons, lats = zip(*places)
-    return min(lons), min(lats), max(lons), max(lats)
+    places = iter(places)
+    west, south = east, north = next(places)
+    for lon, lat in places:
+        west, east = min(west, lon), max(east, lon)
+        south, north = min(south, lat), max(north, lat)
+    return west, south, east, north
 
 
 class Area:
