@@ -32,7 +32,8 @@ TOWN_COUNTS = {
 }
 CUT_COUNTS = {**TOWN_COUNTS, "nodes_in_file": 121, "ways_in_file": 23, "relations_in_file": 7, "ways_across": 0}
 
-# Places are north and east of 50 N 10 E in millionths of a degree, and the box has 10,000 of them on each side.
+# Places are north and east of 50 N 10 E in millionths of a degree. The box has 10,000 of them on each side; the box of the header reaches
+# 20,000 to the north and the south, and 30,000 to the east and the west.
 BOX = "10,50,10.01,50.01"
 PLACES = {
     1: (5000, 5000), 2: (5000, 15000), 3: (-5000, 5000), 4: (15000, 5000),
@@ -42,6 +43,8 @@ PLACES = {
     12: (-2000, 9000), 13: (1000, 12000),  # on a line that passes it
     14: (9500, 1000), 15: (12000, 1000), 16: (12000, 3000),
     17: (2000, 2000), 18: (2000, 3000), 19: (3000, 3000),
+    20: (40000, 0),  # of no way
+    21: (10000, 3000), 22: (10000, 6000),  # on the northern edge
 }
 WAYS = {
     31: [1, 2],            # kept, with a tail
@@ -54,31 +57,46 @@ WAYS = {
     38: [15, 16],          # dropped, so that the ring is open at 15 and 16
     39: [16, 1],           # kept
     40: [17, 18, 19, 17],  # kept, a closed ring
+    41: [97, 12],          # dropped, and one of its nodes is missing
+    42: [21, 22],          # kept
 }
 RELATIONS = {
-    51: ({"type": "multipolygon", "natural": "water"}, "w37 w38 w39"),      # kept, lost 1, open
+    51: ({"type": "multipolygon", "natural": "water"}, "w37 w38 w39"),      # kept, lost 1, 2 open ends
     52: ({"type": "multipolygon"}, "w40"),                                  # kept
     53: ({"type": "route", "name": "<i>Line & 1</i>"}, "n1 n4 w32"),        # kept, lost 2
-    54: ({"type": "route"}, "n4 r53"),                                      # dropped
-    55: ({"type": "restriction"}, "n2"),                                    # kept, for the tail of 31
+    54: ({"type": "route"}, "n4 r2"),                                       # dropped; there is a node 2, and no relation
+    55: ({"type": "restriction"}, "n2 r51 r54"),                            # kept, for the tail of 31; lost 1
+    56: ({"type": "boundary"}, "w31 w39 w37"),                              # kept; three of its ways end in 1, one each in 2, 15 and 16
 }
 HAND_COUNTS = {
-    "nodes_in_file": 19, "nodes_in_area": 6, "nodes_kept": 9, "ways_in_file": 10, "ways_in_area": 5, "ways_kept": 5,
-    "relations_in_file": 5, "relations_in_area": 3, "relations_kept": 4,
-    "ways_across": 2, "ways_around": 1, "ways_reaching": 3, "relations_losing": 2, "members_lost": 3,
-    "relations_open": 1, "open_ends": 2, "nodes_lacking": 2, "ways_lacking": 1,
+    "nodes_in_file": 22, "nodes_in_area": 8, "nodes_kept": 11, "ways_in_file": 12, "ways_in_area": 6, "ways_kept": 6,
+    "relations_in_file": 6, "relations_in_area": 4, "relations_kept": 5,
+    "ways_across": 2, "ways_around": 1, "ways_reaching": 3, "relations_losing": 3, "members_lost": 4,
+    "relations_open": 2, "open_ends": 6, "nodes_lacking": 3, "ways_lacking": 2,
+}
+# without a box: nodes 8, 9 and 20 are outside the header's, 54 lacks a relation, and only 56 is open
+WHOLE_COUNTS = {
+    **HAND_COUNTS, "nodes_in_area": 19, "nodes_kept": 22, "ways_in_area": 12, "ways_kept": 12, "relations_in_area": 6, "relations_kept": 6,
+    "ways_across": 0, "ways_around": 0, "ways_reaching": 1, "relations_losing": 1, "members_lost": 1, "relations_open": 1, "open_ends": 4,
 }
 SQUARE = [[10, 50], [10.01, 50], [10.01, 50.01], [10, 50.01]]
+HOLE = [[10.001, 50.001], [10.004, 50.001], [10.004, 50.004], [10.001, 50.004]]
+# the text of a file with polygons, and what is counted then
 POLYGONS = {
-    # the file, and how many nodes are in it
-    "box.poly": ("box\n1\n 10 50\n 10.01 50\n 10.01 50.01\n 1.0e1 50.01\nEND\nEND\n", 6),
+    "box.poly": ("box\n1\n 10 50\n 10.01 50\n 10.01 50.01\n 1.0e1 50.01\nEND\nEND\n", HAND_COUNTS),
+    "box.geojson": (f'{{"type": "Polygon", "coordinates": [{SQUARE}]}}', HAND_COUNTS),
+    # what two polygons have in common is in their area
+    "twice.geojson": (f'{{"type": "MultiPolygon", "coordinates": [[{SQUARE}], [{SQUARE}]]}}', HAND_COUNTS),
     # the half of the box in the south-west: it has node 1 on its long edge
-    "half.poly": ("half\n1\n 10 50\n 10.01 50\n 10 50.01\n 10 50\nEND\nEND\n", 5),
-    "box.geojson": (f'{{"type": "Polygon", "coordinates": [{SQUARE}]}}', 6),
-    # the box with a hole around nodes 17, 18 and 19, and another polygon that has node 19
-    "hole.geojson": (f'{{"type": "Feature", "geometry": {{"type": "MultiPolygon", "coordinates": [[{SQUARE}, '
-                     '[[10.001, 50.001], [10.004, 50.001], [10.004, 50.004], [10.001, 50.004]]], '
-                     '[[[10.0025, 50.0025], [10.0035, 50.0025], [10.0035, 50.0035]]]]}}', 4),
+    "half.poly": ("half\n1\n 10 50\n 10.01 50\n 10 50.01\n 10 50\nEND\nEND\n", {"nodes_in_area": 5}),
+    # with a corner due east of node 1, and node 18 on an edge; it has node 19, too
+    "diamond.poly": ("diamond\n1\n 10.005 50\n 10.01 50.005\n 10.005 50.01\n 10 50.005\nEND\nEND\n", {"nodes_in_area": 3}),
+    # nodes 17, 18 and 19 are in the hole, but 19 is in another polygon
+    "hole.geojson": (f'{{"type": "Feature", "geometry": {{"type": "MultiPolygon", "coordinates": [[{SQUARE}, {HOLE}], '
+                     '[[[10.0025, 50.0025], [10.0035, 50.0025], [10.0035, 50.0035]]]]}}', {"nodes_in_area": 6}),
+    # the shape of a U, with nodes 5 and 14: ways 31, 32 and 34 are across, and 42 leads from one of its tops towards the other
+    "letter.poly": ("letter\n1\n 10 50\n 10.01 50\n 10.01 50.01\n 10.009 50.01\n 10.009 50.001\n 10.001 50.001\n 10.001 50.01\n 10 50.01\n"
+                    "END\nEND\n", {"nodes_in_area": 2, "ways_across": 3}),
 }
 # what a script in the page does: it turns the wheel, drags the map by 100 pixels to the right, and presses the buttons
 ACTIONS = """<script>
@@ -101,8 +119,10 @@ def fail(what: str):
     sys.exit(f"tests/preview.py: {what}")
 
 
-def zlib_frame(kind: str, payload: bytes) -> bytes:
-    blob = scalar(2, len(payload)) + nested(3, zlib.compress(payload))
+def zlib_frame(kind: str, payload: bytes, field=3, lost=0) -> bytes:
+    """A frame whose blob is compressed; `field` says how, and `lost` bytes are missing at the end of it."""
+    packed = zlib.compress(payload)
+    blob = scalar(2, len(payload)) + nested(field, packed[:len(packed) - lost])
     header = nested(1, kind.encode()) + scalar(3, len(blob))
     return len(header).to_bytes(4, "big") + header + blob
 
@@ -122,6 +142,11 @@ def blocks() -> list:
 
 def file_of(payloads: list, make_frame=frame, header=None) -> bytes:
     return b"".join([make_frame("OSMHeader", header or header_block()), *(make_frame("OSMData", payload) for payload in payloads)])
+
+
+def dense_block(ids: bytes, places: bytes) -> bytes:
+    """A block of dense nodes with these columns."""
+    return nested(1, b"") + nested(2, nested(2, nested(1, ids) + nested(8, places) + nested(9, places)))
 
 
 class Folder:
@@ -185,25 +210,31 @@ def count_hand_made(folder: Folder):
         folder.write("hand.osm.pbf", data)
         if folder.page(path, "--box", BOX) != page:
             fail(f"the page of the {name} file is another one")
-    for name, (text, inside) in POLYGONS.items():
-        polygon = folder.write(name, text.encode())
-        counts = HAND_COUNTS if name.startswith("box") else {"nodes_in_area": inside}
-        expect_counts(name, folder.page(path, "--polygon", polygon), counts)
+    if page.index("r53") > page.index("r51"):
+        fail("a relation that lost two members comes after one that lost one")
+    for name, (text, counts) in POLYGONS.items():
+        expect_counts(name, folder.page(path, "--polygon", folder.write(name, text.encode())), counts)
+    expect_counts("the file made by hand, with the box of its header", folder.page(path), WHOLE_COUNTS)
 
 
 def refuse(folder: Folder):
     """What can't be read, or is misspelled, gets one line and its status."""
     good = file_of(blocks())
-    no_box = nested(4, b"OsmSchema-V0.6")
-    lz4 = frame("OSMHeader", header_block()) + zlib_frame("OSMData", blocks()[0]).replace(scalar(2, len(blocks()[0])) + b"\x1a", scalar(2, len(blocks()[0])) + b"\x32")
+    no_box, head = nested(4, b"OsmSchema-V0.6"), file_of([])
     cases = [
         (b"<osm></osm>", [], 1, "it is no PBF file"),
         (b"", [], 1, "it is empty"),
         (good[:-3], [], 1, "the file ends within the frame"),
-        (file_of([blocks()[0][:-1] + b"\xff"]), [], 1, "byte "),
+        (good + b"\0\0", [], 1, f"byte {len(good)}: no frame begins here"),
+        (file_of([blocks()[0][:-1] + b"\xff"]), [], 1, "no message of the format"),
+        (file_of([nested(1, b"") + b"\x12\x05abc"]), [], 1, "a field that is cut short"),
+        (file_of([dense_block(b"\x02\x80", b"\x02")]), [], 1, "a number that is cut short"),
+        (file_of([dense_block(b"\x02\x02", b"\x02")]), [], 1, "columns of different lengths"),
         (file_of([], header=header_block() + nested(4, b"HistoricalInformation")), [], 1, "HistoricalInformation"),
         (file_of([], header=no_box), [], 1, "its header has no box"),
-        (lz4, [], 1, "other than zlib"),
+        (head + zlib_frame("OSMData", blocks()[0], field=6), [], 1, "other than zlib"),
+        (head + zlib_frame("OSMData", blocks()[0], lost=4), [], 1, "compressed data that are cut short"),
+        (head + head, [], 1, "a second header"),
         (good, ["--box", "10,50,10.01"], 2, "four numbers"),
         (good, ["--box", "50,10,49,11"], 2, "the order is"),
         (good, ["--polygon", os.path.join(folder.path, "missing.poly")], 2, "No such file"),
