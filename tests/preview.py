@@ -3,10 +3,12 @@
 
 usage: tests/preview.py PROGRAM
 
-The counts of the sample are those of sample/README.md, and those of the files made here are counted by hand. Chromium loads the page, if it is
-installed (on Debian: apt-get install chromium).
+The counts of the sample are those of sample/README.md, those of the files made here are counted by hand, and what is kept of the cases of vectors/
+is as many as case.json has. Chromium loads the page, if it is installed (on Debian: apt-get install chromium).
 """
 
+import glob
+import json
 import os
 import re
 import shutil
@@ -17,8 +19,11 @@ import zlib
 
 TOP = os.path.dirname(os.path.dirname(os.path.abspath(__file__)))
 sys.dont_write_bytecode = True
-sys.path.insert(0, os.path.join(TOP, "sample"))
+sys.path[:0] = [os.path.join(TOP, name) for name in ("sample", "tools")]
 
+from area import Area, read_box
+from pbf import Damaged
+from preview import File, Selection
 from town import Entity, Form, block, frame, header_block, nested, scalar
 
 TOWN = os.path.join(TOP, "sample", "town.osm.pbf")
@@ -98,6 +103,9 @@ POLYGONS = {
     "letter.poly": ("letter\n1\n 10 50\n 10.01 50\n 10.01 50.01\n 10.009 50.01\n 10.009 50.001\n 10.001 50.001\n 10.001 50.01\n 10 50.01\n"
                     "END\nEND\n", {"nodes_in_area": 2, "ways_across": 3}),
 }
+# cases that have two objects of a kind with one id; the others that pbfcut reads, and that are refused here, have numbers that no real file has
+IDS_TWICE = {"node_twice_in_and_out", "two_nodes_and_two_ways_with_one_id"}
+FEWEST_VECTORS = 590
 # what a script in the page does: it turns the wheel, drags the map by 100 pixels to the right, and presses the buttons
 ACTIONS = """<script>
 const seen = [], middle = {clientX: 300, clientY: 300, bubbles: true, cancelable: true};
@@ -217,6 +225,26 @@ def count_hand_made(folder: Folder):
     expect_counts("the file made by hand, with the box of its header", folder.page(path), WHOLE_COUNTS)
 
 
+def count_vectors() -> int:
+    """What is kept of each case of vectors/ that is read here, by its box; how many there are."""
+    count = 0
+    for path in sorted(glob.glob(os.path.join(TOP, "vectors", "*", "case.json"))):
+        folder = os.path.dirname(path)
+        with open(path, encoding="utf-8") as case:
+            told = json.load(case)
+        if "refused" in told or os.path.basename(folder) in IDS_TWICE or not os.path.exists(os.path.join(folder, "in.osm.pbf")):
+            continue
+        try:
+            file = File(os.path.join(folder, "in.osm.pbf"))
+        except (Damaged, OverflowError):
+            continue
+        kept = Selection(file, Area.of_box(read_box(told["box"])), is_extract=False).kept
+        if list(kept) != told["counts"]["extract"]:
+            fail(f"{folder}: {kept} are kept, and not {told['counts']['extract']}")
+        count += 1
+    return count
+
+
 def refuse(folder: Folder):
     """What can't be read, or is misspelled, gets one line and its status."""
     good = file_of(blocks())
@@ -241,6 +269,8 @@ def refuse(folder: Folder):
         (good, ["--polygon", TOWN], 2, "no polygon"),
         (good, ["--box", BOX, "--polygon", TOWN], 2, ""),
         (good, ["more"], 2, "unrecognized"),
+        (good, ["--box", BOX, "-o", os.path.join(folder.path, "bad.osm.pbf")], 2, "not to be replaced"),
+        (good, ["--box", BOX, "-o", os.path.join(folder.path, "missing", "page.html")], 1, "No such file"),
     ]
     for data, words, status, part in cases:
         done = folder.preview(folder.write("bad.osm.pbf", data), *words)
@@ -289,9 +319,12 @@ def main():
         count_town(folder, os.path.abspath(sys.argv[1]))
         count_hand_made(folder)
         refuse(folder)
+        vectors = count_vectors()
+        if vectors < FEWEST_VECTORS:
+            fail(f"only {vectors} cases of vectors/ are read")
         if browser:
             browse(browser, folder)
-    print(f"tests/preview.py: the pages have their counts; in a browser: {'no error' if browser else 'skipped, there is no chromium'}")
+    print(f"tests/preview.py: the pages have their counts, {vectors} cases of vectors/, too; in a browser: {'no error' if browser else 'skipped, there is no chromium'}")
 
 
 if __name__ == "__main__":

@@ -1,7 +1,7 @@
 """The area that a picture or a page shows: a box, or the polygons of a .poly or GeoJSON file.
 
-A place is a pair of longitude and latitude in whole nanodegrees, and all is reckoned exactly. A place is in a polygon if it is on an edge of its rings, or
-if an odd number of edges is east of it; it is in the area if it is in any of the polygons. So pbfcut has it.
+A place is a pair of longitude and latitude in whole nanodegrees, and nothing is rounded. As for pbfcut, a place is in a polygon if it is on an edge of
+its rings or an odd number of edges is east of it, and in the area if it is in any of the polygons.
 """
 
 import argparse

@@ -1,6 +1,6 @@
 """Reads OpenStreetMap PBF files for the tools that draw: raw or compressed by zlib, one frame after the other.
 
-It reads what the tools need, and leaves to `pbfcutz check` what else a file may break. Longitudes and latitudes are whole numbers of nanodegrees.
+It notices what keeps it from reading on; `pbfcutz check` finds every other fault. Longitudes and latitudes are whole numbers of nanodegrees.
 """
 
 import itertools
@@ -18,7 +18,7 @@ class Damaged(Exception):
 
 
 class Header(NamedTuple):
-    box: Optional[tuple]  # west, south, east, north
+    box: Optional[tuple]  # west, south, east, north; none if it isn't there or has no inside
 
 
 class Node(NamedTuple):
@@ -124,7 +124,7 @@ class Block:
         message = gathered(payload)
         self.strings = [text.decode("utf-8", "replace") for text in gathered(message[1][-1]).get(1, [])]
         self.groups = [gathered(group) for group in message.get(2, [])]
-        self.granularity = message.get(17, [100])[-1]
+        self.granularity = message.get(17, [100])[-1] & 0xffff_ffff
         self.lat_offset, self.lon_offset = (signed(message.get(number, [0])[-1]) for number in (19, 20))
 
     def tags(self, message: dict) -> dict:
@@ -176,7 +176,8 @@ def header_of(payload: bytes) -> Header:
     if 1 not in message:
         return Header(None)
     box = gathered(message[1][-1])
-    return Header(tuple(unzigzag(box[number][-1]) for number in (1, 4, 2, 3)))
+    west, south, east, north = (unzigzag(box[number][-1]) for number in (1, 4, 2, 3))
+    return Header((west, south, east, north) if west <= east and south <= north else None)
 
 
 def payload_of(blob: bytes) -> bytes:
@@ -184,7 +185,7 @@ def payload_of(blob: bytes) -> bytes:
     if 1 in message:
         return message[1][-1]
     if 3 not in message:
-        raise ValueError("compressed by something other than zlib")
+        raise ValueError("data compressed by something other than zlib")
     unpacking = zlib.decompressobj()
     payload = unpacking.decompress(message[3][-1], PAYLOAD_LIMIT)
     if not unpacking.eof:
@@ -201,9 +202,9 @@ def frames(file):
         try:
             message = gathered(head)
             kind, length = message[1][-1], message[3][-1]
-        except (IndexError, KeyError, ValueError):
+            blob = file.read(length) if length < BLOB_LIMIT else b""
+        except (IndexError, KeyError, TypeError, ValueError):
             raise Damaged(f"byte {at}: no frame begins here, or it is cut short" if at else "it is no PBF file") from None
-        blob = file.read(length) if length < BLOB_LIMIT else b""
         if len(blob) < length:
             raise Damaged(f"byte {at}: the file ends within the frame that begins here, or the frame is too long")
         yield at, kind, blob
@@ -222,7 +223,7 @@ def entities(file):
                 yield from Block(payload_of(blob)).entities()
             elif kind in (b"OSMHeader", b"OSMData"):
                 raise ValueError("a second header, or data before the header")
-        except (IndexError, KeyError, TypeError, ValueError, zlib.error) as error:
+        except (AttributeError, IndexError, KeyError, TypeError, ValueError, zlib.error) as error:
             what = str(error) if isinstance(error, ValueError) else "no message of the format"
             raise Damaged(f"byte {at}: the frame that begins here has {what}") from None
     if not begun:

@@ -1,20 +1,20 @@
 #!/usr/bin/env python3
-"""Makes a page of what an extract has and where its map may have holes: one HTML file, which needs no network.
+"""Makes a page of what an extract has, and where its map may have holes: one HTML file that needs no network.
 
 usage: tools/preview.py IN [--box BOX | --polygon FILE] [-o OUT.html]
 
   IN          a PBF file, raw or compressed by zlib
-  --box       west,south,east,north in degrees: IN is the whole file, and the page shows what a cut by this box would keep
-  --polygon   the same with a .poly or GeoJSON file
+  --box       west,south,east,north in degrees: the page shows what a cut of IN by this box would keep
+  --polygon   the same with the polygons of a .poly or GeoJSON file
   -o          the page; without it, IN with .html after its name
 
-Without an area IN is an extract: all of it counts as kept, and its area is the box of its header. The page has a map of the ways, in red what
-is outside the area of those that are kept, and the counts of what people look for when a map has holes. Of a whole file the map shows what is kept, and
-the ways around the area.
+Without an area IN is taken to be an extract: all of it counts as kept, and the area is the box of its header. The page has a map, which can be zoomed and
+dragged: the kept ways, their parts outside the area in red, and the other ways near the area. Below it are the counts of what people look for when
+a map has holes: ways across the area without a node in it, relations that lost members, open rings, missing nodes.
 
 It is for files of up to some 30 MB, compressed: one of 3.3 million nodes takes 45 seconds and 0.5 GB of memory. The page has up to 8 bytes for each node of
 a way that it draws; with a million of them a browser takes seconds to draw the map. History files are refused.
-Exit status: 0 done; 1 IN can't be read, or OUT not be written; 2 the command line or the polygon is wrong.
+Exit status: 0 done; 1 IN can't be read or OUT can't be written; 2 the command line or the polygon is wrong.
 """
 
 import gc
@@ -183,7 +183,8 @@ class Map:
     def __init__(self, bounds: tuple):
         west, south, east, north = bounds
         self.west, self.north = west, north
-        self.narrow = math.cos(math.radians((south + north) / 2 / DEGREE))
+        # The box of a header may have any numbers.
+        self.narrow = abs(math.cos(math.radians((south + north) / 2 / DEGREE)))
         self.unit = max((east - west) * self.narrow, north - south, SPAN) / SPAN
 
     def point(self, place: tuple) -> tuple:
@@ -296,9 +297,9 @@ def page_of(given) -> str:
     area = Area(given.polygon) if given.polygon else Area.of_box(box)
     is_extract = not (given.box or given.polygon)
     edges = ",".join(f"{Decimal(edge) / DEGREE:f}" for edge in area.bounds)
-    source = f"What a cut by the {'polygon within' if given.polygon else 'box'} {edges} would keep."
+    source = f"What a cut by {'a polygon within' if given.polygon else 'the box'} {edges} would keep."
     if is_extract:
-        source = f"What the file has. The area is the box of its header, {edges}."
+        source = f"What this extract has. Its area is the box of its header, {edges}."
     return Page(file, area, is_extract).html(os.path.basename(given.path), source)
 
 
@@ -310,18 +311,24 @@ def main():
     areas.add_argument("--polygon", type=read_polygons)
     arguments.add_argument("-o", dest="out", metavar="OUT.html")
     given = arguments.parse_args()
+    out = given.out or given.path + ".html"
+    if os.path.exists(out) and os.path.exists(given.path) and os.path.samefile(out, given.path):
+        arguments.error(f"{out}: IN is not to be replaced by its page")
     # Nothing here refers to itself, and the search for what does takes a sixth of the time.
     gc.disable()
     try:
-        text = page_of(given)
-        with open(given.out or given.path + ".html", "w", encoding="utf-8") as file:
-            file.write(text)
+        page = page_of(given)
     except Damaged as error:
         sys.exit(f"tools/preview.py: {given.path}: {error}")
     except OverflowError:
         sys.exit(f"tools/preview.py: {given.path}: a number is out of range")
     except OSError as error:
-        sys.exit(f"tools/preview.py: {error.filename}: {error.strerror}")
+        sys.exit(f"tools/preview.py: {given.path}: {error.strerror}")
+    try:
+        with open(out, "w", encoding="utf-8", errors="replace") as file:
+            file.write(page)
+    except OSError as error:
+        sys.exit(f"tools/preview.py: {out}: {error.strerror}")
 
 
 if __name__ == "__main__":
