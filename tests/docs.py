@@ -51,7 +51,7 @@ ELSEWHERE = {
 
 def filled(words: list) -> str:
     """A command inside a sentence, with file names: the last word is a file that is made, but for a command that only reads."""
-    last = "given.raw.osm.pbf" if {"show", "check", "-c"} & set(words) else "made.osm.pbf"
+    last = "given.raw.osm.pbf" if {"show", "check", "-c", "tools/draw.py"} & set(words) else "made.osm.pbf"
     names = ["made.osm.pbf" if word == "OUT" else "given.raw.osm.pbf" if word in GIVEN else word for word in words]
     if words[-1] in GIVEN:
         names[-1] = last
@@ -143,7 +143,7 @@ class Pages:
         for span in SPAN.findall(BLOCK.sub("", read(name))):
             words = span.split(" ")
             names_file = any(word in GIVEN or word.endswith((".pbf", ".1")) for word in words)
-            known = words[0] in ("./pbfcut", "./pbfcutz", "osmium", "man") or "&& ./pbfcut" in span
+            known = words[0] in ("./pbfcut", "./pbfcutz", "osmium", "man", "tools/draw.py", "tools/preview.py") or "&& ./pbfcut" in span
             if known and (names_file or "--help" in words):
                 self.command(name, filled(words), self.room())
 

@@ -1,9 +1,9 @@
 #!/usr/bin/env python3
-"""The drawings of towns in docs/ are those that tools/draw.py makes of what the built program shows.
+"""The drawings of towns in docs/ are those that tools/draw.py makes of the towns and of what the built program cuts out of them.
 
 usage: tests/pictures.py [--write] [--real=FILE] PROGRAM
 
-With --write they are written. What must be in the drawings is counted in the text by other means besides. The file of the real town is not part
+With --write they are written. What must be in the drawings is counted in what the program shows. The file of the real town is not part
 of the repository (sample/README.md says which it is): without --real its drawings are only counted.
 """
 
@@ -14,6 +14,11 @@ import sys
 import tempfile
 
 TOP = os.path.dirname(os.path.dirname(os.path.abspath(__file__)))
+sys.dont_write_bytecode = True
+sys.path.insert(0, os.path.join(TOP, "sample"))
+
+from town import Entity, Form, block, frame, header_block
+
 TOWN = os.path.join(TOP, "sample", "town.osm.pbf")
 BOX = "9.997,49.999,10.003,50.003"
 VIEW = "9.975,49.991,10.025,50.009"
@@ -39,9 +44,8 @@ def run(words: list, **options) -> bytes:
     return subprocess.run(words, check=True, stdout=subprocess.PIPE, timeout=120, **options).stdout
 
 
-def draw(text: bytes, title: str, options: list) -> bytes:
-    tool = os.path.join(TOP, "tools", "draw.py")
-    return run([sys.executable, tool, *options, f"--title={title}"], input=text)
+def draw(path: str, options: list) -> bytes:
+    return run([sys.executable, os.path.join(TOP, "tools", "draw.py"), path, *options])
 
 
 def count_outside(name: str, drawing: bytes, most: int):
@@ -62,17 +66,28 @@ def count_parts(name: str, text: bytes, drawing: bytes):
 
 
 def draw_lines():
-    """Two nodes and a way on a view of one degree: the points are reckoned by hand."""
-    text = b'N 1 0 0\nN 2 1000000000 1000000000 "a\\"b"="N 3"\nW 7 "highway"="trunk" n1 n2\nR 8 "type"="route" w7@"a b"\n'
-    tool = os.path.join(TOP, "tools", "draw.py")
-    drawing = run([sys.executable, tool, "--view=0,-1,1,1"], input=text)
-    for part in [b'class="main" d="M0.0 740.0L740.0 0.0"', b'<circle class="dot" cx="740.0" cy="0.0"', b'height="1480"']:
+    """Two nodes and a way on a view of one degree and of the box with its margin: the points are reckoned by hand."""
+    # places are counted from 50 N 10 E
+    nodes = [Entity(1, {}, place=(-50_000_000, -10_000_000)), Entity(2, {'a"b': "N 3"}, place=(-49_000_000, -9_000_000))]
+    data = block(Form(), dense=nodes, ways=[Entity(7, {"highway": "trunk"}, refs=[1, 2])])
+    with tempfile.TemporaryDirectory(prefix="pbfcut-pictures-") as folder:
+        path = os.path.join(folder, "two.osm.pbf")
+        with open(path, "wb") as file:
+            file.write(frame("OSMHeader", header_block()) + frame("OSMData", data))
+        view = ["--view=0,-1,1,1"]
+        parts = [b'class="main" d="M0.0 740.0L740.0 0.0"', b'<circle class="dot" cx="740.0" cy="0.0"', b'height="1480"']
+        expect("a drawing of two nodes", draw(path, view), parts)
+        parts = [b'class="inside" d="M0.0 740.0h0"', b'class="outside" d="M740.0 0.0h0"']
+        expect("a drawing of two nodes and a box", draw(path, [*view, "--nodes", "--box=0,-1,0.5,0.5"]), parts)
+        # The box is 2/3 of the width of the view and of its height, the equator in the middle.
+        parts = [b'class="box" d="M123.3 616.7L616.7 616.7L616.7 123.3L123.3 123.3Z"', b'height="740"', b'class="main" d="M370.0 370.0L']
+        expect("a drawing of a box", draw(path, ["--box=-0.2,-0.2,0.2,0.2"]), parts)
+
+
+def expect(what: str, drawing: bytes, parts: list):
+    for part in parts:
         if part not in drawing:
-            fail(f"a drawing of two nodes lacks {part.decode()}")
-    drawing = run([sys.executable, tool, "--nodes", "--box=0,-1,0.5,0.5", "--view=0,-1,1,1"], input=text)
-    for part in [b'class="inside" d="M0.0 740.0h0"', b'class="outside" d="M740.0 0.0h0"']:
-        if part not in drawing:
-            fail(f"a drawing of two nodes lacks {part.decode()}")
+            fail(f"{what} lacks {part.decode()}")
 
 
 def compare(name: str, drawing: bytes, write: bool):
@@ -91,8 +106,8 @@ def draw_pair(program: str, path: str, box: str, view: str, titles: dict, note: 
         cut = os.path.join(folder, "cut.osm.pbf")
         run([program, "extract", f"--box={box}", path, cut])
         for (name, title), place, nodes in zip(titles.items(), [path, cut], [[], ["--nodes"]]):
-            text = run([program, "show", place])
-            yield name, text, draw(text, title, [f"--box={box}", f"--view={view}", *nodes, *note])
+            options = [f"--box={box}", f"--view={view}", f"--title={title}", *nodes, *note]
+            yield name, run([program, "show", place]), draw(place, options)
 
 
 def count_real():

@@ -1,31 +1,27 @@
 #!/usr/bin/env python3
-"""Draws what 'pbfcut show' prints, as an SVG picture for light and dark pages.
+"""Draws an OpenStreetMap PBF file, raw or compressed by zlib, as an SVG picture for light and dark pages.
 
-usage: pbfcut show FILE | tools/draw.py [--box=WEST,SOUTH,EAST,NORTH] [--view=WEST,SOUTH,EAST,NORTH] [--nodes] [--title=TEXT] [--note=TEXT] >OUT.svg
+usage: tools/draw.py FILE [--box BOX] [--view BOX] [--nodes] [--title TEXT] [--note TEXT] >OUT.svg
 
-  --box     draws the edges of this box
-  --view    draws what lies in this area; without it, all nodes
+  --box     west,south,east,north in degrees: draws the edges of this box; without it, of the box of the file's header
+  --view    draws what lies in this box; without it, the box and a quarter of its size around it. Without any box, all nodes
   --nodes   draws each node of a way: blue, but red if it is outside the box
   --title   says what the picture shows
   --note    is printed in the lower right corner, as whose data this is
 
 Ways are drawn by their tags, areas and multipolygons filled, nodes with tags as dots. It holds all nodes: it is for towns, of
-up to some 100,000 nodes. Standard input is read, and standard output written, by the standard library alone.
+up to some 100,000 nodes. Exit status: 0 done; 1 FILE can't be read; 2 the command line is wrong.
 """
 
 import math
-import re
 import sys
 from xml.sax.saxutils import escape
 
-WIDTH = 740
-DEGREE = 1_000_000_000
+from area import DEGREE, Arguments, bounds_of, boxes_meet, read_box
+from pbf import Damaged, Header, Node, Way, entities
 
-TEXT = r'"(?:[^"\\]|\\.)*"'
-WORD = re.compile(rf'{TEXT}={TEXT}|[a-z]\S*?@{TEXT}|s{TEXT}|\S+')
-TAG = re.compile(rf'({TEXT})=({TEXT})')
-REF = re.compile(r'n(-?\d+)(?:@(-?\d+),(-?\d+))?')
-MEMBER = re.compile(rf'([nwr])(-?\d+)@{TEXT}')
+WIDTH = 740
+MARGIN = 1 / 4
 
 # the classes of areas and lines, in the order in which they are drawn, each with the tags that make it: a key, and the values
 # or none for all
@@ -83,42 +79,46 @@ STYLE = """
 """
 
 
+def degrees(edges: tuple) -> tuple:
+    return tuple(edge / DEGREE for edge in edges)
+
+
 class Map:
-    """The places of nodes, the tagged ones, the ways and the multipolygons of a text."""
+    """The places of nodes in degrees, the tagged ones, the ways, the multipolygons and the header's box of a file."""
 
-    def __init__(self):
+    def __init__(self, path: str):
         self.places, self.dots, self.ways, self.rings = {}, [], {}, []
+        with open(path, "rb") as file:
+            for entity in entities(file):
+                if isinstance(entity, Node):
+                    self.add_node(entity)
+                elif isinstance(entity, Way):
+                    self.add_way(entity)
+                elif isinstance(entity, Header):
+                    self.box = entity.box and degrees(entity.box)
+                elif entity.tags.get("type") == "multipolygon":
+                    self.rings.append(([id for kind, id in entity.members if kind == "w"], entity.tags))
 
-    def read(self, lines):
-        for line in lines:
-            kind, _, rest = line.rstrip("\n").partition(" ")
-            if kind in ("N", "W", "R"):
-                words = WORD.findall(rest)
-                tags = {key[1:-1]: value[1:-1] for key, value in (found.groups() for found in map(TAG.fullmatch, words) if found)}
-                {"N": self.node, "W": self.way, "R": self.relation}[kind](int(words[0]), words[1:], tags)
-
-    def node(self, number: int, words: list, tags: dict):
-        place = (int(words[0]) / DEGREE, int(words[1]) / DEGREE)
-        self.places[number] = place
-        if tags:
+    def add_node(self, node: Node):
+        place = degrees((node.lon, node.lat))
+        self.places[node.id] = place
+        if node.tags:
             self.dots.append(place)
 
-    def way(self, number: int, words: list, tags: dict):
-        refs = []
-        for found in filter(None, map(REF.fullmatch, words)):
-            refs.append(int(found[1]))
-            if found[2]:
-                self.places.setdefault(refs[-1], (int(found[2]) / DEGREE, int(found[3]) / DEGREE))
-        self.ways[number] = (refs, tags)
-
-    def relation(self, _number: int, words: list, tags: dict):
-        if tags.get("type") == "multipolygon":
-            members = [int(found[2]) for found in map(MEMBER.fullmatch, words) if found and found[1] == "w"]
-            self.rings.append((members, tags))
+    def add_way(self, way: Way):
+        for ref, place in zip(way.refs, way.places):
+            self.places.setdefault(ref, degrees(place))
+        self.ways[way.id] = (way.refs, way.tags)
 
     def bounds(self) -> tuple:
-        lats, lons = zip(*(self.places.values() or [(0, 0)]))
-        return min(lons), min(lats), max(lons), max(lats)
+        return bounds_of(self.places.values() or [(0, 0)])
+
+
+def around(box: tuple) -> tuple:
+    """The box and its margin."""
+    west, south, east, north = box
+    width, height = (east - west) * MARGIN, (north - south) * MARGIN
+    return west - width, south - height, east + width, north + height
 
 
 def class_of(tags: dict, classes: dict):
@@ -140,7 +140,7 @@ class Picture:
         self.paths = {name: [] for name in [*AREAS, *LINES]}
 
     def point(self, place: tuple) -> str:
-        lat, lon = place
+        lon, lat = place
         return f"{(lon - self.west) * self.narrow * self.scale:.1f} {(self.north - lat) * self.scale:.1f}"
 
     def path(self, refs: list, closed: bool) -> str:
@@ -154,16 +154,15 @@ class Picture:
 
     def is_in_view(self, places: list) -> bool:
         """Whether the line through these places may be seen."""
-        lats, lons = zip(*places)
-        return min(lats) <= self.north and max(lats) >= self.south and min(lons) <= self.east and max(lons) >= self.west
+        return boxes_meet(bounds_of(places), (self.west, self.south, self.east, self.north))
 
     def nodes(self, box):
         """The nodes of what is drawn, as dots: those in the box, and the others."""
         west, south, east, north = box or (-180, -90, 180, 90)
         dots = {"inside": [], "outside": []}
         for ref in sorted(self.drawn):
-            lat, lon = self.map.places[ref]
-            dots["inside" if south <= lat <= north and west <= lon <= east else "outside"].append(f"M{self.point((lat, lon))}h0")
+            lon, lat = self.map.places[ref]
+            dots["inside" if south <= lat <= north and west <= lon <= east else "outside"].append(f"M{self.point((lon, lat))}h0")
         return [f'  <path class="{kind}" d="' + "\n".join(found) + '"/>' for kind, found in dots.items() if found]
 
     def gather(self):
@@ -196,34 +195,32 @@ class Picture:
             parts.append(f'  <circle class="dot" cx="{x}" cy="{y}" r="2.6"/>')
         if box:
             west, south, east, north = box
-            corners = [(south, west), (south, east), (north, east), (north, west)]
+            corners = [(west, south), (east, south), (east, north), (west, north)]
             parts.append('  <path class="box" d="M' + "L".join(map(self.point, corners)) + 'Z"/>')
         if note:
             parts.append(f'  <text class="note" x="{WIDTH - 6}" y="{self.height - 6}">{escape(note)}</text>')
         return "\n".join([*parts, "</svg>", ""])
 
 
-def edges(text: str) -> tuple:
-    found = tuple(map(float, text.split(",")))
-    if len(found) != 4:
-        raise ValueError
-    return found
-
-
 def main():
-    words = dict(word.removeprefix("--").partition("=")[::2] for word in sys.argv[1:])
-    if set(words) - {"box", "view", "nodes", "title", "note"}:
-        sys.exit(__doc__)
+    arguments = Arguments(prog="tools/draw.py", description=__doc__)
+    arguments.add_argument("path", metavar="FILE")
+    arguments.add_argument("--box", type=read_box)
+    arguments.add_argument("--view", type=read_box)
+    arguments.add_argument("--nodes", action="store_true")
+    arguments.add_argument("--title", default="A map drawn from a PBF file")
+    arguments.add_argument("--note", default="")
+    given = arguments.parse_args()
     try:
-        box, view = (edges(words[name]) if name in words else None for name in ("box", "view"))
-    except ValueError:
-        sys.exit(__doc__)
-    drawn = Map()
-    sys.stdin.reconfigure(encoding="utf-8")
+        drawn = Map(given.path)
+    except Damaged as error:
+        sys.exit(f"tools/draw.py: {given.path}: {error}")
+    except OSError as error:
+        sys.exit(f"tools/draw.py: {given.path}: {error.strerror}")
+    box = degrees(given.box) if given.box else drawn.box
+    view = degrees(given.view) if given.view else around(box) if box else drawn.bounds()
     sys.stdout.reconfigure(encoding="utf-8")
-    drawn.read(sys.stdin)
-    picture = Picture(drawn, view or drawn.bounds())
-    sys.stdout.write(picture.svg(box, words.get("title", "A map drawn from what pbfcut shows"), words.get("note", ""), "nodes" in words))
+    sys.stdout.write(Picture(drawn, view).svg(box, given.title, given.note, given.nodes))
 
 
 if __name__ == "__main__":
