@@ -156,7 +156,7 @@ pub record IsWider (narrow wide : Strategy) : Type 0 where
   pub members : narrow.members ≡ true → wide.members ≡ true
 
 -- a small look and a large one see an entity alike, but a node that is outside by the small one may be inside by the large one, and a
--- relation may be wanted whole by the large one alone
+-- relation that isn't wanted whole by the small one may be by the large one
 abbrev pub IsSeenWithin : Seen → Seen → Type 0
 IsSeenWithin (a_node id inside) (a_node own within) = (id ≡ own) × (inside ≡ true → within ≡ true)
 IsSeenWithin (a_relation id whole members) (a_relation own wider others) = (id ≡ own) × ((whole ≡ true → wider ≡ true) × (members ≡ others))

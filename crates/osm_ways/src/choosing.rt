@@ -139,7 +139,7 @@ pub struct Chooser<'a> {
     way_ids: Near<'a>,
     /// Those of all parents, if they were chosen too.
     relation_ids: Option<Near<'a>>,
-    /// What was added for relations that are wanted whole, if they were asked for.
+    /// What was added for relations that are wanted whole; `None` if none were.
     added: Option<NearAdded<'a>>,
 }
 

@@ -291,7 +291,7 @@ pub struct Chosen {
     pub(crate) way_ids: SealedIds,
     /// Those of all parents, if they were chosen too.
     pub(crate) relation_ids: Option<SealedIds>,
-    /// What was added for relations that are wanted whole, if they were asked for.
+    /// What was added for relations that are wanted whole; `None` if none were.
     pub(crate) added: Option<SealedAdded>,
     pub(crate) alloc: Global,
 }

@@ -1,5 +1,5 @@
 -- What a call says whose passes chose: the pass that takes relations, and the one that writes.
-use Rattle.std.proofs.Common.{arith, Bool, ◌≡◌, ℕ, List, [], ◌∷◌, Option, Some, Result, IfOk, OnErr, subst, refl, sym, ap, ◌∙◌}
+use Rattle.std.proofs.Common.{arith, Bool, ◌≡◌, ℕ, List, [], ◌∷◌, Some, Result, IfOk, OnErr, subst, refl, sym, ap, ◌∙◌}
 use Rattle.std.proofs.lemmas.Result.{on_err_weaker}
 use Rattle.osm_area.specs.Area.{AreaSpec}
 use Rattle.osm_ways.specs.Phases.{KeptSets}

@@ -12,8 +12,8 @@ use Rattle.osm_entity.specs.Entity.{EntitySpec, node, way, relation}
 use Rattle.osm_ids.specs.Links.{IsLeast}
 use Rattle.osm_ways.specs.Added.{nothing_added}
 use Rattle.osm_ways.specs.Phases.{Found, TakesAll, TakesFirst, WaySets, RelationSets, KeptSets, nothing_found, relations_from, way_step, relation_step, start_ways, start_relations, node_pass, without_parents, way_pass, relation_pass, is_chosen, is_taken}
-use Rattle.osm_ways.specs.Seen.{seen_entity, seen_member}
-use Rattle.osm_ways.specs.Selection.{MemberSeen, Seen, a_relation, Strategy, all_parents, complete_ways, keeps}
+use Rattle.osm_ways.specs.Seen.{seen_entity}
+use Rattle.osm_ways.specs.Selection.{Seen, Strategy, all_parents, complete_ways, keeps}
 use Rattle.osm_ways.proofs.Passes.{chosen_is_kept, chosen_with_parents, ways_stay}
 use Rattle.osm_ways.proofs.Taken.{taken_are_chosen}
 use Rattle.osm_pack.specs.Cuts.{written_file}
