@@ -51,6 +51,9 @@ PLACES = {
     17: (2000, 2000), 18: (2000, 3000), 19: (3000, 3000),
     20: (40000, 0),  # of no way
     21: (10000, 3000), 22: (10000, 6000),  # on the northern edge
+    # a horseshoe: the box is between its arms
+    23: (-15000, -15000), 24: (-15000, 25000), 25: (25000, 25000), 26: (25000, 24000),
+    27: (-14000, 24000), 28: (-14000, -14000), 29: (25000, -14000), 30: (25000, -15000),
 }
 WAYS = {
     31: [1, 2],            # kept, with a tail
@@ -65,6 +68,7 @@ WAYS = {
     40: [17, 18, 19, 17],  # kept, a closed ring
     41: [97, 12],          # dropped, and one of its nodes is missing
     42: [21, 22],          # kept
+    43: [23, 24, 25, 26, 27, 28, 29, 30, 23],  # neither across nor around
 }
 RELATIONS = {
     51: ({"type": "multipolygon", "natural": "water"}, "w37 w38 w39"),      # kept, lost 1, 2 open ends
@@ -75,15 +79,15 @@ RELATIONS = {
     56: ({"type": "boundary"}, "w31 w39 w37"),                              # kept; three of its ways end in 1, one each in 2, 15 and 16
 }
 HAND_COUNTS = {
-    "nodes_in_file": 22, "nodes_in_area": 8, "nodes_kept": 11, "ways_in_file": 12, "ways_in_area": 6, "ways_kept": 6,
+    "nodes_in_file": 30, "nodes_in_area": 8, "nodes_kept": 11, "ways_in_file": 13, "ways_in_area": 6, "ways_kept": 6,
     "relations_in_file": 6, "relations_in_area": 4, "relations_kept": 5,
     "ways_across": 2, "ways_around": 1, "ways_reaching": 3, "relations_losing": 3, "members_lost": 4,
     "relations_open": 2, "open_ends": 6, "nodes_lacking": 3, "ways_lacking": 2,
 }
-# without a box: nodes 8, 9 and 20 are outside the header's, 54 lacks a relation, and only 56 is open
+# without a box: nodes 8, 9, 20, 25, 26, 29 and 30 are outside the header's, 54 lacks a relation, and only 56 is open
 WHOLE_COUNTS = {
-    **HAND_COUNTS, "nodes_in_area": 19, "nodes_kept": 22, "ways_in_area": 12, "ways_kept": 12, "relations_in_area": 6, "relations_kept": 6,
-    "ways_across": 0, "ways_around": 0, "ways_reaching": 1, "relations_losing": 1, "members_lost": 1, "relations_open": 1, "open_ends": 4,
+    **HAND_COUNTS, "nodes_in_area": 23, "nodes_kept": 30, "ways_in_area": 13, "ways_kept": 13, "relations_in_area": 6, "relations_kept": 6,
+    "ways_across": 0, "ways_around": 0, "ways_reaching": 2, "relations_losing": 1, "members_lost": 1, "relations_open": 1, "open_ends": 4,
 }
 SQUARE = [[10, 50], [10.01, 50], [10.01, 50.01], [10, 50.01]]
 HOLE = [[10.001, 50.001], [10.004, 50.001], [10.004, 50.004], [10.001, 50.004]]
@@ -100,6 +104,9 @@ POLYGONS = {
     # nodes 17, 18 and 19 are in the hole, but 19 is in another polygon
     "hole.geojson": (f'{{"type": "Feature", "geometry": {{"type": "MultiPolygon", "coordinates": [[{SQUARE}, {HOLE}], '
                      '[[[10.0025, 50.0025], [10.0035, 50.0025], [10.0035, 50.0035]]]]}}', {"nodes_in_area": 6}),
+    # way 33 is around the first of these squares, and not around both
+    "two.geojson": ('{"type": "MultiPolygon", "coordinates": [[[[10.002, 50.006], [10.003, 50.006], [10.003, 50.007], [10.002, 50.007]]], '
+                    '[[[10.05, 50], [10.051, 50], [10.051, 50.001], [10.05, 50.001]]]]}', {"nodes_in_area": 0, "ways_across": 0, "ways_around": 0}),
     # the shape of a U, with nodes 5 and 14: ways 31, 32 and 34 are across, and 42 leads from one of its tops towards the other
     "letter.poly": ("letter\n1\n 10 50\n 10.01 50\n 10.01 50.01\n 10.009 50.01\n 10.009 50.001\n 10.001 50.001\n 10.001 50.01\n 10 50.01\n"
                     "END\nEND\n", {"nodes_in_area": 2, "ways_across": 3}),
