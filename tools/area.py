@@ -8,6 +8,7 @@ import argparse
 import json
 import sys
 from decimal import Decimal
+from itertools import chain
 
 DEGREE = 1_000_000_000
 BANDS = 1000
@@ -147,6 +148,10 @@ class Area:
                         and side(first, last, start) * side(first, last, end) <= 0:
                     return True
         return False
+
+    def is_within(self, ring: list) -> bool:
+        """Whether it lies within a ring that crosses none of its edges."""
+        return bounds_of(chain(ring, self.corners())) == bounds_of(ring) and Area([[ring]]).contains(self.polygons[0][0][0])
 
 
 class Arguments(argparse.ArgumentParser):

@@ -37,9 +37,13 @@ from pbf import Damaged, Header, Node, Relation, Way, entities
 # the longer side of the area, in units of the map
 SPAN = 20_000
 METRES_PER_DEGREE = 111_320
-PER_PATH = 100
+WAYS_PER_PATH = 100
 MOST_ROWS = 10
-RINGS = ("multipolygon", "boundary")
+# the types of relations that are made of rings
+RING_TYPES = ("multipolygon", "boundary")
+# the keys that say what an object is
+MAIN_KEYS = ("highway", "railway", "waterway", "aerialway", "power", "route", "boundary", "building", "natural", "landuse", "leisure")
+# the index of a node that the file doesn't have
 LACKING = -1
 
 
@@ -115,31 +119,30 @@ class Selection:
         self.file = file
         # a byte for each node, and one for LACKING
         self.inside = bytearray(map(area.contains, zip(file.nodes.lons, file.nodes.lats))) + b"\0"
-        self.ways = [way for way in file.ways if any(map(self.inside.__getitem__, way.nodes))]
-        self.in_area = self.counts(self.inside, self.relations_with(self.inside))
-        self.ways = file.ways if is_extract else self.ways
-        self.nodes = bytearray(b"\1" * len(file.nodes.ids) + b"\0") if is_extract else self.completed()
-        self.relations = file.relations if is_extract else self.relations_with(self.nodes)
-        self.kept = self.counts(self.nodes, self.relations)
+        ways = [way for way in file.ways if any(map(self.inside.__getitem__, way.nodes))]
+        self.in_area = sum(self.inside), len(ways), len(self.relations_with(self.inside, ways))
+        if is_extract:
+            self.nodes, self.ways, self.relations = bytearray(b"\1" * len(file.nodes.ids) + b"\0"), file.ways, file.relations
+        else:
+            self.nodes, self.ways = self.completed(ways), ways
+            self.relations = self.relations_with(self.nodes, ways)
+        self.kept = sum(self.nodes), len(self.ways), len(self.relations)
         self.way_ids, self.relation_ids = {way.id for way in self.ways}, {relation.id for relation in self.relations}
 
-    def completed(self) -> bytearray:
-        """The nodes inside, and all those of the ways."""
+    def completed(self, ways: list) -> bytearray:
+        """The nodes inside, and all those of these ways."""
         nodes = self.inside[:]
-        for way in self.ways:
+        for way in ways:
             for index in way.nodes:
                 nodes[index] = 1
         nodes[LACKING] = 0
         return nodes
 
-    def relations_with(self, nodes: bytearray) -> list:
-        """The relations that have one of these nodes or of the ways as a member."""
-        ways = {way.id for way in self.ways}
+    def relations_with(self, nodes: bytearray, ways: list) -> list:
+        """The relations that have one of these nodes or ways as a member."""
+        ids = {way.id for way in ways}
         return [relation for relation in self.file.relations
-                if any(id in ways if kind == "w" else kind == "n" and nodes[self.file.nodes.index(id)] for kind, id in relation.members)]
-
-    def counts(self, nodes: bytearray, relations: list) -> tuple:
-        return sum(nodes), len(self.ways), len(relations)
+                if any(id in ids if kind == "w" else kind == "n" and nodes[self.file.nodes.index(id)] for kind, id in relation.members)]
 
     def lacks(self, member: tuple) -> bool:
         kind, id = member
@@ -154,13 +157,12 @@ class Findings:
     def __init__(self, file: File, area: Area, selection: Selection):
         self.across, self.around = [], []
         for way in file.ways:
-            places = file.places(way)
-            if any(map(selection.inside.__getitem__, way.nodes)) or not places or not boxes_meet(bounds_of(places), area.bounds):
-                continue
-            if any(map(area.is_crossed, places, places[1:])):
-                self.across.append(way)
-            elif way.is_closed() and Area([[places]]).contains(area.polygons[0][0][0]):
-                self.around.append(way)
+            places = [] if any(map(selection.inside.__getitem__, way.nodes)) else file.places(way)
+            if places and boxes_meet(bounds_of(places), area.bounds):
+                if any(map(area.is_crossed, places, places[1:])):
+                    self.across.append(way)
+                elif way.is_closed() and area.is_within(places):
+                    self.around.append(way)
         self.reaching = [way for way in selection.ways if any(index != LACKING and not selection.inside[index] for index in way.nodes)]
         lost = [(relation, sum(map(selection.lacks, relation.members))) for relation in selection.relations]
         self.losing = sorted((found for found in lost if found[1]), key=lambda found: (-found[1], found[0].id))
@@ -171,7 +173,7 @@ class Findings:
 
 def open_ends(relation: Relation, ends: dict) -> list:
     """The nodes in which the rings of a relation are open, made of those member ways that have ends here: an odd number of them ends there."""
-    if relation.tags.get("type") not in RINGS:
+    if relation.tags.get("type") not in RING_TYPES:
         return []
     counts = Counter(end for way in {id for kind, id in relation.members if kind == "w"} for end in ends.get(way, ()))
     return sorted(node for node, count in counts.items() if count % 2)
@@ -213,9 +215,9 @@ class Page:
         self.findings = Findings(file, area, self.selection)
 
     def lines(self, ways) -> str:
-        """The ways as paths of PER_PATH ways each: a browser draws many short paths faster than a long one."""
+        """The ways as paths of WAYS_PER_PATH ways each: a browser draws many short paths faster than a long one."""
         paths, found = [], map(self.map.path, map(self.file.places, ways))
-        while part := list(islice(found, PER_PATH)):
+        while part := list(islice(found, WAYS_PER_PATH)):
             paths.append('<path d="' + "\n".join(part) + '"/>')
         return "\n".join(paths)
 
@@ -275,8 +277,9 @@ class Page:
 
 
 def what_is(tags: dict) -> str:
-    """The first tag but those that every object may have, as key=value."""
-    return next((f"{key}={value}" for key, value in tags.items() if key not in ("type", "name", "source", "note", "created_by")), "")
+    """The tag that says it, or the first one, as key=value."""
+    key = next((key for key in MAIN_KEYS if key in tags), next(iter(tags), None))
+    return f"{key}={tags[key]}" if key else ""
 
 
 def table(title: str, heads: list, rows: list) -> str:
