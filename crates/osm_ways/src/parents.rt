@@ -11,7 +11,7 @@ ghost use Rattle.osm_ways.specs.Seen.{seen_as, seen_member, seen_relation};
 ghost use Rattle.osm_ways.specs.Phases.{found_if, is_start, nothing_found, relation_step, relations_from, start_relations, with_link};
 
 use crate::members::{AddedIds, MemberPhase};
-use crate::phases::{Chosen, sealed};
+use crate::phases::{Chosen, WayPhase, sealed};
 use osm_entity::{MemberKind, Members, RelationRef};
 use osm_ids::{IdSet, Links, Window};
 use std::alloc::{AllocError, Global};
@@ -27,7 +27,7 @@ impl Chosen {
     }
 
     /// The same with what relations gave in an earlier phase.
-    pub fn with_found(self, found: FoundRelations) -> RelationPhase
+    fn with_found(self, found: FoundRelations) -> RelationPhase
         ensures { result ≡ relations_from self.ways found }
     {
         RelationPhase {
@@ -38,6 +38,19 @@ impl Chosen {
             },
             found,
         }
+    }
+}
+
+impl WayPhase {
+    /// All ways are taken: the phase that takes relations, with what they gave in an earlier phase.
+    ///
+    /// # Errors
+    ///
+    /// If memory is refused, both are gone.
+    pub fn end_with(self, found: FoundRelations) -> Result<RelationPhase, AllocError>
+        ensures { IfOk result (λ phase. phase ≡ relations_from self found) }
+    {
+        Ok(self.end_ways()?.with_found(found))
     }
 }
 

@@ -166,7 +166,7 @@ fn choose_parents<A: Area + Copy, P: RelationTaker + Drop, F: Feed, G: Feed, H: 
     let spared = taking.phase.has_all_ways();
     let (mut ways, found) = taking.end_all()?;
     again.gather_rest(second, &mut ways, spared)?;
-    let mut relations = ways.end_ways()?.with_found(found);
+    let mut relations = ways.end_with(found)?;
     let more = LaterPass { number: 3, ..again };
     more.gather_rest(third, &mut relations, spared)?;
     let chosen = relations.end_relations()?.into_chosen();

@@ -61,7 +61,7 @@ returns-clause-chosen g c =
       file = one.file;
       supplied = one.supplied;
       digest_is = one.digest_is;
-      holding = chooses_parents P.start P.step P.has_ways P.ended c.new-taking.ensures.takes (fed g.G.Feed c.args.second.now c.gather_rest.new.feed) _ (g.A.Area.area c.args.area) one.file _ _ _ _ _ _ _ (ap g.A.Area.area c.new-taking.ensures.area) one.holding c.new-taking.ensures.start c.in_ok-ways.ensures.ways c.in_ok-end_ways.ensures
-          g.P.RelationTaker.found c.in_ok-ways.ensures.takes (fed g.H.Feed c.args.third.now c.gather_rest-2.new.feed) _ c.in_ok-ways.ensures.found _ _ c.with_found-relations.ensures _ _ c.in_ok-end_relations.ensures.ways c.in_ok-end_relations.ensures.least c.in_ok-end_relations.ensures.added c.into_chosen-chosen.ensures
+      holding = chooses_parents P.start P.step P.has_ways P.ended c.new-taking.ensures.takes (fed g.G.Feed c.args.second.now c.gather_rest.new.feed) _ (g.A.Area.area c.args.area) one.file _ _ _ _ _ _ _ (ap g.A.Area.area c.new-taking.ensures.area) one.holding c.new-taking.ensures.start c.in_ok-ways.ensures.ways refl
+          g.P.RelationTaker.found c.in_ok-ways.ensures.takes (fed g.H.Feed c.args.third.now c.gather_rest-2.new.feed) _ c.in_ok-ways.ensures.found _ _ c.in_ok-relations.ensures _ _ c.in_ok-end_relations.ensures.ways c.in_ok-end_relations.ensures.least c.in_ok-end_relations.ensures.added c.into_chosen-chosen.ensures
           c.has_all_ways-spared.result c.has_all_ways-spared.ensures c.in_ok-gather_rest.ensures.gathered c.in_ok-gather_rest-2.ensures.gathered;
     }
