@@ -16,6 +16,7 @@ The last line is `only=N holes=K`. A function of the crate is right if its line 
 Exit status: that of the check.
 """
 import argparse
+import glob
 import hashlib
 import os
 import re
@@ -45,6 +46,10 @@ def copy_stubbed(crate, name, room, asked=()):
         if os.path.isdir(os.path.join(crate, part)):
             shutil.copytree(os.path.join(crate, part), os.path.join(room, part))
     leave_out(room, name, frozenset(asked))
+    # what a function that called itself is measured by: an endless loop calls nothing
+    for folder in glob.glob(os.path.join(room, "proofs", "**", "+*"), recursive=True):
+        if os.path.basename(folder)[1:] not in {function for _, function in asked}:
+            shutil.rmtree(folder)
 
 
 def make_stub(crate, name):

@@ -64,7 +64,8 @@ impl<V: Visit> Visit for Each<V> {
     }
 }
 
-/// Visits a frame by each of the visitors.
+/// Visits a frame by each of the visitors: by the first, and then by those after it. So it calls itself as often as there are visitors, and
+/// no invariant has to say which of them are done.
 fn visit_each<V: Visit>(visitors: &mut [V], alloc: Global, frame: &Frame<'_>) -> Result<(), Stop>
     requires { AllByRecursion V.ready visitors.old }
     ensures took { OnOk result ((f : FrameSpec) → Shows frame.now f
