@@ -106,7 +106,12 @@ fn lake_at_the_border(rt: HostRuntime) -> Result<(), AllocError> {
             true,
         ),
         (11, &[(MemberKind::Way, 8)], true, false),
-        (12, &[(MemberKind::Node, 6), (MemberKind::Node, 3)], true, false),
+        (
+            12,
+            &[(MemberKind::Node, 6), (MemberKind::Node, 3)],
+            true,
+            false,
+        ),
     ];
     let ids = [
         (1, true),
@@ -116,7 +121,10 @@ fn lake_at_the_border(rt: HostRuntime) -> Result<(), AllocError> {
         (5, false),
         (6, true),
     ];
-    assert_eq!(rt; extracts(rt.alloc(), &ways, &relations, &ids)?, (false, true));
+    assert_eq!(rt;
+        extracts(rt.alloc(), &ways, &relations, &ids)?,
+        (false, true)
+    );
     Ok(())
 }
 
@@ -125,7 +133,12 @@ fn lake_at_the_border(rt: HostRuntime) -> Result<(), AllocError> {
 fn kept_but_not_completed(rt: HostRuntime) -> Result<(), AllocError> {
     let ways: [WayRow<'_>; 2] = [(7, &[1], true), (8, &[3], false)];
     let relations: [MembersRow<'_>; 2] = [
-        (10, &[(MemberKind::Way, 7), (MemberKind::Way, 8)], false, true),
+        (
+            10,
+            &[(MemberKind::Way, 7), (MemberKind::Way, 8)],
+            false,
+            true,
+        ),
         (
             11,
             &[(MemberKind::Relation, 10), (MemberKind::Way, 8)],
@@ -134,7 +147,10 @@ fn kept_but_not_completed(rt: HostRuntime) -> Result<(), AllocError> {
         ),
     ];
     let ids = [(1, true), (3, false)];
-    assert_eq!(rt; extracts(rt.alloc(), &ways, &relations, &ids)?, (true, true));
+    assert_eq!(rt;
+        extracts(rt.alloc(), &ways, &relations, &ids)?,
+        (true, true)
+    );
     Ok(())
 }
 
@@ -157,6 +173,9 @@ fn members_of_all_kinds(rt: HostRuntime) -> Result<(), AllocError> {
         (11, &[(MemberKind::Way, 9)], true, false),
     ];
     let ids = [(1, true), (-3, true), (4, true), (5, false), (77, false)];
-    assert_eq!(rt; extracts(rt.alloc(), &ways, &relations, &ids)?, (false, true));
+    assert_eq!(rt;
+        extracts(rt.alloc(), &ways, &relations, &ids)?,
+        (false, true)
+    );
     Ok(())
 }

@@ -99,7 +99,11 @@ fn take_relation(
     phase.take_relation(&relation(alloc, row)?.view())
 }
 
-pub(crate) fn chosen(alloc: Global, nodes: &[NodeRow], ways: &[WayRow<'_>]) -> Result<Chosen, AllocError> {
+pub(crate) fn chosen(
+    alloc: Global,
+    nodes: &[NodeRow],
+    ways: &[WayRow<'_>],
+) -> Result<Chosen, AllocError> {
     let mut phase = NodePhase::new(alloc, AREA);
     for row in nodes {
         take_node(&mut phase, alloc, *row)?;
@@ -187,7 +191,11 @@ pub(crate) fn keeps_nodes(chosen: &Chosen, expected: &[(i64, bool)]) -> bool {
 }
 
 /// Whether the ways are kept that are to be kept, and no others.
-pub(crate) fn keeps_ways(alloc: Global, chosen: &Chosen, rows: &[WayRow<'_>]) -> Result<bool, AllocError> {
+pub(crate) fn keeps_ways(
+    alloc: Global,
+    chosen: &Chosen,
+    rows: &[WayRow<'_>],
+) -> Result<bool, AllocError> {
     for row in rows {
         if chosen.keeps_way(&way(alloc, *row)?.view()) != row.2 {
             return Ok(false);

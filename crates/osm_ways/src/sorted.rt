@@ -97,11 +97,7 @@ impl NodeTaker for SortedPhase {
     }
 
     /// If the order holds, adds what it gives: whether a node or a way selects it, its links, and its members if it is wanted whole.
-    fn take_relation(
-        &mut self,
-        relation: &RelationRef<'_>,
-        whole: bool,
-    ) -> Result<(), AllocError> {
+    fn take_relation(&mut self, relation: &RelationRef<'_>, whole: bool) -> Result<(), AllocError> {
         if !self.first.has_all_ways() {
             return Ok(());
         }

@@ -33,7 +33,7 @@ text_by true lines members stored headers blocks others = info_object members st
 abbrev pub info_text : (json : Bool) → List FrameSpec → Stored → List ℕ
 info_text json frames stored =
     text_by json (header_lines (first_header frames)) (members_of (first_header frames)) stored
-        (count_of is_header frames) (count_of is_data frames) (count_of is_other frames)
+    (count_of is_header frames) (count_of is_data frames) (count_of is_other frames)
 
 -- the same, by a summary of the frames
 abbrev pub summary_text : (json : Bool) → Summary → Stored → List ℕ
