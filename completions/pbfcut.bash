@@ -28,9 +28,17 @@ _pbfcut() {
       COMPREPLY=()
       return
       ;;
+    extract:--strategy | extract:-s)
+      _pbfcut_words "$word" "complete_ways smart"
+      return
+      ;;
+    extract:--types)
+      _pbfcut_words "$word" "multipolygon multipolygon,boundary any"
+      return
+      ;;
   esac
   case $command:$word in
-    extract:-*) _pbfcut_words "$word" "--box= --polygon= --parents --progress --digests $raw $files --help" ;;
+    extract:-*) _pbfcut_words "$word" "--box= --polygon= --parents --strategy= --types= --progress --digests $raw $files --help" ;;
     convert:-*) _pbfcut_words "$word" "--progress --digests $raw $files --help" ;;
     pack:-* | unpack:-*) _pbfcut_words "$word" "--progress --digests $files --help" ;;
     check:-*) _pbfcut_words "$word" "--progress --digests --help" ;;

@@ -1,6 +1,6 @@
 #!/usr/bin/env python3
 """The map in docs/ARCHITECTURE.md is the tree's: it lists each crate once, with what it is for and its state, and each file of pbf_wire. Each file
-of src/ begins with its concept, as the page says. The calls, clauses and definitions that the tables of docs/PROMISES.md name are in the sources. No
+of src/ begins with its concept, as the page says. The calls, clauses and definitions that the tables of promises name are in the sources. No
 contract and no definition has a limit of the format as a numeral: each is a constant.
 
 usage: tests/architecture.py [PROGRAM]
@@ -8,6 +8,7 @@ usage: tests/architecture.py [PROGRAM]
 PROGRAM is not run. Crates of tests and uses are not in the list of crates.
 """
 
+import glob
 import os
 import re
 import sys
@@ -75,11 +76,12 @@ def words_of_sources(crates: set) -> set:
 def unknown_promises(words: set) -> list:
     """What the second and the third column of a table of promises name that no source has."""
     found = []
-    for number, line in enumerate(read(os.path.join(TOP, "docs", "PROMISES.md")).splitlines(), 1):
-        cells = line.split(" | ")
-        if line.startswith("| ") and len(cells) > 2:
-            named = re.findall(r"`([\w:]+)`", cells[1] + cells[2])
-            found += [f"docs/PROMISES.md, line {number}: no source has '{name}'" for name in named if not set(name.split("::")) <= words]
+    for path in [os.path.join(TOP, "docs", "PROMISES.md"), *sorted(glob.glob(os.path.join(TOP, "crates", "*", "PROMISES.md")))]:
+        for number, line in enumerate(read(path).splitlines(), 1):
+            cells = line.split(" | ")
+            if line.startswith("| ") and len(cells) > 2:
+                named = re.findall(r"`([\w:]+)`", cells[1] + cells[2])
+                found += [f"{os.path.relpath(path, TOP)}, line {number}: no source has '{name}'" for name in named if not set(name.split("::")) <= words]
     return found
 
 

@@ -16,7 +16,7 @@ TOP = os.path.dirname(os.path.dirname(os.path.abspath(__file__)))
 USERS = ["README.md", "CHANGELOG.md", "CONTRIBUTING.md", "docs/USING.md", "docs/FORMAT.md", "docs/pbfcut.1", "docs/pbfcutz.1",
          "sample/README.md", "crates/pbfcut_cli/src/help.rt"]
 # made of other files
-MADE = ["docs/STATEMENT.md", "docs/PROMISES.md", "vectors/CASES.md"]
+MADE = ["vectors/CASES.md"]
 MOST_ELSEWHERE = 1
 MOST_IN_COMMENTS = 0
 
@@ -67,11 +67,12 @@ COMMENT_PHRASES = {
 
 
 def text_of(name: str) -> str:
-    """A page without its code: blocks, names in backquotes, and what links lead to."""
+    """A page without its code: blocks, names in backquotes, and what links lead to; and without the table that is made of comments."""
     with open(os.path.join(TOP, name), encoding="utf-8") as file:
         text = file.read()
     if name.endswith((".rt", ".antt")):
         return text
+    text = re.sub(r"^<!-- calls:.*", "", text, flags=re.M | re.S)
     text = re.sub(r"^```.*?^```$", lambda found: "\n" * found[0].count("\n"), text, flags=re.M | re.S)
     return re.sub(r"\]\([^)]*\)", "]", re.sub(r"`[^`\n]*`", "`X`", text))
 

@@ -38,8 +38,11 @@ ROWS = ["three_dense_nodes", "relation_and_its_parent", "node_with_metadata_and_
 MORE = ["chain_of_relations_and_two_rings", "way_with_locations", "header_with_every_field", "two_plain_nodes_with_every_metadata_field",
         "members_of_three_kinds", "block_of_four_groups", "nodes_with_and_without_a_version", "three_dense_nodes_cut_after_45_bytes",
         "sound_block_before_a_faulty_one", "node_way_and_relation_with_an_unknown_blob_between", "empty_file"]
-COMMANDS = [["blobs"], ["check"], ["show"], ["show", "--dates"], ["convert"], ["extract", "--box={box}"], ["extract", "--parents", "--box={box}"],
+SMART = ["extract", "-s", "smart", "--types=any", "--box={box}"]
+COMMANDS = [["blobs"], ["check"], ["show"], ["show", "--dates"], ["convert"], ["extract", "--box={box}"], ["extract", "--parents", "--box={box}"], SMART,
             ["check", "--digests"], ["extract", "--digests", "--box={box}"]]
+# the box of the sample by which ways are added, so that IN is read three times
+OLD_TOWN = "9.997,49.999,10.003,50.003"
 
 MEMORY = (4, b": out of memory\n")
 READ = (3, b": read failed\n")
@@ -136,7 +139,7 @@ def files(every: bool) -> list:
     """(file, box) of each input."""
     names = ROWS + (MORE if every else [])
     found = [(os.path.join(VECTORS, name, "in.osm.pbf"), "0,0,1,1") for name in names]
-    return found + [(SAMPLE, "9.99,49.99,10.01,50.01")]
+    return found + [(SAMPLE, "9.99,49.99,10.01,50.01"), (SAMPLE, OLD_TOWN)]
 
 
 def build(folder: str) -> str:
@@ -168,7 +171,7 @@ def named_files(every: bool):
     """The name that the program is called by, and (file, box)."""
     for path, box in files(every):
         yield "pbfcut", path, box
-        if every or os.path.basename(os.path.dirname(path)) in ROWS[:2]:
+        if every or box == OLD_TOWN or os.path.basename(os.path.dirname(path)) in ROWS[:2]:
             yield "pbfcutz", path, box
 
 
@@ -177,7 +180,7 @@ def all_series(program: str, library: str, every: bool) -> list:
     with concurrent.futures.ThreadPoolExecutor(os.cpu_count()) as pool:
         waiting = []
         for name, path, box in named_files(every):
-            for command in COMMANDS:
+            for command in [SMART] if box == OLD_TOWN else COMMANDS:
                 words = [word.format(box=box) for word in command] + ["in"]
                 words += ["out"] if command[0] in ("convert", "extract") else []
                 sorts = [sort for sort in SORTS if every or path != SAMPLE or sort[0] != "memory-from"]

@@ -48,6 +48,7 @@ PASSED_OVER = 2_000_000
 
 FAR = 200_000_000  # twenty degrees, out of the box
 TABLE = field(1, b"\x0a\x00")
+MULTIPOLYGONS = field(1, field(1, b"") + field(1, b"type") + field(1, b"multipolygon"))
 
 
 def growing(count: int) -> bytes:
@@ -209,6 +210,47 @@ def a_parent_of_many(size: int) -> list:
     parent = relation(count + 1, deltas(list(range(1, count + 1))), b"\x02" * count)
     children = b"".join(relation(number, varint(zigzag(count + 1)), b"\x02") for number in range(1, count + 1))
     return [block(nodes(1)), block(field(2, parent + children + relation(1, b"\x02", b"\x00")))]
+
+
+def multipolygon(number: int, ids: bytes, kinds: bytes) -> bytes:
+    """A relation of that type, by the table MULTIPOLYGONS."""
+    return relation(number, ids, kinds, field(2, b"\x01"), field(3, b"\x02"))
+
+
+def a_multipolygon_of_many_ways(size: int) -> list:
+    """Each way has two nodes of its own outside the box. The relation has a node in the box, and each way twice."""
+    count = 4_000 * size
+    outside = dense(varint(zigzag(2)) + growing(2 * count - 1), varint(zigzag(FAR)) + bytes(2 * count - 1), bytes(2 * count))
+    ways = b"".join(way(number, deltas([2 * number, 2 * number + 1])) for number in range(1, count + 1))
+    ids = deltas([1, *range(1, count + 1), *range(count, 0, -1)])
+    return [block(nodes(1)), block(outside), block(field(2, ways)),
+            block(field(2, multipolygon(1, ids, b"\x00" + b"\x01" * (2 * count))), table=MULTIPOLYGONS)]
+
+
+def multipolygons_of_a_way(size: int) -> list:
+    """Each has the node in the box, and a way and a node outside, whose ids fall from one relation to the next."""
+    count = 3_000 * size
+    outside = dense(varint(zigzag(2)) + growing(2 * count - 1), varint(zigzag(FAR)) + bytes(2 * count - 1), bytes(2 * count))
+    ways = b"".join(way(number, deltas([2 * number, 2 * number + 1])) for number in range(1, count + 1))
+    relations = b"".join(multipolygon(number, deltas([1, count + 1 - number, 2 * (count + 1 - number)]), b"\x00\x01\x00") for number in range(1, count + 1))
+    return [block(nodes(1)), block(outside), block(field(2, ways)), block(field(2, relations), table=MULTIPOLYGONS)]
+
+
+def multipolygons_of_one_way(size: int) -> list:
+    """All of them have the same two ways: one is kept, and the other has as many refs as there are relations."""
+    count = 4_000 * size
+    ways = way(1, b"\x02\x02") + way(2, b"\x06" + growing(count - 1))
+    relations = b"".join(multipolygon(number, deltas([1, 2]), b"\x01\x01") for number in range(1, count + 1))
+    outside = dense(varint(zigzag(3)) + growing(count - 1), varint(zigzag(FAR)) + bytes(count - 1), bytes(count))
+    return [block(nodes(2)), block(outside), block(field(2, ways)), block(field(2, relations), table=MULTIPOLYGONS)]
+
+
+def multipolygons_in_a_chain(size: int) -> list:
+    """Each has the next one and a way outside as members; the last has a node. So all are kept, and only the last is completed."""
+    count = 4_000 * size
+    ways = b"".join(way(number, deltas([2, 3])) for number in range(1, count + 1))
+    chain = b"".join(multipolygon(number, deltas([number + 1, number]), b"\x02\x01") for number in range(1, count))
+    return [block(nodes(1)), block(field(2, ways)), block(field(2, chain + multipolygon(count, deltas([1, count]), b"\x00\x01")), table=MULTIPOLYGONS)]
 
 
 def ways_and_relations_in_turn(size: int) -> list:
@@ -469,6 +511,7 @@ COMMANDS = {
     "convert": (["convert", "in", "out"], 2),
     "extract": (["extract", "--box=0,0,1,1", "in", "out"], 3),
     "extract --parents": (["extract", "--parents", "--box=0,0,1,1", "in", "out"], 4),
+    "extract -s smart": (["extract", "-s", "smart", "--box=0,0,1,1", "in", "out"], 3),
     "extract --polygon": (["extract", "--polygon=ring", "in", "out"], 3),
     "pack": (["pack", "in", "out"], 2),
     "unpack": (["unpack", "in", "out"], 2),
@@ -480,6 +523,9 @@ ANY, ZLIB_ONLY = ("check", "show", "convert", "extract", "extract --parents"), (
 # what these say in full is longer than the file by far
 NOT_SHOWN = {nodes_of_a_long_user, a_long_key_in_each_node, a_long_key_in_each_way}
 OF_THE_HEADER = {a_header_of_many_features}
+# shapes for members that are added, and others for which the smart extract may be slow by itself; it differs from that with all parents only by relations
+OF_MEMBERS = {a_multipolygon_of_many_ways, multipolygons_of_a_way, multipolygons_of_one_way, multipolygons_in_a_chain}
+OF_RELATIONS = {parents_in_a_chain, parents_in_circles, a_parent_of_many}
 
 
 def files_of(shape, size: int) -> dict:
@@ -614,16 +660,26 @@ class Row:
         return f"{self.name:70} {times} ms {self.growth[last]:5.2f} {self.share[last]:5.2f} {self.memory[last] // 1000:4} MB"
 
 
+def commands_of(shape, program: str) -> list:
+    """The commands that a program runs over a shape."""
+    if shape in POLYGONS:
+        return ["extract --polygon"]
+    if shape in OF_MEMBERS:
+        return ["extract --parents", "extract -s smart"]
+    found = [command for command in ANY if not (shape in NOT_SHOWN and command == "show")]
+    found += ["extract -s smart"] if shape in OF_RELATIONS else []
+    found += ZLIB_ONLY if program == "pbfcutz" else ()
+    return found + (["info --json"] if program == "pbfcutz" and shape in OF_THE_HEADER else [])
+
+
 def rows_of(shape) -> list:
     """The rows of a shape, each run again as long as it is out of place: other processes may be in its way."""
     read = {}
     for size in SIZES:
         read.update(made_apart(lambda: {f"{name}.{size}": made for name, made in files_of(shape, size).items()}))
     name = shape.__name__.replace("_", " ") if callable(shape) else shape
-    commands = ["extract --polygon"] if shape in POLYGONS else [command for command in ANY if not (shape in NOT_SHOWN and command == "show")]
-    of_zlib = [*ZLIB_ONLY, "info --json"] if shape in OF_THE_HEADER else list(ZLIB_ONLY)
     programs = [program for program in ("pbfcut", "pbfcutz") if f"{program}.{SIZES[0]}" in read]
-    rows = [Row(name, program, command, read) for program in programs for command in commands + (of_zlib if program == "pbfcutz" else [])]
+    rows = [Row(name, program, command, read) for program in programs for command in commands_of(shape, program)]
     for row in rows:
         row.run()
         for _ in range(TRIES):

@@ -26,6 +26,7 @@ from suite import own_lines
 from terminal import run as on_terminal
 
 BOX = "--box=9.997,49.999,10.003,50.003"
+SMART = ["extract", "-s", "smart", "--types=any", BOX]
 SECONDS = 60
 OLD = b"old"
 AREA = b"town\n1\n9.997 49.999\n10.003 49.999\n10 50.003\nEND\nEND\n"
@@ -336,7 +337,7 @@ def sources(bench: Bench):
     os.link(bench.path("out"), bench.path("hard"))
     os.symlink("out", bench.path("soft"))
     for given_in in "out", "./out", "hard", "soft", os.path.join(bench.folder, "out"):
-        for command in ["extract", BOX], ["convert"], ["pack"], ["unpack"]:
+        for command in ["extract", BOX], SMART, ["convert"], ["pack"], ["unpack"]:
             found = bench.run([*command, "-O", "--progress", given_in, "out"])
             expect(f"{command} of {given_in} to itself", (3, "", "pbfcutz: cannot open\n"), found)
     bench.write("area", AREA)
@@ -356,7 +357,7 @@ def prints_into(bench: Bench, name: str):
     content = bench.read("out")
     commands = [["check"], ["show"], ["blobs"]] + [["info"]] * (name == "pbfcutz")
     runs = [[*command, path] for command in commands for path in ("out", "hard", "soft", "/dev/stdin")]
-    runs += [[*command, "out", "-"] for command in (["pack"], ["unpack"], ["convert"], ["extract", BOX]) if name == "pbfcutz"]
+    runs += [[*command, "out", "-"] for command in (["pack"], ["unpack"], ["convert"], ["extract", BOX], SMART) if name == "pbfcutz"]
     for words in runs:
         for mode in "ab", "r+b":
             with open(bench.path("out"), mode) as screen, open(bench.path("out"), "rb") as keys:

@@ -42,6 +42,8 @@ def files(folder: str):
     write("town", town)
     write("second", town[:100])
     write("short", town[:-1])
+    # a block of nodes again, at the end
+    write("unsorted", town + town[194:1_024])
     write("empty", b"")
     write("town.osm", xml)
     write("town.osm.bz2", b"BZh91AY&SY" + bytes(100))

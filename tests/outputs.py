@@ -20,7 +20,11 @@ import sys
 import tempfile
 import time
 
-from published import SAMPLE, Folder, frame, frame_at, packed, pieces_of, spelled, unpacked, varint
+from published import SAMPLE, Folder, frame, frame_at, meaning_of, packed, pieces_of, spelled, unpacked, varint
+from reference import box_of, entities_of, header_of
+from reference_entities import decode_header
+from reference_judge import judge
+from reference_written import extract, header_out, write_file
 
 TOP = os.path.dirname(os.path.dirname(os.path.abspath(__file__)))
 CUT = ["extract", "--box=9.997,49.999,10.003,50.003"]
@@ -55,10 +59,12 @@ UNIONS = [features(WHOLE, WHOLE), multi(WEST, EAST), features(EAST, WEST), featu
 # Other programs, and how each prints what it reads.
 READERS = {"osmium": ["cat", "--no-progress", "-f", "opl", "FILE"], "ogrinfo": ["-ro", "-al", "FILE"],
            "osmosis": ["-q", "--read-pbf", "FILE", "--write-xml", "-"]}
-COMMANDS = {"extract": ["--box", "--polygon", "--parents", "--progress", "--digests", "--raw", "--output", "--overwrite"],
+COMMANDS = {"extract": ["--box", "--polygon", "--parents", "--strategy", "--types", "--progress", "--digests", "--raw", "--output", "--overwrite"],
             "convert": ["--progress", "--digests", "--raw", "--output", "--overwrite"],
             "pack": ["--progress", "--digests", "--output", "--overwrite"], "unpack": ["--progress", "--digests", "--output", "--overwrite"],
             "check": ["--progress", "--digests"], "show": ["--dates", "--progress"], "info": ["--json"], "blobs": []}
+# what the synopsis of the manual names by its letter
+BY_LETTER = {"--strategy": "Fl s Ar"}
 
 
 def shown(value) -> str:
@@ -329,6 +335,37 @@ def options(bench: Bench):
     os.unlink(bench.path("bad"))
 
 
+def smart(bench: Bench):
+    """The strategy and its types as they can be written: OUT is what the reference keeps. What isn't sorted by type is refused, and leaves nothing."""
+    judged = judge(bench.raw)
+    header, entities, box = decode_header(header_of(judged)), entities_of(judged), box_of(CUT[1].split("=")[1])
+    for types, counts in [("any", "nodes 131 ways 26 relations 9\n"), ("multipolygon,boundary", "nodes 127 ways 25 relations 9\n"),
+                          ("multipolygon", "nodes 121 ways 23 relations 9\n")]:
+        wanted = write_file(header_out(header, box), extract(entities, box, types=types))
+        for words in [["-s", "smart", "--types", types], ["-ssmart", f"--types={types}"], [f"--types={types}", "--strategy=smart", "--parents"],
+                      ["--strategy", "smart", f"--types={types}"], *([["-s", "smart"]] if types == "multipolygon" else [])]:
+            for name in "in", "raw":
+                expect(f"{words} of {name}", wanted, bench.made(["--raw", *words, name, "out"], CUT, counts))
+        packed_cut = bench.made(["-s", "smart", f"--types={types}", "in", "out"], CUT, counts)
+        expect(f"what is packed of types {types}", (wanted, True), (unpacked(packed_cut), len(packed_cut) < len(wanted)))
+        for ring in "ring.poly", "ring.geojson":
+            expect(f"types {types} by {ring}", wanted, bench.made(["--raw", "-s", "smart", f"--types={types}", "-p", ring, "in", "out"], ["extract"], counts))
+        bench.count += 1
+        done = subprocess.run([bench.pbfcutz, *CUT, "--raw", "-s", "smart", f"--types={types}", "in", "-"], cwd=bench.folder, capture_output=True,
+                              timeout=SECONDS)
+        expect(f"types {types} on standard output", (0, wanted, counts.encode()), (done.returncode, done.stdout, done.stderr))
+    # the header, and then the blocks from the last one on
+    pieces = [piece.packed for piece in meaning_of(bench.read("in"))]
+    bench.write("turned", pieces[0] + b"".join(reversed(pieces[1:])))
+    said = "pbfcutz: refused in the blob at 0, byte 0 of its payload: 61 Unsorted\n"
+    bench.case([*CUT, "-s", "smart", "turned", "out"], status=1, said=said)
+    bench.write("out", b"kept")
+    bench.case([*CUT, "-s", "smart", "-O", "turned", "out"], status=1, said=said)
+    expect("the file that was there", b"kept", bench.read("out"))
+    for name in "turned", "out":
+        os.unlink(bench.path(name))
+
+
 def names(bench: Bench):
     """Names that OUT can't have, and odd ones that it can."""
     os.mkdir(bench.path("folder"))
@@ -374,7 +411,7 @@ def closed(bench: Bench):
 
 def disks(bench: Bench):
     """A full disk: nothing is left."""
-    for words in [[*CUT, "--raw"], ["convert", "--raw"], ["unpack"], ["pack"]]:
+    for words in [[*CUT, "--raw"], [*CUT, "--raw", "-s", "smart", "--types=any"], ["convert", "--raw"], ["unpack"], ["pack"]]:
         bench.case([*words, "raw", "out"], status=3, said="pbfcutz: write failed\n", most=len(bench.cut) // 4)
         bench.write("out", b"kept")
         bench.case([*words, "-O", "raw", "out"], status=3, said="pbfcutz: write failed\n", most=len(bench.cut) // 4)
@@ -443,7 +480,7 @@ def pages(bench: Bench):
         expect(f"long lines of {command}'s help", [], [line for line in text.splitlines() if len(line) > 90])
         expect(f"the manual has {command}", True, f"Cm {command}\n" in manual)
         for option in named:
-            expect(f"the manual has {option}", True, f"Fl {option[1:]}" in manual)
+            expect(f"the manual has {option}", True, BY_LETTER.get(option, f"Fl {option[1:]}") in manual)
     for name in "pbfcut.bash", "_pbfcut", "pbfcut.fish":
         with open(os.path.join(TOP, "completions", name), encoding="utf-8") as file:
             text = file.read().replace("-l ", "--")
@@ -457,7 +494,7 @@ def main():
         sys.exit(__doc__)
     with tempfile.TemporaryDirectory(prefix="pbfcut-outputs-") as folder, tempfile.TemporaryDirectory() as elsewhere:
         bench = Bench(sys.argv[1], folder, elsewhere)
-        for part in [copies, headers, options, names, closed, disks, signals, readers, pages]:
+        for part in [copies, headers, options, smart, names, closed, disks, signals, readers, pages]:
             part(bench)
     print(f"tests/outputs.py: {bench.count} cases as they have to be")
 

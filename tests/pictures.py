@@ -1,5 +1,5 @@
 #!/usr/bin/env python3
-"""The drawings of towns in docs/ are those that tools/draw.py makes of the towns and of what the built program cuts out of them.
+"""The drawings of towns and of a lake in docs/ are those that tools/draw.py makes of them and of what the built program cuts out of them.
 
 usage: tests/pictures.py [--write] [--real=FILE] PROGRAM
 
@@ -7,6 +7,7 @@ With --write they are written. What must be in the drawings is counted in what t
 of the repository (sample/README.md says which it is): without --real its drawings are only counted.
 """
 
+import math
 import os
 import re
 import subprocess
@@ -17,7 +18,7 @@ TOP = os.path.dirname(os.path.dirname(os.path.abspath(__file__)))
 sys.dont_write_bytecode = True
 sys.path.insert(0, os.path.join(TOP, "sample"))
 
-from town import Entity, Form, block, frame, header_block
+from town import Entity, Form, Town, block, frame, header_block
 
 TOWN = os.path.join(TOP, "sample", "town.osm.pbf")
 BOX = "9.997,49.999,10.003,50.003"
@@ -26,6 +27,13 @@ TITLES = {"town.svg": "The sample town, and the box that is cut out of it",
           "town-cut.svg": "The extract: ways with a node in the box, whole; red: their nodes outside the box"}
 # by sample/README.md, which counts them
 OUTSIDE = 46
+LAKE_BOX = "9.984,49.9945,9.997,50.0055"
+LAKE_VIEW = "9.98,49.992,10.02,50.008"
+LAKE_TITLES = {"lake-cut.svg": "A lake at the border, cut by the default: dotted, what is there of a shore that has a gap",
+               "lake-smart.svg": "The same cut by -s smart: the lake and its island are whole"}
+# by lake(), counted by hand: the program's counts, the nodes outside the box, and the rings that are filled with water
+LAKE_COUNTS = {"lake-cut.svg": (b"nodes 40 ways 9 relations 1\n", 13, 0),
+               "lake-smart.svg": (b"nodes 55 ways 12 relations 1\n", 28, 2)}
 REAL_BOX = "9.491,47.061,9.497,47.064"
 REAL_VIEW = "9.4808,47.0598,9.5012,47.0692"
 REAL_TITLES = {"balzers.svg": "A part of Balzers, and the box that is cut out of it",
@@ -84,6 +92,54 @@ def draw_lines():
         expect("a drawing of a box", draw(path, ["--box=-0.2,-0.2,0.2,0.2"]), parts)
 
 
+def closed(town: Town, places: list, **tags: str) -> int:
+    """A closed way and its new nodes."""
+    refs = [town.node(*place) for place in places]
+    return town.way([*refs, refs[0]], **tags)
+
+
+def lake() -> bytes:
+    """A lake whose shore is five ways, one of them drawn the other way round, with an island, two roads, six houses and a forest.
+
+    Three ways of the shore have a node in LAKE_BOX, and so have one road, four houses and the forest.
+    In the box are 9 of the 24 nodes of the shore, 2 of the 6 of a road, 14 corners of four houses, and 2 of the 4 of the forest."""
+    town = Town()
+    angles = [turn * math.pi / 12 for turn in range(24)]
+    shore = [town.node(round(4500 * math.sin(angle)), 2000 + round(12000 * math.cos(angle))) for angle in angles]
+    pieces = [[shore[turn % 24] for turn in range(first, last + 1)] for first, last in ((0, 6), (6, 10), (10, 16), (16, 19), (19, 24))]
+    pieces[3].reverse()
+    outer = [town.way(refs) for refs in pieces]
+    island = closed(town, [(1200, 8000), (1700, 9500), (900, 11000), (-300, 10400), (-200, 8600)])
+    town.line([(-5200, east) for east in (-19000, -12000, -4000, 4000, 12000, 19000)], highway="secondary")
+    town.line([(-7000, 17000), (0, 16500), (7000, 17200)], highway="residential")
+    for north, east in ((-4300, -14000), (-4300, -12500), (-3000, -12600), (1000, -16400), (2500, 14800), (-2500, 15000)):
+        town.ring(north, east, 500, 800, building="house")
+    closed(town, [(4500, -15000), (4700, -7000), (6800, -6500), (6900, -14400)], landuse="forest")
+    members = [*((1, way, "outer") for way in outer), (1, island, "inner")]
+    town.relation(members, type="multipolygon", natural="water")
+    data = block(Form(), dense=town.nodes, ways=town.ways, relations=town.relations)
+    return frame("OSMHeader", header_block()) + frame("OSMData", data)
+
+
+def draw_lake(program: str):
+    """The name and the drawing of each cut of the lake; what must be in them is counted."""
+    with tempfile.TemporaryDirectory(prefix="pbfcut-pictures-") as folder:
+        path, cut = os.path.join(folder, "lake.osm.pbf"), os.path.join(folder, "cut.osm.pbf")
+        with open(path, "wb") as file:
+            file.write(lake())
+        for (name, title), strategy in zip(LAKE_TITLES.items(), [[], ["-s", "smart"]]):
+            counts, outside, rings = LAKE_COUNTS[name]
+            if run([program, "extract", *strategy, f"--box={LAKE_BOX}", path, cut]) != counts:
+                fail(f"{name}: the program counts otherwise")
+            drawing = draw(cut, ["--nodes", f"--box={LAKE_BOX}", f"--view={LAKE_VIEW}", f"--title={title}"])
+            os.remove(cut)
+            count_outside(name, drawing, outside)
+            water = re.search(rb'class="water" d="([^"]*)"', drawing)
+            if (water[1].count(b"Z") if water else 0) != rings or (b'class="open"' in drawing) != (not rings):
+                fail(f"{name} has not {rings} rings of water")
+            yield name, drawing
+
+
 def expect(what: str, drawing: bytes, parts: list):
     for part in parts:
         if part not in drawing:
@@ -135,6 +191,8 @@ def main():
         count_parts(name, text, drawing)
         if "-cut" in name:
             count_outside(name, drawing, OUTSIDE)
+    for name, drawing in draw_lake(program):
+        compare(name, drawing, write)
     if real:
         for name, _, drawing in draw_pair(program, real, REAL_BOX, REAL_VIEW, REAL_TITLES, [f"--note={NOTE}"]):
             compare(name, drawing, write)

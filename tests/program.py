@@ -149,6 +149,12 @@ TWO_RELATIONS_CUT = hexed(
     "00 00 00 0b 0a 07 4f 53 4d 44 61 74 61 18 24 0a 22 0a 04 0a 00 0a 00 12 1a 22 0b 08 08 42 01 01 4a 01 02 52 01 00"
     "22 0b 08 09 42 01 01 4a 01 10 52 01 02"
 )
+# A multipolygon of the node in the box and a way outside, in written form, and beside it a way and a relation that are not kept.
+FAR_NODES = data(dense([1, 2, 3], [1, 1, 1], [1, 20_000_000, 20_000_000]))
+FAR_WAY = data(way(7, [2, 3]))
+MULTIPOLYGON = data(field(2, field(4, scalar(1, 8) + field(2, b"\x01") + field(3, b"\x02") + field(8, b"\x03\x03") + field(9, deltas([1, 7]))
+                                   + field(10, b"\x00\x01"))), table=b"".join(field(1, text) for text in (b"", b"type", b"multipolygon", b"")))
+WITH_MEMBERS = EMPTY_HEADER + FAR_NODES + FAR_WAY + data(way(9, [3])) + MULTIPOLYGON + data(relation(10, [(3, 0)]))
 
 
 class Difference(Exception):
@@ -305,6 +311,7 @@ def lines(*texts: str) -> bytes:
 
 
 BOX = "--box=0,0,1,1"
+SMART = ["extract", "-s", "smart", BOX]
 
 
 # ---- the cases
@@ -329,7 +336,7 @@ def words_of_all_kinds(bench: Bench):
             words = ["help", command.decode()] if asked == "help" else [command.decode(), asked]
             parts = [b"Usage: pbfcut " + command, b"<IN>"] + ([b"<OUT>"] if command in commands[:2] else [])
             parts += [b"--dates"] if command == b"show" else []
-            parts += [b"--box", b"--bbox", b"--parents", b"degrees", b"west,south,east,north"] if command == b"extract" else []
+            parts += [b"--box", b"--bbox", b"--parents", b"--strategy", b"--types", b"degrees", b"west,south,east,north"] if command == b"extract" else []
             bench.case(f"help of {command.decode()} by {asked}", words, stdout=helps(*parts))
     for asked in ["--version", "-V"]:
         bench.case(f"the version by {asked}", [asked], stdout=b"pbfcut 1.0.0 (rattle-kit-13f logic dac8208d650f15bf)\n")
@@ -406,12 +413,15 @@ def progress(bench: Bench):
                 and {number for number, _, _ in numbers} == {number for number, _, _ in complete}
         return holds
 
+    bench.case("progress of a smart extract that adds ways", [*SMART, "--progress", "in", "out"], given=WITH_MEMBERS, stdout=counted(3, 1, 1),
+               stderr=reports(3), out=BOX_HEADER + FAR_NODES + FAR_WAY + MULTIPOLYGON)
     for words, passes, out in [
         (["check", "--progress", "in"], 1, None),
         (["show", "--progress", "in"], 2, None),
         (["convert", "--progress", "in", "out"], 2, PLAIN_HEADER + DENSE_FRAME),
         (["extract", "--progress", BOX, "in", "out"], 3, THREE_DENSE_CUT),
         (["extract", "--parents", BOX, "--progress", "in", "out"], 4, THREE_DENSE_CUT),
+        ([*SMART, "--progress", "in", "out"], 3, THREE_DENSE_CUT),
     ]:
         bench.case(f"progress of {words}", words, given=THREE_DENSE, stdout=lambda text: len(text) > 0, out=out,
                    stderr=reports(passes, spared=tuple(range(2, passes)) if "extract" in words else ()))
@@ -437,6 +447,7 @@ def digests(bench: Bench):
         (["convert", "--digests", "in", "out"], (3, 0, 0), PLAIN_HEADER + DENSE_FRAME),
         (["extract", "--digests", BOX, "in", "out"], (2, 0, 0), THREE_DENSE_CUT),
         (["extract", BOX, "in", "out", "--parents", "--digests"], (2, 0, 0), THREE_DENSE_CUT),
+        ([*SMART, "--digests", "in", "out"], (2, 0, 0), THREE_DENSE_CUT),
     ]:
         shown = counted(*counts) + digest(THREE_DENSE, b"in") + (digest(out, b"out") if out else b"")
         bench.case(f"digests of {words}", words, given=THREE_DENSE, stdout=shown, out=out)
@@ -464,10 +475,12 @@ def refused_with_digest(bench: Bench):
         (EMPTY_HEADER + unknown_text + b"more", first + len(unknown_text), "46: 31 StringIndex"),
     ]:
         sum_line = digest(given[:read], f"first {read} bytes of in".encode())
-        for words in [["check"], ["convert"], ["extract", BOX], ["extract", "--parents", BOX]]:
+        for words in [["check"], ["convert"], ["extract", BOX], ["extract", "--parents", BOX], SMART]:
             out = [] if words == ["check"] else ["out"]
             bench.case(f"{words} --digests, refused at {fault}", [*words, "--digests", "in", *out], given=given, status=1,
                        stderr=sum_line + told(f"refused at {fault}"), out=b"" if out else None)
+    bench.case("a smart extract --digests of what isn't sorted", [*SMART, "--digests", "in", "out"], given=WAY_BEFORE_NODES, status=1, out=b"",
+               stderr=digest(WAY_BEFORE_NODES, f"first {len(WAY_BEFORE_NODES)} bytes of in".encode()) + told("refused at 19: 61 Unsorted"))
 
 
 def checked_by_sha256sum(bench: Bench):
@@ -513,7 +526,7 @@ def files_that_cannot_be(bench: Bench):
         bench.case(f"{command} to a full device", [command, "in"], given=THREE_DENSE, output="/dev/full", status=3,
                    stderr=told("write failed"))
     bench.case("help to a full device", ["--help"], output="/dev/full", status=3, stderr=told("write failed"))
-    for words in [["convert"], ["extract", BOX], ["extract", "--parents", BOX]]:
+    for words in [["convert"], ["extract", BOX], ["extract", "--parents", BOX], SMART]:
         name = " ".join(words)
         bench.case(f"{name} of no file", [*words, "in", "out"], status=3, stderr=told("cannot open"))
         bench.case(f"{name} of a folder", [*words, "in", "out"], folders=["in"], status=3, stderr=told("read failed"),
@@ -579,7 +592,7 @@ def pipes(bench: Bench):
     """A pipe gives its bytes once. A command that reads IN more often refuses one at once, though nothing ever writes to it."""
     bench.case("check of a pipe", ["check", "in"], fifo=(THREE_DENSE, 1), stdout=counted(3, 0, 0))
     bench.case("blobs of a pipe", ["blobs", "in"], fifo=(THREE_DENSE, 1), stdout=lines("0 OSMHeader 2 0", "19 OSMData 25 23"))
-    for words in [["show", "in"], ["convert", "in", "out"], ["extract", BOX, "in", "out"], ["extract", "--parents", BOX, "in", "out"]]:
+    for words in [["show", "in"], ["convert", "in", "out"], ["extract", BOX, "in", "out"], ["extract", "--parents", BOX, "in", "out"], [*SMART, "in", "out"]]:
         bench.case(f"{words} of a pipe", words, fifo=(b"", 1), status=3, stderr=told("IN must be a file, not a pipe"))
 
 
@@ -592,9 +605,11 @@ def files_that_change(bench: Bench):
     """The last byte of IN is another one from pass N on, and OUT is empty if that isn't the pass that writes."""
     path, out = os.path.join(bench.folder, "changing"), os.path.join(bench.folder, "changed")
     extract, parents, mixed = ["extract", BOX, path, out], ["extract", "--parents", BOX, path, out], EMPTY_HEADER + WAY_FRAME + DENSE_FRAME
-    # of a file that is sorted by type nothing is read between the first pass and the last
+    smart = [*SMART, path, out]
+    # of a file that is sorted by type nothing is read between the first pass and the last, but the ways of a smart extract if it adds some
     for words, given, first, passes in [(["show", path], THREE_DENSE, 2, 2), (["convert", path, out], THREE_DENSE, 2, 2), (extract, mixed, 2, 3),
-                                        (extract, THREE_DENSE, 3, 3), (parents, mixed, 2, 4), (parents, THREE_DENSE, 4, 4)]:
+                                        (extract, THREE_DENSE, 3, 3), (parents, mixed, 2, 4), (parents, THREE_DENSE, 4, 4),
+                                        (smart, WITH_MEMBERS, 2, 3), (smart, THREE_DENSE, 3, 3)]:
         for number in range(first, passes + 1):
             status, errors = run_with_change([bench.program, *words, "--progress"], path, given, out, number)
             compare(f"{words}, changed in pass {number}: status", 5, status)
@@ -614,9 +629,10 @@ def compressed_files_that_change(bench: Bench):
     mixed = EMPTY_HEADER + WAY_FRAME + DENSE_FRAME
     for options in [[], ["--digests"]]:
         extract, convert = ["extract", BOX, *options, path, out], ["convert", *options, path, out]
-        parents = ["extract", "--parents", BOX, *options, path, out]
+        parents, smart = ["extract", "--parents", BOX, *options, path, out], [*SMART, *options, path, out]
         show = [] if options else [(["show", path], THREE_DENSE, 2, 2)]
-        for words, given, first, passes in [*show, (convert, THREE_DENSE, 2, 2), (extract, mixed, 2, 3), (extract, THREE_DENSE, 3, 3), (parents, mixed, 2, 4)]:
+        for words, given, first, passes in [*show, (convert, THREE_DENSE, 2, 2), (extract, mixed, 2, 3), (extract, THREE_DENSE, 3, 3), (parents, mixed, 2, 4),
+                                            (smart, WITH_MEMBERS, 2, 3)]:
             for number in range(first, passes + 1):
                 for form, content in [("raw", given), ("compressed", packed(given))]:
                     status, errors = run_with_change([twin, *words, "--progress"], path, content, out, number)
@@ -686,7 +702,7 @@ def refused(bench: Bench, name: str, given: bytes, fault: str, listed=None, whol
         bench.case(f"blobs of {name}", ["blobs", "in"], given=given, stdout=listed, **stop)
     if whole_listing is not None:
         bench.case(f"blobs of {name}", ["blobs", "in"], given=given, stdout=whole_listing)
-    for words in [["convert"], ["extract", BOX], ["extract", "--parents", BOX]]:
+    for words in [["convert"], ["extract", BOX], ["extract", "--parents", BOX], SMART]:
         bench.case(f"{' '.join(words)} of {name}", [*words, "in", "out"], given=given, out=b"", **stop)
 
 
@@ -793,6 +809,7 @@ def extracts(bench: Bench):
     offset_extracts(bench)
     blocks_that_are_cut(bench)
     parents(bench, cuts)
+    smart(bench, cuts)
 
 
 def offset_extracts(bench: Bench):
@@ -832,7 +849,7 @@ def blocks_that_are_cut(bench: Bench):
         given = frame("OSMHeader", field(17, bytes(length)))
         bench.case(f"check of a header with a source of {length} bytes", ["check", "in"], given=given,
                    stdout=counted(0, 0, 0))
-        for words in [["convert", "in", "out"], ["extract", BOX, "in", "out"]]:
+        for words in [["convert", "in", "out"], ["extract", BOX, "in", "out"], [*SMART, "in", "out"]]:
             name = f"{words[0]} of a header with a source of {length} bytes"
             if fits:
                 bench.case(name, words, given=given, stdout=counted(0, 0, 0), out=lambda found: len(found) > 12_000_000)
@@ -880,7 +897,7 @@ def millions(bench: Bench):
     out += [relations_of(rows, 1, b"\x0a\x00\x0a\x00") for rows in in_blocks(kept_relations)]
     given, wanted = b"".join(given), hashlib.sha256(b"".join(out)).digest()
     bench.case("check of millions", ["check", "in"], given=given, stdout=counted(16_000 * parts, 8_000 * parts, 4_000 * parts))
-    for words in [[], ["--parents"]]:
+    for words in [[], ["--parents"], ["-s", "smart", "--types=any"]]:
         bench.case(f"extract {words} of millions", ["extract", *words, BOX, "in", "out"], given=given, kept=["in"],
                    stdout=counted(12_000 * parts, 4_000 * parts, 2_000 * parts), out=lambda found: hashlib.sha256(found).digest() == wanted)
 
@@ -935,6 +952,18 @@ def parents(bench: Bench, cuts):
          lambda found: found.startswith(BOX_HEADER + NODE_IN_BOX), "--parents")
 
 
+def smart(bench: Bench, cuts):
+    cuts("a multipolygon with a way outside", WITH_MEMBERS, (3, 1, 1), BOX_HEADER + FAR_NODES + FAR_WAY + MULTIPOLYGON, "-s", "smart")
+    cuts("a multipolygon with a way outside", WITH_MEMBERS, (1, 0, 1), lambda found: found.endswith(MULTIPOLYGON), "-s", "smart", "--types=boundary")
+    for name, given, at, fault in [
+        ("a node after a way", WAY_BEFORE_NODES, 19, "61 Unsorted"),
+        ("a way after a relation", EMPTY_HEADER + NODE_IN_BOX + MULTIPOLYGON + FAR_WAY, 19, "61 Unsorted"),
+        ("a node after a relation", frame("Other", b"") + EMPTY_HEADER + MULTIPOLYGON + NODE_IN_BOX, len(frame("Other", b"")) + 19, "61 Unsorted"),
+        ("a node after a way, and then a fault", WAY_BEFORE_NODES + b"\x00", len(WAY_BEFORE_NODES), "10 PrefixCut"),
+    ]:
+        bench.case(f"a smart extract of {name}", [*SMART, "in", "out"], given=given, status=1, stderr=told(f"refused at {at}: {fault}"), out=b"")
+
+
 def conversions(bench: Bench):
     def converts(name, given, counts, out):
         made = bench.case(f"convert of {name}", ["convert", "in", "out"], given=given, stdout=counted(*counts), out=out,
@@ -961,7 +990,8 @@ def sample(bench: Bench):
     bench.case("the sample", ["check", "in"], given=town, stdout=counted(272, 64, 13))
     box = "--box=9.997,49.999,10.003,50.003"
     for words, counts, size in [(["convert"], (272, 64, 13), 8742), (["extract", box], (121, 23, 7), 4729),
-                                (["extract", "--parents", box], (121, 23, 9), 4861)]:
+                                (["extract", "--parents", box], (121, 23, 9), 4861),
+                                (["extract", "-s", "smart", "--types=multipolygon,boundary", box], (127, 25, 9), 5047)]:
         name = " ".join(words)
         out = bench.case(f"{name} of the sample", [*words, "in", "out"], given=town, stdout=counted(*counts), out="any")
         if len(out) != size:

@@ -1,24 +1,33 @@
 #!/usr/bin/env python3
-"""docs/PROMISES.md is what the sources say of each public call that has a contract, and what docs/promises.in.md adds.
+"""The table of each crates/CRATE/PROMISES.md is what the sources say of the public calls of that crate that have a contract.
 
-usage: tests/promises.py [PROGRAM]      compares the page
-       tests/promises.py --write        writes it
+usage: tests/promises.py [PROGRAM]      compares the tables
+       tests/promises.py --write        writes them
 
-PROGRAM is not run. docs/promises.in.md is the page without what the sources say. Its line `{calls: CRATE ..}` becomes a table of the public calls
-of these crates; CRATE/FILE,FILE are files of its src/, and CRATE/FILE/CALL is a private function. A list item below that line fills the last cell of
-a call's first row, or of the row of one of its clauses: '- `CALL`: TEXT', '- `CALL`, `CLAUSE`: TEXT'. Table rows below it are added as they stand.
+PROGRAM is not run. The table is all that comes below the line `<!-- calls: FILE .. -->` of a page, and what is above it is written by hand. FILE is a
+file of the crate's src/, in the order of the table, and FILE/CALL a private function; with no FILE the table has all files. An item of the page,
+'- `CALL`: TEXT' or '- `CALL`, `CLAUSE`: TEXT', says more of a call or of one of its clauses, which has to be there; the table then says so. Each
+public call with a contract is in a table, except those of tests and of the crates WITHOUT.
 """
 
 import os
 import re
 import sys
 
-from statement import TOP, Scope, read, settle
+TOP = os.path.dirname(os.path.dirname(os.path.abspath(__file__)))
+sys.dont_write_bytecode = True
+sys.path.insert(0, os.path.join(TOP, "tools"))
 
-HEAD = "| In words | Call | Clause | More, and what is weaker |\n|---|---|---|---|"
+from statement import Scope, read
+
+PAGE = "PROMISES.md"
+# crates for examples and uses, and one whose calls are only safe; those of tests, too, have no page
+WITHOUT = ["pbf_examples", "zlib_examples", "uses", "pbfcut_files"]
+HEAD = "| In words | Call | Clause |\n|---|---|---|"
+MARK = re.compile(r"^<!-- calls:(.*) -->\n", re.M)
 FUNCTION = re.compile(r"^ *(pub |pub\(crate\) )?fn (\w+)")
 CLAUSE = re.compile(r"^ +(requires|ensures)\*?(?: (\w+))? \{(.*)$")
-ITEM = re.compile(r"^- `([\w:]+)`(?:, `(\w+)`)?: (.*)$")
+ITEM = re.compile(r"^- `([\w:]+)`(?:, `(\w+)`)?: ", re.M)
 
 
 def fail(what: str):
@@ -129,82 +138,80 @@ def calls_in(crate: str, file: str) -> list:
 
 
 def files_of(crate: str) -> list:
+    """The files of a crate that its library names. A program has none."""
+    if not os.path.exists(os.path.join(TOP, "crates", crate, "src", "lib.rt")):
+        return []
     return re.findall(r"^(?:pub )?mod (\w+);", read("crates", crate, "src", "lib.rt"), re.M)
 
 
-def calls_of(words: list) -> list:
-    """The calls that a line {calls: ..} names."""
+def calls_of(crate: str, words: list) -> list:
+    """The calls of a page, which its line names by files and private functions."""
     found = []
-    for word in words:
-        crate, _, rest = word.partition("/")
-        files, _, private = rest.partition("/")
-        named = [call for name in (files.split(",") if files else files_of(crate)) for call, is_public in calls_in(crate, name)
-                 if (call.name == private if private else is_public)]
-        if private and not named:
-            fail(f"docs/promises.in.md: there is no {word} with a contract")
-        found += named
+    for word in words or files_of(crate):
+        file, _, private = word.partition("/")
+        chosen = [call for call, is_public in calls_in(crate, file) if (call.name == private if private else is_public)]
+        if private and not chosen:
+            fail(f"crates/{crate}/{PAGE}: there is no {word} with a contract")
+        found += chosen
+    shown = {(call.file, call.name) for call in found}
+    for file in files_of(crate):
+        for call, is_public in calls_in(crate, file):
+            if is_public and (file, call.name) not in shown:
+                fail(f"crates/{crate}/{PAGE} has no place for {call.name} of {file}")
     return found
 
 
-def rows_of(call: Call, more: dict, crates: list):
+def rows_of(call: Call, has_more: bool, crates: list):
     """A row for the call, with the clauses that have no comment of their own, and a row for each comment."""
     scope = Scope(read("crates", call.crate, "src", call.file + ".rt").splitlines())
     groups = {}
     for clause in call.clauses:
         groups.setdefault(clause.comment, []).append(clause)
-    place = f"../crates/{call.crate}/src/{call.file}.rt"
     plain = groups.pop("", [])
-    yield f"| {call.words} | [`{call.name}`]({place}) | {call.shown(plain, scope, crates) or 'the rows below'} | {more.pop((call.name, None), '')} |"
-    for clause in plain:
-        if (call.name, clause.name) in more:
-            yield f"| | `{call.name}` | `{clause.name}` | {more.pop((call.name, clause.name))} |"
+    more = ", [more](#more)" if has_more else ""
+    yield f"| {call.words} | [`{call.name}`](src/{call.file}.rt){more} | {call.shown(plain, scope, crates) or 'the rows below'} |"
     for comment, clauses in groups.items():
-        texts = [more.pop((call.name, clause.name)) for clause in clauses if (call.name, clause.name) in more]
-        yield f"| {comment} | `{call.name}` | {call.shown(clauses, scope, crates)} | {' '.join(texts)} |"
+        yield f"| {comment} | `{call.name}` | {call.shown(clauses, scope, crates)} |"
 
 
-def table(words: list, below: list, crates: list) -> tuple:
-    """The table of a line {calls: ..} with what the lines below it add, and the calls that it has."""
-    calls, more, rows = calls_of(words), {}, []
-    for line in below:
-        item = ITEM.match(line)
-        if item:
-            more[item[1], item[2]] = item[3]
-        elif line.startswith("| "):
-            rows.append(line)
-        elif line.strip():
-            fail(f"docs/promises.in.md: under {{calls: {' '.join(words)}}} stands '{line}'")
-    made = [row.replace("|  |", "| |") for call in calls for row in rows_of(call, more, crates)]
-    if more:
-        fail("docs/promises.in.md adds to what is no public call or clause: " + "; ".join(" ".join(filter(None, key)) for key in more))
-    return "\n".join([HEAD, *made, *rows]), calls
+def table(crate: str, words: list, by_hand: str, crates: list) -> str:
+    calls = calls_of(crate, words)
+    clauses = {call.name: {"", *(clause.name for clause in call.clauses)} for call in calls}
+    more = set()
+    for name, clause in ITEM.findall(by_hand):
+        if clause not in clauses.get(name, ()):
+            fail(f"crates/{crate}/{PAGE} says more of `{name}`{f', `{clause}`' if clause else ''}, which is no public call or clause")
+        more.add(name)
+    return "\n".join([HEAD, *(row.replace("|  |", "| |") for call in calls for row in rows_of(call, call.name in more, crates))]) + "\n"
 
 
-def page() -> str:
-    crates = [line.split(":")[0] for line in read("crates.txt").splitlines() if re.match(r"\w+:", line)]
-    lines, made, shown, at = read("docs", "promises.in.md").splitlines(), [], [], 0
-    while at < len(lines):
-        begun = re.fullmatch(r"\{calls: (.*)\}", lines[at])
-        if begun:
-            end = next((i for i in range(at + 1, len(lines)) if lines[i] and not lines[i].startswith(("- `", "| "))), len(lines))
-            text, calls = table(begun[1].split(), lines[at + 1:end], crates)
-            made += [text, ""]
-            shown += calls
-            at = end
-        else:
-            made.append(lines[at])
-            at += 1
-    whole = {(call.crate, call.file, call.name) for call in shown}
-    for crate in {crate for crate, _, _ in whole}:
-        for file in files_of(crate):
-            for call, is_public in calls_in(crate, file):
-                if is_public and (crate, file, call.name) not in whole:
-                    fail(f"docs/promises.in.md has no place for {call.name} of {crate}/{file}")
-    return "\n".join(made).rstrip("\n") + "\n"
+def settle(crate: str, crates: list):
+    """Writes the table of a page with --write; otherwise compares it."""
+    page = read("crates", crate, PAGE)
+    mark = MARK.search(page)
+    if not mark:
+        fail(f"crates/{crate}/{PAGE} has no line '<!-- calls: FILE .. -->'")
+    by_hand = page[:mark.end()]
+    made = by_hand + table(crate, mark[1].split(), by_hand, crates)
+    if "--write" in sys.argv:
+        with open(os.path.join(TOP, "crates", crate, PAGE), "w", encoding="utf-8") as file:
+            file.write(made)
+    elif made != page:
+        fail(f"crates/{crate}/{PAGE} is not what the sources say: tests/promises.py --write")
 
 
 def main():
-    settle("tests/promises.py", "PROMISES.md", page())
+    crates = [line.split(":")[0] for line in read("crates.txt").splitlines() if re.match(r"\w+:", line)]
+    pages = [crate for crate in crates if os.path.exists(os.path.join(TOP, "crates", crate, PAGE))]
+    for crate in crates:
+        if crate in pages:
+            settle(crate, crates)
+        elif crate not in WITHOUT and not crate.endswith("tests") and any(is_public for file in files_of(crate) for _, is_public in calls_in(crate, file)):
+            fail(f"crates/{crate} has public calls with a contract, and no {PAGE}")
+    index = re.findall(r"\(\.\./crates/(\w+)/PROMISES\.md\)", read("docs", PAGE))
+    if sorted(set(index)) != sorted(pages):
+        fail(f"docs/{PAGE} doesn't link to the page of {', '.join(sorted(set(index) ^ set(pages)))}")
+    print(f"tests/promises.py: the tables of {len(pages)} crates are what the sources say")
 
 
 if __name__ == "__main__":

@@ -44,7 +44,7 @@ LONGEST = 200_000
 # by how much a frame gets longer at most if zlib finds nothing: a stored block's 11 bytes, raw_size, and longer numbers
 MOST_LONGER = 24
 COMMANDS = [["check", "in"], ["show", "--dates", "in"], ["blobs", "in"], ["convert", "in", "out"], ["extract", BOX, "in", "out"],
-            ["extract", "--parents", BOX, "in", "out"]]
+            ["extract", "--parents", BOX, "in", "out"], ["extract", "-s", "smart", "--types=any", BOX, "in", "out"]]
 
 
 @dataclass

@@ -177,7 +177,8 @@ class Bench:
 
     def packed(self, words: list, source: str):
         """What pbfcutz writes, to all readers."""
-        name = "-".join(word.lstrip("-") for word in words if word != BOX)
+        # Osmosis takes no = in a name
+        name = "-".join(word.lstrip("-").replace("=", "-") for word in words if word != BOX)
         self.ask(self.written("pbfcutz", [*words, source], f"{name}-of-{os.path.basename(source).split('.')[0]}"), False)
 
     def raw(self, name: str):
@@ -206,6 +207,7 @@ def main():
             bench.packed(["extract", BOX], bench.path(name))
         bench.packed(["extract", BOX], bench.path("town-raw"))
         bench.packed(["extract", "--parents", BOX], bench.path("town"))
+        bench.packed(["extract", "-s", "smart", "--types=any", BOX], bench.path("town"))
         bench.packed(["convert"], bench.path("town"))
         bench.packed(["pack"], bench.path("town-raw"))
     print(f"{bench.count} files read by {len(readers)} programs" + (f"; not there: {', '.join(absent)}" if absent else ""))

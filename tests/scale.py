@@ -3,9 +3,9 @@
 
 usage: tests/scale.py PROGRAM
 
-They are the same bytes, with all parents and without them, and if only the larger one is with them. A cut that was interrupted is made again, and a box that leaves the one around it is
-refused. The script of docs/SCALE.md, one cut after another as a job array runs it, makes the same cuts. Without bash, GNU make, awk or cmp the test has
-nothing to run, and its status is 77.
+They are the same bytes: by each strategy, and if the larger cut is by a wider strategy than the smaller one. A cut that was interrupted is made again, and
+a box that leaves the one around it is refused. The script of docs/SCALE.md, one cut after another as a job array runs it, makes the same cuts. Without
+bash, GNU make, awk or cmp the test has nothing to run, and its status is 77.
 """
 
 import os
@@ -23,6 +23,9 @@ from published import unpacked
 TOP = os.path.dirname(os.path.dirname(os.path.abspath(__file__)))
 TREE = os.path.join("sample", "tree.mk")
 TOWN = os.path.join("sample", "town.osm.pbf")
+# each is wider than those before it
+STRATEGIES = {"complete ways": [], "all parents": ["--parents"], "smart": ["-s", "smart", "--types=multipolygon,boundary"],
+              "smart of all types": ["-s", "smart", "--types=any"]}
 NEEDED = ["bash", "make", "awk", "cmp"]
 NOTHING_TO_RUN = 77
 SECONDS = 60
@@ -63,9 +66,9 @@ def listed(what: str) -> dict:
 class Tree:
     """The cuts of one run of make, in a folder of their own."""
 
-    def __init__(self, program: str, folder: str, parents: bool):
-        self.program, self.folder = program, folder
-        self.options = ["--parents"] if parents else []
+    def __init__(self, program: str, folder: str, strategy: str):
+        self.program, self.folder, self.strategy = program, folder, strategy
+        self.options = STRATEGIES[strategy]
 
     def file(self, name: str) -> str:
         return os.path.join(self.folder, f"{name}.osm.pbf")
@@ -95,18 +98,39 @@ class Tree:
         os.remove(self.file(name))
 
 
-def cut_out_of_wider(wide: Tree, cuts: dict):
-    """A cut without parents out of one with them has the bytes of one without them."""
-    for name, above in listed("from").items():
-        narrow = wide.file(f"{name}.narrow")
-        succeed([wide.program, "extract", f"--box={listed('box')[name]}", wide.file(above), narrow])
-        if contents(narrow) != cuts[name]:
-            fail(f"{name} without parents, out of {above} with them, has other bytes")
+def cut_again(wide: Tree, strategy: str, name: str) -> bytes:
+    """A cut by this strategy out of the one above it in the tree."""
+    made = wide.file(f"{name}.again")
+    succeed([wide.program, "extract", *STRATEGIES[strategy], f"--box={listed('box')[name]}", wide.file(listed("from")[name]), made])
+    content = contents(made)
+    os.remove(made)
+    return content
+
+
+def cut_out_of_wider(wide: Tree, strategy: str, cuts: dict) -> int:
+    """Cuts by a strategy out of cuts by a wider one have the bytes of those out of its own."""
+    for name in listed("from"):
+        if cut_again(wide, strategy, name) != cuts[name]:
+            fail(f"{name} by {strategy}, out of a cut by {wide.strategy}, has other bytes")
+    return len(listed("from"))
+
+
+def compare_strategies(trees: list) -> tuple:
+    """The cuts of the first tree, and how many cuts were compared. A wider strategy keeps more, and a cut by it may need what a narrower one drops."""
+    cuts = [tree.compare_all() for tree in trees]
+    count = sum(map(len, cuts))
+    if any(cuts[0][name] == cuts[1][name] for name in cuts[0]):
+        fail("a cut with parents has the bytes of one without them")
+    for number, wide in enumerate(trees):
+        count += sum(cut_out_of_wider(wide, tree.strategy, cuts[narrow]) for narrow, tree in enumerate(trees[:number]))
+        if number and all(cut_again(trees[number - 1], wide.strategy, name) == cuts[number][name] for name in listed("from")):
+            fail(f"no cut by {wide.strategy} needs more than one by {trees[number - 1].strategy}")
+    return cuts[0], count
 
 
 def refuses_box(program: str, folder: str):
     """A box that leaves the one around it is no part of the tree."""
-    done = run([*Tree(program, folder, False).words(), "box.town=9.9,49.997,10.004,50.004"])
+    done = run([*Tree(program, folder, "complete ways").words(), "box.town=9.9,49.997,10.004,50.004"])
     if not done.returncode or b"the box of town isn't in that of region" not in done.stdout:
         fail(f"a box that leaves the one around it ends with {done.returncode}: {done.stdout.decode()}")
 
@@ -141,18 +165,15 @@ def main():
         sys.exit(NOTHING_TO_RUN)
     program = os.path.abspath(sys.argv[1])
     with tempfile.TemporaryDirectory(prefix="pbfcut-scale-") as folder:
-        trees = [Tree(program, os.path.join(folder, name), name == "parents") for name in ["ways", "parents"]]
-        cuts = [tree.compare_all() for tree in trees]
-        if any(cuts[0][name] == cuts[1][name] for name in cuts[0]):
-            fail("a cut with parents has the bytes of one without them")
-        cut_out_of_wider(trees[1], cuts[0])
+        trees = [Tree(program, os.path.join(folder, strategy.replace(" ", "_")), strategy) for strategy in STRATEGIES]
+        cuts, count = compare_strategies(trees)
         trees[0].interrupt("town")
-        if trees[0].compare_all() != cuts[0]:
+        if trees[0].compare_all() != cuts:
             fail("a cut that was made again has other bytes")
-        if run_as_array(program, os.path.join(folder, "array")) != cuts[0]:
+        if run_as_array(program, os.path.join(folder, "array")) != cuts:
             fail("the script of docs/SCALE.md makes other cuts")
         refuses_box(program, os.path.join(folder, "refused"))
-    print(f"tests/scale.py: {sum(map(len, cuts))} cuts out of cuts are the cuts of the whole town")
+    print(f"tests/scale.py: {count} cuts out of cuts are the cuts of the whole town")
 
 
 if __name__ == "__main__":

@@ -69,7 +69,8 @@ def main():
             with open(path, "wb") as file:
                 file.write(given)
             runs = [(["check", path], nodes, b""), (["convert", path, out], nodes, PLAIN_HEADER),
-                    (["extract", "--box=50,50,51,51", path, out], 0, BOX_HEADER[:16])]
+                    (["extract", "--box=50,50,51,51", path, out], 0, BOX_HEADER[:16]),
+                    (["extract", "-s", "smart", "--box=50,50,51,51", path, out], 0, BOX_HEADER[:16])]
             for words, kept, begins in runs:
                 if os.path.exists(out):
                     os.unlink(out)

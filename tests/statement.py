@@ -1,321 +1,166 @@
 #!/usr/bin/env python3
-"""docs/STATEMENT.md is what the sources say: the definitions under the contracts of the public calls.
+"""What docs/STATEMENT.md quotes is in the sources, word for word, and its counts are those of tools/statement.py.
 
-usage: tests/statement.py [PROGRAM]      compares the page
-       tests/statement.py --write        writes it
+usage: tests/statement.py [PROGRAM]      compares the page, and tests tools/statement.py
+       tests/statement.py --write        writes the counts
 
-PROGRAM is not run. The page is made only of `specs/` and of the contracts in `src/`: a definition is under a contract if the contract names it, or
-a definition under it does.
+PROGRAM is not run. A quote is a block of the page, and it is of the file that the last link above it leads to. Its pieces, between empty lines, are
+whole ones of the file, but for a comment above them: a line `..` stands for lines that were left out. Of a file of code a piece may be any lines. A
+name that is the text of a link to a file of definitions is defined there. What is under two small calls was counted by hand.
 """
+
+import itertools
 import os
 import re
+import subprocess
 import sys
 
 TOP = os.path.dirname(os.path.dirname(os.path.abspath(__file__)))
-# Each public call, with the crate and the file that have it.
-CALLS = {
-    # the program itself
-    "pbfcut_program::run": ("pbfcut_program", "program"),
-    "extract": ("pbfcut", "extracting"), "extract_with_receipt": ("pbfcut", "extracting"), "extract_parents": ("pbfcut", "extracting"),
-    "extract_sorted": ("pbfcut", "sorted"), "extract_sorted_with_receipt": ("pbfcut", "sorted"),
-    "convert": ("pbfcut", "converting"), "show": ("pbfcut", "showing"), "check": ("pbf_pass", "checking"), "list_blobs": ("pbfcut", "blobs"),
-    # what `pbfcutz extract` calls
-    "pbf_published::extract_sorted_with_receipt": ("pbf_published", "extracting"),
+sys.dont_write_bytecode = True
+sys.path.insert(0, os.path.join(TOP, "tools"))
+
+from statement import CALLS, PROMISE, Sources, Statement, definitions_in, listed, printed, read, statements
+
+PAGE = "docs/STATEMENT.md"
+SCRIPT = os.path.join(TOP, "tools", "statement.py")
+HEAD = f"| Call | Definitions | Lines | Under its clause `{PROMISE}` |\n|---|---|---|---|\n"
+BLOCK = re.compile(r"^```\n(.*?)^```$", re.M | re.S)
+LINK = re.compile(r"\]\(\.\./(crates/[\w/]+\.(?:antt|rt))\)")
+# a page that is to be read in ten minutes has no more lines
+MOST_LINES = 250
+
+# by hand: the definitions under two calls, with the lines of each without comments
+KNOWN = {
+    "pbf_wire::get_varint": {"IsVarint": 5, "EndsOnce": 4, "value_of": 2, "IsCut": 3, "IsLong": 3, "varint_at": 7, "moved_by": 3},
+    "osm_text::put_digest_line": {"digest_line": 3, "escape_mark": 2, "is_escaped": 2, "hex_byte": 2, "hex_digit": 2, "path_byte": 6},
 }
-# The calls with a clause of this name, which says what the answer means, and what is refused.
-PROMISE = "promise"
-PROMISED = ("extract", "extract_parents", "convert")
-MODIFIERS = ("abbrev", "unfoldable", "pub", "record", "data")
-# how long the equations of a definition without a comment may be to be shown
-MOST_SHOWN = 240
 
 
-def read(*parts: str) -> str:
-    with open(os.path.join(TOP, *parts), encoding="utf-8") as file:
-        return file.read()
+def fail(what: str):
+    sys.exit(f"tests/statement.py: {what}")
 
 
-def words_of(text: str) -> set:
-    """The names that stand in a term; `a.b` stands for itself, for `a` and for `b`."""
-    found = set()
-    for word in re.split(r"[\s(){}\[\];,]+", text):
-        word = word.rstrip(".")
-        found.update([word, *word.split(".")])
-    return found
+def pieces(text: str) -> list:
+    """The parts of a text between empty lines, each a list of lines."""
+    return [piece.splitlines() for piece in re.split(r"\n\s*\n", text.strip("\n"))]
 
 
-class Scope:
-    """What the imports of a file bring in: names, and short names of modules."""
-
-    def __init__(self, lines: list):
-        self.names, self.modules = {}, {}
-        # an import on several lines is as one on one line
-        text = re.sub(r"(?<=\.)\{\n([^}]*)\}(?=;)", lambda found: "{" + ", ".join(found[1].replace(",", " ").split()) + "}", "\n".join(lines))
-        for line in text.splitlines():
-            found = re.match(r"\s*(?:ghost )?use Rattle\.([\w.-]+?)(?:\.\{(.*)\}| as (\w+));?$", line)
-            if not found:
-                continue
-            module, names, short = found.groups()
-            if short:
-                self.modules[short] = module
-            for name in names.split(", ") if names else []:
-                self.names[name] = (module, name)
-
-    def found_in(self, text: str) -> set:
-        """The definitions that a term names, each by its module and its name."""
-        words, found = words_of(text), set()
-        for name, place in self.names.items():
-            parts = [part for part in name.split("◌") if part]
-            if name in words or ("◌" in name and all(part in words for part in parts)):
-                found.add(place)
-        for word in words:
-            first, _, rest = word.partition(".")
-            if rest and first in self.modules:
-                found.add((self.modules[first], rest.split(".")[0]))
-        return found
+def all_pieces(text: str):
+    """Those of a file, with the comment above a definition and without it."""
+    for piece in pieces(text):
+        yield piece
+        yield [*itertools.dropwhile(lambda line: line.startswith("--"), piece)]
 
 
-class Definition:
-    def __init__(self, module: str, name: str, comment: str):
-        self.module, self.name, self.comment, self.lines = module, name, comment, []
-        self.under = set()  # the calls whose contracts it is under
-        self.promised = set()  # the calls whose promise it is under
-        self.laws = set()  # the laws that name it
-
-    @property
-    def crate(self) -> str:
-        return self.module.split(".")[0]
-
-    @property
-    def size(self) -> int:
-        return len(self.lines)
-
-    def words(self) -> str:
-        """The comment; if there is none, what the definition says itself: the fields of a record, or its equations."""
-        if self.comment:
-            return self.comment
-        if "record" in self.lines[0].split()[:2]:
-            fields = [found[1] for line in self.lines[1:] if (found := re.match(r"\s+pub (\w+) :", line))]
-            return "a record of " + ", ".join(f"`{name}`" for name in fields)
-        # a line that is indented goes on with the equation before it
-        equations = re.sub(r"\s*\n\s+", " ", "\n".join(filter(str.strip, self.lines[1:]))).replace("\n", "; ")
-        return f"`{equations}`" if len(equations) <= MOST_SHOWN else "its equations, in the file"
+def is_quoted(piece: list, whole: list) -> bool:
+    """Whether a piece is this one of the file, but for lines that a line `..` stands for."""
+    at, is_gap = 0, False
+    for line in piece:
+        if line == "..":
+            is_gap = True
+        else:
+            at = whole.index(line, at) if is_gap and line in whole[at:] else at
+            if whole[at:at + 1] != [line]:
+                return False
+            at, is_gap = at + 1, False
+    return is_gap or at == len(whole)
 
 
-def begun(line: str):
-    """The name of the definition that a line begins, if it begins one."""
-    words = line.split()
-    modifiers = [word for word in words if word in MODIFIERS]
-    rest = words[len(modifiers):]
-    if not line.startswith(" ") and rest and words[:len(modifiers)] == modifiers and (modifiers or rest[1:2] == [":"]):
-        return rest[0]
-    return None
+def quotes(page: str) -> int:
+    """How many pieces the page quotes, each of which is in its file."""
+    count = 0
+    for block in BLOCK.finditer(page):
+        place = LINK.findall(page[:block.start()])[-1]
+        text = read(place)
+        for piece in pieces(block[1]):
+            lines = "\n".join(piece) + "\n"
+            if not (lines in text if place.endswith(".rt") else any(is_quoted(piece, whole) for whole in all_pieces(text))):
+                fail(f"{PAGE} quotes what {place} doesn't say:\n{lines}")
+            count += 1
+    return count
 
 
-def definitions_in(module: str, text: str) -> dict:
-    """The definitions of a file in their order, and its scope."""
-    lines, found, comment, last = text.splitlines(), {}, [], None
-    scope = Scope(lines)
-    for line in lines:
-        if line.startswith("--"):
-            comment = [] if line.startswith("-- --") else comment + [line[2:].strip()]
-        elif not line.strip():
-            comment = []
-        elif not line.startswith(("use ", "pub mod", "infix", "mod ")):
-            name = begun(line)
-            if name:
-                last = found[name] = Definition(module, name, " ".join(comment))
-                scope.names.setdefault(name, (module, name))
-                comment = []
-            if last:
-                last.lines.append(line.split(" -- ")[0])
-    return found, scope
+def links(page: str) -> int:
+    """How many definitions the page links to, each of which is in its file."""
+    found = re.findall(r"\[`(\w+)`\]\(\.\./crates/(\w+)/specs/(\w+)\.antt\)", page)
+    for name, crate, file in found:
+        if name not in definitions_in(f"{crate}.specs.{file}", read("crates", crate, "specs", file + ".antt"))[0]:
+            fail(f"{PAGE}: {file} of {crate} doesn't define '{name}'")
+    return len(found)
 
 
-class Sources:
-    """All definitions of the repository, and what each names."""
-
-    def __init__(self):
-        self.crates = [line.split(":")[0] for line in read("crates.txt").splitlines() if re.match(r"\w+:", line)]
-        self.all, self.names = {}, {}
-        for crate in self.crates:
-            folder = os.path.join(TOP, "crates", crate, "specs")
-            for file in sorted(os.listdir(folder)) if os.path.isdir(folder) else []:
-                module = f"{crate}.specs.{file.removesuffix('.antt')}"
-                found, scope = definitions_in(module, read("crates", crate, "specs", file))
-                for name, definition in found.items():
-                    self.all[module, name] = definition
-                    self.names[module, name] = scope.found_in("\n".join(definition.lines)) - {(module, name)}
-
-    def closure(self, first: set) -> set:
-        """These places, and all that stand under them."""
-        found, left = set(), list(first)
-        while left:
-            place = left.pop()
-            if place not in found:
-                found.add(place)
-                left += self.names.get(place, ())
-        return found
+def counts(found: list) -> str:
+    """The table of the calls."""
+    promises = {statement.call: len(statement.definitions) for statement in found if statement.clause}
+    rows = [f"| [`{statement.call}`](../{statement.source}) | {len(statement.definitions)} | {statement.size} | {promises.get(statement.call, '')} |\n"
+            for statement in found if not statement.clause]
+    return HEAD + "".join(rows).replace("|  |", "| |")
 
 
-def contract(crate: str, file: str, call: str, clause: str = "") -> set:
-    """The definitions that the contract of a function names, or its clause of this name."""
-    text = read("crates", crate, "src", file + ".rt")
-    found = re.search(rf"^pub fn {call.split('::')[-1]}\b.*?^\{{", text, re.M | re.S)
-    clauses = re.findall(rf"^    (?:requires|ensures) {clause}.*?\}}$", found[0], re.M | re.S)
-    return Scope(text.splitlines()).found_in("\n".join(clauses))
-
-
-def laws(sources: Sources):
-    """Notes which laws name which definitions."""
-    for crate in sources.crates:
-        if os.path.exists(os.path.join(TOP, "crates", crate, "src", "laws.rt")):
-            text = read("crates", crate, "src", "laws.rt")
-            for law in re.findall(r"^pub fn (\w+)", text, re.M):
-                for place in contract(crate, "laws", law):
-                    if place in sources.all:
-                        sources.all[place].laws.add(f"{crate}::laws::{law}")
-
-
-def marks(definition: Definition) -> str:
-    """The calls that a definition is under, or those that it isn't under, if they are fewer."""
-    named, others = (", ".join(f"`{call}`" for call in CALLS if (call in definition.under) == is_under) for is_under in (True, False))
-    if not others:
-        return "all"
-    return f"all but {others}" if len(definition.under) * 2 > len(CALLS) else named
-
-
-def crate_part(crate: str, found: list):
-    yield f"\n## {crate}"
-    module = None
-    for definition in found:
-        if definition.module != module:
-            module = definition.module
-            file = module.split(".")[-1]
-            yield f"\n**[{file}](../crates/{crate}/specs/{file}.antt)**\n\n| Definition | In words, or its equations | Under | Laws |\n|---|---|---|---|"
-        says = definition.words().replace("|", "\\|")
-        name = f"`{definition.name}`".replace("|", "\\|")
-        name = f"**{name}**" if definition.promised else name
-        named = ", ".join(f"`{law.split('::')[-1]}`" for law in sorted(definition.laws))
-        yield f"| {name} | {says} | {marks(definition)} | {named} |"
-
-
-def counts_part(sources: Sources, found: list):
-    crates = sources_used(sources, found)
-    yield "| Call | Definitions | Lines | " + " | ".join(crates) + " |"
-    yield "|---|---|---|" + "---|" * len(crates)
-    for call in CALLS:
-        crate, file = CALLS[call]
-        link = f"[`{call}`](../crates/{crate}/src/{file}.rt)"
-        if call in PROMISED:
-            yield counts_row(f"{link}: `{PROMISE}`", [definition for definition in found if call in definition.promised], crates)
-        yield counts_row(link, [definition for definition in found if call in definition.under], crates)
-
-
-def counts_row(title: str, under: list, crates: list) -> str:
-    by_crate = [sum(definition.crate == crate for definition in under) for crate in crates]
-    return f"| {title} | " + " | ".join(map(str, [len(under), sum(definition.size for definition in under), *by_crate])) + " |"
-
-
-def sources_used(sources: Sources, found: list) -> list:
-    return [crate for crate in reversed(sources.crates) if any(definition.crate == crate for definition in found)]
-
-
-def message_with(lines: list, at: int) -> str:
-    """The message whose field numbers are around this line: a comment above them names it, or that of its table."""
-    above = re.findall(r"^// The fields of (an? \w+(?:, and of an? \w+)?)", "\n".join(lines[:at]), re.M)
-    tables = re.findall(r"How the fields of (an? \w+) are stored", "\n".join(lines))
-    return (above or tables or ["a node, a way or a relation"])[-1]
-
-
-def constant_row(module: str, name: str) -> str:
-    """A constant, with the comment above it and its value."""
-    crate, path = re.fullmatch(r"(\w+)\.specs\.declared\.(.+)\.TheConstants", module).groups()
-    file = path.replace(".", "/")
-    lines = read("crates", crate, "src", file + ".rt").splitlines()
-    at = next(number for number, line in enumerate(lines) if re.match(rf"pub(\(crate\))? const {name}:", line))
-    first = at
-    while lines[first - 1].startswith("///"):
-        first -= 1
-    says = " ".join(line[3:].strip() for line in lines[first:at]) or f"The number of this field of {message_with(lines, at)}."
-    value = re.search(r"= (.*);$", lines[at])
-    return f"| `{name}` | {says} | {f'`{value[1]}`' if value else 'a table'} | [{crate}](../crates/{crate}/src/{file}.rt) |"
-
-
-def constants_part(places: set):
-    """The numbers that the definitions have from the code."""
-    yield "\n## Constants\n"
-    yield "The definitions above have these from the code. [Limits](../crates/pbf_examples/specs/Limits.antt) says again, as laws, which numbers the limits are.\n"
-    yield "| Constant | What it is | Value | Where |\n|---|---|---|---|"
-    for module, name in sorted(places):
-        yield constant_row(module, name)
-
-
-def foreign_part(places: set):
-    yield "\n## What is trusted of std and of the toolchain's crates\n"
-    yield "The definitions above use these words, which are defined outside the repository.\n"
-    yield "| Module | Words |\n|---|---|"
-    modules = {}
-    for module, name in places:
-        modules.setdefault(module, set()).add(name)
-    for module in sorted(modules):
-        shown = ", ".join(f"`{name}`" for name in sorted(modules[module]))
-        yield f"| `{module}` | {shown} |"
-
-
-def page() -> str:
-    sources, foreign, constants = Sources(), set(), set()
-    for call, home in CALLS.items():
-        for place in sources.closure(contract(*home, call)):
-            if place in sources.all:
-                sources.all[place].under.add(call)
-            elif place[0].endswith(".TheConstants"):
-                constants.add(place)
-            elif place[0].split(".")[0] not in sources.crates:
-                foreign.add(place)
-    for call in PROMISED:
-        for place in sources.closure(contract(*CALLS[call], call, PROMISE)):
-            if place in sources.all:
-                sources.all[place].promised.add(call)
-    laws(sources)
-    found = [definition for definition in sources.all.values() if definition.under]
-    lines = [INTRODUCTION, *counts_part(sources, found)]
-    for crate in sources_used(sources, found):
-        lines += crate_part(crate, [definition for definition in found if definition.crate == crate])
-    lines += constants_part(constants)
-    lines += foreign_part(foreign)
-    return "\n".join(lines) + "\n"
-
-
-INTRODUCTION = """# What one must believe
-
-To believe what a public call promises, read its contract and the definitions under it; no proof and no code has to be read. This page
-lists these definitions, from the calls down to the bytes, with the comment above each, or its equations if they need none. [PROMISES.md](PROMISES.md)
-says in words what each clause says. `tests/statement.py --write` generates this page from the sources, and the gate compares it.
-
-`Laws` names the laws (functions in `src/laws.rt`) whose contract names the definition. A law compares it with a second definition, such as reading with
-writing. [The examples](../crates/pbf_examples/README.md) compare the definitions with files that are spelled out. Types of the code (structs
-and enums) are not listed, nor are `Feed` and `Drain` of [device](../crates/pbf_frame/src/device.rt), whose contracts say what a device is.
-
-Begin with `IsRun`, the last definition of [Program](../crates/pbfcut_program/specs/Program.antt), which says what a run of the program is, and go upwards; then
-[Theorem](../crates/pbfcut/specs/Theorem.antt). The clause `promise` of a call says what the answer means, and what is refused; the
-definitions under one are printed in bold. The others say how the answer is written, why a call stops, and what went through devices that report
-nothing.
-"""
-
-
-def settle(script: str, name: str, made: str):
-    """Writes a page of docs/ with --write; otherwise compares it."""
+def compare_counts(page: str, made: str):
+    found = re.search(re.escape(HEAD) + r"(?:\|.*\n)*", page)
+    if not found:
+        fail(f"{PAGE} has no table that begins with '{HEAD.splitlines()[0]}'")
     if "--write" in sys.argv:
-        with open(os.path.join(TOP, "docs", name), "w", encoding="utf-8") as file:
-            file.write(made)
-    elif made != read("docs", name):
-        sys.exit(f"{script}: docs/{name} is not what the sources say: {script} --write")
-    print(f"{script}: docs/{name} is what the sources say")
+        with open(os.path.join(TOP, PAGE), "w", encoding="utf-8") as file:
+            file.write(page.replace(found[0], made))
+    elif found[0] != made:
+        fail(f"{PAGE} doesn't have the counts of tools/statement.py: tests/statement.py --write")
+
+
+def run(*words: str) -> tuple:
+    done = subprocess.run([sys.executable, "-B", SCRIPT, *words], stdout=subprocess.PIPE, stderr=subprocess.PIPE, encoding="utf-8")
+    return done.returncode, done.stdout, done.stderr
+
+
+def known(sources: Sources):
+    """What is under the calls that were counted by hand, and in which order."""
+    for call, expected in KNOWN.items():
+        found = Statement(sources, call)
+        sizes = {definition.name: definition.size for definition in found.definitions}
+        if sizes != expected:
+            fail(f"under {call} are {sizes} and not {expected}")
+        places = [(definition.module, definition.name) for definition in found.definitions]
+        for place in places:
+            if any(places.index(under) < places.index(place) for under in sources.names[place] if under in places):
+                fail(f"{call}: a definition comes before '{place[1]}', which names it")
+    # `Counting` of pbf_pass passes on what is in `Numbers` of pbf_block
+    names = {definition.name: definition.module for definition in Statement(sources, "extract", PROMISE).definitions}
+    if names.get("counts_of") != "pbf_block.specs.Numbers" or names.get("IsExtract") != "pbfcut.specs.Theorem" or "written_file" in names:
+        fail(f"under the promise of extract counts_of is in {names.get('counts_of')}")
+
+
+def script(sources: Sources, found: list):
+    """What tools/statement.py prints: the list, a call, one clause, and no call that isn't there."""
+    if [line.split()[0] for line in listed(found) if f": {PROMISE}" not in line] != list(CALLS):
+        fail("tools/statement.py doesn't list the calls")
+    status, text, _ = run("pbf_wire::get_varint")
+    if status or not text.startswith("==== pbf_wire::get_varint: 7 definitions of 27 lines\n"):
+        fail(f"tools/statement.py pbf_wire::get_varint ends with {status} and prints '{text[:80]}'")
+    for lines in ("    requires { at ≤ length bytes.now }\n", "\n==== crates/pbf_wire/specs/Varint.antt\n",
+                  "-- s is a spelling of v\npub record IsVarint (v : ℕ) (s : List ℕ) : Type 0 where\n  pub ended : EndsOnce s\n",
+                  "laws: pbf_wire::laws::shortest_is_shortest\n", "std.specs.List: enumerate_from prefix_len sum_by\n"):
+        if lines not in text:
+            fail(f"tools/statement.py pbf_wire::get_varint doesn't print '{lines}'")
+    text = "\n".join(printed(Statement(sources, "pbf_wire::get_varint", "cut")))
+    if not text.startswith("==== pbf_wire::get_varint: cut: 1 definition of 3 lines\n") or "ensures long" in text:
+        fail(f"tools/statement.py pbf_wire::get_varint cut prints '{text}'")
+    for words in (["pbf_wire::nothing"], ["extract", "nothing"], ["--help"]):
+        status, text, said = run(*words)
+        if status != 1 or text or not said or "Traceback" in said:
+            fail(f"tools/statement.py {' '.join(words)} ends with {status}")
 
 
 def main():
-    settle("tests/statement.py", "STATEMENT.md", page())
+    page, sources = read(PAGE), Sources()
+    found = statements(sources)
+    compare_counts(page, counts(found))
+    quoted, linked = quotes(page), links(page)
+    if page.count("\n") > MOST_LINES:
+        fail(f"{PAGE} has more than {MOST_LINES} lines")
+    known(sources)
+    script(sources, found)
+    print(f"tests/statement.py: {quoted} quotes and {linked} definitions of {PAGE} are in the sources, and {len(CALLS)} calls have its counts")
 
 
 if __name__ == "__main__":

@@ -9,8 +9,9 @@ usage: tools/draw.py FILE [--box BOX] [--view BOX] [--nodes] [--title TEXT] [--n
   --title   says what the picture shows
   --note    is printed in the lower right corner, as whose data this is
 
-Ways are drawn by their tags, areas and multipolygons filled, nodes with tags as dots. It holds all nodes: it is for towns, of
-up to some 100,000 nodes. Exit status: 0 done; 1 FILE can't be read; 2 the command line is wrong.
+Ways are drawn by their tags, areas and multipolygons filled, nodes with tags as dots. The ways of a multipolygon whose rings have a
+gap are dotted and red. It holds all nodes: it is for towns, of up to some 100,000 nodes. Exit status: 0 done; 1 FILE can't be read;
+2 the command line is wrong.
 """
 
 import math
@@ -40,6 +41,8 @@ LINES = {
     "cable": {"aerialway": (), "power": ()},
     "line": {},
 }
+# the ways of a multipolygon whose rings have a gap
+OPEN = "open"
 
 STYLE = """
     .page { fill: #ffffff }
@@ -55,6 +58,7 @@ STYLE = """
     .rail { stroke: #57606a; stroke-width: 2; stroke-dasharray: 6 3 }
     .cable { stroke: #57606a; stroke-width: 1.2; stroke-dasharray: 1 4 }
     .line { stroke: #c8ccd0; stroke-width: 1 }
+    .open { stroke: #cf222e; stroke-width: 2; stroke-dasharray: 1 5 }
     .dot { fill: #1a7f37 }
     .inside { stroke: #35659c; stroke-width: 1.8 }
     .outside { stroke: #cf222e; stroke-width: 4.4 }
@@ -73,7 +77,7 @@ STYLE = """
       .line { stroke: #3d444d }
       .dot { fill: #3fb950 }
       .box, .inside { stroke: #79aee8 }
-      .outside { stroke: #ff7b72 }
+      .open, .outside { stroke: #ff7b72 }
       .note { fill: #9198a1 }
     }
 """
@@ -129,6 +133,21 @@ def class_of(tags: dict, classes: dict):
     return None
 
 
+def rings_of(lines: list) -> list:
+    """The rings that these lines of refs make if they are joined at their ends; none if one stays open, or has no inside."""
+    rest, rings = [line for line in lines if line], []
+    while rest:
+        ring = rest.pop(0)
+        while ring[0] != ring[-1]:
+            following = next((line for line in rest if ring[-1] in (line[0], line[-1])), None)
+            if not following:
+                return []
+            rest.remove(following)
+            ring = ring + (following[1:] if following[0] == ring[-1] else following[-2::-1])
+        rings.append(ring)
+    return rings if all(len(ring) > 3 for ring in rings) else []
+
+
 class Picture:
     def __init__(self, drawn: Map, view: tuple):
         self.map, self.drawn = drawn, set()
@@ -137,7 +156,7 @@ class Picture:
         self.narrow = math.cos(math.radians((south + self.north) / 2))
         self.scale = WIDTH / max((self.east - self.west) * self.narrow, 1e-9)
         self.height = min(max(round((self.north - south) * self.scale), 40), 4 * WIDTH)
-        self.paths = {name: [] for name in [*AREAS, *LINES]}
+        self.paths = {name: [] for name in [*AREAS, *LINES, OPEN]}
 
     def point(self, place: tuple) -> str:
         lon, lat = place
@@ -167,18 +186,19 @@ class Picture:
 
     def gather(self):
         """Puts each way and multipolygon to its class."""
-        in_rings = set()
+        in_rings, in_gaps = set(), set()
         for members, tags in self.map.rings:
-            kind = class_of(tags, AREAS)
-            rings = [self.map.ways[member][0] for member in members if member in self.map.ways]
-            if kind and all(len(refs) > 3 and refs[0] == refs[-1] for refs in rings):
+            kind, there = class_of(tags, AREAS), [member for member in members if member in self.map.ways]
+            rings = rings_of([self.map.ways[member][0] for member in there])
+            if kind and rings:
                 self.paths[kind].append("".join(self.path(refs, True) for refs in rings))
-                in_rings.update(members)
+            (in_rings if rings else in_gaps).update(there if kind else [])
         for number, (refs, tags) in self.map.ways.items():
             closed = len(refs) > 3 and refs[0] == refs[-1]
             area = class_of(tags, AREAS) if closed else None
             if tags or number not in in_rings:
-                self.paths[area or class_of(tags, LINES) or "line"].append(self.path(refs, closed))
+                other = OPEN if number in in_gaps and not tags else "line"
+                self.paths[area or class_of(tags, LINES) or other].append(self.path(refs, closed))
 
     def svg(self, box, title: str, note: str, has_nodes: bool) -> str:
         self.gather()

@@ -18,35 +18,46 @@ class Box:
         return self.left <= lon <= self.right and self.bottom <= lat <= self.top
 
 
-def extract(entities: list, box: Box, parents: bool = False) -> list:
-    """The complete-ways extract, with all parents or without."""
+def first_type(relation: Entity) -> Optional[bytes]:
+    return next((value for key, value in relation.tags if key == b"type"), None)
+
+
+def extract(entities: list, box: Box, parents: bool = False, types: Optional[str] = None) -> list:
+    """The complete-ways extract, with all parents or without, or with the members of relations of these types."""
     nodes = [e for e in entities if e.kind == "N"]
     ways = [e for e in entities if e.kind == "W"]
     relations = [e for e in entities if e.kind == "R"]
 
     box_ids = {e.id for e in nodes if box.contains(e.nano_lat(), e.nano_lon())}
-
-    def way_kept(way):
-        return any(ref in box_ids for ref in way.refs)
-
-    kept_ways = [way for way in ways if way_kept(way)]
+    kept_ways = [way for way in ways if any(ref in box_ids for ref in way.refs)]
     node_ids = box_ids | {ref for way in kept_ways for ref in way.refs}
     way_ids = {way.id for way in kept_ways}
     relation_ids = set()                    # stays empty without `parents`
 
-    def relation_kept(relation):
+    def relation_kept(relation, of_relations=True):
         return any(kind == "n" and member in node_ids or kind == "w" and member in way_ids
-                   or kind == "r" and member in relation_ids for kind, member, _ in relation.members)
+                   or of_relations and kind == "r" and member in relation_ids for kind, member, _ in relation.members)
 
-    if parents:                             # the least set: from nothing, until nothing is added
+    if parents or types is not None:        # the least set: from nothing, until nothing is added
         while True:
             grown = {r.id for r in relations if relation_kept(r)}
             if grown == relation_ids:
                 break
             relation_ids = grown
 
+    # what is added selects nothing
+    wanted = [] if types is None else [r for r in relations if types == "any" or first_type(r) in types.encode().split(b",")]
+    completed = [r for r in wanted if relation_kept(r, of_relations=False)]
+    added_ways = {member for r in completed for kind, member, _ in r.members if kind == "w"}
+    added_nodes = {member for r in completed for kind, member, _ in r.members if kind == "n"}
+    added_nodes |= {ref for way in ways if way.id in added_ways for ref in way.refs}
+
     def kept(e):
-        return e.id in node_ids if e.kind == "N" else way_kept(e) if e.kind == "W" else relation_kept(e)
+        if e.kind == "N":
+            return e.id in node_ids or e.id in added_nodes
+        if e.kind == "W":
+            return e.id in added_ways or any(ref in box_ids for ref in e.refs)
+        return relation_kept(e)
 
     return [e for e in entities if kept(e)]
 
@@ -138,17 +149,20 @@ class TextIndex:
         return put_bytes(1, b"") + b"".join(put_bytes(1, words) for words in self.index)
 
 
+def write_group(entities: list, texts: TextIndex) -> bytes:
+    """The PrimitiveGroup of entities of one kind."""
+    if entities[0].kind == "N":
+        return put_bytes(2, write_dense(entities, texts))
+    if entities[0].kind == "W":
+        return b"".join(put_bytes(3, write_way(e, texts)) for e in entities)
+    return b"".join(put_bytes(4, write_relation(e, texts)) for e in entities)
+
+
 def write_block(entities: list) -> bytes:
     """The PrimitiveBlock of one block of entities."""
     texts = TextIndex(entities)
-    if entities[0].kind == "N":
-        group = put_bytes(2, write_dense(entities, texts))
-    elif entities[0].kind == "W":
-        group = b"".join(put_bytes(3, write_way(e, texts)) for e in entities)
-    else:
-        group = b"".join(put_bytes(4, write_relation(e, texts)) for e in entities)
     scale = entities[0].scale
-    out = put_bytes(1, texts.write()) + put_bytes(2, group)
+    out = put_bytes(1, texts.write()) + put_bytes(2, write_group(entities, texts))
     for n, value, default in ((17, scale.granularity, 100), (18, scale.date_granularity, 1000),
                               (19, scale.lat_offset, 0), (20, scale.lon_offset, 0)):
         out += put_number(n, value) if value != default else b""

@@ -4,6 +4,7 @@ use Rattle.std.specs.List.{list_any, fold}
 use Rattle.std.specs.Ordering.{int_eq, int_cmp}
 use Rattle.std.specs.Cmp.{int_cmp_total}
 use Rattle.std.specs.FinSet as set
+use Rattle.osm_entity.specs.Entity.{TagSpec}
 use Rattle.osm_ids.specs.declared.links.Link.{Link}
 use Rattle.osm_ids.specs.Links.{IsLeast}
 use Rattle.osm_ids.specs.Pages.{rising}
@@ -11,7 +12,7 @@ use Rattle.osm_ids.proofs.Rising.{ids_of-rising}
 use Rattle.osm_ids.proofs.Sets.{ids_of}
 use Rattle.osm_ids.proofs.Walking.{len_is}
 use Rattle.osm_ways.specs.Added.{AddedSets, with_added_refs, with_member}
-use Rattle.osm_ways.specs.Phases.{Ids, KeptSets, RelationSets, WaySets, is_chosen, keeps_id, member_pass, member_step, relation_pass, relation_step, sets_with_relation, start_relations, way_pass}
+use Rattle.osm_ways.specs.Phases.{Ids, KeptSets, RelationSets, WaySets, begun_members, is_chosen, keeps_id, member_pass, member_step, relation_pass, relation_step, sets_with_relation, start_relations, way_pass}
 use Rattle.osm_ways.specs.Selection.{MemberSeen, node_member, way_member, relation_member, Seen, a_node, a_way, a_relation, all_levels, box_ids, has_member, is_added, is_kept_relation, is_kept_way, is_member, is_ref, keeps, keeps_node, keeps_way, node_ids, smart, way_ids}
 use Rattle.osm_ways.proofs.Passes.{contains-insert_all, node_ids-after, way_ids-after, all_nodes-after, all_ways-after, inside-after, levels-after}
 
@@ -55,6 +56,9 @@ stays-member_pass sets (a_node own inside ∷ seen) = stays-member_pass sets see
 stays-member_pass sets (a_way own refs ∷ seen) = grind (arith, stays-member_pass (member_step sets (a_way own refs)) seen)
 stays-member_pass sets (a_relation own whole members ∷ seen) = stays-member_pass sets seen
 
+pub members_keep_ways : (ids : Ids) (seen : List Seen) → (member_pass ids seen).ways ≡ (relation_pass seen).ways
+members_keep_ways ids seen = (stays-member_pass (begun_members (relation_pass seen) ids) seen).0
+
 -- a way that was added
 abbrev by_added : KeptSets → ℤ → List ℤ → Bool
 by_added sets own refs = set.contains sets.added.ways own
@@ -97,21 +101,21 @@ any_either : (p q : Seen → Bool) (seen : List Seen) → list_any (λ e. p e ||
 any_either p q [] = refl
 any_either p q (e ∷ seen) = grind (arith, any_either p q seen)
 
-module _ (seen : List Seen) where
-  added_nodes-after : (id : ℤ) → set.contains (relation_pass seen).added.nodes id ≡ is_added smart seen (node_member id)
+module _ (whole : List TagSpec → Bool) (seen : List Seen) where
+  added_nodes-after : (id : ℤ) → set.contains (relation_pass seen).added.nodes id ≡ is_added (smart whole) seen (node_member id)
   added_nodes-after id =
       nodes-relation_pass (start_relations (way_pass seen)) seen id ∙ ap (λ b. b || list_any (adds (way_pass seen) (node_member id)) seen) (set.contains-empty int_cmp id)
       ∙ (λ i. list_any (has_member (node_ids-after seen i) (way_ids-after seen i) (node_member id)) seen)
 
-  added_ways-after : (id : ℤ) → set.contains (relation_pass seen).added.ways id ≡ is_added smart seen (way_member id)
+  added_ways-after : (id : ℤ) → set.contains (relation_pass seen).added.ways id ≡ is_added (smart whole) seen (way_member id)
   added_ways-after id =
       ways-relation_pass (start_relations (way_pass seen)) seen id ∙ ap (λ b. b || list_any (adds (way_pass seen) (way_member id)) seen) (set.contains-empty int_cmp id)
       ∙ (λ i. list_any (has_member (node_ids-after seen i) (way_ids-after seen i) (way_member id)) seen)
 
-  refs_of_kept : (id : ℤ) → list_any (is_ref (keeps_way smart seen) id) seen ≡ (list_any (is_ref (λ own refs. is_added smart seen (way_member own)) id) seen || list_any (is_ref (λ own refs. is_kept_way (box_ids seen) refs) id) seen)
+  refs_of_kept : (id : ℤ) → list_any (is_ref (keeps_way (smart whole) seen) id) seen ≡ (list_any (is_ref (λ own refs. is_added (smart whole) seen (way_member own)) id) seen || list_any (is_ref (λ own refs. is_kept_way (box_ids seen) refs) id) seen)
   refs_of_kept id =
-      (λ i. list_any (λ e. either_way (λ own refs. is_added smart seen (way_member own)) (λ own refs. is_kept_way (box_ids seen) refs) id e i) seen)
-      ∙ any_either (is_ref (λ own refs. is_added smart seen (way_member own)) id) (is_ref (λ own refs. is_kept_way (box_ids seen) refs) id) seen
+      (λ i. list_any (λ e. either_way (λ own refs. is_added (smart whole) seen (way_member own)) (λ own refs. is_kept_way (box_ids seen) refs) id e i) seen)
+      ∙ any_either (is_ref (λ own refs. is_added (smart whole) seen (way_member own)) id) (is_ref (λ own refs. is_kept_way (box_ids seen) refs) id) seen
 
   module _ (ids : Ids) (h : IsLeast (set.contains (relation_pass seen).links) (relation_pass seen).start ids) where
     abbrev before : KeptSets
@@ -120,23 +124,23 @@ module _ (seen : List Seen) where
     abbrev end : KeptSets
     end = fold member_step before seen
 
-    nodes-end : (id : ℤ) → set.contains end.added.nodes id ≡ (is_added smart seen (node_member id) || list_any (is_ref (λ own refs. is_added smart seen (way_member own)) id) seen)
+    nodes-end : (id : ℤ) → set.contains end.added.nodes id ≡ (is_added (smart whole) seen (node_member id) || list_any (is_ref (λ own refs. is_added (smart whole) seen (way_member own)) id) seen)
     nodes-end id = nodes-member_pass before seen id ∙ (λ i. added_nodes-after id i || list_any (is_ref (λ own refs. added_ways-after own i) id) seen)
 
     node_ids-end : (id : ℤ) → set.contains end.ways.node_ids id ≡ (box_ids seen id || list_any (is_ref (λ own refs. is_kept_way (box_ids seen) refs) id) seen)
     node_ids-end id = ap (λ (w : WaySets). set.contains w.node_ids id) (stays-member_pass before seen).0 ∙ ap (λ (f : ℤ → Bool). f id) (all_nodes-after seen)
 
-    by_end : (e : Seen) → is_chosen end e ≡ keeps smart seen e
+    by_end : (e : Seen) → is_chosen end e ≡ keeps (smart whole) seen e
     by_end (a_node id inside) =
         (λ i. nodes-end id i || node_ids-end id i)
-        ∙ regroup (is_added smart seen (node_member id)) (list_any (is_ref (λ own refs. is_added smart seen (way_member own)) id) seen) (box_ids seen id) (list_any (is_ref (λ own refs. is_kept_way (box_ids seen) refs) id) seen)
-        ∙ (λ i. is_added smart seen (node_member id) || (box_ids seen id || sym (refs_of_kept id) i))
+        ∙ regroup (is_added (smart whole) seen (node_member id)) (list_any (is_ref (λ own refs. is_added (smart whole) seen (way_member own)) id) seen) (box_ids seen id) (list_any (is_ref (λ own refs. is_kept_way (box_ids seen) refs) id) seen)
+        ∙ (λ i. is_added (smart whole) seen (node_member id) || (box_ids seen id || sym (refs_of_kept id) i))
     by_end (a_way id refs) =
         (λ i. set.contains ((stays-member_pass before seen).2 i) id || is_kept_way (set.contains ((stays-member_pass before seen).0 i).box_ids) refs)
         ∙ (λ i. added_ways-after id i || is_kept_way (inside-after seen i) refs)
-    by_end (a_relation id whole members) =
+    by_end (a_relation id is_whole members) =
         (λ i. is_kept_relation (set.contains ((stays-member_pass before seen).0 i).node_ids) (set.contains ((stays-member_pass before seen).0 i).way_ids) (set.contains ((stays-member_pass before seen).1 i)) members)
         ∙ (λ i. is_kept_relation (all_nodes-after seen i) (all_ways-after seen i) (levels-after seen ids h i) members)
 
-    pub chosen_with_members : is_chosen (member_pass ids seen) ≡ keeps smart seen
+    pub chosen_with_members : is_chosen (member_pass ids seen) ≡ keeps (smart whole) seen
     chosen_with_members = λ i e. by_end e i

@@ -1,11 +1,12 @@
 -- Nodes, ways and relations in one pass: the sets are those of the three passes, if the order holds.
-use Rattle.std.proofs.Common.{arith, ◌≡◌, ℤ, Bool, true, false, ◌&&◌, not, List, [], ◌∷◌, refl, ap, ◌∙◌}
-use Rattle.std.specs.List.{fold}
+use Rattle.std.proofs.Common.{arith, ◌≡◌, ℕ, ℤ, Bool, true, false, ◌&&◌, not, List, [], ◌∷◌, map, refl, sym, ap, ◌∙◌}
+use Rattle.std.specs.Prelude.{nat_le}
+use Rattle.std.specs.List.{fold, list_all}
 use Rattle.std.specs.FinSet as set
 use Rattle.osm_ways.specs.Selection.{Seen, a_node, a_way, a_relation}
 use Rattle.osm_ways.specs.Phases.{Found, Ids, RelationSets, TakesAll, TakesFirst, WaySets, PassesOver, found_with, node_step, nothing_found, relation_step, relations_from, start_relations, start_ways, way_step}
 use Rattle.osm_ways.specs.First.{FirstSets, before_node, first_step}
-use Rattle.osm_ways.specs.Sorted.{SortedSets, before_more, sorted_pass, sorted_step, start_sorted, without_ways}
+use Rattle.osm_ways.specs.Sorted.{SortedSets, before_more, is_sorted, rank, sorted_pass, sorted_step, start_sorted, without_ways}
 use Rattle.osm_ways.proofs.FirstLemmas.{broken, first_step-passes_over, fresh, going}
 
 abbrev sorted : Bool → FirstSets → Found → SortedSets
@@ -79,6 +80,55 @@ fresh_broken ids [] e = absurd (cc)
 fresh_broken ids (a_node id inside ∷ seen) e = fresh_broken (node_step ids (a_node id inside)) seen e
 fresh_broken ids (a_way id refs ∷ seen) e = grind (arith, going_broken (way_step (start_ways ids) (a_way id refs)) seen e)
 fresh_broken ids (a_relation id whole members ∷ seen) e = after_broken false (start_ways ids) (found_with (start_ways ids) nothing_found id whole members) seen e
+
+-- ---- whether the order holds
+
+-- all of these are of no earlier type
+abbrev from : ℕ → List Seen → Bool
+from first seen = list_all (nat_le first) (map rank seen)
+
+from_none : (seen : List Seen) → from 0 seen ≡ true
+from_none [] = refl
+from_none (a_node id inside ∷ seen) = from_none seen
+from_none (a_way id refs ∷ seen) = from_none seen
+from_none (a_relation id whole members ∷ seen) = from_none seen
+
+later_too : (seen : List Seen) → from 2 seen ≡ true → from 1 seen ≡ true
+later_too [] e = refl
+later_too (a_node id inside ∷ seen) e = absurd (cc)
+later_too (a_way id refs ∷ seen) e = absurd (cc)
+later_too (a_relation id whole members ∷ seen) e = later_too seen e
+
+twice_first : (a b : Bool) → (a && b) ≡ (a && (a && b))
+twice_first true b = refl
+twice_first false b = refl
+
+implied_first : (a b c : Bool) → (a ≡ true → b ≡ true) → (a && c) ≡ (b && (a && c))
+implied_first true b c h = grind (arith, h refl)
+implied_first false true c h = refl
+implied_first false false c h = refl
+
+after_sorted : (has_ways : Bool) (ways : WaySets) (found : Found) (seen : List Seen) → (ends (after has_ways ways found) seen).first.in_order ≡ (from 2 seen && is_sorted seen)
+after_sorted has_ways ways found [] = refl
+after_sorted has_ways ways found (a_node id inside ∷ seen) = (lost has_ways (node_step ways.box_ids (a_node id inside)) seen).0
+after_sorted has_ways ways found (a_way id refs ∷ seen) = (lost true ways.box_ids seen).0
+after_sorted has_ways ways found (a_relation id whole members ∷ seen) = after_sorted has_ways ways (found_with ways found id whole members) seen ∙ twice_first (from 2 seen) (is_sorted seen)
+
+going_sorted : (ways : WaySets) (seen : List Seen) → (ends (sorted false (going ways) nothing_found) seen).first.in_order ≡ (from 1 seen && is_sorted seen)
+going_sorted ways [] = refl
+going_sorted ways (a_node id inside ∷ seen) = (lost true (node_step ways.box_ids (a_node id inside)) seen).0
+going_sorted ways (a_way id refs ∷ seen) = going_sorted (way_step ways (a_way id refs)) seen ∙ twice_first (from 1 seen) (is_sorted seen)
+going_sorted ways (a_relation id whole members ∷ seen) = after_sorted true ways (found_with ways nothing_found id whole members) seen ∙ implied_first (from 2 seen) (from 1 seen) (is_sorted seen) (later_too seen)
+
+fresh_sorted : (ids : Ids) (seen : List Seen) → (ends (sorted false (fresh ids) nothing_found) seen).first.in_order ≡ is_sorted seen
+fresh_sorted ids [] = refl
+fresh_sorted ids (a_node id inside ∷ seen) = fresh_sorted (node_step ids (a_node id inside)) seen ∙ ap (λ b. b && is_sorted seen) (sym (from_none seen))
+fresh_sorted ids (a_way id refs ∷ seen) = going_sorted (way_step (start_ways ids) (a_way id refs)) seen
+fresh_sorted ids (a_relation id whole members ∷ seen) = after_sorted false (start_ways ids) (found_with (start_ways ids) nothing_found id whole members) seen
+
+-- it holds just if the list is sorted by type
+pub in_order_sorted : (seen : List Seen) → (sorted_pass seen).first.in_order ≡ is_sorted seen
+in_order_sorted seen = fresh_sorted set.empty seen
 
 -- ---- the whole list
 

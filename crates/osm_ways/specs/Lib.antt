@@ -6,3 +6,4 @@ pub mod InArea
 pub mod Seen
 pub mod Sorted
 pub mod Added
+pub mod Whole

@@ -161,9 +161,12 @@ abbrev pub relation_pass : List Seen → RelationSets
 relation_pass seen = fold relation_step (start_relations (way_pass seen)) seen
 
 -- what relations gave, the least set of the relations that are kept, and a pass more
+abbrev pub begun_members : RelationSets → Ids → KeptSets
+begun_members sets relations = record { ways = sets.ways; relation_ids = relations; added = sets.added }
+
 abbrev pub member_pass : Ids → List Seen → KeptSets
 member_pass relations seen =
-    let sets = relation_pass seen in fold member_step (record { ways = sets.ways; relation_ids = relations; added = sets.added }) seen
+    fold member_step (begun_members (relation_pass seen) relations) seen
 
 -- a first phase, which takes nodes and maybe more: if it has all ways, it ends as the second pass does, and otherwise as the first
 pub record TakesFirst {S : Type 0} (start : S) (step : S → Seen → S) (has_ways : S → Bool) (ended : S → WaySets) : Type 0 where

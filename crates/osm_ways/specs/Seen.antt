@@ -1,10 +1,10 @@
 -- What the selection sees of entities. A place counts in nanodegrees.
-use Rattle.std.specs.Prelude.{ℤ, Bool, false, map}
+use Rattle.std.specs.Prelude.{ℤ, Bool, false, List, map}
 use Rattle.osm_area.specs.Area.{AreaSpec}
 use Rattle.osm_entity.specs.declared.member.MemberKind.{MemberKind}
 use Rattle.osm_entity.specs.declared.member.MemberKind.TheVariants as kind
 use Rattle.osm_entity.specs.Scale.{nano_lat, nano_lon}
-use Rattle.osm_entity.specs.Entity.{NodeSpec, MemberSpec, WaySpec, RelationSpec, EntitySpec, Decoded, node_at, way_through, relation_among, decoded}
+use Rattle.osm_entity.specs.Entity.{TagSpec, NodeSpec, MemberSpec, WaySpec, RelationSpec, EntitySpec, Decoded, node_at, way_through, relation_among, decoded}
 use Rattle.osm_entity.specs.Sources.{refs_left}
 use Rattle.osm_ways.specs.declared.phases.SeenWay.{SeenWay}
 use Rattle.osm_ways.specs.Selection.{MemberSeen, node_member, way_member, relation_member, Seen, a_node, a_way, a_relation}
@@ -35,12 +35,12 @@ seen_as whole r = a_relation r.id whole (map seen_member r.members)
 abbrev pub seen_relation : RelationSpec → Seen
 seen_relation = seen_as false
 
--- what is seen of an entity; its scale is applied, since an area is in degrees
-abbrev pub seen_decoded : AreaSpec → Decoded → Seen
-seen_decoded area (node_at id lat lon meta tags) = a_node id (area.has lat lon)
-seen_decoded area (way_through id meta tags refs locations) = a_way id refs
-seen_decoded area (relation_among id meta tags members) = a_relation id false (map seen_member members)
+-- what is seen of an entity, by which relations are wanted whole; its scale is applied, since an area is in degrees
+abbrev pub seen_decoded : (whole : List TagSpec → Bool) → AreaSpec → Decoded → Seen
+seen_decoded whole area (node_at id lat lon meta tags) = a_node id (area.has lat lon)
+seen_decoded whole area (way_through id meta tags refs locations) = a_way id refs
+seen_decoded whole area (relation_among id meta tags members) = a_relation id (whole tags) (map seen_member members)
 
 -- of a stored entity the same as of what it means
-abbrev pub seen_entity : AreaSpec → EntitySpec → Seen
-seen_entity area e = seen_decoded area (decoded e)
+abbrev pub seen_entity : (whole : List TagSpec → Bool) → AreaSpec → EntitySpec → Seen
+seen_entity whole area e = seen_decoded whole area (decoded e)

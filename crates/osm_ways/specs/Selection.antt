@@ -2,6 +2,7 @@
 use Rattle.std.specs.Prelude.{◌≡◌, ℕ, zero, suc, ℤ, Bool, true, false, ◌&&◌, ◌||◌, List, map, length}
 use Rattle.std.specs.List.{list_any, filter}
 use Rattle.std.specs.Ordering.{int_eq}
+use Rattle.osm_entity.specs.Entity.{TagSpec}
 
 -- what the selection sees of a relation's member
 pub data MemberSeen : Type 0 where
@@ -26,16 +27,21 @@ pub record Strategy : Type 0 where
   pub parents : Bool
   -- the nodes and ways of relations that are wanted whole, if a node or a way selects them
   pub members : Bool
+  -- which relations are wanted whole, by their tags
+  pub whole : List TagSpec → Bool
+
+abbrev pub none_whole : List TagSpec → Bool
+none_whole tags = false
 
 abbrev pub complete_ways : Strategy
-complete_ways = record { refs = true; of_refs = true; parents = false; members = false }
+complete_ways = record { refs = true; of_refs = true; parents = false; members = false; whole = none_whole }
 
 abbrev pub all_parents : Strategy
-all_parents = record { refs = true; of_refs = true; parents = true; members = false }
+all_parents = record { refs = true; of_refs = true; parents = true; members = false; whole = none_whole }
 
--- the widest
-abbrev pub smart : Strategy
-smart = record { refs = true; of_refs = true; parents = true; members = true }
+-- keeps the most
+abbrev pub smart : (List TagSpec → Bool) → Strategy
+smart whole = record { refs = true; of_refs = true; parents = true; members = true; whole = whole }
 
 abbrev pub IdTest : Type 0
 IdTest = ℤ → Bool
@@ -148,12 +154,17 @@ extract by look xs = filter (λ x. keeps by (map look xs) (look x)) xs
 
 -- ---- a cut within another
 
+-- the second wants the relations whole that the first does, and maybe more
+abbrev pub WantsMore : (List TagSpec → Bool) → (List TagSpec → Bool) → Type 0
+WantsMore some more = (tags : List TagSpec) → some tags ≡ true → more tags ≡ true
+
 -- the second strategy keeps what the first keeps, and maybe more
 pub record IsWider (narrow wide : Strategy) : Type 0 where
   pub refs : narrow.refs ≡ true → wide.refs ≡ true
   pub of_refs : narrow.of_refs ≡ true → wide.of_refs ≡ true
   pub parents : narrow.parents ≡ true → wide.parents ≡ true
   pub members : narrow.members ≡ true → wide.members ≡ true
+  pub whole : WantsMore narrow.whole wide.whole
 
 -- a small look and a large one see an entity alike, but a node that is outside by the small one may be inside by the large one, and a
 -- relation that isn't wanted whole by the small one may be by the large one

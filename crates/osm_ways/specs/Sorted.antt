@@ -1,8 +1,8 @@
 -- Nodes, ways and relations in one pass. If all nodes come before all ways, and these before all relations, the sets are those of the three passes.
 -- If not, the order is broken, and this pass gives only the nodes: ways and relations need passes of their own.
-use Rattle.std.specs.Prelude.{Bool, true, false, if◌then◌else◌, List, refl}
+use Rattle.std.specs.Prelude.{ℕ, nat_le, Bool, true, false, ◌&&◌, if◌then◌else◌, List, [], ◌∷◌, map, refl}
 use Rattle.std.specs.Coded.{Coded, code_by, coded×, coded_bool}
-use Rattle.std.specs.List.{fold}
+use Rattle.std.specs.List.{fold, list_all}
 use Rattle.osm_ways.specs.First.{FirstSets, first_sets_code, first_step, start_first}
 use Rattle.osm_ways.specs.Phases.{Found, found_code, found_with, nothing_found, start_ways}
 use Rattle.osm_ways.specs.Selection.{Seen, a_node, a_way, a_relation}
@@ -37,6 +37,21 @@ sorted_step sets (a_node id inside) = with_more (before_more sets) (a_node id in
 sorted_step sets (a_way id refs) = with_more (before_more sets) (a_way id refs)
 sorted_step sets (a_relation id whole members) =
     if sets.first.in_order then record { has_relations = true; first = sets.first; found = found_with sets.first.ways sets.found id whole members } else sets
+
+-- nodes, ways and relations
+abbrev pub rank : Seen → ℕ
+rank (a_node id inside) = 0
+rank (a_way id refs) = 1
+rank (a_relation id whole members) = 2
+
+-- these numbers don't fall
+abbrev pub is_rising : List ℕ → Bool
+is_rising [] = true
+is_rising (n ∷ ns) = list_all (nat_le n) ns && is_rising ns
+
+-- by type: no node comes after a way or a relation, and no way after a relation
+abbrev pub is_sorted : List Seen → Bool
+is_sorted seen = is_rising (map rank seen)
 
 abbrev pub sorted_pass : List Seen → SortedSets
 sorted_pass seen = fold sorted_step start_sorted seen

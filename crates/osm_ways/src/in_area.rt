@@ -5,10 +5,12 @@ ghost use Rattle.osm_entity.specs.Views.{node_of, relation_of};
 ghost use Rattle.osm_ways.specs.InArea.{stepped};
 ghost use Rattle.osm_ways.specs.Phases.{Found, PassesOver, TakesAll, TakesFirst, TakesNode, TakesRelations, TakesWays, WaySets};
 ghost use Rattle.osm_ways.specs.Seen.{seen_as, seen_node, seen_refs};
-ghost use Rattle.osm_ways.specs.Selection.{Seen, a_node};
+ghost use Rattle.osm_ways.specs.Selection.{Seen, a_node, none_whole};
+ghost use Rattle.osm_ways.specs.Whole.{is_wanted};
 
 use crate::parents::FoundRelations;
 use crate::phases::{NodeIds, SeenWay, WayPhase};
+use crate::whole::WholeTypes;
 use osm_area::Area;
 use osm_entity::{BoundingBox, NodeRef, RelationRef};
 use std::alloc::{AllocError, Global};
@@ -99,10 +101,11 @@ pub trait RelationTaker: NodeTaker {
         ensures takes { TakesAll Self.start Self.step Self.has_ways Self.ended found };
 }
 
-/// A phase, and the area in which the nodes that it takes have to lie.
+/// A phase, the area in which the nodes that it takes have to lie, and the types of relations that are wanted whole.
 #[derive(Drop)]
 pub struct InArea<A, P> {
     pub area: A,
+    pub types: WholeTypes,
     pub phase: P,
 }
 
@@ -110,14 +113,26 @@ pub struct InArea<A, P> {
 pub type NodePhase = InArea<BoundingBox, NodeIds>;
 
 impl<A: Area, P: NodeTaker> InArea<A, P> {
-    /// The phase of an area, with no entities yet. It allocates nothing yet.
+    /// The phase of an area, with no entities yet; no relation is wanted whole. It allocates nothing yet.
     pub fn new(alloc: Global, area: A) -> InArea<A, P>
         ensures area { result.area ≡ area }
+        ensures types { is_wanted result.types ≡ none_whole }
+        ensures start { result.phase ≡ P.start }
+        ensures takes { TakesFirst P.start P.step P.has_ways P.ended }
+    {
+        InArea::wanting(alloc, area, WholeTypes::none(alloc))
+    }
+
+    /// The same with relations of these types wanted whole.
+    pub fn wanting(alloc: Global, area: A, types: WholeTypes) -> InArea<A, P>
+        ensures area { result.area ≡ area }
+        ensures types { result.types ≡ types }
         ensures start { result.phase ≡ P.start }
         ensures takes { TakesFirst P.start P.step P.has_ways P.ended }
     {
         InArea {
             area,
+            types,
             phase: P::new(alloc),
         }
     }
@@ -149,6 +164,20 @@ impl<A: Area, P: NodeTaker> InArea<A, P> {
         ensures takes { TakesAll P.start P.step P.has_ways P.ended P.found }
     {
         self.phase.end_all()
+    }
+
+    /// Takes a relation, and whether it is wanted whole.
+    ///
+    /// # Errors
+    ///
+    /// If memory is refused, the phase may only be dropped.
+    pub fn take_relation(&mut self, relation: &RelationRef<'_>) -> Result<(), AllocError>
+        ensures { OnOk result (self.new ≡ stepped P.step self.old
+            (seen_as (is_wanted self.old.types (relation_of relation.now).tags)
+            (relation_of relation.now))) }
+    {
+        let whole = self.types.want(relation.tags());
+        self.phase.take_relation(relation, whole)
     }
 
     /// Takes a node. Of those that do not lie in the area the phase learns only that there are some.

@@ -1,22 +1,22 @@
 //! The laws of the selection. Each is the contract of a function that does nothing: a proof that needs the law calls it, or
 //! takes the lemma of that name from this crate's `proofs/`.
 
-ghost use Rattle.std.specs.Prelude.{◌≡◌, true, false, List, map};
+ghost use Rattle.std.specs.Prelude.{◌≡◌, Bool, true, false, List, map};
 ghost use Rattle.std.specs.List.{filter, fold};
 ghost use Rattle.std.specs.Ordering.{int_cmp};
 ghost use Rattle.std.specs.FinSet as set;
 ghost use Rattle.osm_area.specs.Area.{AreaSpec, IsAreaWithin, box_area};
 ghost use Rattle.osm_box.specs.declared.bounding_box.BoundingBox.{BoundingBox};
 ghost use Rattle.osm_box.specs.BoundingBox.{is_box_within};
-ghost use Rattle.osm_entity.specs.Entity.{EntitySpec, decoded};
+ghost use Rattle.osm_entity.specs.Entity.{EntitySpec, TagSpec, decoded};
 ghost use Rattle.osm_ids.specs.Links.{IsLeast};
-ghost use Rattle.osm_ways.specs.Selection.{Seen, Strategy, complete_ways, all_parents, smart, node_ids, way_ids, all_levels, keeps, extract, IsWider, IsWithin};
+ghost use Rattle.osm_ways.specs.Selection.{Seen, Strategy, complete_ways, all_parents, smart, node_ids, way_ids, all_levels, keeps, extract, IsWider, IsWithin, WantsMore};
 ghost use Rattle.osm_ways.specs.Seen.{seen_entity, seen_decoded};
 ghost use Rattle.osm_ways.specs.Parents.{IsLeastSelected, links_in, start_in};
 ghost use Rattle.osm_ways.specs.Added.{nothing_added};
 ghost use Rattle.osm_ways.specs.First.{first_pass};
 ghost use Rattle.osm_ways.specs.Phases.{KeptSets, start_ways, node_pass, nothing_found, relations_from, way_pass, relation_pass, member_pass, member_step, without_parents, is_chosen, is_taken};
-ghost use Rattle.osm_ways.specs.Sorted.{sorted_pass};
+ghost use Rattle.osm_ways.specs.Sorted.{is_sorted, sorted_pass};
 
 /// An extract of an extract is the extract, by each strategy.
 pub fn extract_twice_is_once<X>()
@@ -41,14 +41,18 @@ pub fn larger_look_is_needed()
 
 /// And the strategy has to be as wide: there is a list whose smart extract is more than that of its complete-ways extract.
 pub fn larger_strategy_is_needed()
-    ensures { ((look : Seen → Seen) (xs : List Seen)
-        → extract smart look (extract complete_ways look xs) ≡ extract smart look xs) → ⊥ }
+    ensures { ((whole : List TagSpec → Bool) (look : Seen → Seen) (xs : List Seen)
+        → extract (smart whole) look (extract complete_ways look xs)
+        ≡ extract (smart whole) look xs) → ⊥ }
 {}
 
-/// Each strategy keeps what those before it keep: so any extract can be cut out of a smart one.
+/// Each strategy keeps what those before it keep, and a smart one keeps more if it wants more relations whole: so any extract can be cut
+/// out of a smart one that wants no fewer.
 pub fn strategies_are_a_chain()
     ensures parents { IsWider complete_ways all_parents }
-    ensures smart { IsWider all_parents smart }
+    ensures smart { (whole : List TagSpec → Bool) → IsWider all_parents (smart whole) }
+    ensures types { (some more : List TagSpec → Bool) → WantsMore some more
+        → IsWider (smart some) (smart more) }
 {}
 
 /// A large look's extract of a small look's extract is all of it, if it is by a strategy that is as wide.
@@ -58,12 +62,15 @@ pub fn extract_is_kept_by_larger<X>()
         → extract wide large (extract narrow small xs) ≡ extract narrow small xs }
 {}
 
-/// If an area lies in a larger one, the look by it is within the look by the larger one, over stored entities and over decoded ones.
+/// If an area lies in a larger one, for which no fewer relations are wanted whole, the look by it is within the look by the larger one, over
+/// stored entities and over decoded ones.
 pub fn area_within_area()
-    ensures stored { (small large : AreaSpec) → IsAreaWithin small large
-        → IsWithin (seen_entity small) (seen_entity large) }
-    ensures meant { (small large : AreaSpec) → IsAreaWithin small large
-        → IsWithin (seen_decoded small) (seen_decoded large) }
+    ensures stored { (some more : List TagSpec → Bool) → WantsMore some more
+        → (small large : AreaSpec) → IsAreaWithin small large
+        → IsWithin (seen_entity some small) (seen_entity more large) }
+    ensures meant { (some more : List TagSpec → Bool) → WantsMore some more
+        → (small large : AreaSpec) → IsAreaWithin small large
+        → IsWithin (seen_decoded some small) (seen_decoded more large) }
 {}
 
 /// A box lies in a larger one if its corners do.
@@ -106,6 +113,8 @@ pub fn one_pass_is_three()
     ensures broken { (seen : List Seen) → (sorted_pass seen).first.in_order ≡ false
         → ((sorted_pass seen).first.ways ≡ start_ways (node_pass seen))
         × ((sorted_pass seen).found ≡ nothing_found) }
+    ensures sorted { (seen : List Seen)
+        → (sorted_pass seen).first.in_order ≡ is_sorted seen }
 {}
 
 /// Over a whole list the passes keep what the extract keeps: of two passes, of nodes and of ways, the extract; of a third one,
@@ -121,7 +130,7 @@ pub fn passes_are_extract()
         ≡ keeps all_parents seen }
     ensures members { (seen : List Seen) (ids : set.FinSet int_cmp)
         → IsLeast (set.contains (relation_pass seen).links) (relation_pass seen).start ids
-        → is_chosen (member_pass ids seen) ≡ keeps smart seen }
+        → (whole : List TagSpec → Bool) → is_chosen (member_pass ids seen) ≡ keeps (smart whole) seen }
     ensures spared { (sets : KeptSets) → sets.added.ways ≡ set.empty → (seen : List Seen)
         → fold member_step sets seen ≡ sets }
 {}
@@ -136,6 +145,6 @@ pub fn taken_are_chosen<X>()
 /// The extract of stored entities is that of decoded ones: the selection sees both alike.
 pub fn extract_is_decoded()
     ensures { (by : Strategy) (area : AreaSpec) (entities : List EntitySpec)
-        → map decoded (extract by (seen_entity area) entities)
-        ≡ extract by (seen_decoded area) (map decoded entities) }
+        → map decoded (extract by (seen_entity by.whole area) entities)
+        ≡ extract by (seen_decoded by.whole area) (map decoded entities) }
 {}

@@ -9,6 +9,7 @@ mod members;
 mod parents;
 mod phases;
 mod sorted;
+mod whole;
 
 pub use choosing::Chooser;
 pub use first::FirstPhase;
@@ -17,3 +18,4 @@ pub use members::MemberPhase;
 pub use parents::{ChosenParents, FoundRelations, RelationPhase};
 pub use phases::{Chosen, NodeIds, SeenWay, WayPhase};
 pub use sorted::SortedPhase;
+pub use whole::WholeTypes;

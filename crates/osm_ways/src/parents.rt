@@ -8,7 +8,7 @@ ghost use Rattle.osm_entity.specs.Sources.{members_left};
 ghost use Rattle.osm_entity.specs.Views.{relation_of};
 ghost use Rattle.osm_ways.specs.Added.{nothing_added};
 ghost use Rattle.osm_ways.specs.Seen.{seen_as, seen_member, seen_relation};
-ghost use Rattle.osm_ways.specs.Phases.{found_if, is_start, nothing_found, relation_step, relations_from, start_relations, with_link};
+ghost use Rattle.osm_ways.specs.Phases.{begun_members, found_if, is_start, nothing_found, relation_step, relations_from, start_relations, with_link};
 
 use crate::members::{AddedIds, MemberPhase};
 use crate::phases::{Chosen, WayPhase, sealed};
@@ -184,10 +184,9 @@ impl RelationPhase {
     ///
     /// If memory is refused, the phase is gone.
     pub fn begin_members(self) -> Result<MemberPhase, AllocError>
-        ensures ways { IfOk result (λ phase. phase.ways ≡ self.ways) }
+        ensures begun { IfOk result (λ phase. phase ≡ begun_members self phase.relation_ids) }
         ensures least { IfOk result
             (λ phase. IsLeast (set.contains self.links) self.start phase.relation_ids) }
-        ensures added { IfOk result (λ phase. phase.added ≡ self.added) }
     {
         let (chosen, added) = self.closed()?;
         let AddedIds { nodes, ways } = added;

@@ -5,13 +5,14 @@ use Rattle.std.specs.Prelude.{filter, is_none}
 use Rattle.std.specs.Iterator.{YieldsFirst}
 use Rattle.std.specs.List.{fold}
 use Rattle.std.proofs.lemmas.List.Sums.{fold-append}
-use Rattle.osm_entity.specs.Entity.{NodeSpec, EntitySpec, node}
+use Rattle.osm_entity.specs.Entity.{NodeSpec, EntitySpec, TagSpec, node}
 use Rattle.osm_area.specs.Area.{AreaSpec, box_area}
 use Rattle.osm_box.specs.declared.bounding_box.BoundingBox.{BoundingBox}
 use Rattle.osm_ways.specs.declared.in_area.InArea.{InArea}
 use Rattle.osm_ways.specs.InArea.{stepped}
 use Rattle.osm_ways.specs.Phases.{KeptSets, PassesOver, RelationSets, WaySets}
 use Rattle.osm_ways.specs.Selection.{Seen, a_node}
+use Rattle.osm_ways.specs.Whole.{is_wanted}
 use Rattle.pbf_dense.specs.declared.places.Place.{Place}
 use Rattle.pbf_dense.specs.declared.places.Places.{Places}
 use Rattle.pbf_dense.specs.Places.{node_place, places_left, id_of}
@@ -51,7 +52,7 @@ gathered_run gathered before now all run left rest is step so_far = grind (arith
 -- ---- nodes of a dense message
 
 -- beside the area the phase takes what it takes by itself
-pub beside : {A S : Type 0} (area : A → AreaSpec) (step : S → Seen → S) (of : InArea A S) (es : List EntitySpec) → record of { phase = fold (with_seen (area of.area) step) of.phase es } ≡ fold (with_seen_in area step) of es
+pub beside : {A S : Type 0} (area : A → AreaSpec) (step : S → Seen → S) (of : InArea A S) (es : List EntitySpec) → record of { phase = fold (with_seen (is_wanted of.types) (area of.area) step) of.phase es } ≡ fold (with_seen_in area step) of es
 beside area step of [] = refl
 beside area step of (e ∷ es) = beside area step (with_seen_in area step of e) es
 
@@ -70,9 +71,9 @@ none_within gathered it more None s (n ∷ ns) steps none are = absurd (nothing_
 none_within gathered it more (Some place) s ns steps none are = absurd (true≢false (sym none))
 
 -- by the ids of those in a box
-module _ {S : Type 0} (step : S → Seen → S) (alike : PassesOver step) (area : BoundingBox) where
+module _ {S : Type 0} (whole : List TagSpec → Bool) (step : S → Seen → S) (alike : PassesOver step) (area : BoundingBox) where
   abbrev with_box : S → EntitySpec → S
-  with_box = with_seen (box_area area) step
+  with_box = with_seen whole (box_area area) step
 
   -- a node outside changes nothing
   abbrev IsBegun : S → Type 0

@@ -71,7 +71,7 @@ module _ {F : Type 0} (f : feed.Ghosts F) (old new : F) (check : PassCheck) wher
     digest_is = refuses.digest_is;
   }
 
-  halts_also : (first then : List ℕ → Option Verdict) (h : Halt) → ((e : Fault) (b : List ℕ) → FaultOf (first b) e → FaultOf (then b) e) → Halts (RefusesFile f old new check first) h → Halts (RefusesFile f old new check then) h
+  pub halts_also : (first then : List ℕ → Option Verdict) (h : Halt) → ((e : Fault) (b : List ℕ) → FaultOf (first b) e → FaultOf (then b) e) → Halts (RefusesFile f old new check first) h → Halts (RefusesFile f old new check then) h
   halts_also first then h h3 h4 = grind (arith, refuses_also)
 
   -- a fault of the file is one of what can't be written

@@ -11,3 +11,4 @@ pub mod LimitLemmas
 pub mod HaltingLemmas
 pub mod HashLemmas
 pub mod EachLemmas
+pub mod SortedFileLemmas

@@ -7,6 +7,7 @@ pub mod Pass
 pub mod Each
 pub mod Unjudged
 pub mod HeaderLimit
+pub mod SortedFile
 pub mod Hashing
 pub mod Given
 pub mod Refused

@@ -2,13 +2,14 @@
 use Rattle.std.specs.Prelude.{◌≡◌, ◌≤◌, ℕ, ℤ, List, [], ◌∷◌, Bool, true, false, Option, Some, None, Result, Ok, Err}
 use Rattle.std.specs.List.{flat_map, fold, last_or}
 use Rattle.std.specs.Option.{option_map}
-use Rattle.osm_entity.specs.Entity.{EntitySpec, node, way, relation}
+use Rattle.osm_entity.specs.Entity.{EntitySpec, TagSpec, node, way, relation}
 use Rattle.osm_area.specs.Area.{AreaSpec, box_area}
 use Rattle.osm_box.specs.declared.bounding_box.BoundingBox.{BoundingBox}
 use Rattle.osm_ways.specs.declared.in_area.InArea.{InArea}
 use Rattle.osm_ways.specs.Selection.{Seen, a_node}
 use Rattle.osm_ways.specs.Phases.{Ids, WaySets, RelationSets, KeptSets, node_step, way_step, relation_step, member_step}
-use Rattle.osm_ways.specs.Seen.{seen_node, seen_way, seen_relation}
+use Rattle.osm_ways.specs.Seen.{seen_as, seen_node, seen_relation, seen_way}
+use Rattle.osm_ways.specs.Whole.{is_wanted}
 use Rattle.pbf_header.specs.Header.{HeaderSpec, header_of, header_in}
 use Rattle.pbf_block.specs.declared.counts.Counts.{Counts}
 use Rattle.pbf_frame.specs.declared.device.Feed as feed
@@ -78,15 +79,15 @@ TakesPayload p old new = TakesSome p (entities_in p) old new
 abbrev pub as_it_was : {S : Type 0} → S → EntitySpec → S
 as_it_was sets e = sets
 
--- what a phase takes of entities, by what is seen of them in an area
-abbrev pub with_seen : {S : Type 0} → AreaSpec → (S → Seen → S) → S → EntitySpec → S
-with_seen area step sets (node n) = step sets (seen_node area n)
-with_seen area step sets (way w) = step sets (seen_way w)
-with_seen area step sets (relation r) = step sets (seen_relation r)
+-- what a phase takes of entities, by what is seen of them in an area, and by which relations are wanted whole
+abbrev pub with_seen : {S : Type 0} → (List TagSpec → Bool) → AreaSpec → (S → Seen → S) → S → EntitySpec → S
+with_seen whole area step sets (node n) = step sets (seen_node area n)
+with_seen whole area step sets (way w) = step sets (seen_way w)
+with_seen whole area step sets (relation r) = step sets (seen_as (whole r.tags) r)
 
--- the same beside its area
+-- the same beside its area and its types
 abbrev pub with_seen_in : {A S : Type 0} → (A → AreaSpec) → (S → Seen → S) → InArea A S → EntitySpec → InArea A S
-with_seen_in area step of e = record of { phase = with_seen (area of.area) step of.phase e }
+with_seen_in area step of e = record of { phase = with_seen (is_wanted of.types) (area of.area) step of.phase e }
 
 -- only the id of a node that lies in it
 abbrev pub with_inside : {S : Type 0} → (S → Seen → S) → S → ℤ → S
@@ -105,6 +106,11 @@ with_way sets _ = sets
 abbrev pub with_relation : RelationSets → EntitySpec → RelationSets
 with_relation sets (relation r) = relation_step sets (seen_relation r)
 with_relation sets _ = sets
+
+-- the same, and the members of those that are wanted whole
+abbrev pub with_whole : (List TagSpec → Bool) → RelationSets → EntitySpec → RelationSets
+with_whole whole sets (relation r) = relation_step sets (seen_as (whole r.tags) r)
+with_whole whole sets _ = sets
 
 -- the refs of the ways that were added
 abbrev pub with_added_way : KeptSets → EntitySpec → KeptSets

@@ -6,6 +6,7 @@ ghost use Rattle.osm_entity.specs.Weight.{text_weight};
 ghost use Rattle.pbf_header.specs.Header.{header_of, text_of};
 ghost use Rattle.pbf_pass.specs.HeaderLimit.{HasShortTexts};
 ghost use Rattle.pbf_frame.specs.declared.stop.Stop.TheVariants.{Refused};
+ghost use Rattle.pbf_wire.specs.declared.fault.Reason.TheVariants.{Unsorted};
 ghost use Rattle.pbf_wire.specs.Faults.{fault};
 ghost use Rattle.pbf_pass.specs.HeaderLimit.{has_short_texts, held_header, header_limit};
 ghost use Rattle.pbf_pass.specs.Refused.{halted, IsLimitRefused};
@@ -36,6 +37,14 @@ pub fn writable_header(told: &Judged) -> Result<&Header, Halt>
 }
 
 impl Judged {
+    /// Refuses the file that was judged, since it isn't sorted by type: at the place of its header, after all of its bytes.
+    pub fn unsorted(&self) -> Halt
+        ensures { result
+            ≡ halted (Refused (fault self.now.pass.header_at Unsorted)) self.now.count self.now.digest }
+    {
+        self.refuse(self.pass.header_at, Reason::Unsorted)
+    }
+
     /// Refuses the file that was judged, after all of its bytes.
     fn refuse(&self, offset: u64, reason: Reason) -> Halt
         ensures { result ≡ halted (Refused (fault offset reason)) self.now.count self.now.digest }

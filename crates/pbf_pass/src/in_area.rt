@@ -1,9 +1,9 @@
 //! Gathers the nodes that lie in an area, and maybe the ways and the relations.
 
-ghost use Rattle.std.specs.Prelude.{◌≡◌, ⊤, MatchOption, OnOk, map};
+ghost use Rattle.std.specs.Prelude.{◌≡◌, ⊤, Bool, List, MatchOption, OnOk, map};
 ghost use Rattle.std.specs.List.{fold};
 ghost use Rattle.osm_area.specs.Area.{box_area};
-ghost use Rattle.osm_entity.specs.Entity.{node};
+ghost use Rattle.osm_entity.specs.Entity.{TagSpec, node};
 ghost use Rattle.pbf_dense.specs.Cursors.{dense_left};
 ghost use Rattle.pbf_dense.specs.Within.{ids_within, ids_within_left};
 ghost use Rattle.pbf_pass.specs.Pass.{with_inside, with_seen, with_seen_in};
@@ -31,7 +31,7 @@ impl<A: Area, P: NodeTaker> Gather for InArea<A, P> {
         match entity {
             EntityRef::Node(node) => self.take_node(node),
             EntityRef::Way(way) => self.phase.take_refs(SeenWay::of(way)),
-            EntityRef::Relation(relation) => self.phase.take_relation(relation, false),
+            EntityRef::Relation(relation) => self.take_relation(relation),
         }
     }
 
@@ -76,8 +76,8 @@ fn take_within<P: NodeTaker>(
     within: Within<'_>,
 ) -> Result<(), AllocError>
     requires { ids_within_left within.ids ≡ ids_within within.area (dense_left dense.now) }
-    ensures { OnOk result (phase.new
-        ≡ fold (with_seen (box_area within.entry.area) P.step) phase.old
+    ensures { (whole : List TagSpec → Bool) → OnOk result (phase.new
+        ≡ fold (with_seen whole (box_area within.entry.area) P.step) phase.old
         (map node (dense_left dense.now))) }
 {
     let first = dense.places().next();

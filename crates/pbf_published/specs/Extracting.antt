@@ -4,9 +4,9 @@ use Rattle.osm_area.specs.Area.{AreaSpec}
 use Rattle.osm_ways.specs.Selection.{Strategy}
 use Rattle.pbf_pass.specs.Hashing.{mark_by, raw_check}
 use Rattle.pbf_pass.specs.declared.hashing.PassCheck.{PassCheck}
-use Rattle.pbf_pass.specs.HeaderLimit.{judged_writable}
 use Rattle.pbfcut.specs.Calls.{DrainUse, FeedUse, IfSame, TookBy}
 use Rattle.pbfcut.specs.Kept.{IsWritable, extract_of}
+use Rattle.pbfcut.specs.Receipts.{judge_by}
 use Rattle.pbfcut.specs.Theorem.{IsExtraction}
 use Rattle.pbf_published.specs.declared.input.PublishedHalt.{PublishedHalt}
 use Rattle.pbf_published.specs.declared.input.PublishedInput.{PublishedInput}
@@ -20,6 +20,6 @@ pub record ExtractsPublished {D : Type 0} (by : Strategy) (area : AreaSpec) (fir
       × GaveEachOrNone spare (mark_by check receipt.input) (mark_by (raw_check check) receipt.raw) b (λ some. GavePublishedEach later (mark_by check receipt.input) (mark_by (raw_check check) receipt.raw) (λ files.
       TookBy out (λ written. IfSame b (some ++ files) (IsExtraction by area b receipt.counts written))))))
   -- each stop has its cause
-  pub stops : IfErr result (λ h. StopsPublished judged_writable first (spare ++ later) out h.stop)
+  pub stops : IfErr result (λ h. StopsPublished (judge_by by) first (spare ++ later) out h.stop)
   -- whatever stopped it, except `Changed`, if all feeds mean this raw file, a prefix of its extract went out
   pub beginning : IfErr result (λ h. FrontUnlessChanged (extract_of by area) (first ∷ spare ++ later) out h.stop)

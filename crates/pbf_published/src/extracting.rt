@@ -13,40 +13,34 @@ use osm_area::Area;
 use pbf_frame::{Drain, Feed};
 use pbf_pass::Passes;
 use pbf_unpack::Inflater;
+use pbfcut::{CompleteWays, Extraction};
 use std::alloc::Global;
 use std::hash::BuildHasher;
 
-/// Writes the complete-ways extract of the area out of the raw file that a published one means, as `extract_sorted_with_receipt` of
-/// pbfcut does out of a raw file.
+/// Writes the extract by any strategy out of the raw file that a published one means, as pbfcut does out of a raw file.
 ///
-/// All feeds that are read have to supply the same bytes; of the second nothing is read if no node of the file comes after a way.
+/// All feeds that are read have to supply the same bytes; of the second nothing is read if it isn't needed.
 /// `Changed` says that one did not; what was written before `Changed(3)` is unspecified. A refusal has the place of the fault in the
 /// published file, and nothing is written then.
 ///
 /// Space: that of `extract_sorted`, and for each feed one packed frame and a raw one.
-pub fn extract_sorted_with_receipt<
-    A: Area + Copy,
-    F: Feed,
-    G: Feed,
-    H: Feed,
-    D: Drain,
-    S: BuildHasher + Drop,
->(
+pub fn extract_by<E: Extraction + Drop, F: Feed, G: Feed, H: Feed, D: Drain, S: BuildHasher + Drop>(
     passes: Passes,
     first: &mut F,
     second: &mut G,
     third: &mut H,
-    area: A,
+    extraction: E,
     drain: &mut D,
     hasher: S,
 ) -> Result<PublishedInput, PublishedHalt>
     // Each feed gave packed bytes of the digest `input`, which mean a raw file, of the SHA-256 digest `raw` if that is the check, or
-    // nothing was read of the second. If the raw files are the same, the drain took exactly its complete-ways extract, in canonical form.
+    // nothing was read of the second. If the raw files are the same, the drain took exactly its extract, in canonical form.
     // What is refused is the raw file that the first feed's bytes mean, by its first fault, and then the drain took nothing. `Read` and
     // `Write` come only if a count of failures rose: of a feed, of the drain. `Changed` has the number of the pass whose feed has other
     // packed bytes than the first, as far as both report them. After any other stop a prefix of the extract went out, if all feeds mean one
     // raw file.
-    ensures { ExtractsPublished complete_ways (A.area area) (fed F.Feed first.old first.new)
+    ensures { ExtractsPublished (E.strategy extraction) (E.area extraction)
+        (fed F.Feed first.old first.new)
         (fed G.Feed second.old second.new ∷ []) (fed H.Feed third.old third.new ∷ [])
         (drained D.Drain drain.old drain.new) passes.check result }
 {
@@ -56,12 +50,11 @@ pub fn extract_sorted_with_receipt<
     let mut one = open(alloc, inflater, &mut *first, passes.check);
     let mut two = open(alloc, another, &mut *second, passes.check);
     let mut three = open(alloc, last, &mut *third, passes.check);
-    let outcome = pbfcut::extract_sorted_with_receipt(
+    let outcome = extraction.extract(
         passes.of_raw(),
         &mut one,
         &mut two,
         &mut three,
-        area,
         drain,
         hasher,
     );
@@ -80,4 +73,36 @@ pub fn extract_sorted_with_receipt<
         input,
         raw,
     })
+}
+
+/// Writes the complete-ways extract of the area: see [`extract_by`].
+pub fn extract_sorted_with_receipt<
+    A: Area + Copy,
+    F: Feed,
+    G: Feed,
+    H: Feed,
+    D: Drain,
+    S: BuildHasher + Drop,
+>(
+    passes: Passes,
+    first: &mut F,
+    second: &mut G,
+    third: &mut H,
+    area: A,
+    drain: &mut D,
+    hasher: S,
+) -> Result<PublishedInput, PublishedHalt>
+    ensures { ExtractsPublished complete_ways (A.area area) (fed F.Feed first.old first.new)
+        (fed G.Feed second.old second.new ∷ []) (fed H.Feed third.old third.new ∷ [])
+        (drained D.Drain drain.old drain.new) passes.check result }
+{
+    extract_by(
+        passes,
+        first,
+        second,
+        third,
+        CompleteWays { area },
+        drain,
+        hasher,
+    )
 }

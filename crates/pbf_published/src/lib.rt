@@ -14,7 +14,7 @@ mod traced;
 pub use checking::check_with_receipt;
 pub use converting::convert_with_receipt;
 pub use copying::copy_with_receipt;
-pub use extracting::extract_sorted_with_receipt;
+pub use extracting::{extract_by, extract_sorted_with_receipt};
 pub use input::{
     PublishedFeed, PublishedHalt, PublishedInput, close, compare, compare_unless_spared,
     first_digest, lacks_memory, open, published_outcome, stopped,

@@ -1,7 +1,7 @@
 -- The reasons of refusals: their numbers and names.
 use Rattle.std.specs.Prelude.{ℕ, List, codes}
 use Rattle.pbf_wire.specs.declared.fault.Reason.{Reason}
-use Rattle.pbf_wire.specs.declared.fault.Reason.TheVariants.{VarintCut, VarintLong, NumberZero, TagLarge, Group, WireType, LengthPast, FixedCut, WrongType, PrefixCut, HeaderLong, HeaderCut, BlobCut, DataSize, NoRaw, RawLong, Zlib, Lzma, Bzip2, Lz4, Zstd, NoHeader, SecondHeader, DataFirst, Missing, FileLong, TooManyStrings, StringIndex, ColumnLengths, KeysVals, OutOfRange, EntityLarge, TwiceMessage, MixedGroup, Changesets, Granularity, DateGranularity, Feature, TagColumns, MemberColumns, MemberKind, LocationColumns}
+use Rattle.pbf_wire.specs.declared.fault.Reason.TheVariants.{VarintCut, VarintLong, NumberZero, TagLarge, Group, WireType, LengthPast, FixedCut, WrongType, PrefixCut, HeaderLong, HeaderCut, BlobCut, DataSize, NoRaw, RawLong, Zlib, Lzma, Bzip2, Lz4, Zstd, NoHeader, SecondHeader, DataFirst, Missing, FileLong, TooManyStrings, StringIndex, ColumnLengths, KeysVals, OutOfRange, EntityLarge, TwiceMessage, MixedGroup, Changesets, Granularity, DateGranularity, Feature, TagColumns, MemberColumns, MemberKind, LocationColumns, Unsorted}
 
 -- the number of a reason, and its name
 abbrev pub number_and_name : Reason → ℕ × List ℕ
@@ -47,6 +47,7 @@ number_and_name TagColumns = (57, codes "TagColumns")
 number_and_name MemberColumns = (58, codes "MemberColumns")
 number_and_name MemberKind = (59, codes "MemberKind")
 number_and_name LocationColumns = (60, codes "LocationColumns")
+number_and_name Unsorted = (61, codes "Unsorted")
 
 abbrev pub reason_number : Reason → ℕ
 reason_number r = (number_and_name r).0

@@ -96,6 +96,8 @@ pub enum Reason {
     MemberKind,
     /// 60: the locations of a way are neither none nor one for each ref.
     LocationColumns,
+    /// 61: the entities are not sorted by type, as a smart extract needs them.
+    Unsorted,
 }
 
 impl Reason {
@@ -147,6 +149,7 @@ impl Reason {
             Reason::MemberColumns => (58, "MemberColumns"),
             Reason::MemberKind => (59, "MemberKind"),
             Reason::LocationColumns => (60, "LocationColumns"),
+            Reason::Unsorted => (61, "Unsorted"),
         }
     }
 

@@ -201,10 +201,10 @@ record IsSelection (by : Strategy) (area : AreaSpec) : Type 0 where
   pub fit : (es : List EntitySpec) → AllByRecursion EntityFits es → AllByRecursion EntityFits (kept_entities by area es)
   pub typed : (es : List EntitySpec) → AllByRecursion EntityTyped es → AllByRecursion EntityTyped (kept_entities by area es)
   pub twice : (es : List EntitySpec) → kept_entities by area (kept_entities by area es) ≡ kept_entities by area es
-  pub meaning : (es : List EntitySpec) → map entity.decoded (kept_entities by area es) ≡ extract by (seen_decoded area) (map entity.decoded es)
+  pub meaning : (es : List EntitySpec) → map entity.decoded (kept_entities by area es) ≡ extract by (seen_decoded by.whole area) (map entity.decoded es)
 
 is_selection : (by : Strategy) (area : AreaSpec) → IsSelection by area
-is_selection by area = grind (arith, all_filter EntityFits, all_filter EntityTyped, extract_twice by (seen_entity area), extract_viewed by entity.decoded (seen_entity area) (seen_decoded area) (seen_alike area), seen_alike area)
+is_selection by area = grind (arith, all_filter EntityFits, all_filter EntityTyped, extract_twice by (seen_entity by.whole area), extract_viewed by entity.decoded (seen_entity by.whole area) (seen_decoded by.whole area) (seen_alike by.whole area), seen_alike by.whole area)
 
 module _ (by : Strategy) (area : AreaSpec) (edges : EdgesTyped (edges_of area.bounds)) where
   selection : IsSelection by area
@@ -260,7 +260,7 @@ module _ (by : Strategy) (area : AreaSpec) (edges : EdgesTyped (edges_of area.bo
 
 -- an extract by a strategy that is no wider, and by a smaller area
 pub smaller_extract : (narrow wide : Strategy) → IsWider narrow wide → (area small : AreaSpec) → IsAreaWithin small area → (es : List EntitySpec) → kept_entities narrow small (kept_entities wide area es) ≡ kept_entities narrow small es
-smaller_extract narrow wide wider area small h es = extract_of_larger narrow wide wider (seen_entity small) (seen_entity area) (seen_entity-within small area h) es
+smaller_extract narrow wide wider area small h es = extract_of_larger narrow wide wider (seen_entity narrow.whole small) (seen_entity wide.whole area) (seen_entity-within narrow.whole wide.whole wider.whole small area h) es
 
 pub runs_compose : (narrow wide : Strategy) → IsWider narrow wide → (area small : AreaSpec) → EdgesTyped (edges_of area.bounds) → IsAreaWithin small area → (file part cut : List ℕ) (counts fewer : Counts) → length part ≤ FILE_LIMIT
     → IsExtraction wide area file counts part → IsExtraction narrow small part fewer cut → cut ≡ extract_of narrow small file

@@ -9,7 +9,7 @@ use Rattle.pbf_frame.specs.declared.stop.Stop.{Stop}
 use Rattle.pbf_frame.specs.Frames.{FrameSpec}
 use Rattle.pbf_frame.specs.Keeps.{KeepsDrain}
 use Rattle.pbf_frame.specs.Refusals.{Refuses}
-use Rattle.pbf_frame.specs.Verdict.{Says}
+use Rattle.pbf_frame.specs.Verdict.{Says, Verdict}
 use Rattle.pbf_frame.proofs.Passed.{added_none}
 use Rattle.pbf_frame.proofs.Refusing.{refused_told}
 use Rattle.pbf_wire.specs.declared.fault.Fault.{Fault}
@@ -17,7 +17,6 @@ use Rattle.pbf_pass.specs.declared.receipt.Halt.{Halt}
 use Rattle.pbf_pass.specs.declared.receipt.InputReceipt.{InputReceipt}
 use Rattle.pbf_pass.specs.declared.receipt.Refusal.{Refusal}
 use Rattle.pbf_pass.specs.Hashing.{IsDigestOf, Mark}
-use Rattle.pbf_pass.specs.HeaderLimit.{judged_writable}
 use Rattle.pbf_pass.specs.Judged.{judged_file}
 use Rattle.pbf_pass.specs.Refused.{Halts, stop_of}
 use Rattle.pbf_pass.specs.Stops.{Caused, FaultOf}
@@ -69,20 +68,20 @@ module _ (changed : ℕ → FeedUse → ℕ → Type 0) (nothing : Type 0) (last
 pub stops_earlier : (refused also : Fault → Type 0) (read more wrote : Type 0) (changed too : ℕ → Type 0) (s : Stop) → ((e : Fault) → refused e → also e) → (read → more) → ((pass : ℕ) → changed pass → too pass) → Caused refused read ⊥ changed s → Caused also more wrote too s
 stops_earlier refused also read more wrote changed too s h8 h9 h10 h11 = grind arith
 
-module _ (first : FeedUse) (later : List FeedUse) (last : FeedUse) (check : PassCheck) (h : Halt) (stops : StopsChoosing first later check h) where
+module _ (judge : Option (List ℕ) → Option Verdict) (first : FeedUse) (later : List FeedUse) (last : FeedUse) (check : PassCheck) (h : Halt) (stops : StopsChoosing judge first later check h) where
   -- if this one chooses too
-  pub choosing_more : StopsChoosing first (later ++ last ∷ []) check h
+  pub choosing_more : StopsChoosing judge first (later ++ last ∷ []) check h
   choosing_more = record {
     refused = stops.refused;
-    stops = stops_earlier (FaultOf (judged_writable (supply_of first))) (FaultOf (judged_writable (supply_of first))) (AnyFailed (first ∷ later)) (AnyFailed (first ∷ later ++ last ∷ [])) ⊥ (ChangedAmong (Unit {0}) first later) (ChangedAmong (Unit {0}) first (later ++ last ∷ [])) (stop_of h) (λ e is. is) (failed_more (first ∷ later) last) (λ pass. changed_more _ _ last pass later 2 tt) stops.stops;
+    stops = stops_earlier (FaultOf (judge (supply_of first))) (FaultOf (judge (supply_of first))) (AnyFailed (first ∷ later)) (AnyFailed (first ∷ later ++ last ∷ [])) ⊥ (ChangedAmong (Unit {0}) first later) (ChangedAmong (Unit {0}) first (later ++ last ∷ [])) (stop_of h) (λ e is. is) (failed_more (first ∷ later) last) (λ pass. changed_more _ _ last pass later 2 tt) stops.stops;
     changed = changed_before _ _ (stop_of h) (λ pass. changed_more _ _ last pass later 2 tt) stops.changed;
   }
 
   -- if it writes, and nothing was written
-  pub choosing_ends : {D X : Type 0} (d : drain.Ghosts D) (out : D) (result : Result X Halt) → result ≡ Err h → KeepsAll (first ∷ later ++ last ∷ []) → KeepsDrain d out out → EndsPasses judged_writable first (later ++ last ∷ []) (drained d out out) check result
+  pub choosing_ends : {D X : Type 0} (d : drain.Ghosts D) (out : D) (result : Result X Halt) → result ≡ Err h → KeepsAll (first ∷ later ++ last ∷ []) → KeepsDrain d out out → EndsPasses judge first (later ++ last ∷ []) (drained d out out) check result
   choosing_ends d out result is keeps drain_keeps = rw is (record {
-    refused = halts_first first.ghosts first.old first.new check d (λ b. judged_writable (Some b)) out h stops.refused;
-    stops = stops_earlier (FaultOf (judged_writable (supply_of first))) (RefusedFirst (judged_writable (supply_of first)) (d.taken out) (d.taken out)) (AnyFailed (first ∷ later)) (AnyFailed (first ∷ later ++ last ∷ [])) _ (ChangedAmong (Unit {0}) first later) (ChangedAmong (d.taken out ≡ d.taken out) first (later ++ last ∷ [])) (stop_of h) (λ e fault. (fault, refl)) (failed_more (first ∷ later) last) (λ pass. changed_more _ _ last pass later 2 refl) stops.stops;
+    refused = halts_first first.ghosts first.old first.new check d (λ b. judge (Some b)) out h stops.refused;
+    stops = stops_earlier (FaultOf (judge (supply_of first))) (RefusedFirst (judge (supply_of first)) (d.taken out) (d.taken out)) (AnyFailed (first ∷ later)) (AnyFailed (first ∷ later ++ last ∷ [])) _ (ChangedAmong (Unit {0}) first later) (ChangedAmong (d.taken out ≡ d.taken out) first (later ++ last ∷ [])) (stop_of h) (λ e fault. (fault, refl)) (failed_more (first ∷ later) last) (λ pass. changed_more _ _ last pass later 2 refl) stops.stops;
     changed = changed_before _ _ (stop_of h) (λ pass. changed_more _ _ last pass later 2 (added_none d out)) stops.changed;
     feeds = keeps;
     out = drain_keeps;
@@ -115,8 +114,8 @@ later_halts f again old new wrote refused h h7 = grind (arith, no_refusal)
 
 module _ {D : Type 0} (first : FeedUse) (digest : Mark) (holds : List ℕ → Type 0) (given : GaveBy first digest holds) (frames : List FrameSpec) (says : Says (judged_file (Some given.file)) (frames, None)) (later : List FeedUse) (last : FeedUse) (again : LaterPass) (number : again.number ≡ length later + 2) (is : digest_of again ≡ digest)
     (out : DrainUse D) (sets : KeptSets) (h : HeaderSpec) (spared : Bool) (r : Result InputReceipt Halt) (wrote : WritesChoice last out again sets h spared r) where
-  pub writing_ends : (check : PassCheck) → KeepsAll (first ∷ later) → EndsPasses judged_writable first (later ++ last ∷ []) out check r
-  writing_ends check keeps = record {
+  pub writing_ends : (judge : Option (List ℕ) → Option Verdict) (check : PassCheck) → KeepsAll (first ∷ later) → EndsPasses judge first (later ++ last ∷ []) out check r
+  writing_ends judge check keeps = record {
     refused = IfErr-weaker r _ _ (λ h stops. later_halts last.ghosts again _ _ _ _ h stops) wrote.stops;
     stops = IfErr-weaker r _ _ (λ h stops. last_stops first digest holds given frames says later last again number is (taken_after out ≡ taken_before out) _ (FailedDrain out) (stop_of h) stops) wrote.stops;
     changed = IfErr-weaker r _ _ (λ h stops. last_changed first digest holds given frames says later last again number is (TookNothing out) (FailedDrain out) (stop_of h) stops) wrote.stops;

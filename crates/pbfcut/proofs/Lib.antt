@@ -17,3 +17,4 @@ pub mod KeptLaw
 pub mod NodeLemmas
 pub mod ManyLemmas
 pub mod CopyingLemmas
+pub mod SmartLemmas

@@ -41,7 +41,7 @@ pub record IsExtract (by : Strategy) (area : AreaSpec) (file written : Verdict) 
   -- their header is the file's in written form, with the box
   pub header : header_read written ≡ option_map (header_out_for_box area.bounds) (header_read file)
   -- they mean the extract of what the file means
-  pub meaning : meaning_read written ≡ extract by (seen_decoded area) (meaning_read file)
+  pub meaning : meaning_read written ≡ extract by (seen_decoded by.whole area) (meaning_read file)
   -- they have the entities of the file that it keeps, in input order, with all that is stored of them
   pub entities : stored_entities written.0 ≡ kept_entities by area (stored_entities file.0)
 

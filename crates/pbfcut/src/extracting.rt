@@ -3,9 +3,10 @@
 ghost use Rattle.std.specs.Prelude.{◌≡◌, ℕ, List, [], ◌∷◌, true, false, Some, IfOk, IfErr, OnOk};
 ghost use Rattle.osm_area.specs.Area.{box_area};
 ghost use Rattle.osm_ways.specs.Selection.{all_parents, complete_ways};
+ghost use Rattle.osm_ways.specs.Whole.{is_wanted};
 ghost use Rattle.pbf_header.specs.Header.{header_of};
 ghost use Rattle.pbfcut.specs.Calls.{AllSupply, drained, fed, GaveBy, GaveOrNot, StopsPasses};
-ghost use Rattle.pbfcut.specs.Choosing.{EndsChoosing, IsNever, StopsChoosing};
+ghost use Rattle.pbfcut.specs.Choosing.{EndsChoosing, IsNever, RefusesOrder, StopsChoosing};
 ghost use Rattle.pbfcut.specs.Theorem.{Extracted, Promised, Canonical};
 ghost use Rattle.pbfcut.specs.Converting.{CanBeWritten};
 ghost use Rattle.pbf_pass.specs.HeaderLimit.{HasShortTexts, judged_writable};
@@ -37,6 +38,8 @@ pub(crate) struct Begun {
     pub(crate) header: Header,
     /// The digest of the bytes.
     pub(crate) digest: [u8; 32],
+    /// What refuses the file if it has to be sorted by type, and isn't.
+    pub(crate) unsorted: Halt,
 }
 
 /// What the passes before the one that writes report.
@@ -59,9 +62,10 @@ pub(crate) fn begin<A: Area, P: NodeTaker, F: Feed>(
     taking: &mut InArea<A, P>,
 ) -> Result<Begun, Halt>
     ensures begun { IfOk result (λ begun. GaveFile F.Feed feed.old feed.new
-        (mark_by passes.check begun.digest) (λ b. Begins (A.area taking.old.area) P.step b
-        taking.old.phase taking.new.phase (header_of begun.header))) }
-    ensures halts { IfErr result (StopsChoosing (fed F.Feed feed.old feed.new) [] passes.check) }
+        (mark_by passes.check begun.digest) (λ b. Begins (is_wanted taking.old.types) (A.area taking.old.area) P.step b
+        taking.old.phase taking.new.phase (header_of begun.header)
+        × RefusesOrder begun.digest begun.unsorted b)) }
+    ensures halts { IfErr result (StopsChoosing judged_writable (fed F.Feed feed.old feed.new) [] passes.check) }
     ensures keeps { KeepsFeed F.Feed feed.old feed.new }
 {
     let bounds = taking.area.bounds();
@@ -70,6 +74,7 @@ pub(crate) fn begin<A: Area, P: NodeTaker, F: Feed>(
     Ok(Begun {
         header,
         digest: judged.digest,
+        unsorted: judged.unsorted(),
     })
 }
 
@@ -113,7 +118,7 @@ fn choose<A: Area + Copy, P: NodeTaker + Drop, F: Feed, G: Feed>(
         (mark_by passes.check choice.next.digest) b
         (λ c. IsChoice (A.area area) b c choice.chosen (header_of choice.header)))) }
     ensures spared { IfOk result (λ choice. IsNever P.has_ways → choice.spared ≡ false) }
-    ensures ends { EndsChoosing (fed F.Feed first.old first.new)
+    ensures ends { EndsChoosing judged_writable (fed F.Feed first.old first.new)
         (fed G.Feed second.old second.new ∷ []) passes result }
 {
     let mut taking = InArea::<A, P>::new(passes.alloc, area);
@@ -152,7 +157,7 @@ fn choose_parents<A: Area + Copy, P: RelationTaker + Drop, F: Feed, G: Feed, H: 
         (mark_by passes.check choice.next.digest) b
         (λ d. IsChoiceWithParents (A.area area) b c d choice.chosen (header_of choice.header))))) }
     ensures spared { IfOk result (λ choice. IsNever P.has_ways → choice.spared ≡ false) }
-    ensures ends { EndsChoosing (fed F.Feed first.old first.new)
+    ensures ends { EndsChoosing judged_writable (fed F.Feed first.old first.new)
         (fed G.Feed second.old second.new ∷ fed H.Feed third.old third.new ∷ []) passes result }
 {
     let mut taking = InArea::<A, P>::new(passes.alloc, area);

@@ -5,10 +5,12 @@ mod blobs;
 mod converting;
 mod copying;
 mod extracting;
+mod extraction;
 pub mod laws;
 mod pick;
 mod repeat;
 mod showing;
+mod smart;
 mod sorted;
 mod summary;
 mod write;
@@ -19,12 +21,14 @@ pub use copying::copy_with_receipt;
 pub use extracting::{
     extract, extract_parents, extract_parents_with_receipt, extract_with_receipt,
 };
+pub use extraction::{CompleteWays, Extraction, Smart};
 pub use pbf_pass::{
     Counts, Gather, Halt, InputReceipt, Nothing, Pass, Refusal, check, check_with_receipt,
     gather_unjudged, step_count, step_gather, step_nodes, step_relations, step_unjudged, step_ways,
 };
 pub use pick::{step_pack, step_write, step_write_parents};
 pub use showing::{show, show_with_receipt};
+pub use smart::extract_smart_with_receipt;
 pub use sorted::{
     extract_parents_sorted_with_receipt, extract_sorted, extract_sorted_with_receipt,
 };

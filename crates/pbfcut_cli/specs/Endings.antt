@@ -22,7 +22,7 @@ use Rattle.osm_polygon.specs.declared.fault.PolyPlace.TheVariants.{Line, Ring, T
 use Rattle.osm_polygon.specs.declared.fault.PolyReason.{PolyReason}
 use Rattle.osm_polygon.specs.declared.fault.PolyReason.TheVariants as poly
 use Rattle.pbfcut_cli.specs.declared.words.ChoiceFault.{ChoiceFault}
-use Rattle.pbfcut_cli.specs.declared.words.ChoiceFault.TheVariants.{NoRegion, TwoRegions, NoOutput, TwoOutputs, OtherFormat, OtherStrategy}
+use Rattle.pbfcut_cli.specs.declared.words.ChoiceFault.TheVariants.{NoRegion, TwoRegions, NoOutput, TwoOutputs, OtherFormat, OtherStrategy, TypesAlone}
 use Rattle.pbfcut_cli.specs.declared.words.CliFault.{CliFault}
 use Rattle.pbfcut_cli.specs.declared.words.CliFault.TheVariants as fault
 use Rattle.pbfcut_cli.specs.declared.endings.Ending.{Ending}
@@ -115,7 +115,8 @@ choice_error TwoRegions = codes "the argument '--box <WEST,SOUTH,EAST,NORTH>' ca
 choice_error NoOutput = codes "the following required arguments were not provided:\n  <OUT>"
 choice_error TwoOutputs = codes "the argument '--output <OUT>' cannot be used with '[OUT]'"
 choice_error OtherFormat = codes "the only format of IN and OUT is 'pbf'\n\n  tip: leave it out: IN and OUT are PBF files, whatever their names are"
-choice_error OtherStrategy = codes "the only strategy is 'complete_ways'\n\n  tip: leave it out: ways are always complete; 'osmium extract -s smart' has the other strategy"
+choice_error OtherStrategy = codes "the strategies are 'complete_ways' and 'smart'\n\n  tip: leave it out: ways are always complete"
+choice_error TypesAlone = codes "the argument '--types <LIST>' cannot be used without '--strategy smart'"
 
 abbrev pub choice_usage : ChoiceFault → List ℕ
 choice_usage NoRegion = codes "extract [OPTIONS] <--box=W,S,E,N|--polygon=FILE> <IN> <OUT>"
@@ -124,6 +125,7 @@ choice_usage NoOutput = codes "<COMMAND> [OPTIONS] <IN> <OUT>"
 choice_usage TwoOutputs = codes "<COMMAND> [OPTIONS] <IN> <OUT>"
 choice_usage OtherFormat = codes "<COMMAND> [OPTIONS] <IN> <OUT>"
 choice_usage OtherStrategy = codes "extract [OPTIONS] <--box=W,S,E,N|--polygon=FILE> <IN> <OUT>"
+choice_usage TypesAlone = codes "extract [OPTIONS] <--box=W,S,E,N|--polygon=FILE> <IN> <OUT>"
 
 abbrev pub choice_text : (program : List ℕ) → ChoiceFault → List ℕ
 choice_text program f = codes "error: " ++ choice_error f ++ codes "\n\nUsage: " ++ program ++ codes " " ++ choice_usage f ++ codes "\n\nFor more information, try '--help'.\n"

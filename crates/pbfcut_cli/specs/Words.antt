@@ -10,10 +10,12 @@ use Rattle.osm_box.specs.Degrees.{box_of_text}
 use Rattle.pbfcut_cli.specs.declared.words.Files.{Files}
 use Rattle.pbfcut_cli.specs.declared.words.Region.{Region}
 use Rattle.pbfcut_cli.specs.declared.words.Region.TheVariants as region
+use Rattle.pbfcut_cli.specs.declared.words.Strategy.{Strategy}
+use Rattle.pbfcut_cli.specs.declared.words.Strategy.TheVariants as strategy
 use Rattle.pbfcut_cli.specs.declared.words.Command.{Command}
 use Rattle.pbfcut_cli.specs.declared.words.Command.TheVariants.{Blobs, Info, Show, Check, Convert, Pack, Unpack, Extract, Help}
 use Rattle.pbfcut_cli.specs.declared.words.ChoiceFault.{ChoiceFault}
-use Rattle.pbfcut_cli.specs.declared.words.ChoiceFault.TheVariants.{NoRegion, TwoRegions, NoOutput, TwoOutputs, OtherFormat, OtherStrategy}
+use Rattle.pbfcut_cli.specs.declared.words.ChoiceFault.TheVariants.{NoRegion, TwoRegions, NoOutput, TwoOutputs, OtherFormat, OtherStrategy, TypesAlone}
 use Rattle.pbfcut_cli.specs.declared.programs.Program.{Program}
 use Rattle.pbfcut_cli.specs.declared.programs.Program.TheVariants.{Pbfcut, Pbfcutz}
 use Rattle.pbfcut_cli.specs.declared.words.CliFault.{CliFault}
@@ -59,6 +61,10 @@ box_rule = record lone_box_rule { aliases = codes "bbox" ∷ [] }
 -- `--polygon`, or `-p`
 abbrev pub polygon_rule : Rule
 polygon_rule = record (new_rule (codes "polygon")) { long = Some (codes "polygon"); short = Some 112; value_names = 1 }
+
+-- `--types`
+abbrev pub types_rule : Rule
+types_rule = record (new_rule (codes "types")) { long = Some (codes "types"); value_names = 1 }
 
 -- OUT as the last argument, which there may be
 abbrev pub last_rule : Rule
@@ -145,9 +151,9 @@ options_app = with_rule (with_told (new_app (codes "extract"))) parents_rule
 abbrev pub with_region : App → App
 with_region app = with_rule (with_rule app box_rule) polygon_rule
 
--- `--set-bounds`, and `--strategy` or `-s`
+-- `--set-bounds`, `--strategy` or `-s`, and `--types`
 abbrev pub with_strategy : App → App
-with_strategy app = with_rule (with_rule app (flag_rule (codes "set-bounds"))) (named_rule (codes "strategy") 115)
+with_strategy app = with_rule (with_rule (with_rule app (flag_rule (codes "set-bounds"))) (named_rule (codes "strategy") 115)) types_rule
 
 abbrev pub extract_app : Program → App
 extract_app program = with_files program (with_strategy (with_region (with_raw program options_app)))
@@ -203,9 +209,13 @@ abbrev pub names_pbf : List Row → Bool
 names_pbf rows = is_or_absent (codes "pbf") (first_of (codes "output-format") rows)
     && is_or_absent (codes "pbf") (first_of (codes "input-format") rows)
 
--- the strategy, if one is named, is the one there is
+-- the strategy isn't named, or is `complete_ways`
 abbrev pub names_complete_ways : List Row → Bool
 names_complete_ways rows = is_or_absent (codes "complete_ways") (first_of (codes "strategy") rows)
+
+-- the strategy is `smart`
+abbrev pub names_smart : List Row → Bool
+names_smart rows = option_map_or (λ text. bytes_eq text (codes "smart")) (first_of (codes "strategy") rows) false
 
 -- the path of OUT: one of the two arguments that may have it
 abbrev pub ReadsOutput : List Row → Bor Text → Type 0
@@ -218,6 +228,15 @@ ReadsRegion rows (region.Box area) = (first_of (codes "polygon") rows ≡ None)
     × IsSomeAnd (first_of (codes "box") rows) (λ text. box_of_text text ≡ Ok area)
 ReadsRegion rows (region.Polygon path) = (first_of (codes "box") rows ≡ None)
     × (first_of (codes "polygon") rows ≡ Some path.now)
+
+-- which strategy the rows name; the types of `smart` are `multipolygon` if none are given
+abbrev pub ReadsStrategy : List Row → Strategy → Type 0
+ReadsStrategy rows strategy.CompleteWays = (names_complete_ways rows ≡ true)
+    × (first_of (codes "types") rows ≡ None) × ReadsFlag false (codes "parents") rows
+ReadsStrategy rows strategy.AllParents = (names_complete_ways rows ≡ true)
+    × (first_of (codes "types") rows ≡ None) × ReadsFlag true (codes "parents") rows
+ReadsStrategy rows (strategy.Smart types) = (names_smart rows ≡ true)
+    × (types.now ≡ unwrap_or (first_of (codes "types") rows) (codes "multipolygon"))
 
 -- the files and flags of a command that writes a file; nothing is read of `--fsync`, and the formats have one value
 pub record ReadsFiles (rows : List Row) (files : Files) : Type 0 where
@@ -244,9 +263,8 @@ ReadsAs name rows (Check input progress digests) = (name ≡ codes "check")
 ReadsAs name rows (Convert files) = (name ≡ codes "convert") × ReadsFiles rows files
 ReadsAs name rows (Pack files) = (name ≡ codes "pack") × ReadsFiles rows files
 ReadsAs name rows (Unpack files) = (name ≡ codes "unpack") × ReadsFiles rows files
-ReadsAs name rows (Extract region parents files) = (name ≡ codes "extract")
-    × (names_complete_ways rows ≡ true) × ReadsRegion rows region
-    × ReadsFlag parents (codes "parents") rows × ReadsFiles rows files
+ReadsAs name rows (Extract region by files) = (name ≡ codes "extract")
+    × ReadsStrategy rows by × ReadsRegion rows region × ReadsFiles rows files
 ReadsAs name rows (Help text) = ⊥
 
 abbrev pub IsRead : Option (Text × List Row) → Command → Type 0
@@ -260,12 +278,14 @@ HasOutputFault rows TwoOutputs = IsSome (first_of (codes "OUT") rows) × IsSome 
 HasOutputFault rows OtherFormat = names_pbf rows ≡ false
 HasOutputFault rows _ = ⊥
 
--- there is neither a box nor a polygon, or both, or the box has this fault, or the strategy is another one
+-- there is neither a box nor a polygon, or both, or the box has this fault, or the strategy is another one, or there are types for one that
+-- takes none
 abbrev pub HasRegionFault : List Row → CliFault → Type 0
 HasRegionFault rows (fault.Box f) = IsSomeAnd (first_of (codes "box") rows) (λ text. box_of_text text ≡ Err f)
 HasRegionFault rows (fault.Choice NoRegion) = (first_of (codes "box") rows ≡ None) × (first_of (codes "polygon") rows ≡ None)
 HasRegionFault rows (fault.Choice TwoRegions) = IsSome (first_of (codes "box") rows) × IsSome (first_of (codes "polygon") rows)
-HasRegionFault rows (fault.Choice OtherStrategy) = names_complete_ways rows ≡ false
+HasRegionFault rows (fault.Choice OtherStrategy) = (names_complete_ways rows ≡ false) × (names_smart rows ≡ false)
+HasRegionFault rows (fault.Choice TypesAlone) = IsSome (first_of (codes "types") rows) × (names_smart rows ≡ false)
 HasRegionFault rows _ = ⊥
 
 -- `clap` takes the words, but they have this fault: one of what `extract` cuts out, or of a file that is written

@@ -31,6 +31,7 @@ ghost use Rattle.pbfcut_cli.specs.Words.{
   progress_rule,
   raw_rule,
   show_app,
+  types_rule,
   unpack_app,
   versioned,
   with_accepted,
@@ -176,6 +177,27 @@ fn polygon<'a>(alloc: Global) -> Arg<'a>
         .short('p')
         .value_name("FILE")
         .help(help::POLYGON)
+}
+
+/// What is kept besides what lies inside.
+fn strategy<'a>(alloc: Global) -> Arg<'a>
+    ensures { IsArgument (named_rule (codes "strategy") 115) result }
+{
+    Arg::new(alloc, "strategy")
+        .long("strategy")
+        .short('s')
+        .value_name("NAME")
+        .help(help::STRATEGY)
+}
+
+/// The types of relations that are wanted whole.
+fn types<'a>(alloc: Global) -> Arg<'a>
+    ensures { IsArgument types_rule result }
+{
+    Arg::new(alloc, "types")
+        .long("types")
+        .value_name("LIST")
+        .help(help::TYPES)
 }
 
 /// A flag of Osmium's, which help leaves out.
@@ -388,13 +410,14 @@ fn with_region<'a>(command: Made<'a>, alloc: Global) -> Made<'a>
     with_arg(command, polygon(alloc))
 }
 
-/// The command with the words of Osmium's that say how it cuts.
+/// The command with what is kept besides what lies inside; `--set-bounds` is done anyway.
 fn with_strategy<'a>(command: Made<'a>, alloc: Global) -> Made<'a>
     requires local { IfOk command HasNoGlobals }
     ensures { IfOk result (IsWith with_strategy command.entry) }
 {
     let command = with_arg(command, osmium_flag(alloc, "set-bounds"));
-    with_arg(command, osmium_option(alloc, "strategy", 's'))
+    let command = with_arg(command, strategy(alloc));
+    with_arg(command, types(alloc))
 }
 
 fn extract<'a>(alloc: Global, program: Program, help: &'a Help) -> Made<'a>

@@ -24,7 +24,10 @@ fn choice_error(fault: ChoiceFault) -> &'static str
             "the only format of IN and OUT is 'pbf'\n\n  tip: leave it out: IN and OUT are PBF files, whatever their names are"
         }
         ChoiceFault::OtherStrategy => {
-            "the only strategy is 'complete_ways'\n\n  tip: leave it out: ways are always complete; 'osmium extract -s smart' has the other strategy"
+            "the strategies are 'complete_ways' and 'smart'\n\n  tip: leave it out: ways are always complete"
+        }
+        ChoiceFault::TypesAlone => {
+            "the argument '--types <LIST>' cannot be used without '--strategy smart'"
         }
     }
 }
@@ -34,7 +37,10 @@ fn choice_usage(fault: ChoiceFault) -> &'static str
     ensures { result.now ≡ choice_usage fault }
 {
     match fault {
-        ChoiceFault::NoRegion | ChoiceFault::TwoRegions | ChoiceFault::OtherStrategy => {
+        ChoiceFault::NoRegion
+        | ChoiceFault::TwoRegions
+        | ChoiceFault::OtherStrategy
+        | ChoiceFault::TypesAlone => {
             "extract [OPTIONS] <--box=W,S,E,N|--polygon=FILE> <IN> <OUT>"
         }
         ChoiceFault::NoOutput | ChoiceFault::TwoOutputs | ChoiceFault::OtherFormat => {

@@ -88,10 +88,14 @@ macro_rules! after_extract {
                 they are\n  \
               - each relation that has one of these nodes or ways as a member; with\n    \
                 --parents also each relation that has a kept relation as a member, level by\n    \
-                level\n\
+                level\n  \
+              - with -s smart what --parents keeps, and all nodes and ways of each\n    \
+                multipolygon that has a kept node or way as a member, with all nodes of\n    \
+                these ways; --types=multipolygon,boundary or --types=any for others\n\
             The command prints how many entities it wrote, as 'nodes 3 ways 0 relations 0'.\n\
-            IN is read twice if no node comes after a way, otherwise three times, and with\n\
-            --parents once more. So it must be a file, not a pipe.\n",
+            IN must be a file, not a pipe: it is read twice if no node comes after a way,\n\
+            otherwise three times, and with --parents once more. With -s smart it is read\n\
+            two or three times, and must be sorted by type.\n",
             $blobs,
             $examples
         )
@@ -217,6 +221,10 @@ pub(crate) const JSON: &str = "Print a JSON object instead of lines";
 pub(crate) const PROGRESS: &str = "Show progress on standard error";
 
 pub(crate) const PARENTS: &str = "Also keep relations that contain kept ones";
+
+pub(crate) const STRATEGY: &str = "What is kept: complete_ways, or smart";
+
+pub(crate) const TYPES: &str = "Types that smart keeps whole, with commas";
 
 pub(crate) const RAW: &str = "Write raw blobs: OUT is not compressed";
 

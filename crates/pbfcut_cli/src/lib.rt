@@ -15,4 +15,4 @@ pub use endings::{Ending, line, status};
 pub use joined::normalize_words;
 pub use packed::PackedRefusal;
 pub use programs::Program;
-pub use words::{ChoiceFault, CliFault, Command, Files, Region, read_words};
+pub use words::{ChoiceFault, CliFault, Command, Files, Region, Strategy, read_words};

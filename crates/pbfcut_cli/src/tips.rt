@@ -8,14 +8,10 @@ fn tip_of_area(option: &str) -> Option<&'static str> {
     match option {
         "-B" | "--bounding-box" | "--bounds" => Some("the box is --box=WEST,SOUTH,EAST,NORTH"),
         "--poly" | "--geojson" => Some("the area of a file is --polygon=FILE"),
-        "-s" | "--strategy" => Some(
-            "leave it out: ways are always complete; 'osmium extract -s smart' has the other strategy",
-        ),
+        "-s" | "--strategy" => Some("'pbfcutz extract' has it: -s smart, or -s complete_ways"),
         "--complete-ways" => Some("leave it out: ways are always complete"),
-        "--smart" => Some(
-            "ways are complete, multipolygons are not: see 'osmium extract -s smart'",
-        ),
-        "-S" | "--option" => Some("leave it out: there are no options of a strategy"),
+        "--smart" => Some("the strategy is -s smart"),
+        "-S" | "--option" => Some("the types that smart keeps whole are --types=LIST"),
         "-c" | "--config" | "-d" | "--directory" => {
             Some("a run makes one extract, into OUT: start a run for each area")
         }

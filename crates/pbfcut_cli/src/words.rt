@@ -17,11 +17,13 @@ ghost use Rattle.pbfcut_cli.specs.Words.{
   ReadsFlag,
   ReadsOutput,
   ReadsRegion,
+  ReadsStrategy,
   argument_value,
   command_words,
   is_or_absent,
   names_complete_ways,
   names_pbf,
+  names_smart,
   program_app,
   word_texts,
 };
@@ -42,6 +44,17 @@ pub enum Region<'a> {
     Box(BoundingBox),
     /// The polygon of the `.poly` or GeoJSON file at this path.
     Polygon(&'a str),
+}
+
+/// What an extract keeps besides what lies in its region.
+#[derive(Clone, Copy, Debug)]
+pub enum Strategy<'a> {
+    /// The ways with a node inside, with all their nodes, and the relations that have one of these nodes or ways.
+    CompleteWays,
+    /// Also all relations that contain kept ones.
+    AllParents,
+    /// Also these, and the nodes and ways of relations of these types, which have commas between them.
+    Smart(&'a str),
 }
 
 /// The files of a command that writes one, and how it is run. Paths are as they were given.
@@ -89,11 +102,10 @@ pub enum Command<'a> {
     Pack(Files<'a>),
     /// `unpack IN RAW`: write the bytes of IN to RAW, with its blobs decompressed.
     Unpack(Files<'a>),
-    /// `extract [--parents] --box=L,B,R,T IN OUT`: cut `region` out of IN into OUT, with `parents` also all relations that contain
-    /// kept ones.
+    /// `extract [--parents] [-s smart] --box=L,B,R,T IN OUT`: cut `region` out of IN into OUT.
     Extract {
         region: Region<'a>,
-        parents: bool,
+        strategy: Strategy<'a>,
         files: Files<'a>,
     },
     /// Help or the version is wanted: its text, with its line ends, for standard output.
@@ -113,8 +125,10 @@ pub enum ChoiceFault {
     TwoOutputs,
     /// A format that is not `pbf`.
     OtherFormat,
-    /// A strategy that is not `complete_ways`.
+    /// A strategy that is neither `complete_ways` nor `smart`.
     OtherStrategy,
+    /// Types of relations, for a strategy other than `smart`.
+    TypesAlone,
 }
 
 /// Why the command line is no command.
@@ -192,15 +206,35 @@ fn names_pbf(matches: &ArgMatches<'_>) -> bool
     is_or_absent(matches, "output-format", "pbf") && is_or_absent(matches, "input-format", "pbf")
 }
 
-/// Nothing, if the strategy is not named or is the one there is.
-fn strategy_in(matches: &ArgMatches<'_>) -> Result<(), CliFault>
-    ensures { MatchResult result (λ _. names_complete_ways (rows_of (found_of matches.now)) ≡ true)
+/// Whether the strategy is `smart`.
+fn names_smart(matches: &ArgMatches<'_>) -> bool
+    ensures { result ≡ names_smart (rows_of (found_of matches.now)) }
+{
+    match value_of(matches, "strategy") {
+        Some(given) => given == "smart",
+        None => false,
+    }
+}
+
+/// What is kept besides what lies inside.
+fn strategy_in<'a>(matches: &ArgMatches<'a>) -> Result<Strategy<'a>, CliFault>
+    ensures { MatchResult result (ReadsStrategy (rows_of (found_of matches.now)))
         (HasRegionFault (rows_of (found_of matches.now))) }
 {
-    if is_or_absent(matches, "strategy", "complete_ways") {
-        Ok(())
+    let types = value_of(matches, "types");
+    if names_smart(matches) {
+        return Ok(Strategy::Smart(types.unwrap_or("multipolygon")));
+    }
+    if !is_or_absent(matches, "strategy", "complete_ways") {
+        return Err(CliFault::Choice(ChoiceFault::OtherStrategy));
+    }
+    if types.is_some() {
+        return Err(CliFault::Choice(ChoiceFault::TypesAlone));
+    }
+    if flag(matches, "parents") {
+        Ok(Strategy::AllParents)
     } else {
-        Err(CliFault::Choice(ChoiceFault::OtherStrategy))
+        Ok(Strategy::CompleteWays)
     }
 }
 
@@ -288,13 +322,12 @@ fn command_in<'a>(matches: &ArgMatches<'a>) -> Result<Command<'a>, CliFault>
         "pack" => Ok(Command::Pack(files_in(inner)?)),
         "unpack" => Ok(Command::Unpack(files_in(inner)?)),
         _ => {
-            strategy_in(inner)?;
+            let strategy = strategy_in(inner)?;
             let region = region_in(inner)?;
-            let parents = flag(inner, "parents");
             let files = files_in(inner)?;
             Ok(Command::Extract {
                 region,
-                parents,
+                strategy,
                 files,
             })
         }
@@ -324,8 +357,8 @@ fn refused<'a>(alloc: Global, error: &Error) -> Result<Command<'a>, CliFault>
 /// # Errors
 ///
 /// `Line` if `clap` refuses the words, `Box` with the fault of the box of an `extract`, `Choice` if one of two arguments is needed and there
-/// is none or both, or if a format or a strategy is not the one that there is, `Memory` if a request for memory was refused. Words that
-/// `clap` takes give neither `Line` nor `Help`.
+/// is none or both, or if a format or a strategy is unknown, or there are types for a strategy that takes none, `Memory` if a request for
+/// memory was refused. Words that `clap` takes give neither `Line` nor `Help`.
 pub fn read_words<'a>(
     alloc: Global,
     program: Program,

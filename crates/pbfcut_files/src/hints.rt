@@ -67,6 +67,12 @@ fn of_blobs(asked: Asked<'_>, refused: Refused) -> &'static str {
         (Reason::Lzma | Reason::Bzip2 | Reason::Zstd, _) => {
             "few programs read these: let the program that wrote it write it again, compressed by zlib or not at all"
         }
+        (Reason::Unsorted, _) => match asked.program {
+            Program::Pbfcut => {
+                "this sorts it: osmium sort IN -f pbf,pbf_compression=none -o SORTED.osm.pbf"
+            }
+            Program::Pbfcutz => "this sorts it: osmium sort IN -o SORTED.osm.pbf",
+        },
         (Reason::EntityLarge, _) => {
             "the file may be sound, but beyond the limits here: 'osmium extract' may cut it"
         }

@@ -61,6 +61,8 @@ pub(crate) fn words_of(reason: Reason) -> &'static str {
         Reason::MemberColumns => "the columns of a relation's members have different lengths",
         Reason::MemberKind => "a member is neither a node nor a way nor a relation",
         Reason::LocationColumns => "a way has locations, but not one for each of its nodes",
+        Reason::Unsorted =>
+            "a smart extract needs all nodes before all ways, and these before all relations",
         _ => "it is refused",
     }
 }

@@ -10,4 +10,6 @@ pub mod Meaning
 pub mod Printed
 pub mod PublishedCalls
 pub mod RawCalls
+pub mod RunLemmas
+pub mod TakingLemmas
 pub mod Weaker

@@ -1,7 +1,7 @@
 -- What pbfcutz's calls report of what went through their devices.
-use Rattle.std.proofs.Common.{arith, ◌≡◌, inl, ℕ, ◌<◌, List, [], ◌∷◌, Bool, true, false, Option, Some, Result, Ok, Err, IfOk, IfErr, refl}
+use Rattle.std.proofs.Common.{arith, ◌≡◌, inl, ℕ, ◌<◌, List, [], ◌∷◌, Bool, true, false, Option, Some, Result, Ok, Err, IfOk, IfErr, refl, subst, sym}
 use Rattle.osm_area.specs.Area.{AreaSpec}
-use Rattle.osm_ways.specs.Selection.{all_parents, complete_ways}
+use Rattle.osm_ways.specs.Selection.{Strategy, all_parents}
 use Rattle.pbf_frame.specs.declared.device.Feed as feed
 use Rattle.pbf_frame.specs.declared.device.Drain as drain
 use Rattle.pbf_pass.specs.Given.{Took}
@@ -23,10 +23,10 @@ use Rattle.pbf_published.specs.Published.{ChangedOf, GaveOrNone, GavePublished, 
 use Rattle.pbfcut_cli.specs.declared.programs.Program.TheVariants.{Pbfcutz}
 use Rattle.pbfcut_program.specs.declared.engine.Report.{Report}
 use Rattle.pbfcut_program.specs.declared.engine.Halted.{Halted}
-use Rattle.pbfcut_program.specs.Devices.{AreFresh, Gives, GivesOrNot, Works}
+use Rattle.pbfcut_program.specs.Devices.{GiveAll, AreFresh, Gives, GivesOrNot, Works}
 use Rattle.pbfcut_program.specs.Manner.{AreDigests, manner}
 use Rattle.pbfcut_program.specs.Outcomes.{ReportsPublished}
-use Rattle.pbfcut_program.specs.Tasks.{Holds, Task, checking, judge_of, showing, converting, copying, extracting, extracting_parents}
+use Rattle.pbfcut_program.specs.Tasks.{Holds, Task, checking, judge_of, showing, converting, copying, extracting, spares_by}
 use Rattle.pbfcut_program.proofs.FailLemmas.{caused_weaker}
 
 -- a feed gave packed bytes, and this holds of the raw file that they mean
@@ -108,10 +108,10 @@ module _ {F D : Type 0} (f : feed.Ghosts F) (d : drain.Ghosts D) (out out_now : 
   copy_published = two_published copying (λ receipt b. CountsFile (judged_file (Some b)) receipt.counts) (λ receipt b c w. w ≡ c) (λ receipt b c w p q. (p, q))
 
   -- three passes
-  pub extract_published : (area : AreaSpec) (one one_now two two_now three three_now : F) (outcome : Result PublishedInput PublishedHalt) (result : Result Report Halted) → AreFresh f (one ∷ two ∷ three ∷ [])
-      → ExtractsPublished complete_ways area (fed f one one_now) (fed f two two_now ∷ []) (fed f three three_now ∷ []) (drained d out out_now) by outcome → ReportsPublished outcome result
-      → Works (manner Pbfcutz false digests) by f (extracting area) (one ∷ two ∷ three ∷ []) (one_now ∷ two_now ∷ three_now ∷ []) (d.has_taken out_now log) (WriteFailed d out out_now) result
-  extract_published area one one_now two two_now three three_now (Ok receipt) (Ok report) fresh extracts r =
+  pub extract_published : (strategy : Strategy) (area : AreaSpec) → spares_by strategy ≡ 1 → (one one_now two two_now three three_now : F) (outcome : Result PublishedInput PublishedHalt) (result : Result Report Halted) → AreFresh f (one ∷ two ∷ three ∷ [])
+      → ExtractsPublished strategy area (fed f one one_now) (fed f two two_now ∷ []) (fed f three three_now ∷ []) (drained d out out_now) by outcome → ReportsPublished outcome result
+      → Works (manner Pbfcutz false digests) by f (extracting strategy area) (one ∷ two ∷ three ∷ []) (one_now ∷ two_now ∷ three_now ∷ []) (d.has_taken out_now log) (WriteFailed d out out_now) result
+  extract_published strategy area one_spared one one_now two two_now three three_now (Ok receipt) (Ok report) fresh extracts r =
       let first = gave f false digests by receipt.input receipt.raw report.raw r.2 fresh.0.0 extracts.receipt in
       let again = gave_after f false digests by receipt.input receipt.raw report.raw r.2 1 (omega arith) fresh.1.0.0 first.holding.1 in
       let last = gave f false digests by receipt.input receipt.raw report.raw r.2 fresh.1.1.0.0 again.holding in
@@ -119,18 +119,18 @@ module _ {F D : Type 0} (f : feed.Ghosts F) (d : drain.Ghosts D) (out out_now : 
       rw (r.0, r.1) record {
         files = first.file ∷ again.file ∷ last.file ∷ [];
         written = took.written;
-        gave = (first.gives, (again.gives, (inl last.gives, tt)));
+        gave = subst (λ n. GiveAll f (AreDigests (manner Pbfcutz false digests) by receipt.input report.raw) n (one ∷ two ∷ three ∷ []) (one_now ∷ two_now ∷ three_now ∷ []) (first.file ∷ again.file ∷ last.file ∷ [])) (sym one_spared) (first.gives, (again.gives, (inl last.gives, tt)));
         took_them = took.added.logged log [] start;
         holds = (first.holding.0, took.holding);
       }
-  extract_published area one one_now two two_now three three_now (Err halt) (Err halted) fresh extracts r =
+  extract_published strategy area one_spared one one_now two two_now three three_now (Err halt) (Err halted) fresh extracts r =
       (halt.stop, r, caused_weaker _ _ _ _ _ _ _ _ halt.stop (λ e refused. (refused.0, refused.1.logged log [] start)) (λ failed. failed) (λ failed. failed) (λ p c. c) extracts.stops)
-  extract_published area one one_now two two_now three three_now _ _ fresh extracts r = absurd r
+  extract_published strategy area one_spared one one_now two two_now three three_now _ _ fresh extracts r = absurd r
 
   -- four passes
   pub extract_parents_published : (area : AreaSpec) (one one_now two two_now three three_now four four_now : F) (outcome : Result PublishedInput PublishedHalt) (result : Result Report Halted) → AreFresh f (one ∷ two ∷ three ∷ four ∷ [])
       → ExtractsPublished all_parents area (fed f one one_now) (fed f two two_now ∷ fed f three three_now ∷ []) (fed f four four_now ∷ []) (drained d out out_now) by outcome → ReportsPublished outcome result
-      → Works (manner Pbfcutz false digests) by f (extracting_parents area) (one ∷ two ∷ three ∷ four ∷ []) (one_now ∷ two_now ∷ three_now ∷ four_now ∷ []) (d.has_taken out_now log) (WriteFailed d out out_now) result
+      → Works (manner Pbfcutz false digests) by f (extracting all_parents area) (one ∷ two ∷ three ∷ four ∷ []) (one_now ∷ two_now ∷ three_now ∷ four_now ∷ []) (d.has_taken out_now log) (WriteFailed d out out_now) result
   extract_parents_published area one one_now two two_now three three_now four four_now (Ok receipt) (Ok report) fresh extracts r =
       let first = gave f false digests by receipt.input receipt.raw report.raw r.2 fresh.0.0 extracts.receipt in
       let again = gave_after f false digests by receipt.input receipt.raw report.raw r.2 2 (omega arith) fresh.1.0.0 first.holding.1 in

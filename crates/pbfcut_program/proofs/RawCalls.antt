@@ -1,7 +1,7 @@
 -- What pbfcut's calls report of what went through their devices.
 use Rattle.std.proofs.Common.{◌≡◌, ◌⊎◌, inl, inr, ℕ, ◌<◌, suc, ◌+◌, arith, map, length, List, [], ◌∷◌, Bool, true, false, Option, Some, None, Result, Ok, Err, IfOk, refl, sym, subst}
 use Rattle.osm_area.specs.Area.{AreaSpec}
-use Rattle.osm_ways.specs.Selection.{all_parents, complete_ways}
+use Rattle.osm_ways.specs.Selection.{Strategy, all_parents}
 use Rattle.pbf_frame.specs.declared.device.Feed as feed
 use Rattle.pbf_frame.specs.declared.device.Drain as drain
 use Rattle.pbf_frame.specs.declared.stop.Stop.TheVariants as stop
@@ -21,18 +21,18 @@ use Rattle.pbfcut.specs.Calls.{ChangedLater, GaveOrNot, IfMore, drained, fed}
 use Rattle.pbfcut.specs.Changes.{ChangedAt, GaveOther}
 use Rattle.pbfcut.specs.Ends.{EndsPasses, TookNothing}
 use Rattle.pbfcut.specs.Kept.{IsWritable}
-use Rattle.pbfcut.specs.Receipts.{Extracts}
+use Rattle.pbfcut.specs.Receipts.{Extracts, judge_by}
 use Rattle.pbfcut.specs.Showing.{Shown}
 use Rattle.pbfcut.specs.Theorem.{IsConverted}
 use Rattle.pbfcut_cli.specs.declared.endings.Ending.TheVariants as ending
 use Rattle.pbfcut_cli.specs.declared.programs.Program.TheVariants.{Pbfcut}
 use Rattle.pbfcut_program.specs.declared.engine.Report.{Report}
 use Rattle.pbfcut_program.specs.declared.engine.Halted.{Halted}
-use Rattle.pbfcut_program.specs.Devices.{AreFresh, EndsFor, StopsFor, Gives, GivesFaulty, GivesOrNot, GivesOther, GivesOtherAt, Works, used}
+use Rattle.pbfcut_program.specs.Devices.{GiveAll, AreFresh, EndsFor, StopsFor, Gives, GivesFaulty, GivesOrNot, GivesOther, GivesOtherAt, Works, used}
 use Rattle.pbfcut_program.specs.Fails.{EndsAsStop, UnlessPacked}
 use Rattle.pbfcut_program.specs.Manner.{AreDigests, manner, output_form}
 use Rattle.pbfcut_program.specs.Outcomes.{ReportsRaw}
-use Rattle.pbfcut_program.specs.Tasks.{Holds, Task, checking, showing, converting, copying, extracting, extracting_parents, judge_of}
+use Rattle.pbfcut_program.specs.Tasks.{Holds, Task, checking, showing, converting, copying, extracting, judge_of, spares_by}
 
 -- a call that halted
 abbrev Stopped : (X : Type 0) → Halt → Result X Halt
@@ -168,27 +168,27 @@ module _ {F D : Type 0} (f : feed.Ghosts F) (d : drain.Ghosts D) (out out_now : 
   later_of may some digest known h2 spared old now h6 h7 = grind (arith, gives_file)
 
   -- three passes
-  pub extract_works : (area : AreaSpec) (one one_now two two_now three three_now : F) (outcome : Result InputReceipt Halt) (result : Result Report Halted) → AreFresh f (one ∷ two ∷ three ∷ [])
-      → Extracts complete_ways area (fed f one one_now) (fed f two two_now ∷ []) (fed f three three_now ∷ []) (drained d out out_now) by outcome → ReportsRaw outcome result
-      → Works (manner Pbfcut false digests) by f (extracting area) (one ∷ two ∷ three ∷ []) (one_now ∷ two_now ∷ three_now ∷ []) (d.has_taken out_now log) (WriteFailed d out out_now) result
-  extract_works area one one_now two two_now three three_now (Ok receipt) (Ok report) fresh extracts r =
+  pub extract_works : (strategy : Strategy) (area : AreaSpec) → spares_by strategy ≡ 1 → (one one_now two two_now three three_now : F) (outcome : Result InputReceipt Halt) (result : Result Report Halted) → AreFresh f (one ∷ two ∷ three ∷ [])
+      → Extracts strategy area (fed f one one_now) (fed f two two_now ∷ []) (fed f three three_now ∷ []) (drained d out out_now) by outcome → ReportsRaw outcome result
+      → Works (manner Pbfcut false digests) by f (extracting strategy area) (one ∷ two ∷ three ∷ []) (one_now ∷ two_now ∷ three_now ∷ []) (d.has_taken out_now log) (WriteFailed d out out_now) result
+  extract_works strategy area one_spared one one_now two two_now three three_now (Ok receipt) (Ok report) fresh extracts r =
       let known = Known receipt.input report.raw in let is = known_of receipt.input report.raw r.2 in
       let again = later_of 1 (omega arith) (mark_by by receipt.input) known is receipt.spared two two_now fresh.1.0.0 extracts.receipt.holding.1 in let last = again.2 in let took = last.holding in
       rw (r.0, r.1) record {
         files = extracts.receipt.file ∷ again.0 ∷ last.file ∷ [];
         written = took.written;
-        gave = (gives_file f known is fresh.0.0 extracts.receipt, (again.1, (inl (gives_file f known is fresh.1.1.0.0 last), tt)));
+        gave = subst (λ n. GiveAll f (AreDigests (manner Pbfcut false digests) by receipt.input report.raw) n (one ∷ two ∷ three ∷ []) (one_now ∷ two_now ∷ three_now ∷ []) (extracts.receipt.file ∷ again.0 ∷ last.file ∷ [])) (sym one_spared) (gives_file f known is fresh.0.0 extracts.receipt, (again.1, (inl (gives_file f known is fresh.1.1.0.0 last), tt)));
         took_them = took.added.logged log [] start;
         holds = (extracts.receipt.holding.0, took.holding);
       }
-  extract_works area one one_now two two_now three three_now (Err h) (Err halted) fresh extracts r =
-      reported_ends f judged_writable (one ∷ two ∷ three ∷ []) (one_now ∷ two_now ∷ three_now ∷ []) (d.has_taken out_now log []) (WriteFailed d out out_now) h halted r (call_ends one one_now fresh.0.0 judged_writable ((two, two_now) ∷ (three, three_now) ∷ []) h fresh.1 extracts.ends)
-  extract_works area one one_now two two_now three three_now _ _ fresh extracts r = absurd r
+  extract_works strategy area one_spared one one_now two two_now three three_now (Err h) (Err halted) fresh extracts r =
+      reported_ends f (judge_by strategy) (one ∷ two ∷ three ∷ []) (one_now ∷ two_now ∷ three_now ∷ []) (d.has_taken out_now log []) (WriteFailed d out out_now) h halted r (call_ends one one_now fresh.0.0 (judge_by strategy) ((two, two_now) ∷ (three, three_now) ∷ []) h fresh.1 extracts.ends)
+  extract_works strategy area one_spared one one_now two two_now three three_now _ _ fresh extracts r = absurd r
 
   -- four passes
   pub extract_parents_works : (area : AreaSpec) (one one_now two two_now three three_now four four_now : F) (outcome : Result InputReceipt Halt) (result : Result Report Halted) → AreFresh f (one ∷ two ∷ three ∷ four ∷ [])
       → Extracts all_parents area (fed f one one_now) (fed f two two_now ∷ fed f three three_now ∷ []) (fed f four four_now ∷ []) (drained d out out_now) by outcome → ReportsRaw outcome result
-      → Works (manner Pbfcut false digests) by f (extracting_parents area) (one ∷ two ∷ three ∷ four ∷ []) (one_now ∷ two_now ∷ three_now ∷ four_now ∷ []) (d.has_taken out_now log) (WriteFailed d out out_now) result
+      → Works (manner Pbfcut false digests) by f (extracting all_parents area) (one ∷ two ∷ three ∷ four ∷ []) (one_now ∷ two_now ∷ three_now ∷ four_now ∷ []) (d.has_taken out_now log) (WriteFailed d out out_now) result
   extract_parents_works area one one_now two two_now three three_now four four_now (Ok receipt) (Ok report) fresh extracts r =
       let known = Known receipt.input report.raw in let is = known_of receipt.input report.raw r.2 in
       let again = later_of 2 (omega arith) (mark_by by receipt.input) known is receipt.spared two two_now fresh.1.0.0 extracts.receipt.holding.1 in

@@ -13,26 +13,28 @@ pub record Reading : Type 0 where
   pub left : Option (List ℕ)
   pub failures : ℕ
 
--- OUT is closed: it took these bytes; whether it reports of itself that it took them; how many writes failed; and why not all that it took went out, if it didn't
+-- OUT is closed: it took these bytes; whether it reports of itself that it took them; how many writes failed; whether it was to be kept, as whole; and why not all
+-- that it took went out, if it didn't
 pub record Writing : Type 0 where
   pub bytes : List ℕ
   pub reports : Bool
   pub failures : ℕ
+  pub kept : Bool
   pub fault : Option FinishFault
 
 pub data Event : Type 0 where
   -- a whole text is read, or isn't
   text_read : (path text : List ℕ) → Event
   text_not_read : (path : List ℕ) → Event
-  -- whether there is a file that isn't to be replaced
-  looked : (path : List ℕ) → (there : Bool) → Event
+  -- whether there is a file that isn't to be replaced: with `overwrite` a plain one is
+  looked : (path : List ℕ) → (overwrite there : Bool) → Event
   -- IN is opened for this pass, and has these bytes, if the host reports them; or it isn't
   opened : (path : List ℕ) → (pass : ℕ) → (has : Option (List ℕ)) → Event
   not_opened : (path : List ℕ) → OpenFault → Event
   -- a seed is drawn, with this key; or it isn't
   seeded : (key : Option ℕ) → Event
-  -- OUT is created, or isn't
-  created : (path : List ℕ) → Event
+  -- OUT is created, with `overwrite` in place of a plain file; or it isn't
+  created : (path : List ℕ) → (overwrite : Bool) → Event
   not_created : (path : List ℕ) → CreateFault → Event
   -- standard output is taken to be written to, if there is memory
   screened : (there : Bool) → Event

@@ -56,7 +56,7 @@ FailsAsPipe _ = ⊥
 
 -- OUT was there, or it was there when it was to be made
 abbrev pub FailsAsThere : Event → Type 0
-FailsAsThere (looked path there) = there ≡ true
+FailsAsThere (looked path overwrite there) = there ≡ true
 FailsAsThere (not_created path creating.Exists) = Unit {0}
 FailsAsThere _ = ⊥
 

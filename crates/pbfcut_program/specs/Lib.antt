@@ -7,5 +7,6 @@ pub mod Manner
 pub mod Outcomes
 pub mod Program
 pub mod Readings
+pub mod Taking
 pub mod Tasks
 pub mod Telling

@@ -5,6 +5,8 @@ use Rattle.std.specs.Str.{bytes_eq}
 use Rattle.std.specs.String.{string_bytes}
 use Rattle.clap.specs.Words.{Text, subcommand_of, takes}
 use Rattle.osm_area.specs.Area.{AreaSpec, box_area}
+use Rattle.osm_ways.specs.Selection as selection
+use Rattle.osm_ways.specs.Whole.{is_wanted_by}
 use Rattle.osm_polygon.specs.Polygon.{Rings}
 use Rattle.osm_polygon.specs.Polygons.{polygons_area, polygons_of}
 use Rattle.osm_polygon.specs.Texts.{polygons_of_text}
@@ -18,6 +20,7 @@ use Rattle.pbf_pass.specs.HeaderLimit.{judged_writable}
 use Rattle.pbf_pass.specs.Judged.{judged_file}
 use Rattle.pbf_published.specs.Showing.{TellsInfo}
 use Rattle.pbfcut.specs.Blobs as blobs
+use Rattle.pbfcut.specs.Receipts.{judge_by}
 use Rattle.pbfcut.specs.Summary.{judged_headings}
 use Rattle.pbfcut_cli.specs.Endings.{message_of, ending_status, program_name}
 use Rattle.pbfcut_cli.specs.Joined.{normalized}
@@ -32,6 +35,8 @@ use Rattle.pbfcut_cli.specs.declared.words.Command.TheVariants.{Blobs, Info, Sho
 use Rattle.pbfcut_cli.specs.declared.words.Files.{Files}
 use Rattle.pbfcut_cli.specs.declared.words.Region.{Region}
 use Rattle.pbfcut_cli.specs.declared.words.Region.TheVariants as region
+use Rattle.pbfcut_cli.specs.declared.words.Strategy.{Strategy}
+use Rattle.pbfcut_cli.specs.declared.words.Strategy.TheVariants as strategy
 use Rattle.pbfcut_program.specs.declared.host.Screen.{Screen}
 use Rattle.pbfcut_program.specs.declared.host.Screen.TheVariants.{Output, Error}
 use Rattle.pbfcut_program.specs.Events.{Event, text_read, looked, opened, seeded, created, screened, read, wrote, printed, told, advised, Reading, Writing}
@@ -39,7 +44,7 @@ use Rattle.pbfcut_program.specs.Fails.{Each, FailsFor, Judging, Quiet, judging, 
 use Rattle.pbfcut_program.specs.Leaving.{LeavesFor}
 use Rattle.pbfcut_program.specs.Manner.{Manner, check_of, hashes_meaning, input_form, manner, meant_known, of_output, once_check, output_form, to_raw}
 use Rattle.pbfcut_program.specs.Readings.{IsWork}
-use Rattle.pbfcut_program.specs.Tasks.{Task, checking, listing_frames, showing, converting, copying, extracting, extracting_parents, passes_of}
+use Rattle.pbfcut_program.specs.Tasks.{Task, checking, listing_frames, showing, converting, copying, extracting, passes_of}
 
 -- ---- lines
 
@@ -125,14 +130,14 @@ abbrev pub is_screen : Program → List ℕ → Bool
 is_screen Pbfcut output = false
 is_screen Pbfcutz output = bytes_eq output (codes "-") || bytes_eq output (codes "/dev/stdout")
 
--- it was looked for, and not found
-abbrev pub looks : (is_screen : Bool) → List ℕ → List Event
-looks true output = []
-looks false output = looked output false ∷ []
+-- it was looked for, and not found, unless it may be replaced
+abbrev pub looks : (is_screen : Bool) → Files → List Event
+looks true files = []
+looks false files = looked files.output.now files.overwrite false ∷ []
 
-abbrev pub makes : (is_screen : Bool) → List ℕ → Event
-makes true output = screened true
-makes false output = created output
+abbrev pub makes : (is_screen : Bool) → Files → Event
+makes true files = screened true
+makes false files = created files.output.now files.overwrite
 
 -- where counts and digests go
 abbrev pub screen_of : (is_screen : Bool) → Screen
@@ -143,8 +148,8 @@ screen_of false = Output
 abbrev pub is_empty : Counts → Bool
 is_empty counts = counts.nodes == 0 && (counts.ways == 0 && counts.relations == 0)
 
--- a command that writes: OUT was not there, IN was opened for each pass, a key was drawn, OUT was made, all that it took went out, and then these counts were
--- printed, with `--digests` also the digests
+-- a command that writes: OUT was not there, IN was opened for each pass, a key was drawn, OUT was made, it was kept, all that it took went out, and then these
+-- counts were printed, with `--digests` also the digests
 pub record WritesCounts (m : Manner) (task : Task) (files : Files) (counts : Counts) (events : List Event) : Type 0 where
   pub has : List (Option (List ℕ))
   pub rs : List Reading
@@ -154,11 +159,12 @@ pub record WritesCounts (m : Manner) (task : Task) (files : Files) (counts : Cou
   pub raw : Option (List ℕ)
   pub known : Option (List ℕ)
   pub meaning : Option (List ℕ)
-  pub happened : events ≡ looks (is_screen m.program files.output.now) files.output.now ++ openings files.input.now 1 has
-      ++ seeded (Some key) ∷ makes (is_screen m.program files.output.now) files.output.now ∷ map read rs
+  pub happened : events ≡ looks (is_screen m.program files.output.now) files ++ openings files.input.now 1 has
+      ++ seeded (Some key) ∷ makes (is_screen m.program files.output.now) files ∷ map read rs
       ++ wrote out ∷ prints (screen_of (is_screen m.program files.output.now))
       (counts_text counts ∷ done_lines known meaning digest raw files.input.now files.output.now)
   pub passes : length has ≡ passes_of task
+  pub kept : out.kept ≡ true
   pub whole : out.fault ≡ None
   pub hashed : known ≡ digest_if_asked m.digests out.bytes
   pub meaning_hashed : meaning ≡ digest_if_asked (hashes_meaning (output_form m.packs m.program) m.digests) (of_output m out.bytes)
@@ -173,22 +179,24 @@ MeansArea (region.Box box) events area = (events ≡ []) × (area ≡ box_area b
 MeansArea (region.Polygon path) events area = (text : List ℕ) × (polygons : List Rings)
     × (events ≡ text_read path.now text ∷ []) × (polygons_of_text text ≡ Ok polygons) × (area ≡ polygons_area (polygons_of polygons))
 
-abbrev pub extract_task : (parents : Bool) → AreaSpec → Task
-extract_task true area = extracting_parents area
-extract_task false area = extracting area
+-- what is kept besides what lies in it
+abbrev pub strategy_of : Strategy → selection.Strategy
+strategy_of strategy.CompleteWays = selection.complete_ways
+strategy_of strategy.AllParents = selection.all_parents
+strategy_of (strategy.Smart types) = selection.smart (is_wanted_by types.now)
 
 -- on a terminal it is said that nothing lies in it
 abbrev pub advice : Counts → List Event
 advice counts = if is_empty counts then advised ∷ [] else []
 
-pub record Extracts (m : Manner) (cut : Region) (parents : Bool) (files : Files) (events : List Event) : Type 0 where
+pub record Extracts (m : Manner) (cut : Region) (by : Strategy) (files : Files) (events : List Event) : Type 0 where
   pub area : AreaSpec
   pub before : List Event
   pub after : List Event
   pub counts : Counts
   pub happened : events ≡ before ++ after ++ advice counts
   pub means : MeansArea cut before area
-  pub writes : WritesCounts m (extract_task parents area) files counts after
+  pub writes : WritesCounts m (extracting (strategy_of by) area) files counts after
 
 -- the digests of what a command reads are printed
 abbrev pub digests_of : Command → Bool
@@ -196,14 +204,14 @@ digests_of (Check input progress digests) = digests
 digests_of (Convert files) = files.digests
 digests_of (Pack files) = files.digests
 digests_of (Unpack files) = files.digests
-digests_of (Extract region parents files) = files.digests
+digests_of (Extract region by files) = files.digests
 digests_of _ = false
 
 -- OUT gets zlib blobs, if it is pbfcutz that writes it
 abbrev pub packs_of : Command → Bool
 packs_of (Convert files) = not files.raw
 packs_of (Pack files) = true
-packs_of (Extract region parents files) = not files.raw
+packs_of (Extract region by files) = not files.raw
 packs_of _ = false
 
 abbrev pub manner_in : Program → Command → Manner
@@ -219,7 +227,7 @@ Does m (Check input progress digests) events = Checks m input.now events
 Does m (Convert files) events = Writes m converting files events
 Does m (Pack files) events = Writes m copying files events
 Does m (Unpack files) events = Writes m copying files events
-Does m (Extract region parents files) events = Extracts m region parents files events
+Does m (Extract region by files) events = Extracts m region by files events
 
 -- ---- why a command fails
 
@@ -232,7 +240,7 @@ judging_of (Check input progress digests) = judging judged_file
 judging_of (Convert files) = judging judged_writable
 judging_of (Pack files) = judging judged_file
 judging_of (Unpack files) = judging judged_file
-judging_of (Extract region parents files) = judging judged_writable
+judging_of (Extract region by files) = judging (judge_by (strategy_of by))
 
 -- `info` reads as pbfcutz does, and writes a text, as `show` does
 abbrev pub reading_of : Manner → Command → Manner
@@ -241,13 +249,13 @@ reading_of m (Show input dates progress) = to_raw m
 reading_of m _ = m
 
 -- nothing was written before it was known what is cut out; and then it is an extract of that
-pub record LeavesCut (m : Manner) (cut : Region) (parents : Bool) (events : List Event) : Type 0 where
+pub record LeavesCut (m : Manner) (cut : Region) (by : Strategy) (events : List Event) : Type 0 where
   pub area : AreaSpec
   pub before : List Event
   pub after : List Event
   pub happened : events ≡ before ++ after
   pub means : MeansArea cut before area
-  pub leaves : LeavesFor m (extract_task parents area) after
+  pub leaves : LeavesFor m (extracting (strategy_of by) area) after
 
 abbrev pub LeavesIn : Manner → Command → List Event → Type 0
 LeavesIn m (Blobs input) events = LeavesFor (to_raw m) listing_frames events
@@ -255,7 +263,7 @@ LeavesIn m (Show input dates progress) events = LeavesFor (to_raw m) (showing da
 LeavesIn m (Convert files) events = LeavesFor m converting events
 LeavesIn m (Pack files) events = LeavesFor m copying events
 LeavesIn m (Unpack files) events = LeavesFor m copying events
-LeavesIn m (Extract region parents files) events = Each Quiet events ⊎ LeavesCut m region parents events
+LeavesIn m (Extract region by files) events = Each Quiet events ⊎ LeavesCut m region by events
 LeavesIn m _ events = Unit {0}
 
 abbrev pub FailsIn : Manner → Command → Ending → List Event → Type 0

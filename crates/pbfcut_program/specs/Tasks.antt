@@ -1,7 +1,7 @@
 -- What a command does with IN: what holds of the files that its passes read, of the counts, and of what it writes.
-use Rattle.std.specs.Prelude.{◌≡◌, ℕ, List, [], ◌∷◌, Bool, true, false, Option, Some}
+use Rattle.std.specs.Prelude.{◌≡◌, ℕ, ◌+◌, ◌&&◌, not, if◌then◌else◌, List, [], ◌∷◌, Bool, true, false, Option, Some}
 use Rattle.osm_area.specs.Area.{AreaSpec}
-use Rattle.osm_ways.specs.Selection.{all_parents, complete_ways}
+use Rattle.osm_ways.specs.Selection.{Strategy}
 use Rattle.pbf_block.specs.declared.counts.Counts.{Counts}
 use Rattle.pbf_frame.specs.Verdict.{Verdict, judged, judged_known}
 use Rattle.pbf_pass.specs.HeaderLimit.{judged_writable}
@@ -9,6 +9,7 @@ use Rattle.pbf_pass.specs.Judged.{fully, judged_file}
 use Rattle.pbf_pass.specs.Pass.{CountsFile}
 use Rattle.pbfcut.specs.Blobs.{lines}
 use Rattle.pbfcut.specs.Kept.{IsWritable, conversion_of, extract_of}
+use Rattle.pbfcut.specs.Receipts.{judge_by}
 use Rattle.pbfcut.specs.Showing.{Shown, answer_text}
 use Rattle.pbfcut.specs.Theorem.{IsConverted, IsExtraction}
 
@@ -20,8 +21,11 @@ pub data Task : Type 0 where
   converting : Task
   -- the same bytes in other blobs
   copying : Task
-  extracting : AreaSpec → Task
-  extracting_parents : AreaSpec → Task
+  extracting : Strategy → AreaSpec → Task
+
+-- how many passes may be left out: two with all parents, otherwise one. With members a file that isn't sorted is refused
+abbrev pub spares_by : Strategy → ℕ
+spares_by by = if by.parents && not by.members then 2 else 1
 
 -- how often IN is read
 abbrev pub passes_of : Task → ℕ
@@ -30,13 +34,11 @@ passes_of listing_frames = 1
 passes_of (showing dates) = 2
 passes_of converting = 2
 passes_of copying = 2
-passes_of (extracting area) = 3
-passes_of (extracting_parents area) = 4
+passes_of (extracting by area) = spares_by by + 2
 
 -- in so many passes after the first nothing may have been read, if the first was enough
 abbrev pub spares : Task → ℕ
-spares (extracting area) = 1
-spares (extracting_parents area) = 2
+spares (extracting by area) = spares_by by
 spares _ = 0
 
 -- the verdict by which the first file is refused
@@ -46,8 +48,7 @@ judge_of listing_frames = judged_known false 0
 judge_of (showing dates) = judged_file
 judge_of converting = judged_writable
 judge_of copying = judged_file
-judge_of (extracting area) = judged_writable
-judge_of (extracting_parents area) = judged_writable
+judge_of (extracting by area) = judge_by by
 
 -- what holds of the raw files that were read, one for each pass, and of the one that was written. The digests of what was read, by the check of the run, are the same; where a file
 -- that was read later has to be the first one, that is a premise
@@ -56,10 +57,10 @@ Holds checking (b ∷ []) counts written = CountsFile (judged_file (Some b)) cou
 Holds (showing dates) (b ∷ c ∷ []) counts written = CountsFile (judged_file (Some b)) counts × Shown dates (judged_file (Some c)) written
 Holds converting (b ∷ c ∷ []) counts written = IsWritable b × (b ≡ c → IsConverted b counts written)
 Holds copying (b ∷ c ∷ []) counts written = CountsFile (judged_file (Some b)) counts × (written ≡ c)
-Holds (extracting area) (b ∷ c ∷ d ∷ []) counts written = IsWritable b
-    × (b ≡ c → b ≡ d → IsExtraction complete_ways area b counts written)
-Holds (extracting_parents area) (b ∷ c ∷ d ∷ e ∷ []) counts written = IsWritable b
-    × (b ≡ c → b ≡ d → b ≡ e → IsExtraction all_parents area b counts written)
+Holds (extracting by area) (b ∷ c ∷ d ∷ []) counts written = IsWritable b
+    × (b ≡ c → b ≡ d → IsExtraction by area b counts written)
+Holds (extracting by area) (b ∷ c ∷ d ∷ e ∷ []) counts written = IsWritable b
+    × (b ≡ c → b ≡ d → b ≡ e → IsExtraction by area b counts written)
 Holds _ files counts written = ⊥
 
 -- what is to be written for a raw file: nothing if it has a fault, but for lines of frames
@@ -69,5 +70,4 @@ answer_of listing_frames file = lines (judged false 0 file).0
 answer_of (showing dates) file = answer_text dates (fully (judged false 0 file))
 answer_of converting file = conversion_of file
 answer_of copying file = file
-answer_of (extracting area) file = extract_of complete_ways area file
-answer_of (extracting_parents area) file = extract_of all_parents area file
+answer_of (extracting by area) file = extract_of by area file

@@ -12,7 +12,8 @@ ghost use Rattle.pbfcut_program.specs.Devices.{AreFresh, EndsFor, Fronts, Works,
 ghost use Rattle.pbfcut_program.specs.Fails.{EndsAsStop};
 ghost use Rattle.pbfcut_program.specs.Manner.{check_in, input_form, manner_of, once_check, output_form, raw_file, to_raw};
 ghost use Rattle.pbfcut_program.specs.Outcomes.{ListsBy, ReportsPublished, ReportsRaw};
-ghost use Rattle.pbfcut_program.specs.Tasks.{checking, listing_frames, showing, converting, copying, extracting, extracting_parents};
+ghost use Rattle.pbfcut_program.specs.Tasks.{checking, listing_frames, showing, converting, copying, extracting, spares_by};
+ghost use Rattle.osm_ways.specs.Selection.{all_parents};
 
 use crate::host::Seed;
 use crate::opening::{FourPasses, ThreePasses, TwoPasses};
@@ -22,6 +23,7 @@ use pbf_pass::{Counts, Halt, InputReceipt, PassCheck, Passes, Refusal};
 use pbf_published::{PublishedHalt, PublishedInput};
 use pbf_unpack::{Place, UnpackFault};
 use pbf_wire::{Fault, Reason};
+use pbfcut::Extraction;
 use pbfcut_cli::{Ending, PackedRefusal, Program};
 use std::alloc::Global;
 use std::hash::BuildHasher;
@@ -276,21 +278,23 @@ pub(crate) fn copy<F: Feed, D: Drain>(
     }
 }
 
-/// Writes what lies in an area.
-pub(crate) fn extract<A: Area + Copy, F: Feed, D: Drain, S: BuildHasher + Drop>(
+/// Writes an extract for which IN is read three times at most.
+pub(crate) fn extract<E: Extraction + Drop, F: Feed, D: Drain, S: BuildHasher + Drop>(
     engine: Engine,
     passes: &mut ThreePasses<F>,
-    area: A,
+    extraction: E,
     drain: &mut D,
     seed: Seed<S>,
 ) -> Result<Report, Halted>
-    requires { IfSome (D.taken drain.old) (λ taken. taken ≡ []) }
+    requires fresh { IfSome (D.taken drain.old) (λ taken. taken ≡ []) }
+    requires three { spares_by (E.strategy extraction) ≡ 1 }
     ensures works { WorksOn (to_raw (manner_of engine)) (check_in engine seed.key)
-        F.Feed D.Drain (extracting (A.area area))
+        F.Feed D.Drain (extracting (E.strategy extraction) (E.area extraction))
         (passes.old.one ∷ passes.old.two ∷ passes.old.three ∷ [])
         (passes.new.one ∷ passes.new.two ∷ passes.new.three ∷ [])
         drain.old drain.new result }
-    ensures front { Fronts (input_form engine.program) (extracting (A.area area))
+    ensures front { Fronts (input_form engine.program)
+        (extracting (E.strategy extraction) (E.area extraction))
         (F.remaining passes.old.one ∷ F.remaining passes.old.two ∷ F.remaining passes.old.three ∷ [])
         (D.taken drain.old) (D.taken drain.new) result }
 {
@@ -298,13 +302,9 @@ pub(crate) fn extract<A: Area + Copy, F: Feed, D: Drain, S: BuildHasher + Drop>(
     let Seed { hasher, key } = seed;
     let how = engine.many_passes(key);
     match engine.program {
-        Program::Pbfcut => {
-            reported(pbfcut::extract_sorted_with_receipt(how, one, two, three, area, drain, hasher))
-        }
+        Program::Pbfcut => { reported(extraction.extract(how, one, two, three, drain, hasher)) }
         Program::Pbfcutz => {
-            published(pbf_published::extract_sorted_with_receipt(
-                how, one, two, three, area, drain, hasher,
-            ))
+            published(pbf_published::extract_by(how, one, two, three, extraction, drain, hasher))
         }
     }
 }
@@ -319,11 +319,11 @@ pub(crate) fn extract_parents<A: Area + Copy, F: Feed, D: Drain, S: BuildHasher 
 ) -> Result<Report, Halted>
     requires { IfSome (D.taken drain.old) (λ taken. taken ≡ []) }
     ensures works { WorksOn (to_raw (manner_of engine)) (check_in engine seed.key)
-        F.Feed D.Drain (extracting_parents (A.area area))
+        F.Feed D.Drain (extracting all_parents (A.area area))
         (passes.old.one ∷ passes.old.two ∷ passes.old.three ∷ passes.old.four ∷ [])
         (passes.new.one ∷ passes.new.two ∷ passes.new.three ∷ passes.new.four ∷ [])
         drain.old drain.new result }
-    ensures front { Fronts (input_form engine.program) (extracting_parents (A.area area))
+    ensures front { Fronts (input_form engine.program) (extracting all_parents (A.area area))
         (F.remaining passes.old.one ∷ F.remaining passes.old.two ∷ F.remaining passes.old.three
         ∷ F.remaining passes.old.four ∷ []) (D.taken drain.old) (D.taken drain.new) result }
 {

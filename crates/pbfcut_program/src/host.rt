@@ -115,7 +115,7 @@ pub trait Host {
 
     /// Whether there is a file that is not to be replaced: with `overwrite` a plain one is.
     fn exists(&mut self, path: &str, overwrite: bool) -> bool
-        ensures { log self.new ≡ then_one (log self.old) (looked path.now result) };
+        ensures { log self.new ≡ then_one (log self.old) (looked path.now overwrite result) };
 
     /// Opens IN for a pass. Nothing was read of it, and no read has failed.
     fn open(&mut self, path: &str, turn: Turn) -> Result<Self::In, OpenFault>
@@ -143,7 +143,7 @@ pub trait Host {
     /// Makes OUT. With `overwrite` it takes the place of a plain file; otherwise there must be none. It took nothing, and no write has failed.
     fn create(&mut self, path: &str, overwrite: bool) -> Result<Self::Out, CreateFault>
         ensures created { IfOk result (λ _. log self.new
-            ≡ then_one (log self.old) (created path.now)) }
+            ≡ then_one (log self.old) (created path.now overwrite)) }
         ensures fresh { IfOk result (λ out. Self.Out.has_taken out 0 []
             × IfSome (Self.Out.taken out) (λ taken. taken ≡ []) × (Self.Out.failures out ≡ 0)) }
         ensures failed { IfErr result (λ fault. log self.new
@@ -163,6 +163,7 @@ pub trait Host {
               bytes = bytes;
               reports = is_some (Self.Out.taken out);
               failures = Self.Out.failures out;
+              kept = whole;
               fault = result_err result;
             }))) }
         ensures logged { (bytes : List ℕ) → Self.Out.has_taken out 0 bytes
@@ -170,6 +171,7 @@ pub trait Host {
               bytes = bytes;
               reports = is_some (Self.Out.taken out);
               failures = Self.Out.failures out;
+              kept = whole;
               fault = result_err result;
             })) };
 

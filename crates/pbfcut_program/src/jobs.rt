@@ -5,23 +5,28 @@ ghost use Rattle.osm_polygon.specs.Groups.{clusters_area};
 ghost use Rattle.osm_polygon.specs.Polygon.{Rings};
 ghost use Rattle.osm_polygon.specs.Polygons.{polygons_area, polygons_of};
 ghost use Rattle.osm_polygon.specs.Texts.{polygons_of_text};
+ghost use Rattle.osm_ways.specs.Selection.{all_parents, complete_ways, smart};
+ghost use Rattle.osm_ways.specs.Whole.{is_wanted};
 ghost use Rattle.pbfcut_program.specs.Devices.{AreFresh, CloseAll, Fronts, WorksOn};
 ghost use Rattle.pbfcut_program.specs.Events.{Event, text_read, then_all};
 ghost use Rattle.pbfcut_program.specs.Fails.{FailsOpening};
 ghost use Rattle.pbfcut_program.specs.Jobs.{area_of, feeds_of, plan_of, task_of};
 ghost use Rattle.pbfcut_program.specs.Manner.{check_in, input_form, manner_of, to_raw};
 ghost use Rattle.pbfcut_program.specs.Program.{MeansArea, openings};
-ghost use Rattle.pbfcut_program.specs.Tasks.{extracting, extracting_parents, passes_of};
+ghost use Rattle.pbfcut_program.specs.Tasks.{extracting, passes_of};
 
 use crate::engine::{Engine, Halted, Report, convert, copy, extract, extract_parents};
 use crate::host::{Host, Seed, TextFault};
 use crate::opening::{FourPasses, Input, ThreePasses, TwoPasses, open_four, open_three, open_two};
 use osm_box::BoundingBox;
 use osm_polygon::{MultiPolygon, read_polygons};
+use osm_ways::WholeTypes;
 use pbf_frame::{Drain, Feed, Stop};
+use pbfcut::{CompleteWays, Smart};
 use pbfcut_cli::{Ending, Region};
 use std::alloc::Global;
 use std::hash::BuildHasher;
+use std::mem;
 
 /// What is cut out.
 #[derive(Drop)]
@@ -76,6 +81,7 @@ pub(crate) enum Plan {
     Copy,
     Extract(Cut),
     ExtractParents(Cut),
+    ExtractSmart(Cut, WholeTypes),
 }
 
 /// An extract, of so many passes.
@@ -85,6 +91,14 @@ pub(crate) struct Cutting<P> {
     cut: Cut,
 }
 
+/// A smart extract.
+#[derive(Drop)]
+pub(crate) struct SmartCutting<F> {
+    passes: ThreePasses<F>,
+    cut: Cut,
+    types: WholeTypes,
+}
+
 /// What is done with IN, opened for each pass.
 #[derive(Drop)]
 pub(crate) enum Job<F> {
@@ -92,6 +106,7 @@ pub(crate) enum Job<F> {
     Copy(TwoPasses<F>),
     Extract(Cutting<ThreePasses<F>>),
     ExtractParents(Cutting<FourPasses<F>>),
+    ExtractSmart(SmartCutting<F>),
 }
 
 /// Opens IN for each pass of what is to be done.
@@ -111,7 +126,7 @@ pub(crate) fn open_job<H: Host>(
 {
     let passes = match &plan {
         Plan::Convert | Plan::Copy => 2,
-        Plan::Extract(_) => 3,
+        Plan::Extract(_) | Plan::ExtractSmart(_, _) => 3,
         Plan::ExtractParents(_) => 4,
     };
     let input = Input {
@@ -130,6 +145,10 @@ pub(crate) fn open_job<H: Host>(
             let passes = open_four(host, &input)?;
             Ok(Job::ExtractParents(Cutting { passes, cut }))
         }
+        Plan::ExtractSmart(cut, types) => {
+            let passes = open_three(host, &input)?;
+            Ok(Job::ExtractSmart(SmartCutting { passes, cut, types }))
+        }
     }
 }
 
@@ -143,18 +162,45 @@ fn cut_out<F: Feed, D: Drain, S: BuildHasher + Drop>(
     requires { IfSome (D.taken drain.old) (λ taken. taken ≡ []) }
     ensures works { let old = cutting.old.passes in let now = cutting.new.passes in
         WorksOn (to_raw (manner_of engine)) (check_in engine seed.key)
-        F.Feed D.Drain (extracting (area_of cutting.old.cut))
+        F.Feed D.Drain (extracting complete_ways (area_of cutting.old.cut))
         (old.one ∷ old.two ∷ old.three ∷ []) (now.one ∷ now.two ∷ now.three ∷ [])
         drain.old drain.new result }
     ensures front { let old = cutting.old.passes in
-        Fronts (input_form engine.program) (extracting (area_of cutting.old.cut))
+        Fronts (input_form engine.program) (extracting complete_ways (area_of cutting.old.cut))
         (F.remaining old.one ∷ F.remaining old.two ∷ F.remaining old.three ∷ [])
         (D.taken drain.old) (D.taken drain.new) result }
 {
     let Cutting { passes, cut } = cutting;
     match &*cut {
-        Cut::Box(area) => extract(engine, passes, area, drain, seed),
-        Cut::Polygon(area) => extract(engine, passes, area, drain, seed),
+        Cut::Box(area) => extract(engine, passes, CompleteWays { area }, drain, seed),
+        Cut::Polygon(area) => extract(engine, passes, CompleteWays { area }, drain, seed),
+    }
+}
+
+/// Writes the smart extract.
+fn cut_out_smart<F: Feed, D: Drain, S: BuildHasher + Drop>(
+    engine: Engine,
+    cutting: &mut SmartCutting<F>,
+    drain: &mut D,
+    seed: Seed<S>,
+) -> Result<Report, Halted>
+    requires { IfSome (D.taken drain.old) (λ taken. taken ≡ []) }
+    ensures works { let old = cutting.old.passes in let now = cutting.new.passes in
+        WorksOn (to_raw (manner_of engine)) (check_in engine seed.key) F.Feed D.Drain
+        (extracting (smart (is_wanted cutting.old.types)) (area_of cutting.old.cut))
+        (old.one ∷ old.two ∷ old.three ∷ []) (now.one ∷ now.two ∷ now.three ∷ [])
+        drain.old drain.new result }
+    ensures front { let old = cutting.old.passes in
+        Fronts (input_form engine.program)
+        (extracting (smart (is_wanted cutting.old.types)) (area_of cutting.old.cut))
+        (F.remaining old.one ∷ F.remaining old.two ∷ F.remaining old.three ∷ [])
+        (D.taken drain.old) (D.taken drain.new) result }
+{
+    let SmartCutting { passes, cut, types } = cutting;
+    let types = mem::replace(types, WholeTypes::none(engine.alloc));
+    match &*cut {
+        Cut::Box(area) => extract(engine, passes, Smart { area, types }, drain, seed),
+        Cut::Polygon(area) => extract(engine, passes, Smart { area, types }, drain, seed),
     }
 }
 
@@ -168,12 +214,12 @@ fn cut_out_parents<F: Feed, D: Drain, S: BuildHasher + Drop>(
     requires { IfSome (D.taken drain.old) (λ taken. taken ≡ []) }
     ensures works { let old = cutting.old.passes in let now = cutting.new.passes in
         WorksOn (to_raw (manner_of engine)) (check_in engine seed.key)
-        F.Feed D.Drain (extracting_parents (area_of cutting.old.cut))
+        F.Feed D.Drain (extracting all_parents (area_of cutting.old.cut))
         (old.one ∷ old.two ∷ old.three ∷ old.four ∷ [])
         (now.one ∷ now.two ∷ now.three ∷ now.four ∷ [])
         drain.old drain.new result }
     ensures front { let old = cutting.old.passes in
-        Fronts (input_form engine.program) (extracting_parents (area_of cutting.old.cut))
+        Fronts (input_form engine.program) (extracting all_parents (area_of cutting.old.cut))
         (F.remaining old.one ∷ F.remaining old.two ∷ F.remaining old.three ∷ F.remaining old.four ∷ [])
         (D.taken drain.old) (D.taken drain.new) result }
 {
@@ -203,6 +249,7 @@ pub(crate) fn do_job<F: Feed, D: Drain, S: BuildHasher + Drop>(
         Job::Copy(passes) => copy(engine, passes, drain, seed.key),
         Job::Extract(cutting) => cut_out(engine, cutting, drain, seed),
         Job::ExtractParents(cutting) => cut_out_parents(engine, cutting, drain, seed),
+        Job::ExtractSmart(cutting) => cut_out_smart(engine, cutting, drain, seed),
     }
 }
 
@@ -251,5 +298,6 @@ pub(crate) fn close_job<H: Host>(host: &mut H, job: Job<H::In>)
         Job::Convert(passes) | Job::Copy(passes) => close_two(host, passes),
         Job::Extract(cutting) => close_three(host, cutting.passes),
         Job::ExtractParents(cutting) => close_four(host, cutting.passes),
+        Job::ExtractSmart(cutting) => close_three(host, cutting.passes),
     }
 }

@@ -5,6 +5,7 @@ mod ending;
 mod engine;
 mod host;
 mod jobs;
+pub mod laws;
 mod linked;
 mod opening;
 mod printing;

@@ -130,11 +130,11 @@ fn run_command<H: Host>(engine: Engine, host: &mut H, command: &Command<'_>) -> 
         }
         Command::Extract {
             region,
-            parents,
+            strategy,
             files,
         } => {
             let progress = shows_writing(&*host, engine.program, files);
-            run_extract(engine, host, region, *parents, files, progress)
+            run_extract(engine, host, region, *strategy, files, progress)
         }
     }
 }

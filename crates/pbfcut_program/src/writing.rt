@@ -5,7 +5,7 @@ ghost use Rattle.std.specs.Prelude.{◌≡◌, ◌⊎◌, ◌∷◌, ◌++◌, �
 ghost use Rattle.std.specs.Result.{result_err};
 ghost use Rattle.pbf_frame.specs.declared.stop.Stop.TheVariants as stop;
 ghost use Rattle.pbfcut_cli.specs.declared.endings.Ending.TheVariants as ending;
-ghost use Rattle.pbf_pass.specs.HeaderLimit.{judged_writable};
+ghost use Rattle.pbfcut.specs.Receipts.{judge_by};
 ghost use Rattle.pbf_pass.specs.Stops.{WriteFailed};
 ghost use Rattle.pbfcut_cli.specs.declared.programs.Program.TheVariants.{Pbfcutz};
 ghost use Rattle.pbfcut_program.specs.Devices.{AreFresh, FinishesPacked, Fronts, IsAsked, IsFreshOut, MeansBy, TakenBy, Works, WorksOn};
@@ -14,10 +14,10 @@ ghost use Rattle.pbfcut_program.specs.Fails.{Each, Fails, FailsFor, FailsOpening
 ghost use Rattle.pbfcut_program.specs.Jobs.{area_of, feeds_of, plan_of, task_of};
 ghost use Rattle.pbfcut_program.specs.Leaving.{Leaves, LeavesFor};
 ghost use Rattle.pbfcut_program.specs.Outcomes.{ending_of_file};
-ghost use Rattle.pbfcut_program.specs.Program.{Extracts, LeavesCut, WritesCounts, advice, digest_if_asked, extract_task, is_empty, is_screen, looks, makes, openings, screen_of};
+ghost use Rattle.pbfcut_program.specs.Program.{Extracts, LeavesCut, WritesCounts, advice, digest_if_asked, is_empty, is_screen, looks, makes, openings, screen_of, strategy_of};
 ghost use Rattle.pbfcut_program.specs.Manner.{check_in, hashes_meaning, input_form, manner_of, of_output, output_form, packed_file, to_raw};
 ghost use Rattle.pbfcut_program.specs.Readings.{IsWork};
-ghost use Rattle.pbfcut_program.specs.Tasks.{judge_of, passes_of};
+ghost use Rattle.pbfcut_program.specs.Tasks.{extracting, judge_of, passes_of};
 
 use crate::engine::{Engine, Halted, Report};
 use crate::host::{CreateFault, FinishFault, Host, Screen, Seed};
@@ -25,10 +25,12 @@ use crate::jobs::{Cut, Job, Plan, close_job, do_job, open_job, read_region};
 use crate::linked::LinkedDrain;
 use crate::opening::{draw_seed, open_screen};
 use crate::printing::{Done, print_done, tell_refusal};
+use osm_ways::WholeTypes;
 use pbf_frame::{Drain, Feed, Stop};
 use pbf_pass::{Counts, HashedDrain};
 use pbf_unpack::{Deflater, PackedDrain};
-use pbfcut_cli::{Ending, Files, Program, Region};
+use pbfcut_cli::{Ending, Files, Program, Region, Strategy};
+use std::alloc::{AllocError, Global};
 use std::hash::BuildHasher;
 
 /// Whether OUT is standard output, which only pbfcutz writes to.
@@ -52,7 +54,7 @@ fn screen_of(is_screen: bool) -> Screen
 /// Refuses an OUT that is there, unless it is standard output.
 fn refuse_existing<H: Host>(host: &mut H, is_screen: bool, files: &Files<'_>) -> Result<(), Ending>
     ensures ok { OnOk result (H.log host.new
-        ≡ then_all (H.log host.old) (looks is_screen files.now.output.now)) }
+        ≡ then_all (H.log host.old) (looks is_screen files.now)) }
     ensures err { IfErr result (λ how. (events : List Event)
         × (H.log host.new ≡ then_all (H.log host.old) events) × FailsOpening how events) }
 {
@@ -68,7 +70,7 @@ fn refuse_existing<H: Host>(host: &mut H, is_screen: bool, files: &Files<'_>) ->
 /// Makes OUT, unless it is standard output.
 fn make_out<H: Host>(host: &mut H, is_screen: bool, files: &Files<'_>) -> Result<H::Out, Ending>
     ensures ok { IfOk result (λ out. (H.log host.new
-        ≡ then_one (H.log host.old) (makes is_screen files.now.output.now))
+        ≡ then_one (H.log host.old) (makes is_screen files.now))
         × IsFreshOut H.Out.Drain out) }
     ensures err { IfErr result (λ how. (events : List Event)
         × (H.log host.new ≡ then_all (H.log host.old) events) × FailsOpening how events) }
@@ -101,9 +103,9 @@ fn prepare<H: Host>(
     progress: bool,
 ) -> Result<Ready<H::In, H::Out, H::Hasher>, Ending>
     ensures ok { IfOk result (λ r. H.log host.new ≡ then_all (H.log host.old)
-        (looks is_screen files.now.output.now
+        (looks is_screen files.now
         ++ openings files.now.input.now 1 (map H.In.remaining (feeds_of r.job))
-        ++ seeded (Some r.seed.key) ∷ makes is_screen files.now.output.now ∷ [])) }
+        ++ seeded (Some r.seed.key) ∷ makes is_screen files.now ∷ [])) }
     ensures fresh { IfOk result (λ r. AreFresh H.In.Feed (feeds_of r.job)
         × IsFreshOut H.Out.Drain r.out) }
     ensures planned { IfOk result (λ r. (task_of r.job ≡ plan_of plan)
@@ -390,7 +392,8 @@ fn run_job<H: Host>(
         (hashes_meaning (output_form engine.packs engine.program) engine.digests)
         (of_output (manner_of engine) out.bytes))
         × IsWork (manner_of engine) (check_in engine ready.seed.key)
-        (task_of ready.job) rs out.bytes done.report.counts done.report.input done.report.raw) }
+        (task_of ready.job) rs out.bytes done.report.counts done.report.input done.report.raw
+        × (out.kept ≡ true)) }
     ensures err { IfErr result (λ how. (events : List Event)
         × (H.log host.new ≡ then_all (H.log host.old) events)
         × Fails (manner_of engine) (judging (judge_of (task_of ready.job)))
@@ -463,35 +466,37 @@ fn advise_empty<H: Host>(host: &mut H, region: &Region<'_>, counts: Counts)
 }
 
 /// The plan of an extract.
-fn plan_extract(cut: Cut, parents: bool) -> Plan
-    ensures { plan_of result ≡ extract_task parents (area_of cut) }
+fn plan_extract(alloc: Global, cut: Cut, strategy: Strategy<'_>) -> Result<Plan, AllocError>
+    ensures { IfOk result (λ plan. plan_of plan
+        ≡ extracting (strategy_of strategy.entry) (area_of cut)) }
 {
-    if parents {
-        Plan::ExtractParents(cut)
-    } else {
-        Plan::Extract(cut)
+    match strategy {
+        Strategy::CompleteWays => Ok(Plan::Extract(cut)),
+        Strategy::AllParents => Ok(Plan::ExtractParents(cut)),
+        Strategy::Smart(types) => Ok(Plan::ExtractSmart(cut, WholeTypes::parse(alloc, types)?)),
     }
 }
 
-/// `extract IN OUT`, with all parents or without.
+/// `extract IN OUT`, by a strategy.
 pub(crate) fn run_extract<H: Host>(
     engine: Engine,
     host: &mut H,
     region: &Region<'_>,
-    parents: bool,
+    strategy: Strategy<'_>,
     files: &Files<'_>,
     progress: bool,
 ) -> Result<(), Ending>
     ensures ok { OnOk result ((events : List Event)
         × (H.log host.new ≡ then_all (H.log host.old) events)
-        × Extracts (manner_of engine) region.now parents files.now events) }
+        × Extracts (manner_of engine) region.now strategy.entry files.now events) }
     ensures err { IfErr result (λ how. (events : List Event)
         × (H.log host.new ≡ then_all (H.log host.old) events)
-        × FailsFor (manner_of engine) (judging judged_writable) how events
-        × (Each Quiet events ⊎ LeavesCut (manner_of engine) region.now parents events)) }
+        × FailsFor (manner_of engine) (judging (judge_by (strategy_of strategy.entry))) how events
+        × (Each Quiet events ⊎ LeavesCut (manner_of engine) region.now strategy.entry events)) }
 {
     let cut = read_region(engine.alloc, host, region)?;
-    let counts = write(engine, host, files, plan_extract(cut, parents), progress)?;
+    let plan = plan_extract(engine.alloc, cut, strategy)?;
+    let counts = write(engine, host, files, plan, progress)?;
     advise_empty(host, region, counts);
     Ok(())
 }

@@ -8,15 +8,15 @@ use Rattle.program_tests.specs.declared.happened.Happened.TheVariants as happene
 abbrev pub event_of : Happened → Event
 event_of (happened.TextRead path text) = text_read path.items text.items
 event_of (happened.TextNotRead path) = text_not_read path.items
-event_of (happened.Looked path there) = looked path.items there
+event_of (happened.Looked path overwrite there) = looked path.items overwrite there
 event_of (happened.Opened path pass has) = opened path.items pass (Some has.items)
 event_of (happened.NotOpened path fault) = not_opened path.items fault
 event_of (happened.Seeded key) = seeded (Some key)
-event_of (happened.Created path) = created path.items
+event_of (happened.Created path overwrite) = created path.items overwrite
 event_of (happened.NotCreated path fault) = not_created path.items fault
 event_of (happened.Screened there) = screened there
 event_of (happened.Read bytes left failures) = read (record { bytes = bytes.items; left = Some left.items; failures = failures })
-event_of (happened.Wrote bytes failures fault) = wrote (record { bytes = bytes.items; reports = true; failures = failures; fault = fault })
+event_of (happened.Wrote bytes failures kept fault) = wrote (record { bytes = bytes.items; reports = true; failures = failures; kept = kept; fault = fault })
 event_of (happened.Printed screen text fault) = printed screen text.items fault
 event_of (happened.Told text) = told text.items
 event_of happened.Advised = advised

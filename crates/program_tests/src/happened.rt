@@ -8,20 +8,21 @@ pub enum Happened {
     /// A path, and the text that was read there.
     TextRead(Vec<u8>, Vec<u8>),
     TextNotRead(Vec<u8>),
-    /// A path, and whether there is a file that isn't to be replaced.
-    Looked(Vec<u8>, bool),
+    /// A path, whether a plain file may be replaced, and whether there is a file that isn't to be.
+    Looked(Vec<u8>, bool, bool),
     /// A path, the number of the pass, and the bytes of the file.
     Opened(Vec<u8>, u8, Vec<u8>),
     NotOpened(Vec<u8>, OpenFault),
     /// The key that was drawn.
     Seeded(u128),
-    Created(Vec<u8>),
+    /// A path, and whether a plain file may be replaced.
+    Created(Vec<u8>, bool),
     NotCreated(Vec<u8>, CreateFault),
     Screened(bool),
     /// The bytes that were read of IN, those that were left, and how many reads failed.
     Read(Vec<u8>, Vec<u8>, u64),
-    /// The bytes that OUT took, how many writes failed, and why not all that it took went out.
-    Wrote(Vec<u8>, u64, Option<FinishFault>),
+    /// The bytes that OUT took, how many writes failed, whether it was to be kept, and why not all that it took went out.
+    Wrote(Vec<u8>, u64, bool, Option<FinishFault>),
     /// Where a text went, the text, and why not all of it did.
     Printed(Screen, Vec<u8>, Option<PrintFault>),
     Told(Vec<u8>),

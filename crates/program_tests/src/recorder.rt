@@ -127,7 +127,7 @@ impl<'a, R: Abort + AllocGlobal> Host for Recorder<'a, R> {
     fn exists(&mut self, path: &str, overwrite: bool) -> bool {
         let there = self.find(path).is_some() && !overwrite;
         let name = copy(self.rt, path.as_bytes());
-        self.record(Happened::Looked(name, there));
+        self.record(Happened::Looked(name, overwrite, there));
         there
     }
 
@@ -160,11 +160,11 @@ impl<'a, R: Abort + AllocGlobal> Host for Recorder<'a, R> {
         })
     }
 
-    fn create(&mut self, path: &str, _overwrite: bool) -> Result<Reel, CreateFault> {
+    fn create(&mut self, path: &str, overwrite: bool) -> Result<Reel, CreateFault> {
         let name = copy(self.rt, path.as_bytes());
         match self.make() {
             Ok(reel) => {
-                self.record(Happened::Created(name));
+                self.record(Happened::Created(name, overwrite));
                 Ok(reel)
             }
             Err(fault) => {
@@ -187,10 +187,10 @@ impl<'a, R: Abort + AllocGlobal> Host for Recorder<'a, R> {
         }
     }
 
-    fn finish(&mut self, out: Reel, _whole: bool) -> Result<(), FinishFault> {
+    fn finish(&mut self, out: Reel, whole: bool) -> Result<(), FinishFault> {
         let bytes = copy(self.rt, out.taken());
         let unfinished = self.unfinished;
-        self.record(Happened::Wrote(bytes, out.failures, unfinished));
+        self.record(Happened::Wrote(bytes, out.failures, whole, unfinished));
         match unfinished {
             Some(fault) => Err(fault),
             None => Ok(()),

@@ -29,7 +29,7 @@ fn read<R: Abort + AllocGlobal>(rt: &R, bytes: &[u8], left: &[u8]) -> Happened {
 /// What happens before an extract of this file `a` makes `b`.
 fn seeded<R: Abort + AllocGlobal>(rt: &R, file: &[u8]) -> Result<Vec<Happened>, AllocError> {
     let mut events = Vec::new(rt.alloc());
-    events.push(Happened::Looked(copy(rt, b"b"), false))?;
+    events.push(Happened::Looked(copy(rt, b"b"), false, false))?;
     events.push(opened(rt, 1, file))?;
     events.push(opened(rt, 2, file))?;
     events.push(opened(rt, 3, file))?;
@@ -40,7 +40,7 @@ fn seeded<R: Abort + AllocGlobal>(rt: &R, file: &[u8]) -> Result<Vec<Happened>, 
 /// What happens before it reads.
 fn prepared<R: Abort + AllocGlobal>(rt: &R, file: &[u8]) -> Result<Vec<Happened>, AllocError> {
     let mut events = seeded(rt, file)?;
-    events.push(Happened::Created(copy(rt, b"b")))?;
+    events.push(Happened::Created(copy(rt, b"b"), false))?;
     Ok(events)
 }
 
@@ -54,7 +54,7 @@ fn extracted<R: Abort + AllocGlobal>(
     events.push(read(rt, &THREE_DENSE_NODES, &[]))?;
     events.push(read(rt, &[], &THREE_DENSE_NODES))?;
     events.push(read(rt, &THREE_DENSE_NODES, &[]))?;
-    events.push(Happened::Wrote(copy(rt, taken), failures, None))?;
+    events.push(Happened::Wrote(copy(rt, taken), failures, failures == 0, None))?;
     Ok(events)
 }
 
@@ -105,7 +105,7 @@ fn a_refused_file(rt: HostRuntime) -> Result<(), Fail> {
     events.push(read(&rt, file, &[]))?;
     events.push(read(&rt, &[], file))?;
     events.push(read(&rt, &[], file))?;
-    events.push(Happened::Wrote(copy(&rt, &[]), 0, None))?;
+    events.push(Happened::Wrote(copy(&rt, &[]), 0, false, None))?;
     events.push(Happened::Told(copy(&rt, b"pbfcut: refused at 19: 10 PrefixCut\n")))?;
     events.push(Happened::Advised)?;
     assert!(rt; goes(&rt, &EXTRACT, file, 4_096, 1, &events)?);
@@ -163,7 +163,7 @@ fn a_text_that_nobody_reads(rt: HostRuntime) -> Result<(), Fail> {
     events.push(Happened::Screened(true))?;
     events.push(read(&rt, &THREE_DENSE_NODES, &[]))?;
     events.push(read(&rt, &THREE_DENSE_NODES, &[]))?;
-    events.push(Happened::Wrote(copy(&rt, THREE_LINES.as_bytes()), 0, closed))?;
+    events.push(Happened::Wrote(copy(&rt, THREE_LINES.as_bytes()), 0, true, closed))?;
     events.push(Happened::Told(copy(&rt, &[])))?;
     events.push(Happened::Advised)?;
     assert!(rt; ends(&rt, &mut host, &["show", "a"], 141, &events)?);
@@ -197,7 +197,7 @@ fn info_in_json(rt: HostRuntime) -> Result<(), Fail> {
     events.push(opened(&rt, 1, &THREE_DENSE_NODES))?;
     events.push(Happened::Screened(true))?;
     events.push(read(&rt, &THREE_DENSE_NODES, &[]))?;
-    events.push(Happened::Wrote(copy(&rt, text), 0, None))?;
+    events.push(Happened::Wrote(copy(&rt, text), 0, true, None))?;
     let words = owned(rt.alloc(), &["info", "--json", "a"])?;
     assert_eq!(rt; run(rt.alloc(), &mut host, Program::Pbfcutz, &words), 0);
     assert_eq!(rt; host.events.as_slice(), events.as_slice());

@@ -4,8 +4,8 @@ use osm_entity::{BoundingBox, BoxFault};
 use pbf_frame::Stop;
 use pbf_wire::{Fault, Reason};
 use pbfcut_cli::{
-    ChoiceFault, CliFault, Command, Ending, Files, Program, Region, line, normalize_words,
-    read_words, status,
+    ChoiceFault, CliFault, Command, Ending, Files, Program, Region, Strategy, line,
+    normalize_words, read_words, status,
 };
 use std::alloc::{AllocError, Global};
 use std::process::Abort;
@@ -97,10 +97,14 @@ fn is_extract(alloc: Global, words: &[&str], asked: bool) -> bool {
         Ok(
             Command::Extract {
                 region: Region::Box(area),
-                parents,
+                strategy,
                 files,
             },
-        ) => *area == LONDON && *parents == asked && are_files(files, (asked, asked)),
+        ) => {
+            *area == LONDON
+                && matches!(strategy, Strategy::AllParents) == asked
+                && are_files(files, (asked, asked))
+        }
         _ => false,
     }
 }
@@ -112,10 +116,24 @@ fn is_polygon(alloc: Global, program: Program, words: &[&str]) -> bool {
         Ok(
             Command::Extract {
                 region: Region::Polygon(path),
-                parents: false,
+                strategy: Strategy::CompleteWays,
                 files,
             },
         ) => *path == "p" && are_files(files, (false, false)),
+        _ => false,
+    }
+}
+
+/// Whether they are a command to make a smart extract with these types.
+fn is_smart(alloc: Global, program: Program, words: &[&str], types: &str) -> bool {
+    let read = read_words(alloc, program, words);
+    match &read {
+        Ok(
+            Command::Extract {
+                strategy: Strategy::Smart(named),
+                ..
+            },
+        ) => *named == types,
         _ => false,
     }
 }
@@ -240,12 +258,37 @@ fn words_of_osmium(rt: HostRuntime) {
             "b",
         ];
         assert!(rt; is_polygon(alloc, program, &words));
-        let words = ["extract", "-s", "smart", "-pp", "a", "b"];
+        let words = ["extract", "-s", "simple", "-pp", "a", "b"];
         assert!(rt; is_choice(alloc, program, &words, ChoiceFault::OtherStrategy));
         let words = ["convert", "-f", "osm.pbf", "a", "b"];
         assert!(rt; is_choice(alloc, program, &words, ChoiceFault::OtherFormat));
         let words = ["convert", "--input-format=xml", "a", "b"];
         assert!(rt; is_choice(alloc, program, &words, ChoiceFault::OtherFormat));
+    }
+}
+
+#[test]
+fn smart_words(rt: HostRuntime) {
+    let alloc = rt.alloc();
+    for program in [Program::Pbfcut, Program::Pbfcutz] {
+        let words = ["extract", "-s", "smart", "-pp", "a", "b"];
+        assert!(rt; is_smart(alloc, program, &words, "multipolygon"));
+        let words = ["extract", "--strategy=smart", "--parents", "-pp", "a", "b"];
+        assert!(rt; is_smart(alloc, program, &words, "multipolygon"));
+        let words = [
+            "extract",
+            "-ssmart",
+            "--types",
+            "boundary,route",
+            "-pp",
+            "a",
+            "b",
+        ];
+        assert!(rt; is_smart(alloc, program, &words, "boundary,route"));
+        let words = ["extract", "-s", "smart", "--types=", "-pp", "a", "b"];
+        assert!(rt; is_smart(alloc, program, &words, ""));
+        let words = ["extract", "--types=any", "-pp", "a", "b"];
+        assert!(rt; is_choice(alloc, program, &words, ChoiceFault::TypesAlone));
     }
 }
 

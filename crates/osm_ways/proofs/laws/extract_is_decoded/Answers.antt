@@ -5,4 +5,4 @@ use Rattle.osm_ways.proofs.Extracts.{extract_viewed}
 use Rattle.osm_ways.proofs.laws.extract_is_decoded.Goals as goal
 
 pub returns : goal.returns
-returns c by area = extract_viewed by decoded (seen_entity area) (seen_decoded area) (seen_alike area)
+returns c by area = extract_viewed by decoded (seen_entity by.whole area) (seen_decoded by.whole area) (seen_alike by.whole area)

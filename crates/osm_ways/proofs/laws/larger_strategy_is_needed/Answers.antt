@@ -6,5 +6,5 @@ use Rattle.osm_ways.proofs.laws.larger_strategy_is_needed.Goals as goal
 pub returns : goal.returns
 returns c law =
     let town = a_node (pos 1) true ∷ a_way (pos 1) (pos 1 ∷ []) ∷ a_way (pos 2) (pos 2 ∷ []) ∷ a_relation (pos 1) true (way_member (pos 1) ∷ way_member (pos 2) ∷ []) ∷ [] in
-    let three_is_four : length (extract smart (λ e. e) (extract complete_ways (λ e. e) town)) ≡ length (extract smart (λ e. e) town) = λ i. length (law (λ e. e) town i) in
+    let three_is_four : length (extract (smart (λ _. true)) (λ e. e) (extract complete_ways (λ e. e) town)) ≡ length (extract (smart (λ _. true)) (λ e. e) town) = λ i. length (law (λ _. true) (λ e. e) town i) in
     absurd (cc)

@@ -12,7 +12,7 @@ pub returns-clause-parents : goal.returns-clause-parents
 returns-clause-parents c = chosen_with_parents
 
 pub returns-clause-members : goal.returns-clause-members
-returns-clause-members c = chosen_with_members
+returns-clause-members c seen ids h whole = chosen_with_members whole seen ids h
 
 pub returns-clause-spared : goal.returns-clause-spared
 returns-clause-spared c = none_to_add

@@ -1,4 +1,6 @@
-use Rattle.std.proofs.Common.{rules, subst, ap, ◌∙◌}
+use Rattle.std.proofs.Common.{rules, subst, sym, ap, ◌∙◌}
+use Rattle.pbf_pass.specs.declared.receipt.Halt.{Halt}
+use Rattle.pbfcut.specs.Choosing.{RefusesOrder}
 use Rattle.osm_box.specs.declared.bounding_box.BoundingBox.{BoundingBox}
 use Rattle.pbf_header.specs.Header.{header_of}
 use Rattle.pbf_header.specs.WrittenHeader.{EdgesTyped, edges_of, header_out_for_box}
@@ -9,7 +11,7 @@ use Rattle.pbf_pass.specs.Stops.{FaultOf, Only, unchanged}
 use Rattle.pbf_pass.proofs.LimitLemmas.{limit_refused}
 use Rattle.pbf_pass.specs.Refused.{stop_of}
 use Rattle.pbfcut.proofs.ChangedLemmas.{never_changed}
-use Rattle.pbfcut.proofs.ExtractingLemmas.{begins, edges_typed}
+use Rattle.pbfcut.proofs.ExtractingLemmas.{begins, edges_typed, refuses_order}
 use Rattle.pbfcut.proofs.LaterLemmas.{stops_earlier}
 use Rattle.pbf_pass.proofs.GivenLemmas.{tells_file, takes_told}
 use Rattle.pbf_pass.proofs.HaltingLemmas.{halts_writing, limit_caused, limit_halts}
@@ -39,5 +41,8 @@ returns-clause-begun g c =
       file = one.file;
       supplied = one.supplied;
       digest_is = one.digest_is;
-      holding = begins g.A.Area.area g.P.NodeTaker.step one.file c.in_ok-judged.judged.pass _ _ _ _ one.holding.1 c.in_ok-writable_header.ensures.header c.in_ok-writable_header.ensures.within (c.in_ok-header.ensures ∙ ap (λ (area : BoundingBox). header_out_for_box area (header_of c.in_ok-writable_header.field-0.now)) c.bounds-bounds.ensures) (search rules) (subst (λ (area : BoundingBox). EdgesTyped (edges_of area)) c.bounds-bounds.ensures (edges_typed bounds (search rules) (search rules) (search rules) (search rules)));
+      holding = (
+        begins g.A.Area.area g.P.NodeTaker.step one.file c.in_ok-judged.judged.pass _ _ _ _ one.holding.1 c.in_ok-writable_header.ensures.header c.in_ok-writable_header.ensures.within (c.in_ok-header.ensures ∙ ap (λ (area : BoundingBox). header_out_for_box area (header_of c.in_ok-writable_header.field-0.now)) c.bounds-bounds.ensures) (search rules) (subst (λ (area : BoundingBox). EdgesTyped (edges_of area)) c.bounds-bounds.ensures (edges_typed bounds (search rules) (search rules) (search rules) (search rules))),
+        subst (λ (h : Halt). RefusesOrder c.in_ok-judged.judged.digest h one.file) (sym c.unsorted.ensures) (refuses_order (with_seen_in g.A.Area.area g.P.NodeTaker.step) _ _ one.file c.in_ok-judged.judged _ one.holding.1 one.holding.0 c.in_ok-writable_header.ensures.header),
+      );
     }

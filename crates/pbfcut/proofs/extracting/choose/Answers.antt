@@ -12,7 +12,7 @@ use Rattle.pbfcut.proofs.extracting.choose.Goals as goal
 pub returns-in_err-begun-clause-ends : goal.returns-in_err-begun-clause-ends
 returns-in_err-begun-clause-ends g c =
     let p = err_from_is_err_and c.from_residual.result c.from_residual.ensures.1 in
-    rw (p.1, p.2) (record { next = tt; halts = choosing_more _ [] (fed g.G.Feed c.args.second.now c.args.second.now) _ _ c.in_err-begun.ensures.halts; feeds = search rules })
+    rw (p.1, p.2) (record { next = tt; halts = choosing_more judged_writable _ [] (fed g.G.Feed c.args.second.now c.args.second.now) _ _ c.in_err-begun.ensures.halts; feeds = search rules })
 
 pub returns-in_err-gather_rest-clause-ends : goal.returns-in_err-gather_rest-clause-ends
 returns-in_err-gather_rest-clause-ends g c =
@@ -26,8 +26,8 @@ returns-in_err-gather_rest-clause-ends g c =
       next = tt;
       halts = record {
         refused = no_refusal g.G.Feed again _ _ ⊥ _ stops;
-        stops = last_stops first _ _ one one.holding.frames one.holding.judged [] second again refl refl (Unit {0}) (FaultOf (judged_writable (supply_of first))) ⊥ _ stops;
-        changed = last_changed first _ _ one one.holding.frames one.holding.judged [] second again refl refl (Unit {0}) ⊥ _ stops;
+        stops = last_stops first _ _ one one.holding.0.frames one.holding.0.judged [] second again refl refl (Unit {0}) (FaultOf (judged_writable (supply_of first))) ⊥ _ stops;
+        changed = last_changed first _ _ one one.holding.0.frames one.holding.0.judged [] second again refl refl (Unit {0}) ⊥ _ stops;
       };
       feeds = search rules;
     })
@@ -40,5 +40,5 @@ returns-clause-chosen g c =
       file = one.file;
       supplied = one.supplied;
       digest_is = one.digest_is;
-      holding = chooses P.start P.step P.has_ways P.ended c.new-taking.ensures.takes (fed g.G.Feed c.args.second.now c.gather_rest.new.feed) _ (g.A.Area.area c.args.area) one.file _ _ _ _ _ _ _ (ap g.A.Area.area c.new-taking.ensures.area) one.holding c.new-taking.ensures.start c.in_ok-ways.ensures c.in_ok-chosen.ensures c.has_all_ways-spared.result c.has_all_ways-spared.ensures c.in_ok-gather_rest.ensures.gathered;
+      holding = chooses P.start P.step P.has_ways P.ended c.new-taking.ensures.takes (fed g.G.Feed c.args.second.now c.gather_rest.new.feed) _ (g.A.Area.area c.args.area) one.file _ _ _ _ _ _ _ c.new-taking.ensures.types _ (ap g.A.Area.area c.new-taking.ensures.area) one.holding.0 c.new-taking.ensures.start c.in_ok-ways.ensures c.in_ok-chosen.ensures c.has_all_ways-spared.result c.has_all_ways-spared.ensures c.in_ok-gather_rest.ensures.gathered;
     }

@@ -14,7 +14,7 @@ returns-in_err-begun-clause-ends g c =
     let p = err_from_is_err_and c.from_residual.result c.from_residual.ensures.1 in
     let second = fed g.G.Feed c.args.second.now c.args.second.now in
     let third = fed g.H.Feed c.args.third.now c.args.third.now in
-    rw (p.1, p.2) (record { next = tt; halts = choosing_more _ (second ∷ []) third _ _ (choosing_more _ [] second _ _ c.in_err-begun.ensures.halts); feeds = search rules })
+    rw (p.1, p.2) (record { next = tt; halts = choosing_more judged_writable _ (second ∷ []) third _ _ (choosing_more judged_writable _ [] second _ _ c.in_err-begun.ensures.halts); feeds = search rules })
 
 pub returns-in_err-gather_rest-clause-ends : goal.returns-in_err-gather_rest-clause-ends
 returns-in_err-gather_rest-clause-ends g c =
@@ -26,10 +26,10 @@ returns-in_err-gather_rest-clause-ends g c =
     let stops = c.in_err-gather_rest.ensures.stops in
     rw (p.1, p.2) (record {
       next = tt;
-      halts = choosing_more _ (second ∷ []) (fed g.H.Feed c.args.third.now c.args.third.now) _ _ (record {
+      halts = choosing_more judged_writable _ (second ∷ []) (fed g.H.Feed c.args.third.now c.args.third.now) _ _ (record {
         refused = no_refusal g.G.Feed again _ _ ⊥ _ stops;
-        stops = last_stops first _ _ one one.holding.frames one.holding.judged [] second again refl refl (Unit {0}) (FaultOf (judged_writable (supply_of first))) ⊥ _ stops;
-        changed = last_changed first _ _ one one.holding.frames one.holding.judged [] second again refl refl (Unit {0}) ⊥ _ stops;
+        stops = last_stops first _ _ one one.holding.0.frames one.holding.0.judged [] second again refl refl (Unit {0}) (FaultOf (judged_writable (supply_of first))) ⊥ _ stops;
+        changed = last_changed first _ _ one one.holding.0.frames one.holding.0.judged [] second again refl refl (Unit {0}) ⊥ _ stops;
       });
       feeds = search rules;
     })
@@ -47,8 +47,8 @@ returns-in_err-gather_rest-2-clause-ends g c =
       next = tt;
       halts = record {
         refused = no_refusal g.H.Feed again _ _ ⊥ _ stops;
-        stops = last_stops first _ _ one one.holding.frames one.holding.judged (second ∷ []) third again refl refl (Unit {0}) (FaultOf (judged_writable (supply_of first))) ⊥ _ stops;
-        changed = last_changed first _ _ one one.holding.frames one.holding.judged (second ∷ []) third again refl refl (Unit {0}) ⊥ _ stops;
+        stops = last_stops first _ _ one one.holding.0.frames one.holding.0.judged (second ∷ []) third again refl refl (Unit {0}) (FaultOf (judged_writable (supply_of first))) ⊥ _ stops;
+        changed = last_changed first _ _ one one.holding.0.frames one.holding.0.judged (second ∷ []) third again refl refl (Unit {0}) ⊥ _ stops;
       };
       feeds = search rules;
     })
@@ -61,7 +61,7 @@ returns-clause-chosen g c =
       file = one.file;
       supplied = one.supplied;
       digest_is = one.digest_is;
-      holding = chooses_parents P.start P.step P.has_ways P.ended c.new-taking.ensures.takes (fed g.G.Feed c.args.second.now c.gather_rest.new.feed) _ (g.A.Area.area c.args.area) one.file _ _ _ _ _ _ _ (ap g.A.Area.area c.new-taking.ensures.area) one.holding c.new-taking.ensures.start c.in_ok-ways.ensures.ways refl
+      holding = chooses_parents P.start P.step P.has_ways P.ended c.new-taking.ensures.takes (fed g.G.Feed c.args.second.now c.gather_rest.new.feed) _ (g.A.Area.area c.args.area) one.file _ _ _ _ _ _ _ c.new-taking.ensures.types _ (ap g.A.Area.area c.new-taking.ensures.area) one.holding.0 c.new-taking.ensures.start c.in_ok-ways.ensures.ways refl
           g.P.RelationTaker.found c.in_ok-ways.ensures.takes (fed g.H.Feed c.args.third.now c.gather_rest-2.new.feed) _ c.in_ok-ways.ensures.found _ _ c.in_ok-relations.ensures _ _ c.in_ok-end_relations.ensures.ways c.in_ok-end_relations.ensures.least c.in_ok-end_relations.ensures.added c.into_chosen-chosen.ensures
           c.has_all_ways-spared.result c.has_all_ways-spared.ensures c.in_ok-gather_rest.ensures.gathered c.in_ok-gather_rest-2.ensures.gathered;
     }

@@ -6,6 +6,7 @@ use Rattle.pbf_frame.specs.Frames.{FrameSpec}
 use Rattle.pbf_frame.specs.Verdict.{Says}
 use Rattle.pbf_pass.specs.declared.receipt.Passes.{Passes}
 use Rattle.pbf_pass.specs.Hashing.{mark_by}
+use Rattle.pbf_pass.specs.HeaderLimit.{judged_writable}
 use Rattle.pbf_pass.specs.Judged.{judged_file}
 use Rattle.pbf_pass.proofs.GivenLemmas.{tells_file}
 use Rattle.pbfcut.specs.Calls.{drained, fed}
@@ -21,7 +22,7 @@ returns-in_err-choice-clause-extracts g c =
     let p = err_from_is_err_and c.from_residual.result c.from_residual.ensures.1 in
     rw (p.1, p.2) (record {
       receipt = tt;
-      ends = choosing_ends _ (_ ∷ _ ∷ []) (fed g.I.Feed c.args.fourth.now c.args.fourth.now) c.args.passes.check _ c.in_err-choice.ensures.ends.halts g.D.Drain c.args.drain.now _ refl (search rules) (search rules);
+      ends = choosing_ends judged_writable _ (_ ∷ _ ∷ []) (fed g.I.Feed c.args.fourth.now c.args.fourth.now) c.args.passes.check _ c.in_err-choice.ensures.ends.halts g.D.Drain c.args.drain.now _ refl (search rules) (search rules);
       beginning = λ b supply. nothing_out _ _;
     })
 
@@ -42,7 +43,7 @@ returns-clause-extracts g c =
     gave_or_not second _ choice.spared one.file _ _ (λ file three. gave_or_not third _ choice.spared one.file _ _ (λ more chosen. (chosen.chosen.chosen.frames, chosen.chosen.chosen.judged)) three) one.holding in
     record {
       receipt = parents_receipt first second fourth out area c.args.passes choice.next is.1 _ _ _ c.write.result c.write.ensures third one;
-      ends = writing_ends first _ _ one said.0 said.1 (second ∷ third ∷ []) fourth choice.next is.0 (ap (λ (p : Passes). mark_by p.check choice.next.digest) is.1) out choice.chosen h choice.spared c.write.result c.write.ensures c.args.passes.check c.in_ok-choice.ensures.ends.feeds;
+      ends = writing_ends first _ _ one said.0 said.1 (second ∷ third ∷ []) fourth choice.next is.0 (ap (λ (p : Passes). mark_by p.check choice.next.digest) is.1) out choice.chosen h choice.spared c.write.result c.write.ensures judged_writable c.args.passes.check c.in_ok-choice.ensures.ends.feeds;
       beginning = on_err_weaker c.write.result (λ front b supply.
           let tells = tells_file g.F.Feed _ _ _ _ one in
           let three = told_or_not second _ choice.spared _ one.file b _ tells supply.0 supply.1.0 one.holding in

@@ -1,6 +1,7 @@
 use Rattle.std.proofs.Common.{[], ◌∷◌, ◌∙◌, ap}
+use Rattle.osm_ways.specs.Selection.{all_parents}
 use Rattle.pbfcut_program.specs.Manner.{check_by}
-use Rattle.pbfcut_program.specs.Tasks.{extracting_parents}
+use Rattle.pbfcut_program.specs.Tasks.{extracting}
 use Rattle.pbfcut_program.proofs.FrontLemmas.{published_front, raw_front}
 use Rattle.pbfcut_program.proofs.PublishedCalls.{extract_parents_published}
 use Rattle.pbfcut_program.proofs.RawCalls.{extract_parents_works}
@@ -21,7 +22,7 @@ returns-in-Pbfcutz-clause-works g c =
     extract_parents_published g.F.Feed g.D.Drain c.args.drain.now c.extract_parents_sorted_with_receipt-in-Pbfcutz.new.drain c.args.engine.digests _ log start (g.A.Area.area c.args.area) c.args.passes.now.one c.extract_parents_sorted_with_receipt-in-Pbfcutz.new.first c.args.passes.now.two c.extract_parents_sorted_with_receipt-in-Pbfcutz.new.second c.args.passes.now.three c.extract_parents_sorted_with_receipt-in-Pbfcutz.new.third c.args.passes.now.four c.extract_parents_sorted_with_receipt-in-Pbfcutz.new.fourth c.extract_parents_sorted_with_receipt-in-Pbfcutz.result c.published.result fresh (rw h at extracts) c.published.ensures)
 
 pub returns-in-Pbfcut-clause-front : goal.returns-in-Pbfcut-clause-front
-returns-in-Pbfcut-clause-front g c = rw c.in-Pbfcut.is (raw_front (extracting_parents (g.A.Area.area c.args.area)) (g.F.Feed.remaining c.args.passes.now.one ∷ g.F.Feed.remaining c.args.passes.now.two ∷ g.F.Feed.remaining c.args.passes.now.three ∷ g.F.Feed.remaining c.args.passes.now.four ∷ []) _ _ c.reported.result c.extract_parents_sorted_with_receipt.result c.reported.ensures c.extract_parents_sorted_with_receipt.ensures.beginning)
+returns-in-Pbfcut-clause-front g c = rw c.in-Pbfcut.is (raw_front (extracting all_parents (g.A.Area.area c.args.area)) (g.F.Feed.remaining c.args.passes.now.one ∷ g.F.Feed.remaining c.args.passes.now.two ∷ g.F.Feed.remaining c.args.passes.now.three ∷ g.F.Feed.remaining c.args.passes.now.four ∷ []) _ _ c.reported.result c.extract_parents_sorted_with_receipt.result c.reported.ensures c.extract_parents_sorted_with_receipt.ensures.beginning)
 
 pub returns-in-Pbfcutz-clause-front : goal.returns-in-Pbfcutz-clause-front
-returns-in-Pbfcutz-clause-front g c = rw c.in-Pbfcutz.is (published_front (extracting_parents (g.A.Area.area c.args.area)) (g.F.Feed.remaining c.args.passes.now.one ∷ g.F.Feed.remaining c.args.passes.now.two ∷ g.F.Feed.remaining c.args.passes.now.three ∷ g.F.Feed.remaining c.args.passes.now.four ∷ []) _ _ c.published.result c.extract_parents_sorted_with_receipt-in-Pbfcutz.result c.published.ensures _ _ _ c.extract_parents_sorted_with_receipt-in-Pbfcutz.ensures.beginning c.extract_parents_sorted_with_receipt-in-Pbfcutz.ensures.stops)
+returns-in-Pbfcutz-clause-front g c = rw c.in-Pbfcutz.is (published_front (extracting all_parents (g.A.Area.area c.args.area)) (g.F.Feed.remaining c.args.passes.now.one ∷ g.F.Feed.remaining c.args.passes.now.two ∷ g.F.Feed.remaining c.args.passes.now.three ∷ g.F.Feed.remaining c.args.passes.now.four ∷ []) _ _ c.published.result c.extract_parents_sorted_with_receipt-in-Pbfcutz.result c.published.ensures _ _ _ c.extract_parents_sorted_with_receipt-in-Pbfcutz.ensures.beginning c.extract_parents_sorted_with_receipt-in-Pbfcutz.ensures.stops)

@@ -13,43 +13,43 @@ pub returns-in_err-job-clause-err : goal.returns-in_err-job-clause-err
 returns-in_err-job-clause-err g c =
     let p = err_from_is_err_and c.from_residual-in_err-job.result c.from_residual-in_err-job.ensures.1 in
     let f = c.in_err-job.ensures.failed in
-    let first = looks c.args.is_screen c.args.files.now.output.now in
-    rw (p.1, p.2) (_, and_then (g.H.Host.log c.args.host.now) _ _ first f.0 c.in_ok-refuse_existing.ensures.ok f.1, opening_after _ first f.0 (quiet_looks c.args.is_screen c.args.files.now.output.now) f.2)
+    let first = looks c.args.is_screen c.args.files.now in
+    rw (p.1, p.2) (_, and_then (g.H.Host.log c.args.host.now) _ _ first f.0 c.in_ok-refuse_existing.ensures.ok f.1, opening_after _ first f.0 (quiet_looks c.args.is_screen c.args.files.now) f.2)
 
 pub returns-in_err-seed-clause-err : goal.returns-in_err-seed-clause-err
 returns-in_err-seed-clause-err g c =
     let log = g.H.Host.log c.args.host.now in
     let p = err_from_is_err_and c.from_residual-in_err-seed.result c.from_residual-in_err-seed.ensures.1 in
     let f = c.in_err-seed.ensures.err in
-    let output = c.args.files.now.output.now in
+    let files = c.args.files.now in
     let input = c.args.files.now.input.now in
     let has = map g.H.In.Feed.remaining (feeds_of c.in_ok-job.job) in
-    let first = looks c.args.is_screen output in
+    let first = looks c.args.is_screen files in
     let next = openings input 1 has in
     let before = and_then log _ _ first next c.in_ok-refuse_existing.ensures.ok c.in_ok-job.ensures.opened in
-    rw (p.1, p.2) (_, and_then log _ _ (first ++ next) f.0 before f.1, opening_after _ (first ++ next) f.0 (each_both _ first next (quiet_looks c.args.is_screen output) (quiet_openings input 1 has)) f.2)
+    rw (p.1, p.2) (_, and_then log _ _ (first ++ next) f.0 before f.1, opening_after _ (first ++ next) f.0 (each_both _ first next (quiet_looks c.args.is_screen files) (quiet_openings input 1 has)) f.2)
 
 pub returns-in_err-out-clause-err : goal.returns-in_err-out-clause-err
 returns-in_err-out-clause-err g c =
     let log = g.H.Host.log c.args.host.now in
     let p = err_from_is_err_and c.from_residual-in_err-out.result c.from_residual-in_err-out.ensures.1 in
     let f = c.in_err-out.ensures.err in
-    let output = c.args.files.now.output.now in
+    let files = c.args.files.now in
     let input = c.args.files.now.input.now in
     let has = map g.H.In.Feed.remaining (feeds_of c.in_ok-job.job) in
-    let first = looks c.args.is_screen output in
+    let first = looks c.args.is_screen files in
     let next = openings input 1 has in
     let seed : List Event = seeded (Some c.in_ok-seed.seed.key) ∷ [] in
     let before = and_then log _ _ first next c.in_ok-refuse_existing.ensures.ok c.in_ok-job.ensures.opened in
     let drawn = and_then log _ _ (first ++ next) seed before c.in_ok-seed.ensures.ok in
-    rw (p.1, p.2) (_, and_then log _ _ ((first ++ next) ++ seed) f.0 drawn f.1, opening_after _ ((first ++ next) ++ seed) f.0 (each_both _ (first ++ next) seed (each_both _ first next (quiet_looks c.args.is_screen output) (quiet_openings input 1 has)) (tt, tt)) f.2)
+    rw (p.1, p.2) (_, and_then log _ _ ((first ++ next) ++ seed) f.0 drawn f.1, opening_after _ ((first ++ next) ++ seed) f.0 (each_both _ (first ++ next) seed (each_both _ first next (quiet_looks c.args.is_screen files) (quiet_openings input 1 has)) (tt, tt)) f.2)
 
 pub returns-clause-ok : goal.returns-clause-ok
 returns-clause-ok g c =
     let log = g.H.Host.log c.args.host.now in
-    let output = c.args.files.now.output.now in
+    let files = c.args.files.now in
     let input = c.args.files.now.input.now in
     let has = map g.H.In.Feed.remaining (feeds_of c.in_ok-job.job) in
-    let last = and_then _ _ _ (seeded (Some c.in_ok-seed.seed.key) ∷ []) (makes c.args.is_screen output ∷ []) c.in_ok-seed.ensures.ok c.in_ok-out.ensures.ok.0 in
-    let before = and_then log _ _ (looks c.args.is_screen output) (openings input 1 has) c.in_ok-refuse_existing.ensures.ok c.in_ok-job.ensures.opened in
-    and_then log _ _ (looks c.args.is_screen output ++ openings input 1 has) (seeded (Some c.in_ok-seed.seed.key) ∷ makes c.args.is_screen output ∷ []) before last
+    let last = and_then _ _ _ (seeded (Some c.in_ok-seed.seed.key) ∷ []) (makes c.args.is_screen files ∷ []) c.in_ok-seed.ensures.ok c.in_ok-out.ensures.ok.0 in
+    let before = and_then log _ _ (looks c.args.is_screen files) (openings input 1 has) c.in_ok-refuse_existing.ensures.ok c.in_ok-job.ensures.opened in
+    and_then log _ _ (looks c.args.is_screen files ++ openings input 1 has) (seeded (Some c.in_ok-seed.seed.key) ∷ makes c.args.is_screen files ∷ []) before last

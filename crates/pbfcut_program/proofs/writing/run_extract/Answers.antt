@@ -1,13 +1,13 @@
 use Rattle.std.proofs.Common.{◌∙◌, ◌++◌, ap, inl, inr, refl, subst}
 use Rattle.std.proofs.lemmas.Result.{err_from_is_err_and}
-use Rattle.pbf_pass.specs.HeaderLimit.{judged_writable}
+use Rattle.pbfcut.specs.Receipts.{judge_by}
 use Rattle.pbfcut_program.specs.Fails.{FailsFor, judging}
 use Rattle.pbfcut_program.specs.Jobs.{area_of}
 use Rattle.pbfcut_program.specs.Leaving.{LeavesFor}
-use Rattle.pbfcut_program.specs.Program.{WritesCounts, advice}
+use Rattle.pbfcut_program.specs.Program.{WritesCounts, advice, strategy_of}
 use Rattle.pbfcut_program.specs.Manner.{manner_of}
 use Rattle.pbfcut_program.specs.Tasks.{judge_of}
-use Rattle.pbfcut_program.proofs.Beginning.{judge_extract, quiet_region}
+use Rattle.pbfcut_program.proofs.Beginning.{quiet_region}
 use Rattle.pbfcut_program.proofs.FailLemmas.{failed_after, opening_fails}
 use Rattle.pbfcut_program.proofs.Logging.{and_then}
 use Rattle.pbfcut_program.proofs.writing.run_extract.Goals as goal
@@ -16,7 +16,14 @@ pub returns-in_err-cut-clause-err : goal.returns-in_err-cut-clause-err
 returns-in_err-cut-clause-err g c =
     let p = err_from_is_err_and c.from_residual.result c.from_residual.ensures.1 in
     let f = c.in_err-cut.ensures.err in
-    rw (p.1, p.2) (f.0, f.1, opening_fails (manner_of c.args.engine) (judging judged_writable) c.in_err-cut.field-0.0 f.0 f.2, inl f.2.0)
+    rw (p.1, p.2) (f.0, f.1, opening_fails (manner_of c.args.engine) (judging (judge_by (strategy_of c.args.strategy))) c.in_err-cut.field-0.0 f.0 f.2, inl f.2.0)
+
+pub returns-in_err-plan-clause-err : goal.returns-in_err-plan-clause-err
+returns-in_err-plan-clause-err g c =
+    let p = err_from_is_err_and c.from_residual-in_err-plan.result c.from_residual-in_err-plan.ensures.1 in
+    let d = c.in_ok-cut.ensures.ok in
+    let quiet = quiet_region c.args.region.now d.0 (area_of c.in_ok-cut.cut) d.2 in
+    rw (p.1, p.2) (d.0, d.1, opening_fails (manner_of c.args.engine) (judging (judge_by (strategy_of c.args.strategy))) _ d.0 (quiet, tt), inl quiet)
 
 pub returns-in_err-counts-clause-err : goal.returns-in_err-counts-clause-err
 returns-in_err-counts-clause-err g c =
@@ -27,12 +34,12 @@ returns-in_err-counts-clause-err g c =
     let f = c.in_err-counts.ensures.err in
     let how = c.in_err-counts.field-0.0 in
     let m = manner_of c.args.engine in
-    let fails = subst (λ j. FailsFor m (judging j) how f.0) (ap judge_of c.plan_extract.ensures ∙ judge_extract c.args.parents area) f.2 in
-    let leaves = subst (λ t. LeavesFor m t f.0) c.plan_extract.ensures f.3 in
+    let fails = subst (λ j. FailsFor m (judging j) how f.0) (ap judge_of c.in_ok-plan.ensures) f.2 in
+    let leaves = subst (λ t. LeavesFor m t f.0) c.in_ok-plan.ensures f.3 in
     rw (p.1, p.2) (
       d.0 ++ f.0,
       and_then log _ _ d.0 f.0 d.1 f.1,
-      failed_after m (judging judged_writable) how d.0 f.0 (quiet_region c.args.region.now d.0 area d.2) fails,
+      failed_after m (judging (judge_by (strategy_of c.args.strategy))) how d.0 f.0 (quiet_region c.args.region.now d.0 area d.2) fails,
       inr (record { area = area; before = d.0; after = f.0; happened = refl; means = d.2; leaves = leaves }),
     )
 
@@ -43,7 +50,7 @@ returns-clause-ok g c =
     let w = c.in_ok-counts.ensures.ok in
     let counts = c.in_ok-counts.counts in
     let area = area_of c.in_ok-cut.cut in
-    let writes = subst (λ t. WritesCounts (manner_of c.args.engine) t c.args.files.now counts w.0) c.plan_extract.ensures w.2 in
+    let writes = subst (λ t. WritesCounts (manner_of c.args.engine) t c.args.files.now counts w.0) c.in_ok-plan.ensures w.2 in
     let both = and_then log _ _ d.0 w.0 d.1 w.1 in
     let all = and_then log _ _ (d.0 ++ w.0) (advice counts) both c.advise_empty.ensures in
     (d.0 ++ w.0 ++ advice counts, all, record { area = area; before = d.0; after = w.0; counts = counts; happened = refl; means = d.2; writes = writes })

@@ -1,4 +1,4 @@
-use Rattle.std.proofs.Common.{◌∙◌, ◌<◌, ◌++◌, ◌∷◌, [], List, inl, inr, map, refl}
+use Rattle.std.proofs.Common.{◌≡◌, ◌∙◌, ◌<◌, ◌++◌, ◌∷◌, [], List, inl, inr, map, refl, true}
 use Rattle.std.proofs.lemmas.Result.{IfErr-weaker, IfOk-weaker}
 use Rattle.std.specs.Result.{result_err}
 use Rattle.pbfcut_program.specs.Devices.{MeansBy, TakenBy}
@@ -20,13 +20,14 @@ returns-in-Ok-clause-ok g c =
     let job = c.args.ready.job in
     let ran = c.run_into-result.result in
     let works = rw c.in-Ok.is at (c.run_into-result.ensures.works c.requires.fresh.0) in
-    let done = work_done g.H.In.Feed g.H.Out.Drain ran.out (result_err c.finish-finished.result) (manner_of c.args.engine) (check_in c.args.engine c.args.ready.seed.key) (task_of job) (λ w. TakenBy g.H.Out.Drain ran.out ran.output w × MeansBy (output_form c.args.engine.packs c.args.engine.program) ran.meaning w) (0 < g.H.Out.Drain.failures ran.out)
+    let done = work_done g.H.In.Feed g.H.Out.Drain ran.out c.is_ok.result (result_err c.finish-finished.result) (manner_of c.args.engine) (check_in c.args.engine c.args.ready.seed.key) (task_of job) (λ w. TakenBy g.H.Out.Drain ran.out ran.output w × MeansBy (output_form c.args.engine.packs c.args.engine.program) ran.meaning w) (0 < g.H.Out.Drain.failures ran.out)
     (log c.args.host.now) (log c.close_job.new.host) (log c.finish-finished.new.self) (feeds_of job) (feeds_of c.run_into-result.new.job) c.in-Ok.report c.requires.fresh.0 c.close_job.ensures
     (c.finish-finished.ensures.some, c.finish-finished.ensures.logged) (λ w t. t.0.0) works in
     let form = output_form c.args.engine.packs c.args.engine.program in
     let hashed = hashed_as c.args.engine.digests ran.output done.1.bytes done.4.0.1 c.run_into-result.ensures.hashed in
     let meaning = hashed_as (hashes_meaning form c.args.engine.digests) ran.meaning (of_output (manner_of c.args.engine) done.1.bytes) done.4.1 (rw c.in-Ok.is at c.run_into-result.ensures.meaning) in
-    IfOk-weaker c.kept.result _ _ (λ d e. rw e.0 (done.0, done.1, done.2, done.3 ∙ e.1, hashed, meaning, done.5)) c.kept.ensures.ok
+    let kept : c.is_ok.result ≡ true = (rw c.in-Ok.is at c.is_ok.ensures).value in
+    IfOk-weaker c.kept.result _ _ (λ d e. rw e.0 (done.0, done.1, done.2, done.3 ∙ e.1, hashed, meaning, done.5, done.6 ∙ kept)) c.kept.ensures.ok
 
 pub returns-in-Ok-clause-err : goal.returns-in-Ok-clause-err
 returns-in-Ok-clause-err g c =
@@ -35,7 +36,7 @@ returns-in-Ok-clause-err g c =
     let ran = c.run_into-result.result in
     let report = c.in-Ok.report in
     let works = rw c.in-Ok.is at (c.run_into-result.ensures.works c.requires.fresh.0) in
-    let done = work_done g.H.In.Feed g.H.Out.Drain ran.out (result_err c.finish-finished.result) (manner_of c.args.engine) (check_in c.args.engine c.args.ready.seed.key) (task_of job) (λ w. TakenBy g.H.Out.Drain ran.out ran.output w × MeansBy (output_form c.args.engine.packs c.args.engine.program) ran.meaning w) (0 < g.H.Out.Drain.failures ran.out)
+    let done = work_done g.H.In.Feed g.H.Out.Drain ran.out c.is_ok.result (result_err c.finish-finished.result) (manner_of c.args.engine) (check_in c.args.engine c.args.ready.seed.key) (task_of job) (λ w. TakenBy g.H.Out.Drain ran.out ran.output w × MeansBy (output_form c.args.engine.packs c.args.engine.program) ran.meaning w) (0 < g.H.Out.Drain.failures ran.out)
     (log c.args.host.now) (log c.close_job.new.host) (log c.finish-finished.new.self) (feeds_of job) (feeds_of c.run_into-result.new.job) report c.requires.fresh.0 c.close_job.ensures
     (c.finish-finished.ensures.some, c.finish-finished.ensures.logged) (λ w t. t.0.0) works in
     let rs : List Event = map (λ r. read r) done.0 in
@@ -58,7 +59,7 @@ returns-in-Err-clause-err g c =
     let has = map g.H.In.Feed.remaining (feeds_of job) in
     let works = rw c.in-Err.is at (c.run_into-result.ensures.works c.requires.fresh.0) in
     let front = rw c.in-Err.is at c.run_into-result.ensures.front in
-    let tail = ends_with_out g.H.Out.Drain ran.out (result_err c.finish-finished.result) (λ w. TakenBy g.H.Out.Drain ran.out ran.output w × MeansBy (output_form c.args.engine.packs c.args.engine.program) ran.meaning w) (0 < g.H.Out.Drain.failures ran.out) (log c.close_job.new.host) (log c.finish-finished.new.self)
+    let tail = ends_with_out g.H.Out.Drain ran.out c.is_ok.result (result_err c.finish-finished.result) (λ w. TakenBy g.H.Out.Drain ran.out ran.output w × MeansBy (output_form c.args.engine.packs c.args.engine.program) ran.meaning w) (0 < g.H.Out.Drain.failures ran.out) (log c.close_job.new.host) (log c.finish-finished.new.self)
     (λ w t. t.0.0) (λ risen. risen) (c.finish-finished.ensures.some, c.finish-finished.ensures.logged) in
     let fail = work_fails c.args.engine.program c.args.engine.packs c.args.engine.digests (check_in c.args.engine c.args.ready.seed.key) g.H.In.Feed (task_of job) (λ w. TakenBy g.H.Out.Drain ran.out ran.output w × MeansBy (output_form c.args.engine.packs c.args.engine.program) ran.meaning w) (0 < g.H.Out.Drain.failures ran.out) (TakenFront (taken ran.out))
     (log c.args.host.now) (log c.close_job.new.host) (log c.finish-finished.new.self) (feeds_of job) (feeds_of c.run_into-result.new.job) c.in-Err.halted tail c.requires.fresh.0 c.close_job.ensures works in

@@ -37,9 +37,9 @@ returns-in_err-done-clause-err g c =
     let fails = subst (λ t. Fails m (judging (judge_of t)) has how f.0) c.in_ok-ready.ensures.planned.0 f.2 in
     let leaves = subst (λ t. Leaves m t has f.0) c.in_ok-ready.ensures.planned.0 f.3 in
     let opened = rw c.is_screen-to_screen.ensures at c.in_ok-ready.ensures.ok in
-    let first = begun is files.input.now files.output.now has key in
-    let quiet = quiet_begun is files.input.now files.output.now has key in
-    let opens = opens_begun is files.input.now files.output.now has key in
+    let first = begun is files has key in
+    let quiet = quiet_begun is files has key in
+    let opens = opens_begun is files has key in
     rw (p.1, p.2) (
       first ++ f.0,
       and_then log _ _ first f.0 opened f.1,
@@ -57,7 +57,7 @@ returns-in_err-print_done-clause-err g c =
     let has = map g.H.In.Feed.remaining (feeds_of c.in_ok-ready.ready.job) in
     let key = c.in_ok-ready.ready.seed.key in
     let opened = rw c.is_screen-to_screen.ensures at c.in_ok-ready.ensures.ok in
-    let first = begun is files.input.now files.output.now has key in
+    let first = begun is files has key in
     let rs : List Event = map (λ r. read r) d.0 in
     let done = and_then log _ _ first (rs ++ wrote d.1 ∷ []) opened d.2 in
     let m = manner_of c.args.engine in
@@ -100,11 +100,11 @@ returns-clause-ok g c =
     let rs : List Event = map (λ r. read r) d.0 in
     let lines = prints (screen_of is) (counts_text r.report.counts ∷ done_lines r.output r.meaning r.report.input r.report.raw files.input.now files.output.now) in
     let opened = rw c.is_screen-to_screen.ensures at c.in_ok-ready.ensures.ok in
-    let done = and_then log _ _ (begun is files.input.now files.output.now has key) (rs ++ wrote d.1 ∷ []) opened d.2 in
+    let done = and_then log _ _ (begun is files has key) (rs ++ wrote d.1 ∷ []) opened d.2 in
     let same_screen = c.screen_of.ensures ∙ ap screen_of c.is_screen-to_screen.ensures in
     let printed = subst (λ (s : Screen). g.H.Host.log c.print_done.new.host ≡ then_all (g.H.Host.log c.run_job.new.host) (prints s (counts_text r.report.counts ∷ done_lines r.output r.meaning r.report.input r.report.raw files.input.now files.output.now))) same_screen c.in_ok-print_done.ensures in
-    let all = and_then log _ _ (begun is files.input.now files.output.now has key ++ (rs ++ wrote d.1 ∷ [])) lines done printed in
-    let same = all_events (looks is files.output.now ++ openings files.input.now 1 has) rs lines (seeded (Some key)) (makes is files.output.now) (wrote d.1) in (
+    let all = and_then log _ _ (begun is files has key ++ (rs ++ wrote d.1 ∷ [])) lines done printed in
+    let same = all_events (looks is files ++ openings files.input.now 1 has) rs lines (seeded (Some key)) (makes is files) (wrote d.1) in (
       _,
       all ∙ ap (λ es. then_all log es) same,
       record {
@@ -118,6 +118,7 @@ returns-clause-ok g c =
         meaning = r.meaning;
         happened = refl;
         passes = length_has g.H.In.Feed.remaining (feeds_of c.in_ok-ready.ready.job) ∙ c.in_ok-ready.ensures.planned.1;
+        kept = d.7;
         whole = d.3;
         hashed = d.4;
         meaning_hashed = d.5;
