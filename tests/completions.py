@@ -17,7 +17,7 @@ import time
 
 TOP = os.path.dirname(os.path.dirname(os.path.abspath(__file__)))
 COMPLETIONS = os.path.join(TOP, "completions")
-SECONDS = 20
+SECONDS = 200
 
 # what is typed before the tab key, and what the line is then, or has to have in it
 CASES = [

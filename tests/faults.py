@@ -29,7 +29,7 @@ from published import packed
 from suite import own_lines
 
 SAMPLE = os.path.join(TOP, "sample", "town.osm.pbf")
-SECONDS = 60
+SECONDS = 900
 # what tests/run calls skipped
 NOTHING_TO_RUN = 77
 MOST = 20_000

@@ -27,7 +27,7 @@ from terminal import run as on_terminal
 
 BOX = "--box=9.997,49.999,10.003,50.003"
 SMART = ["extract", "-s", "smart", "--types=any", BOX]
-SECONDS = 60
+SECONDS = 900
 OLD = b"old"
 AREA = b"town\n1\n9.997 49.999\n10.003 49.999\n10 50.003\nEND\nEND\n"
 # the number of a user who owns nothing, as of the group

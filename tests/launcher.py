@@ -17,7 +17,7 @@ import sys
 import tempfile
 
 TOP = os.path.dirname(os.path.dirname(os.path.abspath(__file__)))
-SECONDS = 120
+SECONDS = 900
 PACKED = "release/pbfcut-x86_64-linux.gz"
 MANIFEST = "release/MANIFEST"
 UNPACKED = "release/out/pbfcut"

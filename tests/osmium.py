@@ -30,7 +30,7 @@ from reference_judge import judge
 from reference_written import extract, write_file
 
 NOTHING_TO_RUN = 77
-SECONDS = 60
+SECONDS = 900
 RANDOM_FILES = 150
 # what is added to the ids of a random file, which begin with -2
 MOVED = 3

@@ -31,7 +31,7 @@ CUT = ["extract", "--box=9.997,49.999,10.003,50.003"]
 COUNTS = "nodes 121 ways 23 relations 7\n"
 ALL = "nodes 272 ways 64 relations 13\n"
 ENDS = [signal.SIGTERM, signal.SIGINT, signal.SIGHUP, signal.SIGQUIT]
-SECONDS = 120
+SECONDS = 900
 # A ring round the same places as the box of CUT, in the form in which such files are published.
 # the same ring as GeoJSON, as osmium takes it, and alone
 FEATURE = '{"type": "Feature", "properties": {}, "geometry": %s}'

@@ -49,7 +49,7 @@ def fail(what: str):
 
 
 def run(words: list, **options) -> bytes:
-    return subprocess.run(words, check=True, stdout=subprocess.PIPE, timeout=120, **options).stdout
+    return subprocess.run(words, check=True, stdout=subprocess.PIPE, timeout=900, **options).stdout
 
 
 def draw(path: str, options: list) -> bytes:

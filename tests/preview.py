@@ -27,7 +27,7 @@ from preview import File, Selection
 from town import Entity, Form, block, frame, header_block, nested, scalar
 
 TOWN = os.path.join(TOP, "sample", "town.osm.pbf")
-SECONDS = 300
+SECONDS = 900
 TOWN_BOX = "9.997,49.999,10.003,50.003"
 TOWN_COUNTS = {
     "nodes_in_file": 272, "nodes_in_area": 75, "nodes_kept": 121, "ways_in_file": 64, "ways_in_area": 23, "ways_kept": 23,

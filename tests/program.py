@@ -30,7 +30,7 @@ from suite import own_lines
 
 TOP = os.path.dirname(os.path.dirname(os.path.abspath(__file__)))
 BUILT = os.path.join(TOP, "crates", "pbfcut_run", "out", "pbfcut_run")
-SECONDS = 120
+SECONDS = 900
 NOBODY = 65534
 
 # Linux's number for setting the size of a pipe, and its least size

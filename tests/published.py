@@ -27,7 +27,7 @@ TOP = os.path.dirname(os.path.dirname(os.path.abspath(__file__)))
 VECTORS = os.path.join(TOP, "vectors")
 SAMPLE = os.path.join(TOP, "sample", "town.osm.pbf")
 BOX = "--box=9.997,49.999,10.003,50.003"
-SECONDS = 60
+SECONDS = 900
 sys.dont_write_bytecode = True
 sys.path.insert(0, VECTORS)
 

@@ -20,7 +20,7 @@ TOP = os.path.dirname(os.path.dirname(os.path.abspath(__file__)))
 SAMPLE = os.path.join(TOP, "sample", "town.osm.pbf")
 NOTHING_TO_RUN = 77
 FEWEST = 3
-SECONDS = 120
+SECONDS = 900
 BOX = "--box=9.997,49.999,10.003,50.003"
 # a node with a tag, since readers that make layers leave out others
 NODE = ('<osm version="0.6"><node id="1" version="1" timestamp="2020-01-01T00:00:00Z" lat="50.001" lon="10.001">'

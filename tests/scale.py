@@ -28,7 +28,7 @@ STRATEGIES = {"complete ways": [], "all parents": ["--parents"], "smart": ["-s",
               "smart of all types": ["-s", "smart", "--types=any"]}
 NEEDED = ["bash", "make", "awk", "cmp"]
 NOTHING_TO_RUN = 77
-SECONDS = 60
+SECONDS = 900
 
 
 def fail(what: str):

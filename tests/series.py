@@ -27,7 +27,7 @@ from suite import cases, own_lines
 LONGEST = 2_000
 PICKED = 5_000
 CHANGES = (None, 0x01, 0x80, 0xFF)
-SECONDS = 60
+SECONDS = 900
 
 
 def forms(files: list):

@@ -20,7 +20,7 @@ from program import EMPTY_HEADER, PLAIN_HEADER, BOX_HEADER, counted, field, fram
 
 PROMISED = 67_108_864
 PROGRAM = 5_000_000
-SECONDS = 60
+SECONDS = 900
 
 
 def block(group: bytes, table: bytes) -> bytes:

@@ -36,7 +36,7 @@ from suite import cases, own_lines
 FEW, MANY = 1_000, 3_000
 # so many of the files have to be of each sort that is counted, and in so many has each wrong rule to show; most have to have a relation that is completed
 LEAST, HALF = 1 / 20, 1 / 2
-SECONDS = 60
+SECONDS = 900
 # cases of vectors/ of more bytes are left out
 LONGEST = 3_000
 EDGES = "0,0,4,4"

@@ -88,7 +88,7 @@ def bad_readers(folder: str):
     for change, said in changes.items():
         for text, batch in ((ONCE, []), (MANY, ["--batch"])):
             # a busy machine may take a second to start any of them
-            limit = "1" if "sleep" in change else "60"
+            limit = "1" if "sleep" in change else "900"
             done = run("reader", *batch, "--list", "--seconds", limit, *FEW, *reader_script(folder, text, change))
             require(done.returncode == 1 and said in done.stdout, f"{change} {batch}: {done.returncode} {done.stdout}{done.stderr}")
     done = run("reader", "--batch", "--list", *FEW, "--", "true")

@@ -21,7 +21,7 @@ import zlib
 
 TOP = os.path.dirname(os.path.dirname(os.path.abspath(__file__)))
 TOWN = os.path.join(TOP, "sample", "town.osm.pbf")
-SECONDS = 60
+SECONDS = 900
 BOX = "--box=9.997,49.999,10.003,50.003"
 
 def by_osmium(form: str) -> str:

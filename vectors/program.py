@@ -9,7 +9,7 @@ import time
 
 from suite import CALLS, Case, digest, own_lines, processors, shown
 
-SECONDS = 120
+SECONDS = 900
 READING = (("blobs",), ("check",), ("show",), ("show", "--dates"))
 
 
