@@ -1,21 +1,31 @@
 -- What happens before IN is read, and after.
-use Rattle.std.proofs.Common.{arith, ◌≡◌, ◌∙◌, ℕ, suc, ◌+◌, List, [], ◌∷◌, ◌++◌, length, map, Bool, true, false, Option, Some, inl, refl, ap, sym, append_assoc}
+use Rattle.std.proofs.Common.{arith, ◌≡◌, ◌∙◌, ℕ, suc, ◌+◌, List, [], ◌∷◌, ◌++◌, length, map, Bool, true, false, Option, Some, None, inl, refl, ap, subst, sym, append_assoc}
 use Rattle.osm_area.specs.Area.{AreaSpec}
 use Rattle.pbf_block.specs.declared.counts.Counts.{Counts}
 use Rattle.pbfcut_cli.specs.declared.programs.Program.{Program}
 use Rattle.pbfcut_cli.specs.declared.words.Files.{Files}
 use Rattle.pbfcut_cli.specs.declared.words.Region.{Region}
-use Rattle.pbfcut_program.specs.Events.{Event, advised, opened, seeded}
+use Rattle.pbfcut_program.specs.Events.{Event, advised, made, opened, seeded, then_all}
 use Rattle.pbfcut_program.specs.Fails.{Each, Opens, Quiet}
-use Rattle.pbfcut_program.specs.Program.{MeansArea, advice, draws, is_empty, looks, makes, openings}
+use Rattle.pbfcut_program.specs.Files.{IsMade, Misses}
+use Rattle.pbfcut_program.specs.Program.{MeansArea, advice, begun, draws, is_empty, looks, openings}
 use Rattle.pbfcut_program.proofs.EventLemmas.{each_both}
 use Rattle.pbfcut_program.proofs.FailLemmas.{opens_after, opens_before}
 
 pub quiet_looks : (is : Bool) (files : Files) → Each Quiet (looks is files)
 quiet_looks is files = grind arith
 
-quiet_makes : (is : Bool) (files : Files) → Quiet (makes is files)
-quiet_makes is files = grind arith
+missing_quiet : (e : Event) → Misses e → Quiet e
+missing_quiet e h1 = grind arith
+
+pub misses_quiet : (tries : List Event) → Each Misses tries → Each Quiet tries
+misses_quiet [] m = tt
+misses_quiet (e ∷ es) m = (missing_quiet e m.0, misses_quiet es m.1)
+
+pub quiet_makes : (program : Program) (is : Bool) (output : List ℕ) (name : Option (List ℕ)) (events : List Event) → IsMade program is output name events → Each Quiet events
+quiet_makes program true output name events m = subst (λ es. Each Quiet es) (sym m.1) (tt, tt)
+quiet_makes program false output None events m = absurd m
+quiet_makes program false output (Some name) events m = subst (λ es. Each Quiet es) (sym m.3) (each_both Quiet m.0 (made name ∷ []) (misses_quiet m.0 m.1) (tt, tt))
 
 pub quiet_openings : (input : List ℕ) (pass : ℕ) (has : List (Option (List ℕ))) → Each Quiet (openings input pass has)
 quiet_openings input pass [] = tt
@@ -29,26 +39,19 @@ pub shown_events : (ds rs ws : List Event) (s : Event) → (ds ++ s ∷ []) ++ (
 shown_events ds rs ws s = append_assoc ds (s ∷ []) (rs ++ ws) ∙ sym (append_assoc ds (s ∷ rs) ws)
 
 -- all of it
-abbrev pub begun : Bool → Files → List (Option (List ℕ)) → (key : ℕ) → List Event
-begun is files has key = looks is files ++ openings files.input.now 1 has ++ seeded (Some key) ∷ makes is files ∷ []
-
-pub quiet_begun : (is : Bool) (files : Files) (has : List (Option (List ℕ))) (key : ℕ) → Each Quiet (begun is files has key)
-quiet_begun is files has key =
+pub quiet_begun : (is : Bool) (files : Files) (has : List (Option (List ℕ))) (key : ℕ) (makes : List Event) → Each Quiet makes → Each Quiet (begun is files has key makes)
+quiet_begun is files has key makes q =
     let opens = openings files.input.now 1 has in
-    each_both Quiet (looks is files ++ opens) (seeded (Some key) ∷ makes is files ∷ []) (each_both Quiet (looks is files) opens (quiet_looks is files) (quiet_openings files.input.now 1 has)) (tt, (quiet_makes is files, tt))
+    each_both Quiet (looks is files ++ opens) (seeded (Some key) ∷ makes) (each_both Quiet (looks is files) opens (quiet_looks is files) (quiet_openings files.input.now 1 has)) (tt, q)
 
 opens_openings : (input : List ℕ) (pass : ℕ) (has : List (Option (List ℕ))) → Opens pass has (openings input pass has)
 opens_openings input pass [] = tt
 opens_openings input pass (h ∷ has) = (inl (refl, refl), opens_after (pass + 1) has (opened input pass h ∷ []) (openings input (pass + 1) has) (opens_openings input (pass + 1) has))
 
-pub opens_begun : (is : Bool) (files : Files) (has : List (Option (List ℕ))) (key : ℕ) → Opens 1 has (begun is files has key)
-opens_begun is files has key =
+pub opens_begun : (is : Bool) (files : Files) (has : List (Option (List ℕ))) (key : ℕ) (makes : List Event) → Opens 1 has (begun is files has key makes)
+opens_begun is files has key makes =
     let opens = openings files.input.now 1 has in
-    opens_before 1 has (looks is files ++ opens) (seeded (Some key) ∷ makes is files ∷ []) (opens_after 1 has (looks is files) opens (opens_openings files.input.now 1 has))
-
--- what comes next
-pub all_events : (a rs ps : List Event) (s m w : Event) → ((a ++ s ∷ m ∷ []) ++ (rs ++ w ∷ [])) ++ ps ≡ (a ++ s ∷ m ∷ rs) ++ w ∷ ps
-all_events a rs ps s m w = grind (arith, append_assoc (a ++ s ∷ m ∷ []) (rs ++ w ∷ []) ps, append_assoc a (s ∷ m ∷ []) ((rs ++ w ∷ []) ++ ps), append_assoc rs (w ∷ []) ps, append_assoc a (s ∷ m ∷ rs) (w ∷ ps))
+    opens_before 1 has (looks is files ++ opens) (seeded (Some key) ∷ makes) (opens_after 1 has (looks is files) opens (opens_openings files.input.now 1 has))
 
 pub length_has : {A B : Type 0} (f : A → B) (xs : List A) → length (map f xs) ≡ length xs
 length_has f [] = refl
@@ -63,3 +66,7 @@ advice_some counts e = rw e refl
 
 pub advice_none : (counts : Counts) → is_empty counts ≡ false → advice counts ≡ []
 advice_none counts e = rw e refl
+
+-- what is prepared, by a log
+abbrev pub Prepares : {H : Type 0} → (log : H → Option (List Event)) → (old new : H) → Program → (is : Bool) → Files → (has : List (Option (List ℕ))) → (key : ℕ) → (name : Option (List ℕ)) → Type 0
+Prepares log old new program is files has key name = (makes : List Event) × (log new ≡ then_all (log old) (begun is files has key makes)) × IsMade program is files.output.now name makes

@@ -122,8 +122,8 @@ Ends took failed front m n =
 pub ends_with_none : (m : Option (List Event)) (took : List ℕ → Type 0) → Ends took ⊥ (λ answer. ⊥) m m
 ends_with_none m took = (([], then_none m, refl, (λ x. absurd x), λ answer x. tt), λ t. ([], then_none m, refl, tt))
 
-pub ends_with_out : {D : Type 0} (d : drain.Ghosts D) (out : D) (kept : Bool) (fault : Option FinishFault) (took : List ℕ → Type 0) (failed : Type 0) (m n : Option (List Event)) → ((w : List ℕ) → took w → d.has_taken out 0 w) → (failed → 0 < d.failures out) → Finishes d out kept fault m n → Ends took failed (TakenFront (d.taken out)) m n
-ends_with_out d out kept fault took failed m n taken risen fin = grind (arith, front_taken, d.taken out, fin.1 [], taken [])
+pub ends_with_out : {D : Type 0} (d : drain.Ghosts D) (out : D) (name : Option (List ℕ)) (kept : Bool) (fault : Option FinishFault) (took : List ℕ → Type 0) (failed : Type 0) (m n : Option (List Event)) → ((w : List ℕ) → took w → d.has_taken out 0 w) → (failed → 0 < d.failures out) → Finishes d out name kept fault m n → Ends took failed (TakenFront (d.taken out)) m n
+ends_with_out d out name kept fault took failed m n taken risen fin = grind (arith, front_taken, d.taken out, fin.1 [], taken [])
 
 -- ---- why it fails
 
@@ -227,26 +227,27 @@ work_fails program packs digests check f task took failed front l m n olds news 
 -- ---- what it does
 
 -- the same, and its drain too
-pub work_done : {F D : Type 0} (f : feed.Ghosts F) (d : drain.Ghosts D) (out : D) (kept : Bool) (fault : Option FinishFault) (by : Manner) (check : PassCheck) (task : Task) (took : List ℕ → Type 0) (failed : Type 0) (l m n : Option (List Event)) (olds news : List F) (report : Report)
-    → AreFresh f olds → CloseAll f news l m → Finishes d out kept fault m n → ((w : List ℕ) → took w → d.has_taken out 0 w) → Works by check f task olds news took failed (Ok report)
-    → (rs : List Reading) × (w : Writing) × (n ≡ then_all l (reads rs ++ wrote w ∷ [])) × (w.fault ≡ fault) × took w.bytes × IsWork by check task rs w.bytes report.counts report.input report.raw × (w.kept ≡ kept)
-work_done f d out kept fault by check task took failed l m n olds news report fresh c fin taken works =
+pub work_done : {F D : Type 0} (f : feed.Ghosts F) (d : drain.Ghosts D) (out : D) (name : Option (List ℕ)) (kept : Bool) (fault : Option FinishFault) (by : Manner) (check : PassCheck) (task : Task) (took : List ℕ → Type 0) (failed : Type 0) (l m n : Option (List Event)) (olds news : List F) (report : Report)
+    → AreFresh f olds → CloseAll f news l m → Finishes d out name kept fault m n → ((w : List ℕ) → took w → d.has_taken out 0 w) → Works by check f task olds news took failed (Ok report)
+    → (rs : List Reading) × (w : Writing) × (n ≡ then_all l (reads rs ++ wrote w ∷ [])) × (w.fault ≡ fault) × took w.bytes × IsWork by check task rs w.bytes report.counts report.input report.raw × (w.kept ≡ kept) × (w.name ≡ name)
+work_done f d out name kept fault by check task took failed l m n olds news report fresh c fin taken works =
     let given = close_given f (AreDigests by check report.input report.raw) (spares task) olds news works.files l m fresh c works.gave in (
       given.0,
-      record { bytes = works.written; reports = is_some (d.taken out); failures = d.failures out; kept = kept; fault = fault },
-      and_then l m n (reads given.0) (wrote (record { bytes = works.written; reports = is_some (d.taken out); failures = d.failures out; kept = kept; fault = fault }) ∷ []) given.1 (fin.1 works.written (taken works.written works.took_them)),
+      record { name = name; bytes = works.written; reports = is_some (d.taken out); failures = d.failures out; kept = kept; fault = fault },
+      and_then l m n (reads given.0) (wrote (record { name = name; bytes = works.written; reports = is_some (d.taken out); failures = d.failures out; kept = kept; fault = fault }) ∷ []) given.1 (fin.1 works.written (taken works.written works.took_them)),
       refl,
       works.took_them,
       record { files = works.files; read = given.2; holds = works.holds },
       refl,
+      refl,
     )
 
 -- a call ended well, but not all went out
-pub finish_fails : {F D : Type 0} (f : feed.Ghosts F) (d : drain.Ghosts D) (out : D) (kept : Bool) (fault : Option FinishFault) (l m n : Option (List Event)) (news : List F) → CloseAll f news l m → Finishes d out kept fault m n → (why : FinishFault) → fault ≡ Some why
+pub finish_fails : {F D : Type 0} (f : feed.Ghosts F) (d : drain.Ghosts D) (out : D) (name : Option (List ℕ)) (kept : Bool) (fault : Option FinishFault) (l m n : Option (List Event)) (news : List F) → CloseAll f news l m → Finishes d out name kept fault m n → (why : FinishFault) → fault ≡ Some why
     → (events : List Event) × (n ≡ then_all l events) × Has (FailsToFinish why) events × ((answer : List ℕ) → TakenFront (d.taken out) answer → Each (TookFront answer) events)
-finish_fails f d out kept fault l m n news c fin why e =
+finish_fails f d out name kept fault l m n news c fin why e =
     let rest = close_rest f news l m c in
-    let w : Writing = record { bytes = fin.0.0; reports = is_some (d.taken out); failures = d.failures out; kept = kept; fault = fault } in (
+    let w : Writing = record { name = name; bytes = fin.0.0; reports = is_some (d.taken out); failures = d.failures out; kept = kept; fault = fault } in (
       reads rest.0 ++ wrote w ∷ [],
       and_then l m n (reads rest.0) (wrote w ∷ []) rest.1 fin.0.2,
       has_after _ (reads rest.0) _ (inl e),
@@ -260,11 +261,11 @@ pub work_read_once : {F : Type 0} (f : feed.Ghosts F) (by : Manner) (check : Pas
 work_read_once f by check task failed l m old now report fresh c works = grind arith
 
 -- what a call did, however it ended
-pub if_done : {F D : Type 0} (f : feed.Ghosts F) (d : drain.Ghosts D) (out : D) (kept : Bool) (fault : Option FinishFault) (by : Manner) (check : PassCheck) (task : Task) (took : List ℕ → Type 0) (failed : Type 0) (l m n : Option (List Event)) (olds news : List F) (outcome : Result Report Halted)
-    → AreFresh f olds → CloseAll f news l m → Finishes d out kept fault m n → ((w : List ℕ) → took w → d.has_taken out 0 w) → Works by check f task olds news took failed outcome
+pub if_done : {F D : Type 0} (f : feed.Ghosts F) (d : drain.Ghosts D) (out : D) (name : Option (List ℕ)) (kept : Bool) (fault : Option FinishFault) (by : Manner) (check : PassCheck) (task : Task) (took : List ℕ → Type 0) (failed : Type 0) (l m n : Option (List Event)) (olds news : List F) (outcome : Result Report Halted)
+    → AreFresh f olds → CloseAll f news l m → Finishes d out name kept fault m n → ((w : List ℕ) → took w → d.has_taken out 0 w) → Works by check f task olds news took failed outcome
     → OnOk outcome ((report : Report) × (rs : List Reading) × (w : Writing) × (n ≡ then_all l (reads rs ++ wrote w ∷ [])) × (w.fault ≡ fault) × IsWork by check task rs w.bytes report.counts report.input report.raw)
-if_done f d out kept fault by check task took failed l m n olds news (Ok report) fresh c fin taken works = grind (arith, work_done f d out kept fault by check task took failed l m n olds news report fresh c fin taken works)
-if_done f d out kept fault by check task took failed l m n olds news (Err halted) fresh c fin taken works = tt
+if_done f d out name kept fault by check task took failed l m n olds news (Ok report) fresh c fin taken works = grind (arith, work_done f d out name kept fault by check task took failed l m n olds news report fresh c fin taken works)
+if_done f d out name kept fault by check task took failed l m n olds news (Err halted) fresh c fin taken works = tt
 
 -- a call stopped, and it and its devices left this
 pub stops_leaving : (m : Manner) (task : Task) (has : List (Option (List ℕ))) (before after : Option (List ℕ)) (events : List Event) → IfSome before (λ taken. taken ≡ [])
@@ -279,33 +280,33 @@ hashed_as digests known w h3 h4 = grind arith
 -- ---- a text
 
 -- a call stopped whose text goes to standard output; or the rest of the text didn't go out
-pub text_fails : {F D A : Type 0} (program : Program) (digests : Bool) (check : PassCheck) (f : feed.Ghosts F) (d : drain.Ghosts D) (task : Task) (before out : D) (kept : Bool) (fault : Option FinishFault) (l m n : Option (List Event)) (olds news : List F) (outcome : Result Report Halted) (result : Result A Ending)
-    → IsFreshOut d before → AreFresh f olds → CloseAll f news l m → Finishes d out kept fault m n → Works (manner program false digests) check f task olds news (d.has_taken out 0) (WriteFailed d before out) outcome
+pub text_fails : {F D A : Type 0} (program : Program) (digests : Bool) (check : PassCheck) (f : feed.Ghosts F) (d : drain.Ghosts D) (task : Task) (before out : D) (name : Option (List ℕ)) (kept : Bool) (fault : Option FinishFault) (l m n : Option (List Event)) (olds news : List F) (outcome : Result Report Halted) (result : Result A Ending)
+    → IsFreshOut d before → AreFresh f olds → CloseAll f news l m → Finishes d out name kept fault m n → Works (manner program false digests) check f task olds news (d.has_taken out 0) (WriteFailed d before out) outcome
     → Fronts (input_form program) task (map f.remaining olds) (d.taken before) (d.taken out) outcome → EndsAs fault outcome result
     → IfErr result (λ how. (events : List Event) × (n ≡ then_all l events) × Fails (manner program false digests) (judging (judge_of task)) (map f.remaining olds) how events × Leaves (manner program false digests) task (map f.remaining olds) events)
-text_fails program digests check f d task before out kept None l m n olds news (Ok report) (Ok a) fresh begun c fin works front ends = tt
-text_fails program digests check f d task before out kept None l m n olds news (Ok report) (Err how) fresh begun c fin works front ends = absurd ends
-text_fails program digests check f d task before out kept None l m n olds news (Err halted) (Ok a) fresh begun c fin works front ends = absurd ends
-text_fails program digests check f d task before out kept None l m n olds news (Err halted) (Err how) fresh begun c fin works front ends =
+text_fails program digests check f d task before out name kept None l m n olds news (Ok report) (Ok a) fresh begun c fin works front ends = tt
+text_fails program digests check f d task before out name kept None l m n olds news (Ok report) (Err how) fresh begun c fin works front ends = absurd ends
+text_fails program digests check f d task before out name kept None l m n olds news (Err halted) (Ok a) fresh begun c fin works front ends = absurd ends
+text_fails program digests check f d task before out name kept None l m n olds news (Err halted) (Err how) fresh begun c fin works front ends =
     let by = manner program false digests in
     let has = map f.remaining olds in
-    let tail = ends_with_out d out kept None (d.has_taken out 0) (WriteFailed d before out) m n (λ w t. t) (λ risen. has_failed _ _ fresh.2 risen) fin in
+    let tail = ends_with_out d out name kept None (d.has_taken out 0) (WriteFailed d before out) m n (λ w t. t) (λ risen. has_failed _ _ fresh.2 risen) fin in
     let fail = work_fails program false digests check f task (d.has_taken out 0) (WriteFailed d before out) (TakenFront (d.taken out)) l m n olds news halted tail begun c works in
     (fail.0, fail.1, subst (λ h. Fails by (judging (judge_of task)) has h fail.0) (sym ends) fail.2, stops_leaving by task has (d.taken before) (d.taken out) fail.0 fresh.1 fail.3 front)
-text_fails program digests check f d task before out kept (Some why) l m n olds news (Ok report) (Ok a) fresh begun c fin works front ends = absurd ends
-text_fails program digests check f d task before out kept (Some why) l m n olds news (Err halted) (Ok a) fresh begun c fin works front ends = absurd ends
-text_fails program digests check f d task before out kept (Some why) l m n olds news (Ok report) (Err how) fresh begun c fin works front ends =
+text_fails program digests check f d task before out name kept (Some why) l m n olds news (Ok report) (Ok a) fresh begun c fin works front ends = absurd ends
+text_fails program digests check f d task before out name kept (Some why) l m n olds news (Err halted) (Ok a) fresh begun c fin works front ends = absurd ends
+text_fails program digests check f d task before out name kept (Some why) l m n olds news (Ok report) (Err how) fresh begun c fin works front ends =
     let by = manner program false digests in
     let has = map f.remaining olds in
-    let done = work_done f d out kept (Some why) by check task (d.has_taken out 0) (WriteFailed d before out) l m n olds news report begun c fin (λ w t. t) works in
+    let done = work_done f d out name kept (Some why) by check task (d.has_taken out 0) (WriteFailed d before out) l m n olds news report begun c fin (λ w t. t) works in
     let events : List Event = reads done.0 ++ wrote done.1 ∷ [] in (
       events,
       done.2,
       subst (λ h. Fails by (judging (judge_of task)) has h events) (sym ends) (text_stops by (judging (judge_of task)) has why events (has_after _ (reads done.0) (wrote done.1 ∷ []) (inl done.3))),
       inr (record { before = []; rs = done.0; out = done.1; after = []; happened = refl; by = check; counts = report.counts; digest = report.input; raw = report.raw; work = done.5 }),
     )
-text_fails program digests check f d task before out kept (Some why) l m n olds news (Err halted) (Err how) fresh begun c fin works front ends =
+text_fails program digests check f d task before out name kept (Some why) l m n olds news (Err halted) (Err how) fresh begun c fin works front ends =
     let by = manner program false digests in
     let has = map f.remaining olds in
-    let fail = finish_fails f d out kept (Some why) l m n news c fin why refl in
+    let fail = finish_fails f d out name kept (Some why) l m n news c fin why refl in
     (fail.0, fail.1, subst (λ h. Fails by (judging (judge_of task)) has h fail.0) (sym ends) (text_stops by (judging (judge_of task)) has why fail.0 fail.2), stops_leaving by task has (d.taken before) (d.taken out) fail.0 fresh.1 fail.3 front)

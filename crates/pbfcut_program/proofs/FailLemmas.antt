@@ -114,7 +114,7 @@ module _ (xs ys : List Event) (keeps : (p : Event → Type 0) → Has p xs → H
 pub fails_after : (m : Manner) (j : Judging) (has : List (Option (List ℕ))) (how : Ending) (xs ys : List Event) → Each Quiet xs → Fails m j has how ys → Fails m j has how (xs ++ ys)
 fails_after m j has how xs ys q f = fails_in ys (xs ++ ys) (λ p. has_after p xs ys) (each_both _ xs ys (nothing_in xs q)) (readings_after xs ys q) m j has how f
 
-fails_before : (m : Manner) (j : Judging) (has : List (Option (List ℕ))) (how : Ending) (xs ys : List Event) → Each Quiet ys → Fails m j has how xs → Fails m j has how (xs ++ ys)
+pub fails_before : (m : Manner) (j : Judging) (has : List (Option (List ℕ))) (how : Ending) (xs ys : List Event) → Each Quiet ys → Fails m j has how xs → Fails m j has how (xs ++ ys)
 fails_before m j has how xs ys q f = fails_in xs (xs ++ ys) (λ p. has_before p xs ys) (λ n. each_both _ xs ys n (nothing_in ys q)) (readings_before xs ys (readings_of_quiet ys q)) m j has how f
 
 -- ---- after those in which IN was opened

@@ -31,9 +31,9 @@ use Rattle.pbfcut_program.proofs.LeavingLemmas.{TakenFront, front_taken, taken_f
 use Rattle.pbfcut_program.proofs.Logging.{and_then}
 use Rattle.pbfcut_program.proofs.Weaker.{ends_weaker}
 
-module _ {F D : Type 0} (f : feed.Ghosts F) (d : drain.Ghosts D) (now : F) (out : D) (kept : Bool) (fault : Option FinishFault) (l m n : Option (List Event)) (c : Closes f now l m) (fin : Finishes d out kept fault m n) where
+module _ {F D : Type 0} (f : feed.Ghosts F) (d : drain.Ghosts D) (now : F) (out : D) (name : Option (List ℕ)) (kept : Bool) (fault : Option FinishFault) (l m n : Option (List Event)) (c : Closes f now l m) (fin : Finishes d out name kept fault m n) where
   abbrev lost : Writing
-  lost = record { bytes = fin.0.0; reports = is_some (d.taken out); failures = d.failures out; kept = kept; fault = fault }
+  lost = record { name = name; bytes = fin.0.0; reports = is_some (d.taken out); failures = d.failures out; kept = kept; fault = fault }
 
   -- whatever went through the devices
   pub some_listing : n ≡ then_all l (read (reading f now c.0.0) ∷ wrote lost ∷ [])
@@ -43,7 +43,7 @@ module _ {F D : Type 0} (f : feed.Ghosts F) (d : drain.Ghosts D) (now : F) (out 
       → OnOk outcome ((r : Reading) × (w : Writing) × (n ≡ then_all l (read r ∷ wrote w ∷ [])) × (w.fault ≡ fault) × IsListing program (f.remaining old) w.bytes)
   list_done program old before (Ok count) fresh lists =
       let end = fin.1 _ (lists.added.logged 0 [] fresh.0) in
-      (reading f now c.0.0, record { bytes = _; reports = is_some (d.taken out); failures = d.failures out; kept = kept; fault = fault }, and_then l m n (read (reading f now c.0.0) ∷ []) (wrote (record { bytes = _; reports = is_some (d.taken out); failures = d.failures out; kept = kept; fault = fault }) ∷ []) c.0.1 end, refl, (lists.frames, lists.says, refl))
+      (reading f now c.0.0, record { name = name; bytes = _; reports = is_some (d.taken out); failures = d.failures out; kept = kept; fault = fault }, and_then l m n (read (reading f now c.0.0) ∷ []) (wrote (record { name = name; bytes = _; reports = is_some (d.taken out); failures = d.failures out; kept = kept; fault = fault }) ∷ []) c.0.1 end, refl, (lists.frames, lists.says, refl))
   list_done program old before (Err halted) fresh lists = tt
 
   pub info_done : {T : Type 0} (json : Bool) (has : Option (List ℕ)) (before : D) (outcome : Result T Halted) → IsFreshOut d before → OnOk outcome (Took d before out (TellsInfo json has))
@@ -51,8 +51,8 @@ module _ {F D : Type 0} (f : feed.Ghosts F) (d : drain.Ghosts D) (now : F) (out 
   info_done json has before (Ok t) fresh shows =
       let end = fin.1 _ (shows.added.logged 0 [] fresh.0) in (
         reading f now c.0.0,
-        record { bytes = _; reports = is_some (d.taken out); failures = d.failures out; kept = kept; fault = fault },
-        and_then l m n (read (reading f now c.0.0) ∷ []) (wrote (record { bytes = _; reports = is_some (d.taken out); failures = d.failures out; kept = kept; fault = fault }) ∷ []) c.0.1 end,
+        record { name = name; bytes = _; reports = is_some (d.taken out); failures = d.failures out; kept = kept; fault = fault },
+        and_then l m n (read (reading f now c.0.0) ∷ []) (wrote (record { name = name; bytes = _; reports = is_some (d.taken out); failures = d.failures out; kept = kept; fault = fault }) ∷ []) c.0.1 end,
         refl,
         shows.holding,
       )
@@ -103,7 +103,7 @@ module _ {F D : Type 0} (f : feed.Ghosts F) (d : drain.Ghosts D) (now : F) (out 
       let failed = WriteFailed d before out in
       let first : List Event = opened input 1 (f.remaining old) ∷ screened true ∷ [] in
       let works = ends_weaker f (Added d before [] out) (took []) (λ none. none.logged 0 [] start.0) Pbfcutz judged_headings failed failed halted.ending (old ∷ []) (now ∷ []) (λ w. w) ends in
-      let tail = ends_with_out d out kept fault took failed m n (λ w t. t) (λ risen. has_failed _ _ start.2 risen) fin in
+      let tail = ends_with_out d out name kept fault took failed m n (λ w t. t) (λ risen. has_failed _ _ start.2 risen) fin in
       let end = stop_told f false digests judged_headings took failed (TakenFront (d.taken out)) l m n tail Pbfcutz works.0 (old ∷ []) (now ∷ []) (fresh, tt) (m, c, refl) works.2 in
       let why = stop_fails (manner Pbfcutz false digests) (judging judged_headings) (f.remaining old ∷ []) halted.ending end.0 works.0 works.1 end.2 in
       (_, and_then k l n first end.0 e end.1, opened_fails (manner Pbfcutz false digests) (judging judged_headings) (f.remaining old ∷ []) halted.ending first end.0 (tt, (tt, tt)) (inl (refl, refl), tt) why)

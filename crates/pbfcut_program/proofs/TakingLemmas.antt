@@ -9,10 +9,10 @@ use Rattle.pbfcut.specs.Theorem.{IsConverted, IsExtraction}
 use Rattle.pbfcut_cli.specs.declared.words.Files.{Files}
 use Rattle.pbfcut_cli.specs.declared.words.Region.{Region}
 use Rattle.pbfcut_cli.specs.declared.words.Strategy.{Strategy}
-use Rattle.pbfcut_program.specs.Events.{Event, Reading, Writing, read, seeded, wrote}
+use Rattle.pbfcut_program.specs.Events.{Event, Reading, Writing, read, wrote}
 use Rattle.pbfcut_program.specs.Fails.{Each}
 use Rattle.pbfcut_program.specs.Manner.{Manner, of_input, of_output}
-use Rattle.pbfcut_program.specs.Program.{Extracts, Writes, WritesCounts, advice, counts_text, done_lines, is_screen, looks, makes, openings, prints, screen_of, strategy_of}
+use Rattle.pbfcut_program.specs.Program.{Extracts, Writes, WritesCounts, advice, begun, counts_text, done_lines, is_screen, prints, screen_of, strategy_of}
 use Rattle.pbfcut_program.specs.Readings.{IsWhole, IsWholeOrSpared, ReadAll, ReadLater}
 use Rattle.pbfcut_program.specs.Taking.{Happened, ReadOf, ReadsOnly, TookConversion, TookCopy, TookExtract, TookWhole}
 use Rattle.pbfcut_program.specs.Tasks.{Holds, Task, converting, copying, extracting}
@@ -111,12 +111,13 @@ module _ (file : List ℕ) where
   known_of : (m : Manner) (task : Task) (files : Files) (counts : Counts) (events : List Event) → (w : WritesCounts m task files counts events) → ReadsOnly file events → AllAre w.work.files × Happened (wrote w.out) events
   known_of m task files counts events w e =
       let is = is_screen m.program files.output.now in
-      let first = looks is files ++ openings files.input.now 1 w.has in
-      let middle : List Event = seeded (Some w.key) ∷ makes is files ∷ map (λ r. read r) w.rs in
-      let tail : List Event = wrote w.out ∷ prints (screen_of is) (counts_text counts ∷ done_lines w.known w.meaning w.digest w.raw files.input.now files.output.now) in
+      let first = begun is files w.has w.key w.makes in
+      let rs : List Event = map (λ r. read r) w.rs in
+      let out : List Event = wrote w.out ∷ w.keeps in
+      let tail = prints (screen_of is) (counts_text counts ∷ done_lines w.known w.meaning w.digest w.raw files.input.now files.output.now) in
       let parts = subst (λ es. Each (ReadOf file) es) w.happened e in
-      let reads = each_last (ReadOf file) first middle (each_first (ReadOf file) (first ++ middle) tail parts) in
-      (all_are _ _ w.rs w.work.files w.work.read (all_of w.rs reads.1.1), subst (λ es. Happened (wrote w.out) es) (sym w.happened) (happened_after _ (first ++ middle) tail (inl refl)))
+      let reads = each_last (ReadOf file) first rs (each_first (ReadOf file) (first ++ rs) out (each_first (ReadOf file) ((first ++ rs) ++ out) tail parts)) in
+      (all_are _ _ w.rs w.work.files w.work.read (all_of w.rs reads), subst (λ es. Happened (wrote w.out) es) (sym w.happened) (happened_before _ ((first ++ rs) ++ out) tail (happened_after _ (first ++ rs) out (inl refl))))
 
   -- OUT took what it has
   abbrev whole_of : (m : Manner) (task : Task) (files : Files) (counts : Counts) (events all : List Event) → (w : WritesCounts m task files counts events) → Happened (wrote w.out) all → TookWhole w.out.bytes all

@@ -47,11 +47,11 @@ Closes f now before after =
     ((bytes : List ℕ) × (after ≡ then_one before (read (record { bytes = bytes; left = f.remaining now; failures = f.failures now }))))
     × ((bytes : List ℕ) → f.has_passed now 0 bytes → after ≡ then_one before (read (record { bytes = bytes; left = f.remaining now; failures = f.failures now })))
 
--- OUT, to be kept or not, of which all went out, or not, by this fault
-abbrev pub Finishes : {D : Type 0} → drain.Ghosts D → D → (kept : Bool) → Option FinishFault → Option (List Event) → Option (List Event) → Type 0
-Finishes d now kept fault before after =
-    ((bytes : List ℕ) × IfSome (d.taken now) (λ taken. bytes ≡ taken) × (after ≡ then_one before (wrote (record { bytes = bytes; reports = is_some (d.taken now); failures = d.failures now; kept = kept; fault = fault }))))
-    × ((bytes : List ℕ) → d.has_taken now 0 bytes → after ≡ then_one before (wrote (record { bytes = bytes; reports = is_some (d.taken now); failures = d.failures now; kept = kept; fault = fault })))
+-- OUT, by its name if it is a file, to be kept or not, of which all went out, or not, by this fault
+abbrev pub Finishes : {D : Type 0} → drain.Ghosts D → D → (name : Option (List ℕ)) → (kept : Bool) → Option FinishFault → Option (List Event) → Option (List Event) → Type 0
+Finishes d now name kept fault before after =
+    ((bytes : List ℕ) × IfSome (d.taken now) (λ taken. bytes ≡ taken) × (after ≡ then_one before (wrote (record { name = name; bytes = bytes; reports = is_some (d.taken now); failures = d.failures now; kept = kept; fault = fault }))))
+    × ((bytes : List ℕ) → d.has_taken now 0 bytes → after ≡ then_one before (wrote (record { name = name; bytes = bytes; reports = is_some (d.taken now); failures = d.failures now; kept = kept; fault = fault })))
 
 -- one feed after the other
 abbrev pub CloseAll : {F : Type 0} → feed.Ghosts F → List F → Option (List Event) → Option (List Event) → Type 0

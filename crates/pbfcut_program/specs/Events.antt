@@ -3,6 +3,7 @@ use Rattle.std.specs.Prelude.{ℕ, List, [], ◌∷◌, ◌++◌, Bool, Option}
 use Rattle.std.specs.Option.{option_map}
 use Rattle.pbfcut_program.specs.declared.host.CreateFault.{CreateFault}
 use Rattle.pbfcut_program.specs.declared.host.FinishFault.{FinishFault}
+use Rattle.pbfcut_program.specs.declared.host.NameFault.{NameFault}
 use Rattle.pbfcut_program.specs.declared.host.OpenFault.{OpenFault}
 use Rattle.pbfcut_program.specs.declared.host.PrintFault.{PrintFault}
 use Rattle.pbfcut_program.specs.declared.host.Screen.{Screen}
@@ -13,9 +14,10 @@ pub record Reading : Type 0 where
   pub left : Option (List ℕ)
   pub failures : ℕ
 
--- OUT is closed: it took these bytes; whether it reports of itself that it took them; how many writes failed; whether it was to be kept, as whole; and why not all
+-- OUT is closed: the name that it has, if it is a file; it took these bytes; whether it reports of itself that it took them; how many writes failed; whether it was to be kept, as whole; and why not all
 -- that it took went out, if it didn't
 pub record Writing : Type 0 where
+  pub name : Option (List ℕ)
   pub bytes : List ℕ
   pub reports : Bool
   pub failures : ℕ
@@ -33,13 +35,26 @@ pub data Event : Type 0 where
   not_opened : (path : List ℕ) → OpenFault → Event
   -- a seed is drawn, with this key; or it isn't
   seeded : (key : Option ℕ) → Event
-  -- OUT is created, with `overwrite` in place of a plain file; or it isn't
-  created : (path : List ℕ) → (overwrite : Bool) → Event
-  not_created : (path : List ℕ) → CreateFault → Event
+  -- a new file has this name, and no bytes: none had the name; or OUT can't be made by it
+  made : (name : List ℕ) → Event
+  not_made : (name : List ℕ) → CreateFault → Event
   -- standard output is taken to be written to, if there is memory
   screened : (there : Bool) → Event
   read : Reading → Event
   wrote : Writing → Event
+  -- the file of the first name has the second, too, which none had
+  linked : (from to : List ℕ) → Event
+  -- it has the second instead, which none had
+  moved : (from to : List ℕ) → Event
+  -- the same, in place of a file that may have had it
+  renamed : (from to : List ℕ) → Event
+  -- it couldn't be given the second
+  not_named : (from to : List ℕ) → NameFault → Event
+  -- the file of this name has it no more; or it couldn't be taken from it
+  removed : (name : List ℕ) → Event
+  stays : (name : List ℕ) → Event
+  -- that a file has this name may not be on the disk
+  not_synced : (name : List ℕ) → Event
   -- this went to a screen, or only a part of it, for this
   printed : Screen → (text : List ℕ) → Option PrintFault → Event
   -- this was to go to standard error

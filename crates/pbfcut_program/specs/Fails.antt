@@ -16,9 +16,10 @@ use Rattle.pbfcut_cli.specs.declared.programs.Program.TheVariants.{Pbfcut, Pbfcu
 use Rattle.pbfcut_program.specs.declared.host.CreateFault.TheVariants as creating
 use Rattle.pbfcut_program.specs.declared.host.FinishFault.{FinishFault}
 use Rattle.pbfcut_program.specs.declared.host.FinishFault.TheVariants as finishing
+use Rattle.pbfcut_program.specs.declared.host.NameFault.TheVariants as naming
 use Rattle.pbfcut_program.specs.declared.host.OpenFault.TheVariants as opening
 use Rattle.pbfcut_program.specs.declared.host.PrintFault.TheVariants as line
-use Rattle.pbfcut_program.specs.Events.{Event, Reading, text_read, text_not_read, looked, opened, not_opened, seeded, not_created, read, wrote, printed}
+use Rattle.pbfcut_program.specs.Events.{Event, Reading, text_read, text_not_read, looked, opened, not_opened, seeded, not_made, not_named, not_synced, read, wrote, printed}
 use Rattle.pbfcut_program.specs.Manner.{Form, Manner, input_form, meant_known, output_form, packed_file, raw_file}
 use Rattle.pbfcut_program.specs.Readings.{IsFaulty, IsOther}
 
@@ -46,7 +47,7 @@ Quiet _ = Unit {0}
 abbrev pub FailsToOpen : Event → Type 0
 FailsToOpen (text_not_read path) = Unit {0}
 FailsToOpen (not_opened path opening.Failed) = Unit {0}
-FailsToOpen (not_created path creating.Failed) = Unit {0}
+FailsToOpen (not_made name fault) = Unit {0}
 FailsToOpen (seeded key) = key ≡ None
 FailsToOpen _ = ⊥
 
@@ -57,7 +58,7 @@ FailsAsPipe _ = ⊥
 -- OUT was there, or it was there when it was to be made
 abbrev pub FailsAsThere : Event → Type 0
 FailsAsThere (looked path overwrite there) = there ≡ true
-FailsAsThere (not_created path creating.Exists) = Unit {0}
+FailsAsThere (not_made name creating.Exists) = Unit {0}
 FailsAsThere _ = ⊥
 
 -- the text that was read is no polygon, by this fault
@@ -72,10 +73,15 @@ FailsToRead _ = ⊥
 -- not all of OUT went out, for this
 abbrev pub FailsToFinish : FinishFault → Event → Type 0
 FailsToFinish fault (wrote w) = w.fault ≡ Some fault
+FailsToFinish finishing.Exists (not_named from to naming.Exists) = Unit {0}
+FailsToFinish finishing.Failed (not_named from to naming.Failed) = Unit {0}
+FailsToFinish finishing.Failed (not_synced name) = Unit {0}
 FailsToFinish fault _ = ⊥
 
 abbrev pub FailsToWrite : Event → Type 0
 FailsToWrite (wrote w) = (0 < w.failures) ⊎ ((w.fault ≡ Some finishing.Failed) ⊎ (w.fault ≡ Some finishing.Closed))
+FailsToWrite (not_named from to naming.Failed) = Unit {0}
+FailsToWrite (not_synced name) = Unit {0}
 FailsToWrite (printed screen text fault) = fault ≡ Some line.Failed
 FailsToWrite _ = ⊥
 

@@ -1,6 +1,7 @@
 pub mod Devices
 pub mod Events
 pub mod Fails
+pub mod Files
 pub mod Jobs
 pub mod Leaving
 pub mod Manner
@@ -10,3 +11,4 @@ pub mod Readings
 pub mod Taking
 pub mod Tasks
 pub mod Telling
+pub mod Worked

@@ -18,8 +18,12 @@ use Rattle.pbf_pass.specs.Refused.{stop_of}
 use Rattle.pbfcut_cli.specs.declared.endings.Ending.TheVariants as ending
 use Rattle.pbfcut_program.specs.declared.engine.Report.{Report}
 use Rattle.pbfcut_program.specs.declared.engine.Halted.{Halted}
+use Rattle.pbfcut_program.specs.declared.host.CreateFault.{CreateFault}
+use Rattle.pbfcut_program.specs.declared.host.CreateFault.TheVariants as creating
 use Rattle.pbfcut_program.specs.declared.host.FinishFault.{FinishFault}
 use Rattle.pbfcut_program.specs.declared.host.FinishFault.TheVariants as fault
+use Rattle.pbfcut_program.specs.declared.host.NameFault.{NameFault}
+use Rattle.pbfcut_program.specs.declared.host.NameFault.TheVariants as naming
 use Rattle.pbfcut_program.specs.Fails.{EndsAsStop}
 use Rattle.pbfcut_program.specs.Manner.{input_form, meant_known}
 
@@ -42,6 +46,24 @@ EndsListing program f d old now before after how = (s : Stop) × EndsAsStop prog
 abbrev pub ListsBy : {F D : Type 0} → Program → feed.Ghosts F → drain.Ghosts D → (old now : F) → (before after : D) → Result ℕ Halted → Type 0
 ListsBy program f d old now before after (Ok count) = Lists d before after (judged_known false 0 (meant_known (input_form program) (f.remaining old))) count
 ListsBy program f d old now before after (Err halted) = EndsListing program f d old now before after halted.ending
+
+-- OUT can't be made: by its name, and by another one
+abbrev pub unmade : CreateFault → Ending
+unmade creating.Failed = ending.CannotOpen
+unmade creating.Long = ending.CannotOpen
+unmade creating.Exists = ending.OutExists
+unmade creating.Memory = ending.Stopped stop.Memory
+
+abbrev pub unmade_part : CreateFault → Ending
+unmade_part creating.Failed = ending.CannotOpen
+unmade_part creating.Long = ending.CannotOpen
+unmade_part creating.Exists = ending.CannotOpen
+unmade_part creating.Memory = ending.Stopped stop.Memory
+
+-- a file that doesn't get OUT's name
+abbrev pub finish_fault_of : NameFault → FinishFault
+finish_fault_of naming.Failed = fault.Failed
+finish_fault_of naming.Exists = fault.Exists
 
 -- how a command ends if not all of OUT went out
 abbrev pub ending_of_file : FinishFault → Ending

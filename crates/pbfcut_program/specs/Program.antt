@@ -39,8 +39,9 @@ use Rattle.pbfcut_cli.specs.declared.words.Strategy.{Strategy}
 use Rattle.pbfcut_cli.specs.declared.words.Strategy.TheVariants as strategy
 use Rattle.pbfcut_program.specs.declared.host.Screen.{Screen}
 use Rattle.pbfcut_program.specs.declared.host.Screen.TheVariants.{Output, Error}
-use Rattle.pbfcut_program.specs.Events.{Event, text_read, looked, opened, seeded, created, screened, read, wrote, printed, told, advised, Reading, Writing}
+use Rattle.pbfcut_program.specs.Events.{Event, text_read, looked, opened, seeded, screened, read, wrote, printed, told, advised, Reading, Writing}
 use Rattle.pbfcut_program.specs.Fails.{Each, FailsFor, Judging, Quiet, judging, listing, printing}
+use Rattle.pbfcut_program.specs.Files.{IsKept, IsMade}
 use Rattle.pbfcut_program.specs.Leaving.{LeavesFor}
 use Rattle.pbfcut_program.specs.Manner.{Manner, check_of, hashes_meaning, input_form, manner, meant_known, of_output, once_check, output_form, to_raw}
 use Rattle.pbfcut_program.specs.Readings.{IsWork}
@@ -135,9 +136,9 @@ abbrev pub looks : (is_screen : Bool) → Files → List Event
 looks true files = []
 looks false files = looked files.output.now files.overwrite false ∷ []
 
-abbrev pub makes : (is_screen : Bool) → Files → Event
-makes true files = screened true
-makes false files = created files.output.now files.overwrite
+-- what happens before the passes
+abbrev pub begun : (is_screen : Bool) → Files → (has : List (Option (List ℕ))) → (key : ℕ) → (makes : List Event) → List Event
+begun is_screen files has key makes = looks is_screen files ++ openings files.input.now 1 has ++ seeded (Some key) ∷ makes
 
 -- where counts and digests go
 abbrev pub screen_of : (is_screen : Bool) → Screen
@@ -159,11 +160,13 @@ pub record WritesCounts (m : Manner) (task : Task) (files : Files) (counts : Cou
   pub raw : Option (List ℕ)
   pub known : Option (List ℕ)
   pub meaning : Option (List ℕ)
-  pub happened : events ≡ looks (is_screen m.program files.output.now) files ++ openings files.input.now 1 has
-      ++ seeded (Some key) ∷ makes (is_screen m.program files.output.now) files ∷ map read rs
-      ++ wrote out ∷ prints (screen_of (is_screen m.program files.output.now))
+  pub makes : List Event
+  pub keeps : List Event
+  pub happened : events ≡ begun (is_screen m.program files.output.now) files has key makes ++ map read rs ++ wrote out ∷ keeps ++ prints (screen_of (is_screen m.program files.output.now))
       (counts_text counts ∷ done_lines known meaning digest raw files.input.now files.output.now)
   pub passes : length has ≡ passes_of task
+  pub made : IsMade m.program (is_screen m.program files.output.now) files.output.now out.name makes
+  pub named : IsKept m.program files.overwrite files.output.now out.name keeps
   pub kept : out.kept ≡ true
   pub whole : out.fault ≡ None
   pub hashed : known ≡ digest_if_asked m.digests out.bytes

@@ -1,9 +1,12 @@
 //! The world of a command: files, the standard streams, and a terminal.
 
-ghost use Rattle.std.specs.Prelude.{◌≡◌, ℕ, List, [], Option, Some, None, IfOk, IfErr, IfSome, OnErr, is_ok, string_bytes};
-ghost use Rattle.std.specs.Option.{is_some};
+ghost use Rattle.std.specs.Prelude.{◌≡◌, ℕ, List, [], Option, Some, None, true, false, IfOk, IfErr, OnOk, OnErr, is_ok, string_bytes};
 ghost use Rattle.std.specs.Result.{result_err};
-ghost use Rattle.pbfcut_program.specs.Events.{Event, Reading, Writing, text_read, text_not_read, looked, opened, not_opened, seeded, created, not_created, screened, read, wrote, printed, told, advised, then_one};
+ghost use Rattle.pbfcut_program.specs.Devices.{Finishes, IsFreshOut};
+ghost use Rattle.pbfcut_program.specs.Files.{IsEnd};
+ghost use Rattle.pbfcut_program.specs.declared.host.FinishFault.{FinishFault};
+ghost use Rattle.pbfcut_program.specs.declared.host.NameFault.TheVariants as name;
+ghost use Rattle.pbfcut_program.specs.Events.{Event, Reading, text_read, text_not_read, looked, opened, not_opened, seeded, screened, read, made, not_made, linked, moved, renamed, not_named, not_synced, printed, told, advised, then_one};
 
 use pbf_frame::{Drain, Feed};
 use pbfcut_cli::{Command, Ending, Region};
@@ -32,10 +35,21 @@ pub enum TextFault {
 pub enum CreateFault {
     /// It can't be created.
     Failed,
-    /// A file has OUT's name, though none had when it was looked for.
+    /// A file has the name.
     Exists,
+    /// The system takes no name that is so long.
+    Long,
     /// A request for memory was refused.
     Memory,
+}
+
+/// Why a file isn't given a name.
+#[derive(Clone, Copy, Debug, PartialEq, Eq)]
+pub enum NameFault {
+    /// The system says so.
+    Failed,
+    /// Another file has it.
+    Exists,
 }
 
 /// Why not all that OUT took went out.
@@ -140,40 +154,71 @@ pub trait Host {
             ≡ then_one (log self.old) (seeded (Some seed.key))) }
         ensures failed { OnErr result (log self.new ≡ then_one (log self.old) (seeded None)) };
 
-    /// Makes OUT. With `overwrite` it takes the place of a plain file; otherwise there must be none. It took nothing, and no write has failed.
-    fn create(&mut self, path: &str, overwrite: bool) -> Result<Self::Out, CreateFault>
-        ensures created { IfOk result (λ _. log self.new
-            ≡ then_one (log self.old) (created path.now overwrite)) }
-        ensures fresh { IfOk result (λ out. Self.Out.has_taken out 0 []
-            × IfSome (Self.Out.taken out) (λ taken. taken ≡ []) × (Self.Out.failures out ≡ 0)) }
+    /// The number of this process.
+    fn process(&self) -> u32;
+
+    /// Settles that OUT can be made: whether it replaces a file. Only a plain one can be replaced, and with `overwrite` alone.
+    fn replaces(&mut self, path: &str, overwrite: bool) -> Result<bool, CreateFault>
+        ensures settled { OnOk result (log self.new ≡ log self.old) }
         ensures failed { IfErr result (λ fault. log self.new
-            ≡ then_one (log self.old) (not_created path.now fault)) };
+            ≡ then_one (log self.old) (not_made path.now fault)) };
+
+    /// Makes a new file by a name that none had. It took nothing, and no write has failed. If it is to replace another one, it has that one's mode
+    /// and owner, as far as that can be done.
+    fn make(&mut self, name: &str, replaced: Option<&str>) -> Result<Self::Out, CreateFault>
+        ensures made { IfOk result (λ _. log self.new ≡ then_one (log self.old) (made name.now)) }
+        ensures fresh { IfOk result (λ out. IsFreshOut Self.Out.Drain out) }
+        ensures failed { IfErr result (λ fault. log self.new
+            ≡ then_one (log self.old) (not_made name.now fault)) };
 
     /// Standard output, to be written to as OUT is. `Err` says that memory was refused.
     fn screen(&mut self) -> Result<Self::Out, NotDone>
         ensures screened { log self.new ≡ then_one (log self.old) (screened (is_ok result)) }
-        ensures fresh { IfOk result (λ out. Self.Out.has_taken out 0 []
-            × IfSome (Self.Out.taken out) (λ taken. taken ≡ []) × (Self.Out.failures out ≡ 0)) };
+        ensures fresh { IfOk result (λ out. IsFreshOut Self.Out.Drain out) };
 
-    /// Takes OUT back: it took these bytes, which are all if it is whole, and which it reports if it reports any. On `Ok` all of them went out;
-    /// and if OUT is whole, it has its name.
-    fn finish(&mut self, out: Self::Out, whole: bool) -> Result<(), FinishFault>
-        ensures some { (bytes : List ℕ) × IfSome (Self.Out.taken out) (λ taken. bytes ≡ taken)
-            × (log self.new ≡ then_one (log self.old) (wrote (record {
-              bytes = bytes;
-              reports = is_some (Self.Out.taken out);
-              failures = Self.Out.failures out;
-              kept = whole;
-              fault = result_err result;
-            }))) }
-        ensures logged { (bytes : List ℕ) → Self.Out.has_taken out 0 bytes
-            → log self.new ≡ then_one (log self.old) (wrote (record {
-              bytes = bytes;
-              reports = is_some (Self.Out.taken out);
-              failures = Self.Out.failures out;
-              kept = whole;
-              fault = result_err result;
-            })) };
+    /// Takes a whole file back: it took these bytes, which it reports if it reports any. On `Ok` all of them are on the disk.
+    fn sync(&mut self, name: &str, out: Self::Out) -> Result<(), FinishFault>
+        ensures { Finishes Self.Out.Drain out (Some name.now) true (result_err result)
+            (log self.old) (log self.new) };
+
+    /// Takes a file back that isn't whole.
+    fn close_out(&mut self, name: &str, out: Self::Out)
+        ensures { (fault : Option FinishFault) × Finishes Self.Out.Drain out (Some name.now) false fault
+            (log self.old) (log self.new) };
+
+    /// Takes standard output back. On `Ok` all that it took went out.
+    fn finish_screen(&mut self, out: Self::Out, whole: bool) -> Result<(), FinishFault>
+        ensures { Finishes Self.Out.Drain out None whole (result_err result) (log self.old) (log self.new) };
+
+    /// Whether a plain file has this name, and no link to one.
+    fn is_plain(&self, path: &str) -> bool;
+
+    /// Gives a file a second name, which none had.
+    fn link(&mut self, from: &str, to: &str) -> Result<(), NameFault>
+        ensures linked { OnOk result (log self.new ≡ then_one (log self.old) (linked from.now to.now)) }
+        ensures failed { IfErr result (λ fault. log self.new
+            ≡ then_one (log self.old) (not_named from.now to.now fault)) };
+
+    /// Gives a file another name, which none had, where a file has one name only.
+    fn move_new(&mut self, from: &str, to: &str) -> Result<(), NameFault>
+        ensures moved { OnOk result (log self.new ≡ then_one (log self.old) (moved from.now to.now)) }
+        ensures failed { IfErr result (λ fault. log self.new
+            ≡ then_one (log self.old) (not_named from.now to.now fault)) };
+
+    /// Gives a file another name, in place of a file that has it.
+    fn rename(&mut self, from: &str, to: &str) -> Result<(), NotDone>
+        ensures renamed { OnOk result (log self.new ≡ then_one (log self.old) (renamed from.now to.now)) }
+        ensures failed { OnErr result (log self.new
+            ≡ then_one (log self.old) (not_named from.now to.now name.Failed)) };
+
+    /// Takes a name from a file, if that can be done.
+    fn remove(&mut self, name: &str)
+        ensures { (end : Event) × IsEnd name.now end × (log self.new ≡ then_one (log self.old) end) };
+
+    /// Has the system write to the disk that a file has this name.
+    fn sync_name(&mut self, name: &str) -> Result<(), NotDone>
+        ensures synced { OnOk result (log self.new ≡ log self.old) }
+        ensures failed { OnErr result (log self.new ≡ then_one (log self.old) (not_synced name.now)) };
 
     /// Writes a text at once.
     fn print(&mut self, screen: Screen, text: &[u8]) -> Result<(), PrintFault>

@@ -1,6 +1,6 @@
 //! The commands that write no file: `blobs`, `info`, `show` and `check`.
 
-ghost use Rattle.std.specs.Prelude.{◌≡◌, ◌∷◌, [], ℕ, false, List, Option, IfErr, IfOk, OnOk, is_ok};
+ghost use Rattle.std.specs.Prelude.{◌≡◌, ◌∷◌, [], ℕ, false, List, Option, IfErr, IfOk, OnOk, is_ok, None};
 ghost use Rattle.pbf_pass.specs.Judged.{judged_file};
 ghost use Rattle.pbf_published.specs.Showing.{TellsInfo};
 ghost use Rattle.pbfcut.specs.Summary.{judged_headings};
@@ -89,10 +89,10 @@ fn ended<H: Host, T: Drop>(
     outcome: Result<T, Halted>,
 ) -> Result<(), Ending>
     ensures { (fault : Option FinishFault)
-        × Finishes H.Out.Drain out (is_ok outcome) fault (H.log host.old) (H.log host.new)
+        × Finishes H.Out.Drain out None (is_ok outcome) fault (H.log host.old) (H.log host.new)
         × EndsAs fault outcome result }
 {
-    if let Err(fault) = host.finish(out, outcome.is_ok()) {
+    if let Err(fault) = host.finish_screen(out, outcome.is_ok()) {
         return Err(unsent(fault));
     }
     match outcome {

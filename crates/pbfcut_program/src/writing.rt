@@ -1,7 +1,8 @@
 //! The commands that write a file. Before anything is written it is settled that OUT is new, IN is opened once for each pass, and there is
 //! a seed.
 
-ghost use Rattle.std.specs.Prelude.{◌≡◌, ◌⊎◌, ◌∷◌, ◌++◌, ◌<◌, [], List, length, map, IfErr, IfOk, IfSome, Some, None, OnOk, true, false};
+ghost use Rattle.std.specs.Prelude.{◌≡◌, ◌⊎◌, ◌∷◌, ◌++◌, ◌<◌, [], List, length, map, IfErr, IfOk, IfSome, None, OnOk, string_bytes, true};
+ghost use Rattle.std.specs.Option.{option_map};
 ghost use Rattle.std.specs.Result.{result_err};
 ghost use Rattle.pbf_frame.specs.declared.stop.Stop.TheVariants as stop;
 ghost use Rattle.pbfcut_cli.specs.declared.endings.Ending.TheVariants as ending;
@@ -9,21 +10,23 @@ ghost use Rattle.pbfcut.specs.Receipts.{judge_by};
 ghost use Rattle.pbf_pass.specs.Stops.{WriteFailed};
 ghost use Rattle.pbfcut_cli.specs.declared.programs.Program.TheVariants.{Pbfcutz};
 ghost use Rattle.pbfcut_program.specs.Devices.{AreFresh, FinishesPacked, Fronts, IsAsked, IsFreshOut, MeansBy, TakenBy, Works, WorksOn};
-ghost use Rattle.pbfcut_program.specs.Events.{Event, Reading, Writing, read, seeded, wrote, then_all, then_one};
+ghost use Rattle.pbfcut_program.specs.Events.{Event, Reading, Writing, read, wrote, then_all};
+ghost use Rattle.pbfcut_program.specs.Files.{IsKept, IsMade};
 ghost use Rattle.pbfcut_program.specs.Fails.{Each, Fails, FailsFor, FailsOpening, Quiet, UnlessPacked, judging};
 ghost use Rattle.pbfcut_program.specs.Jobs.{area_of, feeds_of, plan_of, task_of};
 ghost use Rattle.pbfcut_program.specs.Leaving.{Leaves, LeavesFor};
 ghost use Rattle.pbfcut_program.specs.Outcomes.{ending_of_file};
-ghost use Rattle.pbfcut_program.specs.Program.{Extracts, LeavesCut, WritesCounts, advice, digest_if_asked, is_empty, is_screen, looks, makes, openings, screen_of, strategy_of};
-ghost use Rattle.pbfcut_program.specs.Manner.{check_in, hashes_meaning, input_form, manner_of, of_output, output_form, packed_file, to_raw};
-ghost use Rattle.pbfcut_program.specs.Readings.{IsWork};
+ghost use Rattle.pbfcut_program.specs.Program.{Extracts, LeavesCut, WritesCounts, advice, begun, is_empty, is_screen, looks, screen_of, strategy_of};
+ghost use Rattle.pbfcut_program.specs.Manner.{check_in, hashes_meaning, input_form, manner_of, output_form, packed_file, to_raw};
+ghost use Rattle.pbfcut_program.specs.Worked.{Worked};
 ghost use Rattle.pbfcut_program.specs.Tasks.{extracting, judge_of, passes_of};
 
 use crate::engine::{Engine, Halted, Report};
-use crate::host::{CreateFault, FinishFault, Host, Screen, Seed};
+use crate::host::{FinishFault, Host, Screen, Seed};
 use crate::jobs::{Cut, Job, Plan, close_job, do_job, open_job, read_region};
 use crate::linked::LinkedDrain;
-use crate::opening::{draw_seed, open_screen};
+use crate::opening::draw_seed;
+use crate::out::{Output, Place, drop_out, keep_out, make_out};
 use crate::printing::{Done, print_done, tell_refusal};
 use osm_ways::WholeTypes;
 use pbf_frame::{Drain, Feed, Stop};
@@ -67,22 +70,15 @@ fn refuse_existing<H: Host>(host: &mut H, is_screen: bool, files: &Files<'_>) ->
     Ok(())
 }
 
-/// Makes OUT, unless it is standard output.
-fn make_out<H: Host>(host: &mut H, is_screen: bool, files: &Files<'_>) -> Result<H::Out, Ending>
-    ensures ok { IfOk result (λ out. (H.log host.new
-        ≡ then_one (H.log host.old) (makes is_screen files.now))
-        × IsFreshOut H.Out.Drain out) }
-    ensures err { IfErr result (λ how. (events : List Event)
-        × (H.log host.new ≡ then_all (H.log host.old) events) × FailsOpening how events) }
+/// Where OUT is to be.
+fn place_of<'a>(program: Program, files: &Files<'a>) -> Place<'a>
+    ensures { (result.program ≡ program) × (result.path ≡ files.now.output)
+        × (result.overwrite ≡ files.now.overwrite) }
 {
-    if is_screen {
-        return open_screen(host);
-    }
-    match host.create(files.output, files.overwrite) {
-        Ok(out) => Ok(out),
-        Err(CreateFault::Failed) => Err(Ending::CannotOpen),
-        Err(CreateFault::Exists) => Err(Ending::OutExists),
-        Err(CreateFault::Memory) => Err(Ending::Stopped(Stop::Memory)),
+    Place {
+        program,
+        path: files.output,
+        overwrite: files.overwrite,
     }
 }
 
@@ -90,33 +86,35 @@ fn make_out<H: Host>(host: &mut H, is_screen: bool, files: &Files<'_>) -> Result
 #[derive(Drop)]
 struct Ready<F, D, S> {
     job: Job<F>,
-    out: D,
+    out: Output<D>,
     seed: Seed<S>,
 }
 
 /// Settles that OUT is new, opens IN for each pass, draws a seed, and makes OUT.
 fn prepare<H: Host>(
+    engine: Engine,
     host: &mut H,
-    is_screen: bool,
     files: &Files<'_>,
     plan: Plan,
     progress: bool,
 ) -> Result<Ready<H::In, H::Out, H::Hasher>, Ending>
-    ensures ok { IfOk result (λ r. H.log host.new ≡ then_all (H.log host.old)
-        (looks is_screen files.now
-        ++ openings files.now.input.now 1 (map H.In.remaining (feeds_of r.job))
-        ++ seeded (Some r.seed.key) ∷ makes is_screen files.now ∷ [])) }
+    ensures ok { IfOk result (λ r. (makes : List Event) × (H.log host.new ≡ then_all (H.log host.old)
+        (begun (is_screen engine.program files.now.output.now) files.now
+        (map H.In.remaining (feeds_of r.job)) r.seed.key makes))
+        × IsMade engine.program (is_screen engine.program files.now.output.now) files.now.output.now
+        (option_map string_bytes r.out.name) makes) }
     ensures fresh { IfOk result (λ r. AreFresh H.In.Feed (feeds_of r.job)
-        × IsFreshOut H.Out.Drain r.out) }
+        × IsFreshOut H.Out.Drain r.out.drain) }
     ensures planned { IfOk result (λ r. (task_of r.job ≡ plan_of plan)
         × (length (feeds_of r.job) ≡ passes_of (plan_of plan))) }
     ensures err { IfErr result (λ how. (events : List Event)
         × (H.log host.new ≡ then_all (H.log host.old) events) × FailsOpening how events) }
 {
-    refuse_existing(host, is_screen, files)?;
+    let to_screen = is_screen(engine.program, files.output);
+    refuse_existing(host, to_screen, files)?;
     let job = open_job(host, files.input, progress, plan)?;
     let seed = draw_seed(host)?;
-    let out = make_out(host, is_screen, files)?;
+    let out = make_out(engine.alloc, host, to_screen, place_of(engine.program, files))?;
     Ok(Ready { job, out, seed })
 }
 
@@ -377,23 +375,19 @@ fn kept(finished: Result<(), FinishFault>, done: Done) -> Result<Done, Ending>
     }
 }
 
-/// Does a job, hands all files back, and returns what it reports: then all that OUT took went out.
+/// Does a job, hands all files back, and returns what it reports: then all that OUT took went out, and it is kept.
 fn run_job<H: Host>(
     engine: Engine,
     host: &mut H,
     ready: Ready<H::In, H::Out, H::Hasher>,
-    path: &str,
+    files: &Files<'_>,
 ) -> Result<Done, Ending>
-    requires fresh { AreFresh H.In.Feed (feeds_of ready.job) × IsFreshOut H.Out.Drain ready.out }
-    ensures ok { IfOk result (λ done. (rs : List Reading) × (out : Writing)
-        × (H.log host.new ≡ then_all (H.log host.old) (map read rs ++ wrote out ∷ []))
-        × (out.fault ≡ None) × (done.output ≡ digest_if_asked engine.digests out.bytes)
-        × (done.meaning ≡ digest_if_asked
-        (hashes_meaning (output_form engine.packs engine.program) engine.digests)
-        (of_output (manner_of engine) out.bytes))
-        × IsWork (manner_of engine) (check_in engine ready.seed.key)
-        (task_of ready.job) rs out.bytes done.report.counts done.report.input done.report.raw
-        × (out.kept ≡ true)) }
+    requires fresh { AreFresh H.In.Feed (feeds_of ready.job) × IsFreshOut H.Out.Drain ready.out.drain }
+    ensures ok { IfOk result (λ done. (rs : List Reading) × (out : Writing) × (keeps : List Event)
+        × (H.log host.new ≡ then_all (H.log host.old) (map read rs ++ wrote out ∷ keeps))
+        × Worked engine ready.seed.key (task_of ready.job) rs out done
+        × (out.name ≡ option_map string_bytes ready.out.name)
+        × IsKept engine.program files.now.overwrite files.now.output.now out.name keeps) }
     ensures err { IfErr result (λ how. (events : List Event)
         × (H.log host.new ≡ then_all (H.log host.old) events)
         × Fails (manner_of engine) (judging (judge_of (task_of ready.job)))
@@ -402,25 +396,29 @@ fn run_job<H: Host>(
         (map H.In.remaining (feeds_of ready.job)) events) }
 {
     let Ready { job, out, seed } = ready;
+    let Output { drain, name } = out;
     let mut job = job;
     let Ran {
         result,
-        out,
+        out: drain,
         output,
         meaning,
-    } = run_into(engine, &mut job, out, seed);
+    } = run_into(engine, &mut job, drain, seed);
     close_job(host, job);
-    let finished = host.finish(out, result.is_ok());
+    let out = Output { drain, name };
     match result {
         Ok(report) => kept(
-            finished,
+            keep_out(host, place_of(engine.program, files), out),
             Done {
                 report,
                 output,
                 meaning,
             },
         ),
-        Err(halted) => Err(tell_refusal(engine, host, halted, path)),
+        Err(halted) => {
+            drop_out(host, engine.program, out);
+            Err(tell_refusal(engine, host, halted, files.input))
+        }
     }
 }
 
@@ -440,10 +438,10 @@ pub(crate) fn write<H: Host>(
         × FailsFor (manner_of engine) (judging (judge_of (plan_of plan))) how events
         × LeavesFor (manner_of engine) (plan_of plan) events) }
 {
-    let to_screen = is_screen(engine.program, files.output);
-    let ready = prepare(host, to_screen, files, plan, progress)?;
-    let done = run_job(engine, host, ready, files.input)?;
-    print_done(engine.alloc, host, screen_of(to_screen), &done, files)?;
+    let ready = prepare(engine, host, files, plan, progress)?;
+    let done = run_job(engine, host, ready, files)?;
+    let screen = screen_of(is_screen(engine.program, files.output));
+    print_done(engine.alloc, host, screen, &done, files)?;
     Ok(done.report.counts)
 }
 

@@ -37,7 +37,7 @@ returns-clause-ok g c =
     let begun = and_then (log c.args.host.now) _ _ (opened input 1 has ∷ []) (screened true ∷ []) c.in_ok-pass.ensures.opened c.in_ok-out.ensures.opened.0 in
     let e = c.ended.ensures in
     let done : OnOk c.ended.result ((r : Reading) × (w : Writing) × (log c.ended.new.host ≡ then_all (log c.open_screen.new.host) (read r ∷ wrote w ∷ [])) × (w.fault ≡ None) × IsListing c.args.engine.program has w.bytes) =
-    text_ok e.0 c.list_blobs-outcome.result c.ended.result _ e.2 (λ went. rw (sym went) (list_done g.H.In.Feed g.H.Out.Drain c.list_blobs-outcome.new.pass c.list_blobs-outcome.new.drain (is_ok c.list_blobs-outcome.result) e.0 (log c.open_screen.new.host) (log c.close.new.self) (log c.ended.new.host) (c.close.ensures.some, c.close.ensures.logged) e.1 c.args.engine.program c.in_ok-pass.pass c.in_ok-out.out c.list_blobs-outcome.result c.in_ok-out.ensures.opened.1 c.list_blobs-outcome.ensures.lists)) in
+    text_ok e.0 c.list_blobs-outcome.result c.ended.result _ e.2 (λ went. rw (sym went) (list_done g.H.In.Feed g.H.Out.Drain c.list_blobs-outcome.new.pass c.list_blobs-outcome.new.drain None (is_ok c.list_blobs-outcome.result) e.0 (log c.open_screen.new.host) (log c.close.new.self) (log c.ended.new.host) (c.close.ensures.some, c.close.ensures.logged) e.1 c.args.engine.program c.in_ok-pass.pass c.in_ok-out.out c.list_blobs-outcome.result c.in_ok-out.ensures.opened.1 c.list_blobs-outcome.ensures.lists)) in
     on_ok_weaker c.ended.result (λ d. (_, and_then (log c.args.host.now) _ _ first _ begun d.2, record { has = has; first = d.0; out = d.1; happened = refl; whole = d.3; lines = d.4 })) done
 
 pub returns-clause-err : goal.returns-clause-err
@@ -47,7 +47,7 @@ returns-clause-err g c =
     let has = g.H.In.Feed.remaining c.in_ok-pass.pass in
     let begun = and_then (log c.args.host.now) _ _ (opened input 1 has ∷ []) (screened true ∷ []) c.in_ok-pass.ensures.opened c.in_ok-out.ensures.opened.0 in
     let e = c.ended.ensures in
-    let left = list_front g.H.In.Feed g.H.Out.Drain c.list_blobs-outcome.new.pass c.list_blobs-outcome.new.drain (is_ok c.list_blobs-outcome.result) e.0 (log c.open_screen.new.host) (log c.close.new.self) (log c.ended.new.host) (c.close.ensures.some, c.close.ensures.logged) e.1 c.args.engine.program c.in_ok-pass.pass c.in_ok-out.out c.list_blobs-outcome.result c.in_ok-out.ensures.opened.1 c.list_blobs-outcome.ensures.lists c.list_blobs-outcome.ensures.front in
+    let left = list_front g.H.In.Feed g.H.Out.Drain c.list_blobs-outcome.new.pass c.list_blobs-outcome.new.drain None (is_ok c.list_blobs-outcome.result) e.0 (log c.open_screen.new.host) (log c.close.new.self) (log c.ended.new.host) (c.close.ensures.some, c.close.ensures.logged) e.1 c.args.engine.program c.in_ok-pass.pass c.in_ok-out.out c.list_blobs-outcome.result c.in_ok-out.ensures.opened.1 c.list_blobs-outcome.ensures.lists c.list_blobs-outcome.ensures.front in
     text_err e.0 c.list_blobs-outcome.result c.ended.result (λ how. (events : List Event) × (log c.ended.new.host ≡ then_all (log c.args.host.now) events) × FailsFor (manner_of c.args.engine) listing how events × LeavesFor (to_raw (manner_of c.args.engine)) listing_frames events) e.2
-    (λ why gone. (let f = listing_lost g.H.In.Feed g.H.Out.Drain c.list_blobs-outcome.new.pass c.list_blobs-outcome.new.drain (is_ok c.list_blobs-outcome.result) e.0 (log c.open_screen.new.host) (log c.close.new.self) (log c.ended.new.host) (c.close.ensures.some, c.close.ensures.logged) e.1 (manner_of c.args.engine) listing (log c.args.host.now) input has begun why gone in (f.0, f.1, f.2, f.3 left)))
-    (IfErr-weaker c.list_blobs-outcome.result _ _ (λ halted f. (f.0, f.1, f.2, f.3 left)) (list_fails g.H.In.Feed g.H.Out.Drain c.list_blobs-outcome.new.pass c.list_blobs-outcome.new.drain (is_ok c.list_blobs-outcome.result) e.0 (log c.open_screen.new.host) (log c.close.new.self) (log c.ended.new.host) (c.close.ensures.some, c.close.ensures.logged) e.1 (manner_of c.args.engine) c.in_ok-pass.pass c.in_ok-out.out c.list_blobs-outcome.result (log c.args.host.now) input c.in_ok-pass.ensures.fresh c.in_ok-out.ensures.opened.1 begun c.list_blobs-outcome.ensures.lists))
+    (λ why gone. (let f = listing_lost g.H.In.Feed g.H.Out.Drain c.list_blobs-outcome.new.pass c.list_blobs-outcome.new.drain None (is_ok c.list_blobs-outcome.result) e.0 (log c.open_screen.new.host) (log c.close.new.self) (log c.ended.new.host) (c.close.ensures.some, c.close.ensures.logged) e.1 (manner_of c.args.engine) listing (log c.args.host.now) input has begun why gone in (f.0, f.1, f.2, f.3 left)))
+    (IfErr-weaker c.list_blobs-outcome.result _ _ (λ halted f. (f.0, f.1, f.2, f.3 left)) (list_fails g.H.In.Feed g.H.Out.Drain c.list_blobs-outcome.new.pass c.list_blobs-outcome.new.drain None (is_ok c.list_blobs-outcome.result) e.0 (log c.open_screen.new.host) (log c.close.new.self) (log c.ended.new.host) (c.close.ensures.some, c.close.ensures.logged) e.1 (manner_of c.args.engine) c.in_ok-pass.pass c.in_ok-out.out c.list_blobs-outcome.result (log c.args.host.now) input c.in_ok-pass.ensures.fresh c.in_ok-out.ensures.opened.1 begun c.list_blobs-outcome.ensures.lists))

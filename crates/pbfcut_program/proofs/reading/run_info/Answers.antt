@@ -34,7 +34,7 @@ returns-clause-ok g c =
     let begun = and_then (log c.args.host.now) _ _ (opened input 1 has ∷ []) (screened true ∷ []) c.in_ok-pass.ensures.opened c.in_ok-out.ensures.opened.0 in
     let e = c.ended.ensures in
     let done : OnOk c.ended.result ((r : Reading) × (w : Writing) × (log c.ended.new.host ≡ then_all (log c.open_screen.new.host) (read r ∷ wrote w ∷ [])) × (w.fault ≡ None) × TellsInfo c.args.json has w.bytes) =
-    text_ok e.0 c.show_info-outcome.result c.ended.result _ e.2 (λ went. rw (sym went) (info_done g.H.In.Feed g.H.Out.Drain c.show_info-outcome.new.pass c.show_info-outcome.new.drain (is_ok c.show_info-outcome.result) e.0 (log c.open_screen.new.host) (log c.close.new.self) (log c.ended.new.host) (c.close.ensures.some, c.close.ensures.logged) e.1 c.args.json has c.in_ok-out.out c.show_info-outcome.result c.in_ok-out.ensures.opened.1 c.show_info-outcome.ensures.shown)) in
+    text_ok e.0 c.show_info-outcome.result c.ended.result _ e.2 (λ went. rw (sym went) (info_done g.H.In.Feed g.H.Out.Drain c.show_info-outcome.new.pass c.show_info-outcome.new.drain None (is_ok c.show_info-outcome.result) e.0 (log c.open_screen.new.host) (log c.close.new.self) (log c.ended.new.host) (c.close.ensures.some, c.close.ensures.logged) e.1 c.args.json has c.in_ok-out.out c.show_info-outcome.result c.in_ok-out.ensures.opened.1 c.show_info-outcome.ensures.shown)) in
     on_ok_weaker c.ended.result (λ d. (_, and_then (log c.args.host.now) _ _ first _ begun d.2, record { has = has; first = d.0; out = d.1; happened = refl; whole = d.3; lines = d.4 })) done
 
 pub returns-clause-err : goal.returns-clause-err
@@ -45,5 +45,5 @@ returns-clause-err g c =
     let begun = and_then (log c.args.host.now) _ _ (opened input 1 has ∷ []) (screened true ∷ []) c.in_ok-pass.ensures.opened c.in_ok-out.ensures.opened.0 in
     let e = c.ended.ensures in
     text_err e.0 c.show_info-outcome.result c.ended.result (λ how. (events : List Event) × (log c.ended.new.host ≡ then_all (log c.args.host.now) events) × FailsFor (manner Pbfcutz false c.args.engine.digests) (judging judged_headings) how events) e.2
-    (λ why gone. let f = listing_lost g.H.In.Feed g.H.Out.Drain c.show_info-outcome.new.pass c.show_info-outcome.new.drain (is_ok c.show_info-outcome.result) e.0 (log c.open_screen.new.host) (log c.close.new.self) (log c.ended.new.host) (c.close.ensures.some, c.close.ensures.logged) e.1 (manner Pbfcutz false c.args.engine.digests) (judging judged_headings) (log c.args.host.now) input has begun why gone in (f.0, f.1, f.2))
-    (info_fails g.H.In.Feed g.H.Out.Drain c.show_info-outcome.new.pass c.show_info-outcome.new.drain (is_ok c.show_info-outcome.result) e.0 (log c.open_screen.new.host) (log c.close.new.self) (log c.ended.new.host) (c.close.ensures.some, c.close.ensures.logged) e.1 c.args.engine.digests c.in_ok-pass.pass c.in_ok-out.out c.show_info-outcome.result (log c.args.host.now) input c.in_ok-pass.ensures.fresh c.in_ok-out.ensures.opened.1 begun c.show_info-outcome.ensures.ends)
+    (λ why gone. let f = listing_lost g.H.In.Feed g.H.Out.Drain c.show_info-outcome.new.pass c.show_info-outcome.new.drain None (is_ok c.show_info-outcome.result) e.0 (log c.open_screen.new.host) (log c.close.new.self) (log c.ended.new.host) (c.close.ensures.some, c.close.ensures.logged) e.1 (manner Pbfcutz false c.args.engine.digests) (judging judged_headings) (log c.args.host.now) input has begun why gone in (f.0, f.1, f.2))
+    (info_fails g.H.In.Feed g.H.Out.Drain c.show_info-outcome.new.pass c.show_info-outcome.new.drain None (is_ok c.show_info-outcome.result) e.0 (log c.open_screen.new.host) (log c.close.new.self) (log c.ended.new.host) (c.close.ensures.some, c.close.ensures.logged) e.1 c.args.engine.digests c.in_ok-pass.pass c.in_ok-out.out c.show_info-outcome.result (log c.args.host.now) input c.in_ok-pass.ensures.fresh c.in_ok-out.ensures.opened.1 begun c.show_info-outcome.ensures.ends)

@@ -70,7 +70,7 @@ returns-clause-ok g c =
     let e = c.ended.ensures in
     let done : OnOk c.ended.result ((report : Report) × (rs : List Reading) × (w : Writing) × (log c.ended.new.host ≡ then_all (log c.open_screen.new.host) (map (λ r. read r) rs ++ wrote w ∷ []))
     × (w.fault ≡ None) × IsWork (to_raw (manner_of c.args.engine)) (check_in c.args.engine c.in_ok-key.key) (showing c.args.dates) rs w.bytes report.counts report.input report.raw) = text_ok e.0 c.show-outcome.result c.ended.result _ e.2 (λ went. subst (λ (fault : Option FinishFault). OnOk c.show-outcome.result ((report : Report) × (rs : List Reading) × (w : Writing) × (log c.ended.new.host ≡ then_all (log c.open_screen.new.host) (map (λ r. read r) rs ++ wrote w ∷ []))
-    × (w.fault ≡ fault) × IsWork (to_raw (manner_of c.args.engine)) (check_in c.args.engine c.in_ok-key.key) (showing c.args.dates) rs w.bytes report.counts report.input report.raw)) went (if_done g.H.In.Feed g.H.Out.Drain out (is_ok c.show-outcome.result) e.0 (to_raw (manner_of c.args.engine)) (check_in c.args.engine c.in_ok-key.key) (showing c.args.dates) (g.H.Out.Drain.has_taken out 0) (WriteFailed g.H.Out.Drain old out)
+    × (w.fault ≡ fault) × IsWork (to_raw (manner_of c.args.engine)) (check_in c.args.engine c.in_ok-key.key) (showing c.args.dates) rs w.bytes report.counts report.input report.raw)) went (if_done g.H.In.Feed g.H.Out.Drain out None (is_ok c.show-outcome.result) e.0 (to_raw (manner_of c.args.engine)) (check_in c.args.engine c.in_ok-key.key) (showing c.args.dates) (g.H.Out.Drain.has_taken out 0) (WriteFailed g.H.Out.Drain old out)
     (log c.open_screen.new.host) (log c.close_two.new.host) (log c.ended.new.host) (ps.one ∷ ps.two ∷ []) (now.one ∷ now.two ∷ []) c.show-outcome.result (c.in_ok-passes.ensures.fresh.0, (c.in_ok-passes.ensures.fresh.1, tt)) c.close_two.ensures e.1 (λ w t. t) (c.show-outcome.ensures.works (c.in_ok-passes.ensures.fresh.0, (c.in_ok-passes.ensures.fresh.1, tt)) 0 c.in_ok-out.ensures.opened.1.0))) in
     on_ok_weaker c.ended.result (λ d. (
       _,
@@ -114,5 +114,5 @@ returns-clause-err g c =
       opened_fails m (judging judged_file) hs how first f.0 quiet opens f.2,
       record { has = hs; opens = opens_before 1 hs first f.0 opens; leaves = leaves_after m (showing c.args.dates) hs first f.0 quiet f.3 },
     ))
-    (text_fails c.args.engine.program c.args.engine.digests (check_in c.args.engine c.in_ok-key.key) g.H.In.Feed g.H.Out.Drain (showing c.args.dates) c.in_ok-out.out c.show-outcome.new.drain (is_ok c.show-outcome.result) e.0 (log c.open_screen.new.host) (log c.close_two.new.host) (log c.ended.new.host) (ps.one ∷ ps.two ∷ []) (now.one ∷ now.two ∷ []) c.show-outcome.result c.ended.result
+    (text_fails c.args.engine.program c.args.engine.digests (check_in c.args.engine c.in_ok-key.key) g.H.In.Feed g.H.Out.Drain (showing c.args.dates) c.in_ok-out.out c.show-outcome.new.drain None (is_ok c.show-outcome.result) e.0 (log c.open_screen.new.host) (log c.close_two.new.host) (log c.ended.new.host) (ps.one ∷ ps.two ∷ []) (now.one ∷ now.two ∷ []) c.show-outcome.result c.ended.result
     fresh feeds c.close_two.ensures e.1 (c.show-outcome.ensures.works feeds 0 fresh.0) c.show-outcome.ensures.front e.2)

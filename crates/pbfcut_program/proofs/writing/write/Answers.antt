@@ -1,15 +1,16 @@
-use Rattle.std.proofs.Common.{◌≡◌, ◌∙◌, [], ◌∷◌, ◌++◌, List, append_assoc, inr, map, true, Some, refl, ap, subst}
+use Rattle.std.proofs.Common.{◌≡◌, ◌∙◌, [], ◌∷◌, ◌++◌, List, append_assoc, inr, map, refl, ap, subst, sym}
 use Rattle.std.proofs.lemmas.Result.{err_from_is_err_and}
 use Rattle.pbfcut_program.specs.declared.host.Screen.{Screen}
-use Rattle.pbfcut_program.specs.Events.{Event, read, seeded, wrote, then_all}
+use Rattle.pbfcut_program.specs.Events.{Event, read, wrote, then_all}
 use Rattle.pbfcut_program.specs.Fails.{Fails, judging}
+use Rattle.pbfcut_program.specs.Files.{IsMade}
 use Rattle.pbfcut_program.specs.Jobs.{feeds_of, plan_of}
 use Rattle.pbfcut_program.specs.Leaving.{Leaves}
-use Rattle.pbfcut_program.specs.Program.{counts_text, done_lines, is_screen, looks, makes, openings, prints, screen_of}
+use Rattle.pbfcut_program.specs.Program.{begun, counts_text, done_lines, is_screen, prints, screen_of}
 use Rattle.pbfcut_program.specs.Manner.{check_in, check_of, manner_of}
 use Rattle.pbfcut_program.specs.Readings.{IsWork}
 use Rattle.pbfcut_program.specs.Tasks.{judge_of}
-use Rattle.pbfcut_program.proofs.Beginning.{all_events, begun, length_has, opens_begun, quiet_begun}
+use Rattle.pbfcut_program.proofs.Beginning.{length_has, opens_begun, quiet_begun, quiet_makes}
 use Rattle.pbfcut_program.proofs.FailLemmas.{fails_early, opened_fails, opening_fails, opens_before, print_stops, printing_after}
 use Rattle.pbfcut_program.proofs.LeavingLemmas.{leaves_after, opening_leaves}
 use Rattle.pbfcut_program.proofs.Logging.{and_then}
@@ -30,19 +31,20 @@ returns-in_err-done-clause-err g c =
     let f = c.in_err-done.ensures.err in
     let how = c.in_err-done.field-0.0 in
     let files = c.args.files.now in
-    let is = is_screen c.args.engine.program files.output.now in
+    let program = c.args.engine.program in
+    let is = is_screen program files.output.now in
     let has = map g.H.In.Feed.remaining (feeds_of c.in_ok-ready.ready.job) in
     let key = c.in_ok-ready.ready.seed.key in
+    let ready = c.in_ok-ready.ensures.ok in
     let m = manner_of c.args.engine in
     let fails = subst (λ t. Fails m (judging (judge_of t)) has how f.0) c.in_ok-ready.ensures.planned.0 f.2 in
     let leaves = subst (λ t. Leaves m t has f.0) c.in_ok-ready.ensures.planned.0 f.3 in
-    let opened = rw c.is_screen-to_screen.ensures at c.in_ok-ready.ensures.ok in
-    let first = begun is files has key in
-    let quiet = quiet_begun is files has key in
-    let opens = opens_begun is files has key in
+    let first = begun is files has key ready.0 in
+    let quiet = quiet_begun is files has key ready.0 (quiet_makes program is files.output.now _ ready.0 ready.2) in
+    let opens = opens_begun is files has key ready.0 in
     rw (p.1, p.2) (
       first ++ f.0,
-      and_then log _ _ first f.0 opened f.1,
+      and_then log _ _ first f.0 ready.1 f.1,
       opened_fails m (judging (judge_of (plan_of c.args.plan))) has how first f.0 quiet opens fails,
       record { has = has; opens = opens_before 1 has first f.0 opens; leaves = leaves_after m (plan_of c.args.plan) has first f.0 quiet leaves },
     )
@@ -56,15 +58,16 @@ returns-in_err-print_done-clause-err g c =
     let is = is_screen c.args.engine.program files.output.now in
     let has = map g.H.In.Feed.remaining (feeds_of c.in_ok-ready.ready.job) in
     let key = c.in_ok-ready.ready.seed.key in
-    let opened = rw c.is_screen-to_screen.ensures at c.in_ok-ready.ensures.ok in
-    let first = begun is files has key in
+    let ready = c.in_ok-ready.ensures.ok in
+    let first = begun is files has key ready.0 in
     let rs : List Event = map (λ r. read r) d.0 in
-    let done = and_then log _ _ first (rs ++ wrote d.1 ∷ []) opened d.2 in
+    let out : List Event = wrote d.1 ∷ d.2 in
+    let done = and_then log _ _ first (rs ++ out) ready.1 d.3 in
     let m = manner_of c.args.engine in
     let how = c.in_err-print_done.field-0.0 in
     let j = judging (judge_of (plan_of c.args.plan)) in
     let lines = c.in_err-print_done.ensures in
-    let before : List Event = first ++ (rs ++ wrote d.1 ∷ []) in
+    let before : List Event = first ++ (rs ++ out) in
     let report = c.in_ok-done.done.report in
     rw (p.1, p.2) (
       before ++ lines.0,
@@ -77,13 +80,13 @@ returns-in_err-print_done-clause-err g c =
           before = first;
           rs = d.0;
           out = d.1;
-          after = lines.0;
-          happened = append_assoc first (rs ++ wrote d.1 ∷ []) lines.0 ∙ ap (λ es. first ++ es) (append_assoc rs (wrote d.1 ∷ []) lines.0);
+          after = d.2 ++ lines.0;
+          happened = append_assoc first (rs ++ out) lines.0 ∙ ap (λ es. first ++ es) (append_assoc rs out lines.0);
           by = check_of m key;
           counts = report.counts;
           digest = report.input;
           raw = report.raw;
-          work = subst (λ t. IsWork m (check_of m key) t d.0 d.1.bytes report.counts report.input report.raw) c.in_ok-ready.ensures.planned.0 d.6;
+          work = subst (λ t. IsWork m (check_of m key) t d.0 d.1.bytes report.counts report.input report.raw) c.in_ok-ready.ensures.planned.0 d.4.work;
         });
       },
     )
@@ -97,16 +100,18 @@ returns-clause-ok g c =
     let is = is_screen c.args.engine.program files.output.now in
     let has = map g.H.In.Feed.remaining (feeds_of c.in_ok-ready.ready.job) in
     let key = c.in_ok-ready.ready.seed.key in
+    let ready = c.in_ok-ready.ensures.ok in
+    let first = begun is files has key ready.0 in
     let rs : List Event = map (λ r. read r) d.0 in
+    let out : List Event = wrote d.1 ∷ d.2 in
     let lines = prints (screen_of is) (counts_text r.report.counts ∷ done_lines r.output r.meaning r.report.input r.report.raw files.input.now files.output.now) in
-    let opened = rw c.is_screen-to_screen.ensures at c.in_ok-ready.ensures.ok in
-    let done = and_then log _ _ (begun is files has key) (rs ++ wrote d.1 ∷ []) opened d.2 in
-    let same_screen = c.screen_of.ensures ∙ ap screen_of c.is_screen-to_screen.ensures in
+    let done = and_then log _ _ first (rs ++ out) ready.1 d.3 in
+    let same_screen = c.screen_of-screen.ensures ∙ ap screen_of c.is_screen.ensures in
     let printed = subst (λ (s : Screen). g.H.Host.log c.print_done.new.host ≡ then_all (g.H.Host.log c.run_job.new.host) (prints s (counts_text r.report.counts ∷ done_lines r.output r.meaning r.report.input r.report.raw files.input.now files.output.now))) same_screen c.in_ok-print_done.ensures in
-    let all = and_then log _ _ (begun is files has key ++ (rs ++ wrote d.1 ∷ [])) lines done printed in
-    let same = all_events (looks is files ++ openings files.input.now 1 has) rs lines (seeded (Some key)) (makes is files) (wrote d.1) in (
+    let all = and_then log _ _ (first ++ (rs ++ out)) lines done printed in
+    (
       _,
-      all ∙ ap (λ es. then_all log es) same,
+      all ∙ ap (λ es. then_all log (es ++ lines)) (sym (append_assoc first rs out)),
       record {
         has = has;
         rs = d.0;
@@ -116,12 +121,16 @@ returns-clause-ok g c =
         raw = r.report.raw;
         known = r.output;
         meaning = r.meaning;
+        makes = ready.0;
+        keeps = d.2;
         happened = refl;
         passes = length_has g.H.In.Feed.remaining (feeds_of c.in_ok-ready.ready.job) ∙ c.in_ok-ready.ensures.planned.1;
-        kept = d.7;
-        whole = d.3;
-        hashed = d.4;
-        meaning_hashed = d.5;
-        work = subst (λ t. IsWork (manner_of c.args.engine) (check_in c.args.engine key) t d.0 d.1.bytes r.report.counts r.report.input r.report.raw) c.in_ok-ready.ensures.planned.0 d.6;
+        made = subst (λ n. IsMade c.args.engine.program is files.output.now n ready.0) (sym d.5) ready.2;
+        named = d.6;
+        kept = d.4.kept;
+        whole = d.4.whole;
+        hashed = d.4.hashed;
+        meaning_hashed = d.4.meaning_hashed;
+        work = subst (λ t. IsWork (manner_of c.args.engine) (check_in c.args.engine key) t d.0 d.1.bytes r.report.counts r.report.input r.report.raw) c.in_ok-ready.ensures.planned.0 d.4.work;
       },
     )
