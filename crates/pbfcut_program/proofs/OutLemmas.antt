@@ -1,0 +1,120 @@
+-- OUT kept, and dropped.
+use Rattle.std.proofs.Common.{◌≡◌, ◌⊎◌, arith, inl, inr, List, ℕ, [], ◌∷◌, ◌++◌, Bool, false, true, Option, None, Some, Result, Ok, Err, refl, sym, subst, ap, ◌∙◌, append_assoc}
+use Rattle.std.proofs.lemmas.List.{append-nil}
+use Rattle.std.specs.Result.{result_err}
+use Rattle.pbfcut_cli.specs.declared.programs.Program.{Program}
+use Rattle.pbfcut_cli.specs.declared.programs.Program.TheVariants.{Pbfcut, Pbfcutz}
+use Rattle.pbfcut_program.specs.Events.{Event, Writing, not_made, not_named, not_synced, wrote}
+use Rattle.pbfcut_program.specs.Fails.{Each, FailsOpening, FailsToFinish, FailsToOpen, Has, Quiet}
+use Rattle.pbfcut_program.specs.Files.{Drops, EndsOut, IsDropped, IsEnd, IsKept, IsMade, Keeps, Misnames, Names}
+use Rattle.pbfcut_program.proofs.EventLemmas.{each_both, has_after, has_before}
+use Rattle.pbfcut_program.specs.Outcomes.{finish_fault_of, unmade, unmade_part}
+use Rattle.pbfcut_program.specs.declared.host.CreateFault.{CreateFault}
+use Rattle.pbfcut_program.specs.declared.host.CreateFault.TheVariants as creating
+use Rattle.pbfcut_program.specs.declared.host.FinishFault.{FinishFault}
+use Rattle.pbfcut_program.specs.declared.host.NameFault.{NameFault}
+use Rattle.pbfcut_program.specs.declared.host.NameFault.TheVariants as naming
+
+pub fails_named : (from to : List ℕ) (fault : NameFault) → FailsToFinish (finish_fault_of fault) (not_named from to fault)
+fails_named from to naming.Failed = tt
+fails_named from to naming.Exists = tt
+
+-- an OUT that was kept, as it is said on `Ok`
+pub ends_kept : {A : Type 0} (program : Program) (overwrite : Bool) (output : List ℕ) (name : Option (List ℕ)) (fault : Option FinishFault) (result : Result A FinishFault) (events : List Event) → EndsOut program overwrite output name fault result events → result_err result ≡ None → (fault ≡ None) × IsKept program overwrite output name events
+ends_kept program overwrite output name None (Ok a) events e is = (refl, e)
+ends_kept program overwrite output name (Some why) (Ok a) events e is = absurd e
+ends_kept program overwrite output name fault (Err told) events e is = absurd (some_none is) where
+  some_none : Some told ≡ None → ⊥
+  some_none h = cc
+
+-- what is told of one that wasn't has its cause
+pub ends_told : {A : Type 0} (program : Program) (overwrite : Bool) (output : List ℕ) (w : Writing) (name : Option (List ℕ)) (fault : Option FinishFault) (result : Result A FinishFault) (events : List Event) (told : FinishFault) → w.name ≡ name → w.fault ≡ fault → EndsOut program overwrite output name fault result events → result_err result ≡ Some told → Has (FailsToFinish told) (wrote w ∷ events)
+ends_told program overwrite output w name None (Ok a) events told by is e said = absurd (none_some said) where
+  none_some : None ≡ Some told → ⊥
+  none_some h = cc
+ends_told program overwrite output w name (Some why) (Ok a) events told by is e said = absurd e
+ends_told program overwrite output w name None (Err t) events told by is e said = inr (subst (λ f. Has (FailsToFinish f) events) (same said) e.0) where
+  same : Some t ≡ Some told → t ≡ told
+  same h = cc
+ends_told program overwrite output w name (Some why) (Err t) events told by is e said = inl (known is said e.0) where
+  known : w.fault ≡ Some why → Some t ≡ Some told → t ≡ why → w.fault ≡ Some told
+  known a b c = cc
+
+-- ---- OUT isn't made
+
+pub unmade_fails : (name : List ℕ) (fault : CreateFault) → FailsOpening (unmade fault) (not_made name fault ∷ [])
+unmade_fails name creating.Failed = ((tt, tt), inl tt)
+unmade_fails name creating.Long = ((tt, tt), inl tt)
+unmade_fails name creating.Exists = ((tt, tt), inl tt)
+unmade_fails name creating.Memory = ((tt, tt), tt)
+
+pub unmade_part_fails : (fault : CreateFault) (tries : List Event) → Each Quiet tries → ((fault ≡ creating.Memory) ⊎ Has FailsToOpen tries) → FailsOpening (unmade_part fault) tries
+unmade_part_fails creating.Failed tries q (inr h) = (q, h)
+unmade_part_fails creating.Long tries q (inr h) = (q, h)
+unmade_part_fails creating.Exists tries q (inr h) = (q, h)
+unmade_part_fails creating.Memory tries q h = (q, tt)
+unmade_part_fails creating.Failed tries q (inl e) = absurd (other e) where
+  other : creating.Failed ≡ creating.Memory → ⊥
+  other h = cc
+unmade_part_fails creating.Long tries q (inl e) = absurd (other e) where
+  other : creating.Long ≡ creating.Memory → ⊥
+  other h = cc
+unmade_part_fails creating.Exists tries q (inl e) = absurd (other e) where
+  other : creating.Exists ≡ creating.Memory → ⊥
+  other h = cc
+
+-- standard output
+pub screen_ends : {A : Type 0} (program : Program) (overwrite : Bool) (output : List ℕ) (result : Result A FinishFault) → EndsOut program overwrite output None (result_err result) result []
+screen_ends program overwrite output (Ok a) = refl
+screen_ends program overwrite output (Err told) = (refl, refl)
+
+-- ---- names
+
+pub names_any : (overwrite : Bool) (output name : List ℕ) (names : List Event) → Names false output name names → Names overwrite output name names
+names_any overwrite output name names (inl n) = inl n
+names_any overwrite output name names (inr (inl n)) = inr (inl n)
+names_any overwrite output name names (inr (inr n)) = absurd (false_true n.0) where
+  false_true : false ≡ true → ⊥
+  false_true h = cc
+
+-- another try failed
+pub fails_late : (xs ys : List Event) (first fault : NameFault) → first ≡ naming.Exists → Has (FailsToFinish (finish_fault_of first)) xs → ((fault ≡ naming.Exists) ⊎ Has (FailsToFinish (finish_fault_of fault)) ys) → Has (FailsToFinish (finish_fault_of fault)) (xs ++ ys)
+fails_late xs ys first fault is h (inl same) = has_before _ xs ys (subst (λ f. Has (FailsToFinish (finish_fault_of f)) xs) (is ∙ sym same) h)
+fails_late xs ys first fault is h (inr later) = has_after _ xs ys later
+
+-- a part that doesn't get OUT's name is dropped
+pub drops_after : (name : List ℕ) (tries events : List Event) → Each Misnames tries → Drops Pbfcutz name events → Drops Pbfcutz name (tries ++ events)
+drops_after name tries events still d = (tries ++ d.0, d.1, ap (λ es. tries ++ es) d.2 ∙ sym (append_assoc tries d.0 (d.1 ∷ [])), each_both Misnames tries d.0 still d.3, d.4)
+
+-- one that got it, whose name can't be written to the disk, is kept
+pub kept_unsynced : (overwrite : Bool) (output name : List ℕ) (tries names : List Event) → Each Misnames tries → Names overwrite output name names → Keeps Pbfcutz overwrite output name ((tries ++ names) ++ not_synced output ∷ [])
+kept_unsynced overwrite output name tries names still n = (tries, names, not_synced output ∷ [], append_assoc tries names (not_synced output ∷ []), still, n, (tt, tt))
+
+pub kept_named : (overwrite : Bool) (output name : List ℕ) (tries names : List Event) → Each Misnames tries → Names overwrite output name names → Keeps Pbfcutz overwrite output name (tries ++ names)
+kept_named overwrite output name tries names still n = (tries, names, [], ap (λ es. tries ++ es) (sym (append-nil names)), still, n, tt)
+
+-- ---- what is dropped is quiet
+
+misname_quiet : (e : Event) → Misnames e → Quiet e
+misname_quiet e h1 = grind arith
+
+misnamed_quiet : (tries : List Event) → Each Misnames tries → Each Quiet tries
+misnamed_quiet [] m = tt
+misnamed_quiet (e ∷ es) m = (misname_quiet e m.0, misnamed_quiet es m.1)
+
+end_quiet : (name : List ℕ) (end : Event) → IsEnd name end → Quiet end
+end_quiet name end (inl e) = subst (λ x. Quiet x) (sym e) tt
+end_quiet name end (inr e) = subst (λ x. Quiet x) (sym e) tt
+
+pub dropped_quiet : (program : Program) (name : Option (List ℕ)) (events : List Event) → IsDropped program name events → Each Quiet events
+dropped_quiet program None events d = subst (λ es. Each Quiet es) (sym d) tt
+dropped_quiet Pbfcut (Some name) events d = subst (λ es. Each Quiet es) (sym d) tt
+dropped_quiet Pbfcutz (Some name) events d = subst (λ es. Each Quiet es) (sym d.2) (each_both Quiet d.0 (d.1 ∷ []) (misnamed_quiet d.0 d.3) (end_quiet name d.1 d.4, tt))
+
+-- the same place, as it is said
+pub ends_at : {A : Type 0} (p program : Program) → p ≡ program → (o overwrite : Bool) → o ≡ overwrite → (path output : List ℕ) → path ≡ output → (name : Option (List ℕ)) (fault : Option FinishFault) (result : Result A FinishFault) (events : List Event) → EndsOut p o path name fault result events → EndsOut program overwrite output name fault result events
+ends_at p program one o overwrite two path output three name fault result events e =
+    subst (λ (x : Program). EndsOut x overwrite output name fault result events) one (subst (λ (x : Bool). EndsOut p x output name fault result events) two (subst (λ (x : List ℕ). EndsOut p o x name fault result events) three e))
+
+pub made_at : (is : Bool) (p program : Program) → p ≡ program → (path output : List ℕ) → path ≡ output → (name : Option (List ℕ)) (events : List Event) → IsMade p is path name events → IsMade program is output name events
+made_at is p program one path output two name events m = subst (λ (x : Program). IsMade x is output name events) one (subst (λ (x : List ℕ). IsMade p is x name events) two m)
