@@ -8,7 +8,7 @@ mod jobs;
 pub mod laws;
 mod linked;
 mod opening;
-mod out;
+mod output;
 mod printing;
 mod program;
 mod reading;
@@ -16,6 +16,7 @@ mod writing;
 
 pub use ending::report;
 pub use host::{
-    CreateFault, FinishFault, Host, NameFault, NotDone, OpenFault, PrintFault, Screen, Seed, TextFault, Turn,
+    CreateFault, FinishFault, Host, NameFault, NotDone, OpenFault, PrintFault, Screen, Seed, TextFault,
+    Turn,
 };
 pub use program::run;

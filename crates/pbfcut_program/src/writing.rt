@@ -26,7 +26,7 @@ use crate::host::{FinishFault, Host, Screen, Seed};
 use crate::jobs::{Cut, Job, Plan, close_job, do_job, open_job, read_region};
 use crate::linked::LinkedDrain;
 use crate::opening::draw_seed;
-use crate::out::{Output, Place, drop_out, keep_out, make_out};
+use crate::output::{Output, Place, drop_out, keep_out, make_out};
 use crate::printing::{Done, print_done, tell_refusal};
 use osm_ways::WholeTypes;
 use pbf_frame::{Drain, Feed, Stop};
