@@ -63,6 +63,11 @@ unmade_part_fails creating.Exists tries q (inl e) = absurd (other e) where
   other : creating.Exists ≡ creating.Memory → ⊥
   other h = cc
 
+-- other names were tried before
+pub missed_later : (xs ys : List Event) (fault : CreateFault) → ((fault ≡ creating.Memory) ⊎ Has FailsToOpen ys) → ((fault ≡ creating.Memory) ⊎ Has FailsToOpen (xs ++ ys))
+missed_later xs ys fault (inl e) = inl e
+missed_later xs ys fault (inr h) = inr (has_after _ xs ys h)
+
 -- standard output
 pub screen_ends : {A : Type 0} (program : Program) (overwrite : Bool) (output : List ℕ) (result : Result A FinishFault) → EndsOut program overwrite output None (result_err result) result []
 screen_ends program overwrite output (Ok a) = refl

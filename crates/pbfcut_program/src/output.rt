@@ -193,6 +193,44 @@ fn make_short<H: Host>(
     make_numbered(alloc, host, path, naming)
 }
 
+/// The same by a name that begins as OUT's does, if the system takes one so long.
+fn make_near<H: Host>(
+    alloc: Global,
+    host: &mut H,
+    path: &str,
+    replaced: Option<&str>,
+) -> Result<Output<H::Out>, CreateFault>
+    ensures ok { IfOk result (λ out. (tries : List Event) × (name : List ℕ)
+        × (H.log host.new ≡ then_all (H.log host.old) (tries ++ made name ∷ []))
+        × Each Misses tries × (option_map string_bytes out.name ≡ Some name) × (name ≡ path.now → ⊥)
+        × IsFreshOut H.Out.Drain out.drain) }
+    ensures err { IfErr result (λ fault. (tries : List Event)
+        × (H.log host.new ≡ then_all (H.log host.old) tries) × Each Misses tries
+        × ((fault ≡ creating.Memory) ⊎ Has FailsToOpen tries)) }
+{
+    let naming = Naming {
+        start: path,
+        replaced,
+    };
+    match make_numbered(alloc, host, path, naming) {
+        Err(CreateFault::Long) => make_short(alloc, host, path, replaced),
+        made => made,
+    }
+}
+
+/// The file that OUT replaces, if there is one.
+fn replaced_at<'a, H: Host>(host: &mut H, place: Place<'a>) -> Result<Option<&'a str>, Ending>
+    ensures ok { OnOk result (H.log host.new ≡ H.log host.old) }
+    ensures err { IfErr result (λ how. (events : List Event)
+        × (H.log host.new ≡ then_all (H.log host.old) events) × FailsOpening how events) }
+{
+    match host.replaces(place.path, place.overwrite) {
+        Ok(true) => Ok(Some(place.path)),
+        Ok(false) => Ok(None),
+        Err(fault) => Err(unmade(fault)),
+    }
+}
+
 /// Makes OUT by another name, in the same folder.
 fn make_beside<H: Host>(
     alloc: Global,
@@ -206,20 +244,8 @@ fn make_beside<H: Host>(
     ensures err { IfErr result (λ how. (events : List Event)
         × (H.log host.new ≡ then_all (H.log host.old) events) × FailsOpening how events) }
 {
-    let replaced = match host.replaces(place.path, place.overwrite) {
-        Ok(true) => Some(place.path),
-        Ok(false) => None,
-        Err(fault) => return Err(unmade(fault)),
-    };
-    let naming = Naming {
-        start: place.path,
-        replaced,
-    };
-    let made = match make_numbered(alloc, host, place.path, naming) {
-        Err(CreateFault::Long) => make_short(alloc, host, place.path, replaced),
-        made => made,
-    };
-    match made {
+    let replaced = replaced_at(host, place)?;
+    match make_near(alloc, host, place.path, replaced) {
         Ok(out) => Ok(out),
         Err(fault) => Err(unmade_part(fault)),
     }
