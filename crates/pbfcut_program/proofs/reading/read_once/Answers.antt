@@ -1,13 +1,20 @@
 use Rattle.std.proofs.Common.{[], ◌∷◌, ◌++◌, ◌≡◌, List, inl, refl}
+use Rattle.std.proofs.lemmas.Result.{err_from_is_err_and}
 use Rattle.pbf_pass.specs.Judged.{judged_file}
 use Rattle.pbfcut_program.specs.Events.{Event, opened, read}
 use Rattle.pbfcut_program.specs.Fails.{judging}
 use Rattle.pbfcut_program.specs.Manner.{manner_of, once_check}
 use Rattle.pbfcut_program.specs.Tasks.{checking}
 use Rattle.pbfcut_program.proofs.Closing.{ends_with_none, work_fails, work_read_once}
-use Rattle.pbfcut_program.proofs.FailLemmas.{opened_fails, told_fails}
+use Rattle.pbfcut_program.proofs.FailLemmas.{opened_fails, opening_fails, told_fails}
 use Rattle.pbfcut_program.proofs.Logging.{and_then}
 use Rattle.pbfcut_program.proofs.reading.read_once.Goals as goal
+
+pub returns-in_err-pass-clause-err : goal.returns-in_err-pass-clause-err
+returns-in_err-pass-clause-err g c =
+    let p = err_from_is_err_and c.from_residual.result c.from_residual.ensures.1 in
+    let f = c.in_err-pass.ensures.failed in
+    rw (p.1, p.2) (f.0 ∷ [], f.1, opening_fails (manner_of c.args.engine) (judging judged_file) c.in_err-pass.field-0.0 (f.0 ∷ []) f.2)
 
 pub returns-in-Err-clause-err : goal.returns-in-Err-clause-err
 returns-in-Err-clause-err g c =
