@@ -6,33 +6,33 @@ use Rattle.pbfcut_cli.specs.declared.programs.Program.{Program}
 use Rattle.pbfcut_cli.specs.declared.words.Files.{Files}
 use Rattle.pbfcut_cli.specs.declared.words.Region.{Region}
 use Rattle.pbfcut_program.specs.Events.{Event, advised, made, opened, seeded, then_all}
-use Rattle.pbfcut_program.specs.Fails.{Each, Opens, Quiet}
+use Rattle.pbfcut_program.specs.Fails.{Calm, Each, Opens, Quiet}
 use Rattle.pbfcut_program.specs.Files.{IsMade, Misses}
 use Rattle.pbfcut_program.specs.Program.{MeansArea, advice, begun, draws, is_empty, looks, openings}
-use Rattle.pbfcut_program.proofs.EventLemmas.{each_both}
+use Rattle.pbfcut_program.proofs.EventLemmas.{each_both, quiet_of}
 use Rattle.pbfcut_program.proofs.FailLemmas.{opens_after, opens_before}
 
-pub quiet_looks : (is : Bool) (files : Files) → Each Quiet (looks is files)
-quiet_looks is files = grind arith
+pub calm_looks : (is : Bool) (files : Files) → Each Calm (looks is files)
+calm_looks is files = grind arith
 
-missing_quiet : (e : Event) → Misses e → Quiet e
-missing_quiet e h1 = grind arith
+missing_calm : (e : Event) → Misses e → Calm e
+missing_calm e h1 = grind arith
 
-pub misses_quiet : (tries : List Event) → Each Misses tries → Each Quiet tries
-misses_quiet [] m = tt
-misses_quiet (e ∷ es) m = (missing_quiet e m.0, misses_quiet es m.1)
+pub misses_calm : (tries : List Event) → Each Misses tries → Each Calm tries
+misses_calm [] m = tt
+misses_calm (e ∷ es) m = (missing_calm e m.0, misses_calm es m.1)
 
 pub quiet_makes : (program : Program) (is : Bool) (output : List ℕ) (name : Option (List ℕ)) (events : List Event) → IsMade program is output name events → Each Quiet events
 quiet_makes program true output name events m = subst (λ es. Each Quiet es) (sym m.1) (tt, tt)
 quiet_makes program false output None events m = absurd m
-quiet_makes program false output (Some name) events m = subst (λ es. Each Quiet es) (sym m.3) (each_both Quiet m.0 (made name ∷ []) (misses_quiet m.0 m.1) (tt, tt))
+quiet_makes program false output (Some name) events m = subst (λ es. Each Quiet es) (sym m.3) (each_both Quiet m.0 (made name ∷ []) (quiet_of m.0 (misses_calm m.0 m.1)) (tt, tt))
 
-pub quiet_openings : (input : List ℕ) (pass : ℕ) (has : List (Option (List ℕ))) → Each Quiet (openings input pass has)
-quiet_openings input pass [] = tt
-quiet_openings input pass (h ∷ has) = (tt, quiet_openings input (pass + 1) has)
+pub calm_openings : (input : List ℕ) (pass : ℕ) (has : List (Option (List ℕ))) → Each Calm (openings input pass has)
+calm_openings input pass [] = tt
+calm_openings input pass (h ∷ has) = (tt, calm_openings input (pass + 1) has)
 
-pub quiet_draws : (program : Program) (key : ℕ) → Each Quiet (draws program key)
-quiet_draws program key = grind arith
+pub calm_draws : (program : Program) (key : ℕ) → Each Calm (draws program key)
+calm_draws program key = grind arith
 
 -- what `show` does before its passes, and what comes next
 pub shown_events : (ds rs ws : List Event) (s : Event) → (ds ++ s ∷ []) ++ (rs ++ ws) ≡ (ds ++ s ∷ rs) ++ ws
@@ -42,7 +42,7 @@ shown_events ds rs ws s = append_assoc ds (s ∷ []) (rs ++ ws) ∙ sym (append_
 pub quiet_begun : (is : Bool) (files : Files) (has : List (Option (List ℕ))) (key : ℕ) (makes : List Event) → Each Quiet makes → Each Quiet (begun is files has key makes)
 quiet_begun is files has key makes q =
     let opens = openings files.input.now 1 has in
-    each_both Quiet (looks is files ++ opens) (seeded (Some key) ∷ makes) (each_both Quiet (looks is files) opens (quiet_looks is files) (quiet_openings files.input.now 1 has)) (tt, q)
+    each_both Quiet (looks is files ++ opens) (seeded (Some key) ∷ makes) (quiet_of _ (each_both Calm (looks is files) opens (calm_looks is files) (calm_openings files.input.now 1 has))) (tt, q)
 
 opens_openings : (input : List ℕ) (pass : ℕ) (has : List (Option (List ℕ))) → Opens pass has (openings input pass has)
 opens_openings input pass [] = tt
@@ -58,14 +58,17 @@ length_has f [] = refl
 length_has f (x ∷ xs) = ap (λ n. suc n) (length_has f xs)
 
 -- what is read of what is cut out
-pub quiet_region : (cut : Region) (events : List Event) (area : AreaSpec) → MeansArea cut events area → Each Quiet events
-quiet_region cut events area h3 = grind arith
+pub calm_region : (cut : Region) (events : List Event) (area : AreaSpec) → MeansArea cut events area → Each Calm events
+calm_region cut events area h3 = grind arith
 
 pub advice_some : (counts : Counts) → is_empty counts ≡ true → advice counts ≡ advised ∷ []
 advice_some counts e = rw e refl
 
 pub advice_none : (counts : Counts) → is_empty counts ≡ false → advice counts ≡ []
 advice_none counts e = rw e refl
+
+pub calm_advice : (counts : Counts) → Each Calm (advice counts)
+calm_advice counts = grind arith
 
 -- what is prepared, by a log
 abbrev pub Prepares : {H : Type 0} → (log : H → Option (List Event)) → (old new : H) → Program → (is : Bool) → Files → (has : List (Option (List ℕ))) → (key : ℕ) → (name : Option (List ℕ)) → Type 0

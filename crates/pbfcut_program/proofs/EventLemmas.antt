@@ -2,7 +2,7 @@
 use Rattle.std.proofs.Common.{arith, ◌≡◌, inl, inr, List, [], ◌∷◌, ◌++◌, map, refl, ap, ◌∙◌}
 use Rattle.std.proofs.lemmas.List.{append-nil}
 use Rattle.pbfcut_program.specs.Events.{Event, Reading, read}
-use Rattle.pbfcut_program.specs.Fails.{Has, Each, Quiet, TookNothing, readings}
+use Rattle.pbfcut_program.specs.Fails.{Calm, Has, Each, Quiet, TookNothing, readings}
 
 pub has_after : (p : Event → Type 0) (xs ys : List Event) → Has p ys → Has p (xs ++ ys)
 has_after p [] ys h = h
@@ -25,6 +25,13 @@ each_both p (x ∷ xs) ys h k = (h.0, each_both p xs ys h.1 k)
 pub each_quiet : (p : Event → Type 0) → ((e : Event) → Quiet e → p e) → (xs : List Event) → Each Quiet xs → Each p xs
 each_quiet p of [] q = tt
 each_quiet p of (x ∷ xs) q = (of x q.0, each_quiet p of xs q.1)
+
+calm_quiet : (e : Event) → Calm e → Quiet e
+calm_quiet e h1 = grind arith
+
+pub quiet_of : (xs : List Event) → Each Calm xs → Each Quiet xs
+quiet_of [] q = tt
+quiet_of (x ∷ xs) q = (calm_quiet x q.0, quiet_of xs q.1)
 
 quiet_nothing : (e : Event) → Quiet e → TookNothing e
 quiet_nothing e h1 = grind arith

@@ -9,14 +9,14 @@ use Rattle.pbfcut_cli.specs.declared.endings.Ending.{Ending}
 use Rattle.pbfcut_cli.specs.declared.endings.Ending.TheVariants as ending
 use Rattle.pbfcut_cli.specs.declared.programs.Program.{Program}
 use Rattle.pbfcut_program.specs.Events.{Event, then_all}
-use Rattle.pbfcut_program.specs.Fails.{CauseOfOpening, Each, EndsAsStop, Fails, FailsAsClosed, FailsFor, FailsOpening, FailsPrinting, FailsToFinish, FailsToWrite, Has, IsChangedBy, IsRefusedBy, Judging, Opens, Quiet, Stops, TookNothing, UnlessPacked, readings}
+use Rattle.pbfcut_program.specs.Fails.{Calm, CauseOfOpening, Each, EndsAsStop, Fails, FailsAsClosed, FailsFor, FailsOpening, FailsPrinting, FailsToFinish, FailsToWrite, Has, IsChangedBy, IsRefusedBy, Judging, Opens, Quiet, Stops, TookNothing, UnlessPacked, readings}
 use Rattle.pbfcut_program.specs.Manner.{Form, Manner}
 use Rattle.pbfcut_program.specs.declared.engine.Halted.{Halted}
 use Rattle.pbfcut_program.specs.declared.host.FinishFault.{FinishFault}
 use Rattle.pbfcut_program.specs.declared.host.FinishFault.TheVariants as finishing
 use Rattle.pbfcut_program.specs.Outcomes.{EndsAs, ending_of_file, ending_of_text}
 use Rattle.pbfcut_program.specs.Telling.{Tells, TellsQuietly}
-use Rattle.pbfcut_program.proofs.EventLemmas.{each_both, each_quiet, has_after, has_before, has_weaker, nothing_in, readings_after, readings_before, readings_of_quiet}
+use Rattle.pbfcut_program.proofs.EventLemmas.{each_both, each_quiet, has_after, has_before, has_weaker, nothing_in, quiet_of, readings_after, readings_before, readings_of_quiet}
 use Rattle.pbfcut_program.proofs.Logging.{and_then}
 
 -- ---- before IN is read
@@ -24,7 +24,7 @@ use Rattle.pbfcut_program.proofs.Logging.{and_then}
 cause_after : (how : Ending) (xs ys : List Event) → CauseOfOpening how ys → CauseOfOpening how (xs ++ ys)
 cause_after how xs ys h3 = grind (arith, has_after)
 
-pub opening_after : (how : Ending) (xs ys : List Event) → Each Quiet xs → FailsOpening how ys → FailsOpening how (xs ++ ys)
+pub opening_after : (how : Ending) (xs ys : List Event) → Each Calm xs → FailsOpening how ys → FailsOpening how (xs ++ ys)
 opening_after how xs ys quiet f = (each_both _ xs ys quiet f.0, cause_after how xs ys f.1)
 
 -- ---- causes
@@ -82,10 +82,10 @@ fails_early m j how events f = record { has = []; opens = tt; why = f }
 pub opening_fails : (m : Manner) (j : Judging) (how : Ending) (events : List Event) → FailsOpening how events → FailsFor m j how events
 opening_fails m j how events f = fails_early m j how events (of how f) where
   of : (h : Ending) → FailsOpening h events → Fails m j [] h events
-  of ending.CannotOpen f = (f.1, nothing_in events f.0)
-  of ending.IsPipe f = (f.1, nothing_in events f.0)
-  of ending.OutExists f = inl (f.1, nothing_in events f.0)
-  of (ending.Polygon e) f = (f.1, nothing_in events f.0)
+  of ending.CannotOpen f = (f.1, nothing_in events (quiet_of events f.0))
+  of ending.IsPipe f = (f.1, nothing_in events (quiet_of events f.0))
+  of ending.OutExists f = inl (f.1, nothing_in events (quiet_of events f.0))
+  of (ending.Polygon e) f = (f.1, nothing_in events (quiet_of events f.0))
   of (ending.Stopped stop.Memory) f = memory_fails m j [] events
   of _ f = absurd f.1
 
@@ -137,9 +137,9 @@ failed_after m j how xs ys q f = record { has = f.has; opens = opens_after 1 f.h
 -- how it ended is shown, after more was reported quietly
 pub told_fails : (m : Manner) (j : Judging) (has : List (Option (List ℕ))) (how shown : Ending) (k l n : Option (List Event)) (xs : List Event) → l ≡ then_all k xs → Fails m j has how xs
     → TellsQuietly l n how shown → (events : List Event) × (n ≡ then_all k events) × Fails m j has shown events × ((p : Event → Type 0) → ((e : Event) → Quiet e → p e) → Each p xs → Each p events)
-told_fails m j has how shown k l n xs e f t = (xs ++ t.events, and_then k l n xs t.events e t.log, of t.shows, λ p q each. each_both p xs t.events each (each_quiet p q t.events t.quiet)) where
+told_fails m j has how shown k l n xs e f t = (xs ++ t.events, and_then k l n xs t.events e t.log, of t.shows, λ p q each. each_both p xs t.events each (each_quiet p q t.events (quiet_of t.events t.calm))) where
   of : ((shown ≡ how) ⊎ (shown ≡ ending.Stopped stop.Memory)) → Fails m j has shown (xs ++ t.events)
-  of (inl same) = subst (λ h. Fails m j has h (xs ++ t.events)) (sym same) (fails_before m j has how xs t.events t.quiet f)
+  of (inl same) = subst (λ h. Fails m j has h (xs ++ t.events)) (sym same) (fails_before m j has how xs t.events (quiet_of t.events t.calm) f)
   of (inr none) = subst (λ h. Fails m j has h (xs ++ t.events)) (sym none) (memory_fails m j has (xs ++ t.events))
 
 -- ---- lines
@@ -148,25 +148,25 @@ pub printing_after : (how : Ending) (xs ys : List Event) → FailsPrinting how y
 printing_after how xs ys h3 = grind (arith, has_after)
 
 -- one line after others
-pub tells_more : {B : Type 0} (l m n : Option (List Event)) (xs ys : List Event) (r : Result B Ending) → m ≡ then_all l xs → Tells m n ys r → Tells l n (xs ++ ys) r
-tells_more l m n xs ys (Ok b) e t = and_then l m n xs ys e t
-tells_more l m n xs ys (Err how) e t = (xs ++ t.0, and_then l m n xs t.0 e t.1, printing_after how xs t.0 t.2)
+pub tells_more : {B : Type 0} (l m n : Option (List Event)) (xs ys : List Event) (r : Result B Ending) → m ≡ then_all l xs → Each Calm xs → Tells m n ys r → Tells l n (xs ++ ys) r
+tells_more l m n xs ys (Ok b) e q t = and_then l m n xs ys e t
+tells_more l m n xs ys (Err how) e q t = (xs ++ t.0, and_then l m n xs t.0 e t.1, printing_after how xs t.0 t.2, each_both Calm xs t.0 q t.3)
 
-pub printing_more : (how : Ending) (l m n : Option (List Event)) (xs : List Event) → m ≡ then_all l xs → ((some : List Event) × (n ≡ then_all m some) × FailsPrinting how some) → (some : List Event) × (n ≡ then_all l some) × FailsPrinting how some
-printing_more how l m n xs e t = (xs ++ t.0, and_then l m n xs t.0 e t.1, printing_after how xs t.0 t.2)
+pub printing_more : (how : Ending) (l m n : Option (List Event)) (xs : List Event) → m ≡ then_all l xs → Each Calm xs → ((some : List Event) × (n ≡ then_all m some) × FailsPrinting how some × Each Calm some) → (some : List Event) × (n ≡ then_all l some) × FailsPrinting how some × Each Calm some
+printing_more how l m n xs e q t = (xs ++ t.0, and_then l m n xs t.0 e t.1, printing_after how xs t.0 t.2, each_both Calm xs t.0 q t.3)
 
 pub print_stops : (m : Manner) (j : Judging) (how : Ending) (events : List Event) → FailsPrinting how events → Fails m j [] how events
 print_stops m j how events h4 = grind (arith, write_stops, memory_fails)
 
 -- lines couldn't be printed after what had happened
-pub print_fails : (m : Manner) (j : Judging) (how : Ending) (k l n : Option (List Event)) (xs : List Event) → l ≡ then_all k xs → ((some : List Event) × (n ≡ then_all l some) × FailsPrinting how some)
+pub print_fails : (m : Manner) (j : Judging) (how : Ending) (k l n : Option (List Event)) (xs : List Event) → l ≡ then_all k xs → ((some : List Event) × (n ≡ then_all l some) × FailsPrinting how some × Each Calm some)
     → (events : List Event) × (n ≡ then_all k events) × FailsFor m j how events
 print_fails m j how k l n xs e t = (xs ++ t.0, and_then k l n xs t.0 e t.1, fails_early m j how (xs ++ t.0) (print_stops m j how (xs ++ t.0) (printing_after how xs t.0 t.2)))
 
 pub tells_ok : {A : Type 0} (l m : Option (List Event)) (xs : List Event) (r : Result A Ending) → Tells l m xs r → OnOk r (m ≡ then_all l xs)
 tells_ok l m xs r h4 = grind arith
 
-pub tells_err : {A : Type 0} (l m : Option (List Event)) (xs : List Event) (r : Result A Ending) → Tells l m xs r → IfErr r (λ how. (some : List Event) × (m ≡ then_all l some) × FailsPrinting how some)
+pub tells_err : {A : Type 0} (l m : Option (List Event)) (xs : List Event) (r : Result A Ending) → Tells l m xs r → IfErr r (λ how. (some : List Event) × (m ≡ then_all l some) × FailsPrinting how some × Each Calm some)
 tells_err l m xs r h4 = grind arith
 
 -- ---- texts

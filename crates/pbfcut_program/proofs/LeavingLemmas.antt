@@ -10,7 +10,7 @@ use Rattle.pbfcut_program.specs.Fails.{Each, FailsOpening, Quiet, TookNothing}
 use Rattle.pbfcut_program.specs.Leaving.{Leaves, LeavesFor, TookFront}
 use Rattle.pbfcut_program.specs.Manner.{Manner, output_form}
 use Rattle.pbfcut_program.specs.Tasks.{Task}
-use Rattle.pbfcut_program.proofs.EventLemmas.{each_both, each_quiet}
+use Rattle.pbfcut_program.proofs.EventLemmas.{each_both, each_quiet, quiet_of}
 use Rattle.pbfcut_program.proofs.FailLemmas.{unless_packed, unless_said}
 
 -- ---- by OUT
@@ -51,4 +51,4 @@ leaves_after m task has xs ys q (inr w) = grind (arith, append_assoc xs w.before
 
 -- before IN was read
 pub opening_leaves : (m : Manner) (task : Task) (how : Ending) (events : List Event) → FailsOpening how events → LeavesFor m task events
-opening_leaves m task how events f = record { has = []; opens = tt; leaves = inl (unless_said (output_form m.packs m.program) _ (λ bytes all. each_quiet _ (quiet_front _) events f.0)) }
+opening_leaves m task how events f = record { has = []; opens = tt; leaves = inl (unless_said (output_form m.packs m.program) _ (λ bytes all. each_quiet _ (quiet_front _) events (quiet_of events f.0))) }

@@ -12,5 +12,6 @@ pub mod Printed
 pub mod PublishedCalls
 pub mod RawCalls
 pub mod RunLemmas
+pub mod SettlingLemmas
 pub mod TakingLemmas
 pub mod Weaker

@@ -5,7 +5,7 @@ use Rattle.std.specs.Result.{result_err}
 use Rattle.pbfcut_cli.specs.declared.programs.Program.{Program}
 use Rattle.pbfcut_cli.specs.declared.programs.Program.TheVariants.{Pbfcut, Pbfcutz}
 use Rattle.pbfcut_program.specs.Events.{Event, Writing, not_made, not_named, not_synced, wrote}
-use Rattle.pbfcut_program.specs.Fails.{Each, FailsOpening, FailsToFinish, FailsToOpen, Has, Quiet}
+use Rattle.pbfcut_program.specs.Fails.{Calm, Each, FailsOpening, FailsToFinish, FailsToOpen, Has, Quiet}
 use Rattle.pbfcut_program.specs.Files.{Drops, EndsOut, IsDropped, IsEnd, IsKept, IsMade, Keeps, Misnames, Names}
 use Rattle.pbfcut_program.proofs.EventLemmas.{each_both, has_after, has_before}
 use Rattle.pbfcut_program.specs.Outcomes.{finish_fault_of, unmade, unmade_part}
@@ -48,7 +48,7 @@ unmade_fails name creating.Long = ((tt, tt), inl tt)
 unmade_fails name creating.Exists = ((tt, tt), inl tt)
 unmade_fails name creating.Memory = ((tt, tt), tt)
 
-pub unmade_part_fails : (fault : CreateFault) (tries : List Event) → Each Quiet tries → ((fault ≡ creating.Memory) ⊎ Has FailsToOpen tries) → FailsOpening (unmade_part fault) tries
+pub unmade_part_fails : (fault : CreateFault) (tries : List Event) → Each Calm tries → ((fault ≡ creating.Memory) ⊎ Has FailsToOpen tries) → FailsOpening (unmade_part fault) tries
 unmade_part_fails creating.Failed tries q (inr h) = (q, h)
 unmade_part_fails creating.Long tries q (inr h) = (q, h)
 unmade_part_fails creating.Exists tries q (inr h) = (q, h)

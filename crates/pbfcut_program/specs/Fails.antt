@@ -19,7 +19,7 @@ use Rattle.pbfcut_program.specs.declared.host.FinishFault.TheVariants as finishi
 use Rattle.pbfcut_program.specs.declared.host.NameFault.TheVariants as naming
 use Rattle.pbfcut_program.specs.declared.host.OpenFault.TheVariants as opening
 use Rattle.pbfcut_program.specs.declared.host.PrintFault.TheVariants as line
-use Rattle.pbfcut_program.specs.Events.{Event, Reading, text_read, text_not_read, looked, opened, not_opened, seeded, not_made, not_named, not_synced, read, wrote, printed}
+use Rattle.pbfcut_program.specs.Events.{Event, Reading, text_read, text_not_read, looked, opened, not_opened, seeded, made, not_made, linked, moved, renamed, removed, stays, not_named, not_synced, read, wrote, printed}
 use Rattle.pbfcut_program.specs.Manner.{Form, Manner, input_form, meant_known, output_form, packed_file, raw_file}
 use Rattle.pbfcut_program.specs.Readings.{IsFaulty, IsOther}
 
@@ -43,6 +43,18 @@ abbrev pub Quiet : Event → Type 0
 Quiet (read r) = ⊥
 Quiet (wrote w) = ⊥
 Quiet _ = Unit {0}
+
+-- the same, and no file is changed
+abbrev pub Calm : Event → Type 0
+Calm (read r) = ⊥
+Calm (wrote w) = ⊥
+Calm (made name) = ⊥
+Calm (linked from to) = ⊥
+Calm (moved from to) = ⊥
+Calm (renamed from to) = ⊥
+Calm (removed name) = ⊥
+Calm (stays name) = ⊥
+Calm _ = Unit {0}
 
 abbrev pub FailsToOpen : Event → Type 0
 FailsToOpen (text_not_read path) = Unit {0}
@@ -146,7 +158,7 @@ CauseOfOpening (ending.Stopped stop.Memory) events = Unit {0}
 CauseOfOpening _ events = ⊥
 
 abbrev pub FailsOpening : Ending → List Event → Type 0
-FailsOpening how events = Each Quiet events × CauseOfOpening how events
+FailsOpening how events = Each Calm events × CauseOfOpening how events
 
 -- a line couldn't be printed
 abbrev pub FailsPrinting : Ending → List Event → Type 0

@@ -8,6 +8,7 @@ pub mod Manner
 pub mod Outcomes
 pub mod Program
 pub mod Readings
+pub mod Settling
 pub mod Taking
 pub mod Tasks
 pub mod Telling

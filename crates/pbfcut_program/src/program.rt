@@ -7,6 +7,7 @@ ghost use Rattle.pbfcut_program.specs.Fails.{FailsFor, judging};
 ghost use Rattle.pbfcut_program.specs.Jobs.{plan_of};
 ghost use Rattle.pbfcut_program.specs.Leaving.{LeavesFor};
 ghost use Rattle.pbfcut_program.specs.Manner.{manner_of};
+ghost use Rattle.pbfcut_program.specs.Settling.{RunSettles, Settles, SettlesIn};
 ghost use Rattle.pbfcut_program.specs.Tasks.{judge_of};
 ghost use Rattle.pbfcut_program.specs.Program.{Does, FailsIn, IsRun, IsWhy, Writes, digests_of, packs_of};
 
@@ -71,6 +72,7 @@ fn run_writing<H: Host>(
         × (H.log host.new ≡ then_all (H.log host.old) events)
         × FailsFor (manner_of engine) (judging (judge_of (plan_of plan))) how events
         × LeavesFor (manner_of engine) (plan_of plan) events) }
+    ensures files { Settles engine.program files.now (H.log host.old) (H.log host.new) }
 {
     let progress = shows_writing(&*host, engine.program, files);
     write(engine, host, files, plan, progress)?;
@@ -85,6 +87,7 @@ fn run_command<H: Host>(engine: Engine, host: &mut H, command: &Command<'_>) -> 
     ensures err { IfErr result (λ how. (events : List Event)
         × (H.log host.new ≡ then_all (H.log host.old) events)
         × FailsIn (manner_of engine) command.now how events) }
+    ensures files { SettlesIn engine.program command.now (H.log host.old) (H.log host.new) }
 {
     match command {
         Command::Help(text) => print_text(host, Screen::Output, text.as_str().as_bytes()),
@@ -162,6 +165,7 @@ fn work<H: Host>(
         × IsRun program (map string_bytes words.now) events status) }
     ensures err { IfErr result (λ how. (H.log host.new ≡ H.log host.old)
         × IsWhy program (map string_bytes words.now) how []) }
+    ensures files { RunSettles program (map string_bytes words.now) (H.log host.old) (H.log host.new) }
 {
     let normalized = normalize_words(alloc, words)?;
     let texts = texts_of(alloc, &normalized)?;
@@ -182,8 +186,10 @@ fn work<H: Host>(
 /// status.
 pub fn run<H: Host>(alloc: Global, host: &mut H, program: Program, words: &[String]) -> u8
     // What happened, and the exit status, is a run of these words.
-    ensures { (events : List Event) × (H.log host.new ≡ then_all (H.log host.old) events)
+    ensures run { (events : List Event) × (H.log host.new ≡ then_all (H.log host.old) events)
         × IsRun program (map string_bytes words.now) events result }
+    // Of all files it changes only OUT, which is kept if it is whole, and else dropped.
+    ensures files { RunSettles program (map string_bytes words.now) (H.log host.old) (H.log host.new) }
 {
     match work(alloc, host, program, words) {
         Ok(status) => status,

@@ -13,6 +13,7 @@ ghost use Rattle.pbfcut_program.specs.Manner.{manner, manner_of, once_check, to_
 ghost use Rattle.pbfcut_program.specs.Outcomes.{EndsAs, ending_of_text};
 ghost use Rattle.pbfcut_program.specs.Program.{Checks, IsListing, Lists, Shows};
 ghost use Rattle.pbfcut_program.specs.Readings.{IsWork};
+ghost use Rattle.pbfcut_program.specs.Settling.{IsStill};
 ghost use Rattle.pbfcut_program.specs.Tasks.{checking, listing_frames, showing};
 
 use crate::engine::{Engine, Halted, Report, ShowOptions, check, list_blobs, show, show_info};
@@ -37,6 +38,7 @@ fn read_once<H: Host>(
     ensures err { IfErr result (λ how. (events : List Event)
         × (H.log host.new ≡ then_all (H.log host.old) events)
         × FailsFor (manner_of engine) (judging judged_file) how events) }
+    ensures files { IsStill (H.log host.old) (H.log host.new) }
 {
     let input = Input {
         path,
@@ -65,6 +67,7 @@ pub(crate) fn run_check<H: Host>(
     ensures err { IfErr result (λ how. (events : List Event)
         × (H.log host.new ≡ then_all (H.log host.old) events)
         × FailsFor (manner_of engine) (judging judged_file) how events) }
+    ensures files { IsStill (H.log host.old) (H.log host.new) }
 {
     let report = read_once(engine, host, path, progress)?;
     print_checked(engine, host, &report, path)
@@ -116,6 +119,7 @@ pub(crate) fn run_show<H: Host>(
         × (H.log host.new ≡ then_all (H.log host.old) events)
         × FailsFor (to_raw (manner_of engine)) (judging judged_file) how events
         × LeavesFor (to_raw (manner_of engine)) (showing dates) events) }
+    ensures files { IsStill (H.log host.old) (H.log host.new) }
 {
     let mut passes = open_two(host, input)?;
     let key = draw_key(host, engine.program)?;
@@ -138,6 +142,7 @@ pub(crate) fn run_blobs<H: Host>(
         × (H.log host.new ≡ then_all (H.log host.old) events)
         × FailsFor (manner_of engine) listing how events
         × LeavesFor (to_raw (manner_of engine)) listing_frames events) }
+    ensures files { IsStill (H.log host.old) (H.log host.new) }
 {
     let mut pass = open_pass(host, input, 1)?;
     let mut out = open_screen(host)?;
@@ -161,6 +166,7 @@ pub(crate) fn run_info<H: Host>(
         × (H.log host.new ≡ then_all (H.log host.old) events)
         × FailsFor (manner program.Pbfcutz false engine.digests)
         (judging judged_headings) how events) }
+    ensures files { IsStill (H.log host.old) (H.log host.new) }
 {
     let mut pass = open_pass(host, input, 1)?;
     let mut out = open_screen(host)?;

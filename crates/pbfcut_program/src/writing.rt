@@ -18,6 +18,7 @@ ghost use Rattle.pbfcut_program.specs.Leaving.{Leaves, LeavesFor};
 ghost use Rattle.pbfcut_program.specs.Outcomes.{ending_of_file};
 ghost use Rattle.pbfcut_program.specs.Program.{Extracts, LeavesCut, WritesCounts, advice, begun, is_empty, is_screen, looks, screen_of, strategy_of};
 ghost use Rattle.pbfcut_program.specs.Manner.{check_in, hashes_meaning, input_form, manner_of, output_form, packed_file, to_raw};
+ghost use Rattle.pbfcut_program.specs.Settling.{Returns, Settles};
 ghost use Rattle.pbfcut_program.specs.Worked.{Worked};
 ghost use Rattle.pbfcut_program.specs.Tasks.{extracting, judge_of, passes_of};
 
@@ -394,6 +395,8 @@ fn run_job<H: Host>(
         (map H.In.remaining (feeds_of ready.job)) how events
         × Leaves (manner_of engine) (task_of ready.job)
         (map H.In.remaining (feeds_of ready.job)) events) }
+    ensures files { Returns engine.program files.now (option_map string_bytes ready.out.name)
+        (H.log host.old) (H.log host.new) }
 {
     let Ready { job, out, seed } = ready;
     let Output { drain, name } = out;
@@ -437,6 +440,7 @@ pub(crate) fn write<H: Host>(
         × (H.log host.new ≡ then_all (H.log host.old) events)
         × FailsFor (manner_of engine) (judging (judge_of (plan_of plan))) how events
         × LeavesFor (manner_of engine) (plan_of plan) events) }
+    ensures files { Settles engine.program files.now (H.log host.old) (H.log host.new) }
 {
     let ready = prepare(engine, host, files, plan, progress)?;
     let done = run_job(engine, host, ready, files)?;
@@ -491,6 +495,7 @@ pub(crate) fn run_extract<H: Host>(
         × (H.log host.new ≡ then_all (H.log host.old) events)
         × FailsFor (manner_of engine) (judging (judge_by (strategy_of strategy.entry))) how events
         × (Each Quiet events ⊎ LeavesCut (manner_of engine) region.now strategy.entry events)) }
+    ensures files { Settles engine.program files.now (H.log host.old) (H.log host.new) }
 {
     let cut = read_region(engine.alloc, host, region)?;
     let plan = plan_extract(engine.alloc, cut, strategy)?;

@@ -13,4 +13,4 @@ returns-in_err-print_counts g c =
 pub returns-then-engine : goal.returns-then-engine
 returns-then-engine g c =
     let r = c.args.report.now in
-    rw c.if-engine.true (tells_more _ _ _ (prints Output (counts_text r.counts ∷ [])) (prints Output (file_lines r.input r.raw c.args.input.now)) c.print_file.result c.in_ok-print_counts.ensures c.print_file.ensures)
+    rw c.if-engine.true (tells_more _ _ _ (prints Output (counts_text r.counts ∷ [])) (prints Output (file_lines r.input r.raw c.args.input.now)) c.print_file.result c.in_ok-print_counts.ensures (tt, tt) c.print_file.ensures)

@@ -11,7 +11,7 @@ returns-in_err-print_digest g c =
     rw (p.1, p.2) c.in_err-print_digest.ensures
 
 pub returns-in-Some : goal.returns-in-Some
-returns-in-Some g c = rw c.in-Some.is (tells_more _ _ _ (prints c.args.screen (digest_line c.args.file.now.digest c.args.file.now.path.now ∷ [])) (prints c.args.screen (unpacked_text c.in-Some.raw ∷ [])) c.print_unpacked.result c.in_ok-print_digest.ensures c.print_unpacked.ensures)
+returns-in-Some g c = rw c.in-Some.is (tells_more _ _ _ (prints c.args.screen (digest_line c.args.file.now.digest c.args.file.now.path.now ∷ [])) (prints c.args.screen (unpacked_text c.in-Some.raw ∷ [])) c.print_unpacked.result c.in_ok-print_digest.ensures (tt, tt) c.print_unpacked.ensures)
 
 pub returns-in-None : goal.returns-in-None
 returns-in-None g c = rw c.in-None.is c.in_ok-print_digest.ensures

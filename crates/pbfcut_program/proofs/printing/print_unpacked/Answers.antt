@@ -5,7 +5,7 @@ use Rattle.pbfcut_program.proofs.Logging.{then_none}
 use Rattle.pbfcut_program.proofs.printing.print_unpacked.Goals as goal
 
 pub returns-in-Err : goal.returns-in-Err
-returns-in-Err g c = ([], then_none _, inr (inr refl))
+returns-in-Err g c = ([], then_none _, inr (inr refl), tt)
 
 pub returns-in-Ok : goal.returns-in-Ok
 returns-in-Ok g c =

@@ -6,6 +6,7 @@ use Rattle.pbfcut_program.specs.Fails.{printing}
 use Rattle.pbfcut_program.specs.Manner.{manner_of}
 use Rattle.pbfcut_program.proofs.FailLemmas.{print_fails, tells_err, tells_ok}
 use Rattle.pbfcut_program.proofs.Logging.{then_none}
+use Rattle.pbfcut_program.proofs.SettlingLemmas.{told_still}
 use Rattle.pbfcut_program.proofs.program.run_command.Goals as goal
 
 pub returns-in-Help-clause-ok : goal.returns-in-Help-clause-ok
@@ -52,3 +53,24 @@ returns-in-Convert-clause-ok g c = rw c.in-Convert.is c.run_writing.ensures.ok
 
 pub returns-in-Convert-clause-err : goal.returns-in-Convert-clause-err
 returns-in-Convert-clause-err g c = rw c.in-Convert.is (IfErr-weaker c.run_writing.result _ _ (λ how f. (f.0, f.1, (f.2, f.3))) c.run_writing.ensures.err)
+
+pub returns-in-Help-clause-files : goal.returns-in-Help-clause-files
+returns-in-Help-clause-files g c = rw c.in-Help.is (told_still _ _ _ c.print_text.result c.print_text.ensures (tt, tt))
+
+pub returns-in-Blobs-clause-files : goal.returns-in-Blobs-clause-files
+returns-in-Blobs-clause-files g c = rw c.in-Blobs.is c.run_blobs.ensures.files
+
+pub returns-in-Info-clause-files : goal.returns-in-Info-clause-files
+returns-in-Info-clause-files g c = rw c.in-Info.is c.run_info.ensures.files
+
+pub returns-in-Show-clause-files : goal.returns-in-Show-clause-files
+returns-in-Show-clause-files g c = rw c.in-Show.is c.run_show.ensures.files
+
+pub returns-in-Check-clause-files : goal.returns-in-Check-clause-files
+returns-in-Check-clause-files g c = rw c.in-Check.is c.run_check.ensures.files
+
+pub returns-in-Extract-clause-files : goal.returns-in-Extract-clause-files
+returns-in-Extract-clause-files g c = rw c.in-Extract.is c.run_extract.ensures.files
+
+pub returns-in-Convert-clause-files : goal.returns-in-Convert-clause-files
+returns-in-Convert-clause-files g c = rw c.in-Convert.is c.run_writing.ensures.files

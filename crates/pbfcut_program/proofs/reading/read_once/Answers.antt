@@ -8,6 +8,7 @@ use Rattle.pbfcut_program.specs.Tasks.{checking}
 use Rattle.pbfcut_program.proofs.Closing.{ends_with_none, work_fails, work_read_once}
 use Rattle.pbfcut_program.proofs.FailLemmas.{opened_fails, opening_fails, told_fails}
 use Rattle.pbfcut_program.proofs.Logging.{and_then}
+use Rattle.pbfcut_program.proofs.SettlingLemmas.{calm_done, one_still, still_then}
 use Rattle.pbfcut_program.proofs.reading.read_once.Goals as goal
 
 pub returns-in_err-pass-clause-err : goal.returns-in_err-pass-clause-err
@@ -38,3 +39,16 @@ returns-in-Ok-clause-ok g c =
     let one = c.in_ok-pass.pass in
     let done = work_read_once g.H.In.Feed (manner_of c.args.engine) (once_check c.args.engine.digests) checking ⊥ (log c.open_pass.new.host) (log c.close.new.self) one c.check-outcome.new.pass c.in-Ok.report c.in_ok-pass.ensures.fresh (c.close.ensures.some, c.close.ensures.logged) (c.in-Ok.ensures (c.in_ok-pass.ensures.fresh, tt)) in
     (g.H.In.Feed.remaining one, done.0, and_then (log c.args.host.now) _ _ (opened c.args.path.now 1 (g.H.In.Feed.remaining one) ∷ []) (read done.0 ∷ []) c.in_ok-pass.ensures.opened done.1, done.2)
+
+pub returns-in_err-pass-clause-files : goal.returns-in_err-pass-clause-files
+returns-in_err-pass-clause-files g c =
+    let f = c.in_err-pass.ensures.failed in
+    calm_done _ _ (f.0 ∷ []) f.1 f.2.0
+
+pub returns-in-Ok-clause-files : goal.returns-in-Ok-clause-files
+returns-in-Ok-clause-files g c = still_then _ _ _ (one_still _ _ _ c.in_ok-pass.ensures.opened tt) (one_still _ _ _ c.close.ensures.some.1 tt)
+
+pub returns-in-Err-clause-files : goal.returns-in-Err-clause-files
+returns-in-Err-clause-files g c =
+    let told = c.tell_refusal.ensures in
+    still_then _ _ _ (still_then _ _ _ (one_still _ _ _ c.in_ok-pass.ensures.opened tt) (one_still _ _ _ c.close.ensures.some.1 tt)) (calm_done _ _ told.events told.log told.calm)

@@ -6,6 +6,8 @@ use Rattle.pbfcut_program.specs.Fails.{judging}
 use Rattle.pbfcut_program.specs.Manner.{manner_of}
 use Rattle.pbfcut_program.proofs.FailLemmas.{print_fails, tells_err, tells_ok}
 use Rattle.pbfcut_program.proofs.Logging.{and_then}
+use Rattle.pbfcut_program.proofs.Printed.{calm_prints}
+use Rattle.pbfcut_program.proofs.SettlingLemmas.{still_then, told_still}
 use Rattle.pbfcut_program.proofs.reading.run_check.Goals as goal
 
 pub returns-clause-ok : goal.returns-clause-ok
@@ -26,3 +28,6 @@ returns-clause-err g c =
     let d = c.in_ok-report.ensures.ok in
     let first : List Event = opened c.args.path.now 1 d.0 ∷ read d.1 ∷ [] in
     IfErr-weaker c.print_checked.result _ _ (λ how f. print_fails (manner_of c.args.engine) (judging judged_file) how (log c.args.host.now) _ _ first d.2 f) (tells_err _ _ _ c.print_checked.result c.print_checked.ensures)
+
+pub returns-clause-files : goal.returns-clause-files
+returns-clause-files g c = still_then _ _ _ c.in_ok-report.ensures.files (told_still _ _ _ c.print_checked.result c.print_checked.ensures (calm_prints _ _))

@@ -9,6 +9,7 @@ use Rattle.pbfcut_program.specs.Manner.{manner}
 use Rattle.pbfcut_program.proofs.FailLemmas.{opening_after, opening_fails, text_err, text_ok}
 use Rattle.pbfcut_program.proofs.Listings.{info_done, info_fails, listing_lost}
 use Rattle.pbfcut_program.proofs.Logging.{and_then}
+use Rattle.pbfcut_program.proofs.SettlingLemmas.{calm_done, one_still, screen_still, still_then}
 use Rattle.pbfcut_program.proofs.reading.run_info.Goals as goal
 
 pub returns-in_err-pass-clause-err : goal.returns-in_err-pass-clause-err
@@ -47,3 +48,19 @@ returns-clause-err g c =
     text_err e.0 c.show_info-outcome.result c.ended.result (λ how. (events : List Event) × (log c.ended.new.host ≡ then_all (log c.args.host.now) events) × FailsFor (manner Pbfcutz false c.args.engine.digests) (judging judged_headings) how events) e.2
     (λ why gone. let f = listing_lost g.H.In.Feed g.H.Out.Drain c.show_info-outcome.new.pass c.show_info-outcome.new.drain None (is_ok c.show_info-outcome.result) e.0 (log c.open_screen.new.host) (log c.close.new.self) (log c.ended.new.host) (c.close.ensures.some, c.close.ensures.logged) e.1 (manner Pbfcutz false c.args.engine.digests) (judging judged_headings) (log c.args.host.now) input has begun why gone in (f.0, f.1, f.2))
     (info_fails g.H.In.Feed g.H.Out.Drain c.show_info-outcome.new.pass c.show_info-outcome.new.drain None (is_ok c.show_info-outcome.result) e.0 (log c.open_screen.new.host) (log c.close.new.self) (log c.ended.new.host) (c.close.ensures.some, c.close.ensures.logged) e.1 c.args.engine.digests c.in_ok-pass.pass c.in_ok-out.out c.show_info-outcome.result (log c.args.host.now) input c.in_ok-pass.ensures.fresh c.in_ok-out.ensures.opened.1 begun c.show_info-outcome.ensures.ends)
+
+pub returns-in_err-pass-clause-files : goal.returns-in_err-pass-clause-files
+returns-in_err-pass-clause-files g c =
+    let f = c.in_err-pass.ensures.failed in
+    calm_done _ _ (f.0 ∷ []) f.1 f.2.0
+
+pub returns-in_err-out-clause-files : goal.returns-in_err-out-clause-files
+returns-in_err-out-clause-files g c =
+    let f = c.in_err-out.ensures.failed in
+    still_then _ _ _ (one_still _ _ _ c.in_ok-pass.ensures.opened tt) (calm_done _ _ f.0 f.1 f.2.0)
+
+pub returns-clause-files : goal.returns-clause-files
+returns-clause-files g c =
+    let opened = still_then _ _ _ (one_still _ _ _ c.in_ok-pass.ensures.opened tt) (one_still _ _ _ c.in_ok-out.ensures.opened.0 tt) in
+    let closed = still_then _ _ _ opened (one_still _ _ _ c.close.ensures.some.1 tt) in
+    still_then _ _ _ closed (screen_still g.H.Out.Drain c.show_info-outcome.new.drain _ _ _ _ c.ended.ensures.1)

@@ -11,12 +11,13 @@ use Rattle.pbfcut_program.specs.Manner.{check_in, manner_of, to_raw}
 use Rattle.pbfcut_program.specs.Readings.{IsWork}
 use Rattle.pbfcut_program.specs.Tasks.{showing}
 use Rattle.pbfcut_program.specs.Program.{draws}
-use Rattle.pbfcut_program.proofs.Beginning.{quiet_draws, shown_events}
+use Rattle.pbfcut_program.proofs.Beginning.{calm_draws, shown_events}
 use Rattle.pbfcut_program.proofs.Closing.{if_done, text_fails}
-use Rattle.pbfcut_program.proofs.EventLemmas.{each_both}
+use Rattle.pbfcut_program.proofs.EventLemmas.{each_both, quiet_of}
 use Rattle.pbfcut_program.proofs.FailLemmas.{opened_fails, opening_after, opening_fails, opens_before, text_ok}
 use Rattle.pbfcut_program.proofs.LeavingLemmas.{leaves_after, opening_leaves}
 use Rattle.pbfcut_program.proofs.Logging.{and_then}
+use Rattle.pbfcut_program.proofs.SettlingLemmas.{calm_done, closed_still, one_still, screen_still, still_then}
 use Rattle.pbfcut_program.proofs.reading.run_show.Goals as goal
 
 pub returns-in_err-passes-clause-err : goal.returns-in_err-passes-clause-err
@@ -51,7 +52,7 @@ returns-in_err-out-clause-err g c =
     let drawn = draws c.args.engine.program c.in_ok-key.key in
     let before = and_then (g.H.Host.log c.args.host.now) _ _ first drawn c.in_ok-passes.ensures.opened c.in_ok-key.ensures.ok in
     let begun = first ++ drawn in
-    let fails = opening_after how begun f.0 (tt, (tt, quiet_draws c.args.engine.program c.in_ok-key.key)) f.2 in
+    let fails = opening_after how begun f.0 (tt, (tt, calm_draws c.args.engine.program c.in_ok-key.key)) f.2 in
     rw (p.1, p.2) (begun ++ f.0, and_then (g.H.Host.log c.args.host.now) _ _ begun f.0 before f.1, opening_fails m (judging judged_file) how (begun ++ f.0) fails, opening_leaves m (showing c.args.dates) how (begun ++ f.0) fails)
 
 pub returns-clause-ok : goal.returns-clause-ok
@@ -105,7 +106,7 @@ returns-clause-err g c =
     let fresh = c.in_ok-out.ensures.opened.1 in
     let m = to_raw (manner_of c.args.engine) in
     let hs = has ps.one ∷ has ps.two ∷ [] in
-    let quiet : Each Quiet first = (tt, (tt, each_both Quiet drawn (screened true ∷ []) (quiet_draws c.args.engine.program c.in_ok-key.key) (tt, tt))) in
+    let quiet : Each Quiet first = (tt, (tt, each_both Quiet drawn (screened true ∷ []) (quiet_of drawn (calm_draws c.args.engine.program c.in_ok-key.key)) (tt, tt))) in
     let opens : Opens 1 hs first = (inl (refl, refl), (inr (inl (refl, refl)), tt)) in
     let feeds : AreFresh g.H.In.Feed (ps.one ∷ ps.two ∷ []) = (c.in_ok-passes.ensures.fresh.0, (c.in_ok-passes.ensures.fresh.1, tt)) in
     IfErr-weaker c.ended.result _ _ (λ how f. (
@@ -116,3 +117,31 @@ returns-clause-err g c =
     ))
     (text_fails c.args.engine.program c.args.engine.digests (check_in c.args.engine c.in_ok-key.key) g.H.In.Feed g.H.Out.Drain (showing c.args.dates) c.in_ok-out.out c.show-outcome.new.drain None (is_ok c.show-outcome.result) e.0 (log c.open_screen.new.host) (log c.close_two.new.host) (log c.ended.new.host) (ps.one ∷ ps.two ∷ []) (now.one ∷ now.two ∷ []) c.show-outcome.result c.ended.result
     fresh feeds c.close_two.ensures e.1 (c.show-outcome.ensures.works feeds 0 fresh.0) c.show-outcome.ensures.front e.2)
+
+pub returns-in_err-passes-clause-files : goal.returns-in_err-passes-clause-files
+returns-in_err-passes-clause-files g c =
+    let f = c.in_err-passes.ensures.failed in
+    calm_done _ _ f.0 f.1 f.2.0
+
+pub returns-in_err-key-clause-files : goal.returns-in_err-key-clause-files
+returns-in_err-key-clause-files g c =
+    let f = c.in_err-key.ensures.err in
+    still_then _ _ _ (calm_done _ _ _ c.in_ok-passes.ensures.opened (tt, (tt, tt))) (calm_done _ _ f.0 f.1 f.2.0)
+
+pub returns-in_err-out-clause-files : goal.returns-in_err-out-clause-files
+returns-in_err-out-clause-files g c =
+    let f = c.in_err-out.ensures.failed in
+    let program = c.args.engine.program in
+    let key = c.in_ok-key.key in
+    let opened = still_then _ _ _ (calm_done _ _ _ c.in_ok-passes.ensures.opened (tt, (tt, tt))) (calm_done _ _ (draws program key) c.in_ok-key.ensures.ok (calm_draws program key)) in
+    still_then _ _ _ opened (calm_done _ _ f.0 f.1 f.2.0)
+
+pub returns-clause-files : goal.returns-clause-files
+returns-clause-files g c =
+    let program = c.args.engine.program in
+    let key = c.in_ok-key.key in
+    let now = c.show-outcome.new.passes in
+    let opened = still_then _ _ _ (calm_done _ _ _ c.in_ok-passes.ensures.opened (tt, (tt, tt))) (calm_done _ _ (draws program key) c.in_ok-key.ensures.ok (calm_draws program key)) in
+    let begun = still_then _ _ _ opened (one_still _ _ _ c.in_ok-out.ensures.opened.0 tt) in
+    let closed = still_then _ _ _ begun (closed_still g.H.In.Feed (now.one ∷ now.two ∷ []) _ _ c.close_two.ensures) in
+    still_then _ _ _ closed (screen_still g.H.Out.Drain c.show-outcome.new.drain _ _ _ _ c.ended.ensures.1)

@@ -4,7 +4,7 @@ use Rattle.pbfcut_program.specs.Events.{Event, seeded}
 use Rattle.pbfcut_program.specs.Jobs.{feeds_of}
 use Rattle.pbfcut_program.specs.Program.{looks, openings}
 use Rattle.std.specs.Option.{option_map}
-use Rattle.pbfcut_program.proofs.Beginning.{Prepares, quiet_looks, quiet_openings}
+use Rattle.pbfcut_program.proofs.Beginning.{Prepares, calm_looks, calm_openings}
 use Rattle.pbfcut_program.proofs.OutLemmas.{made_at}
 use Rattle.pbfcut_program.proofs.EventLemmas.{each_both}
 use Rattle.pbfcut_program.proofs.FailLemmas.{opening_after}
@@ -16,7 +16,7 @@ returns-in_err-job-clause-err g c =
     let p = err_from_is_err_and c.from_residual-in_err-job.result c.from_residual-in_err-job.ensures.1 in
     let f = c.in_err-job.ensures.failed in
     let first = looks c.is_screen-to_screen.result c.args.files.now in
-    rw (p.1, p.2) (_, and_then (g.H.Host.log c.args.host.now) _ _ first f.0 c.in_ok-refuse_existing.ensures.ok f.1, opening_after _ first f.0 (quiet_looks c.is_screen-to_screen.result c.args.files.now) f.2)
+    rw (p.1, p.2) (_, and_then (g.H.Host.log c.args.host.now) _ _ first f.0 c.in_ok-refuse_existing.ensures.ok f.1, opening_after _ first f.0 (calm_looks c.is_screen-to_screen.result c.args.files.now) f.2)
 
 pub returns-in_err-seed-clause-err : goal.returns-in_err-seed-clause-err
 returns-in_err-seed-clause-err g c =
@@ -29,7 +29,7 @@ returns-in_err-seed-clause-err g c =
     let first = looks c.is_screen-to_screen.result files in
     let next = openings input 1 has in
     let before = and_then log _ _ first next c.in_ok-refuse_existing.ensures.ok c.in_ok-job.ensures.opened in
-    rw (p.1, p.2) (_, and_then log _ _ (first ++ next) f.0 before f.1, opening_after _ (first ++ next) f.0 (each_both _ first next (quiet_looks c.is_screen-to_screen.result files) (quiet_openings input 1 has)) f.2)
+    rw (p.1, p.2) (_, and_then log _ _ (first ++ next) f.0 before f.1, opening_after _ (first ++ next) f.0 (each_both _ first next (calm_looks c.is_screen-to_screen.result files) (calm_openings input 1 has)) f.2)
 
 pub returns-in_err-out-clause-err : goal.returns-in_err-out-clause-err
 returns-in_err-out-clause-err g c =
@@ -44,7 +44,7 @@ returns-in_err-out-clause-err g c =
     let seed : List Event = seeded (Some c.in_ok-seed.seed.key) ∷ [] in
     let before = and_then log _ _ first next c.in_ok-refuse_existing.ensures.ok c.in_ok-job.ensures.opened in
     let drawn = and_then log _ _ (first ++ next) seed before c.in_ok-seed.ensures.ok in
-    rw (p.1, p.2) (_, and_then log _ _ ((first ++ next) ++ seed) f.0 drawn f.1, opening_after _ ((first ++ next) ++ seed) f.0 (each_both _ (first ++ next) seed (each_both _ first next (quiet_looks c.is_screen-to_screen.result files) (quiet_openings input 1 has)) (tt, tt)) f.2)
+    rw (p.1, p.2) (_, and_then log _ _ ((first ++ next) ++ seed) f.0 drawn f.1, opening_after _ ((first ++ next) ++ seed) f.0 (each_both _ (first ++ next) seed (each_both _ first next (calm_looks c.is_screen-to_screen.result files) (calm_openings input 1 has)) (tt, tt)) f.2)
 
 pub returns-clause-ok : goal.returns-clause-ok
 returns-clause-ok g c =

@@ -7,23 +7,25 @@ use Rattle.pbfcut_program.specs.Leaving.{LeavesFor}
 use Rattle.pbfcut_program.specs.Program.{WritesCounts, advice, strategy_of}
 use Rattle.pbfcut_program.specs.Manner.{manner_of}
 use Rattle.pbfcut_program.specs.Tasks.{judge_of}
-use Rattle.pbfcut_program.proofs.Beginning.{quiet_region}
+use Rattle.pbfcut_program.proofs.Beginning.{calm_advice, calm_region}
+use Rattle.pbfcut_program.proofs.EventLemmas.{quiet_of}
 use Rattle.pbfcut_program.proofs.FailLemmas.{failed_after, opening_fails}
 use Rattle.pbfcut_program.proofs.Logging.{and_then}
+use Rattle.pbfcut_program.proofs.SettlingLemmas.{calm_done, settles_after, settles_before, still_settles}
 use Rattle.pbfcut_program.proofs.writing.run_extract.Goals as goal
 
 pub returns-in_err-cut-clause-err : goal.returns-in_err-cut-clause-err
 returns-in_err-cut-clause-err g c =
     let p = err_from_is_err_and c.from_residual.result c.from_residual.ensures.1 in
     let f = c.in_err-cut.ensures.err in
-    rw (p.1, p.2) (f.0, f.1, opening_fails (manner_of c.args.engine) (judging (judge_by (strategy_of c.args.strategy))) c.in_err-cut.field-0.0 f.0 f.2, inl f.2.0)
+    rw (p.1, p.2) (f.0, f.1, opening_fails (manner_of c.args.engine) (judging (judge_by (strategy_of c.args.strategy))) c.in_err-cut.field-0.0 f.0 f.2, inl (quiet_of f.0 f.2.0))
 
 pub returns-in_err-plan-clause-err : goal.returns-in_err-plan-clause-err
 returns-in_err-plan-clause-err g c =
     let p = err_from_is_err_and c.from_residual-in_err-plan.result c.from_residual-in_err-plan.ensures.1 in
     let d = c.in_ok-cut.ensures.ok in
-    let quiet = quiet_region c.args.region.now d.0 (area_of c.in_ok-cut.cut) d.2 in
-    rw (p.1, p.2) (d.0, d.1, opening_fails (manner_of c.args.engine) (judging (judge_by (strategy_of c.args.strategy))) _ d.0 (quiet, tt), inl quiet)
+    let calm = calm_region c.args.region.now d.0 (area_of c.in_ok-cut.cut) d.2 in
+    rw (p.1, p.2) (d.0, d.1, opening_fails (manner_of c.args.engine) (judging (judge_by (strategy_of c.args.strategy))) _ d.0 (calm, tt), inl (quiet_of d.0 calm))
 
 pub returns-in_err-counts-clause-err : goal.returns-in_err-counts-clause-err
 returns-in_err-counts-clause-err g c =
@@ -39,7 +41,7 @@ returns-in_err-counts-clause-err g c =
     rw (p.1, p.2) (
       d.0 ++ f.0,
       and_then log _ _ d.0 f.0 d.1 f.1,
-      failed_after m (judging (judge_by (strategy_of c.args.strategy))) how d.0 f.0 (quiet_region c.args.region.now d.0 area d.2) fails,
+      failed_after m (judging (judge_by (strategy_of c.args.strategy))) how d.0 f.0 (quiet_of d.0 (calm_region c.args.region.now d.0 area d.2)) fails,
       inr (record { area = area; before = d.0; after = f.0; happened = refl; means = d.2; leaves = leaves }),
     )
 
@@ -54,3 +56,26 @@ returns-clause-ok g c =
     let both = and_then log _ _ d.0 w.0 d.1 w.1 in
     let all = and_then log _ _ (d.0 ++ w.0) (advice counts) both c.advise_empty.ensures in
     (d.0 ++ w.0 ++ advice counts, all, record { area = area; before = d.0; after = w.0; counts = counts; happened = refl; means = d.2; writes = writes })
+
+pub returns-in_err-cut-clause-files : goal.returns-in_err-cut-clause-files
+returns-in_err-cut-clause-files g c =
+    let f = c.in_err-cut.ensures.err in
+    still_settles c.args.engine.program c.args.files.now _ _ (calm_done _ _ f.0 f.1 f.2.0)
+
+pub returns-in_err-plan-clause-files : goal.returns-in_err-plan-clause-files
+returns-in_err-plan-clause-files g c =
+    let d = c.in_ok-cut.ensures.ok in
+    still_settles c.args.engine.program c.args.files.now _ _ (calm_done _ _ d.0 d.1 (calm_region c.args.region.now d.0 (area_of c.in_ok-cut.cut) d.2))
+
+pub returns-in_err-counts-clause-files : goal.returns-in_err-counts-clause-files
+returns-in_err-counts-clause-files g c =
+    let d = c.in_ok-cut.ensures.ok in
+    settles_after c.args.engine.program c.args.files.now _ _ _ (calm_done _ _ d.0 d.1 (calm_region c.args.region.now d.0 (area_of c.in_ok-cut.cut) d.2)) c.in_err-counts.ensures.files
+
+pub returns-clause-files : goal.returns-clause-files
+returns-clause-files g c =
+    let d = c.in_ok-cut.ensures.ok in
+    let program = c.args.engine.program in
+    let files = c.args.files.now in
+    let counts = c.in_ok-counts.counts in
+    settles_before program files _ _ _ (settles_after program files _ _ _ (calm_done _ _ d.0 d.1 (calm_region c.args.region.now d.0 (area_of c.in_ok-cut.cut) d.2)) c.in_ok-counts.ensures.files) (calm_done _ _ (advice counts) c.advise_empty.ensures (calm_advice counts))

@@ -1,20 +1,21 @@
 use Rattle.std.proofs.Common.{◌≡◌, ◌∙◌, ◌<◌, ◌++◌, ◌∷◌, [], List, ℕ, Option, inl, inr, map, refl, false, true, ap, subst, sym, append_assoc, string_bytes}
 use Rattle.std.proofs.lemmas.Result.{IfErr-weaker, IfOk-weaker}
-use Rattle.std.specs.Option.{option_map}
+use Rattle.std.specs.Option.{is_some, option_map}
 use Rattle.pbfcut_program.specs.Devices.{MeansBy, TakenBy}
-use Rattle.pbfcut_program.specs.Events.{Event, read, then_all, wrote}
+use Rattle.pbfcut_program.specs.Events.{Event, Writing, read, then_all, wrote}
 use Rattle.pbfcut_program.specs.Fails.{judging}
 use Rattle.pbfcut_program.specs.Files.{IsKept}
 use Rattle.pbfcut_program.specs.Jobs.{feeds_of, task_of}
 use Rattle.pbfcut_program.specs.Leaving.{TookFront}
 use Rattle.pbfcut_program.specs.Manner.{check_in, hashes_meaning, manner_of, of_output, output_form}
 use Rattle.pbfcut_program.specs.Tasks.{judge_of}
-use Rattle.pbfcut_program.proofs.Closing.{ends_with_out, hashed_as, stops_leaving, work_done, work_fails}
+use Rattle.pbfcut_program.proofs.Closing.{close_rest, ends_with_out, hashed_as, stops_leaving, work_done, work_fails}
 use Rattle.pbfcut_program.proofs.EventLemmas.{each_both, each_quiet, has_after}
 use Rattle.pbfcut_program.proofs.FailLemmas.{fails_before, file_stops, told_fails}
 use Rattle.pbfcut_program.proofs.LeavingLemmas.{TakenFront, quiet_front}
-use Rattle.pbfcut_program.proofs.Logging.{and_then}
+use Rattle.pbfcut_program.proofs.Logging.{and_then, then_none}
 use Rattle.pbfcut_program.proofs.OutLemmas.{dropped_quiet, ends_at, ends_kept, ends_told}
+use Rattle.pbfcut_program.proofs.SettlingLemmas.{is_ended, still_of}
 use Rattle.pbfcut_program.proofs.writing.run_job.Goals as goal
 
 pub returns-in-Ok-clause-ok : goal.returns-in-Ok-clause-ok
@@ -91,3 +92,34 @@ returns-in-Err-clause-err g c =
     let told = told_fails m (judging (judge_of (task_of job))) has c.in-Err.halted.ending c.tell_refusal.result (log c.args.host.now) (log c.drop_out.new.host) (log c.tell_refusal.new.host) (fail.0 ++ gone.3) dropped fails c.tell_refusal.ensures in
     (told.0, told.1, told.2, stops_leaving m (task_of job) has (taken c.args.ready.out.drain) (taken ran.out) told.0 c.requires.fresh.1.1
     (λ answer x. told.3 (TookFront answer) (quiet_front answer) (each_both _ fail.0 gone.3 (fail.3 answer x) (each_quiet _ (quiet_front answer) gone.3 quiet))) front)
+
+pub returns-in-Ok-clause-files : goal.returns-in-Ok-clause-files
+returns-in-Ok-clause-files g c =
+    let log = g.H.Host.log in
+    let program = c.args.engine.program in
+    let files = c.args.files.now in
+    let out = c.run_into-result.result.out in
+    let name = option_map string_bytes c.args.ready.out.name in
+    let k = c.keep_out.ensures in
+    let at = c.place_of.ensures in
+    let rest = close_rest g.H.In.Feed (feeds_of c.run_into-result.new.job) (log c.args.host.now) (log c.close_job.new.host) c.close_job.ensures in
+    let rs : List Event = map (λ r. read r) rest.0 in
+    let w : Writing = record { name = name; bytes = k.2.0.0; reports = is_some (g.H.Out.Drain.taken out); failures = g.H.Out.Drain.failures out; kept = true; fault = k.0 } in
+    let closed = and_then (log c.args.host.now) (log c.close_job.new.host) k.1 rs (wrote w ∷ []) rest.1 k.2.0.2 in
+    let ended = and_then (log c.args.host.now) k.1 (log c.keep_out.new.host) (rs ++ wrote w ∷ []) k.3 closed k.4 ∙ ap (λ es. then_all (log c.args.host.now) es) (append_assoc rs (wrote w ∷ []) k.3) in
+    let closes = ends_at _ program at.0 _ files.overwrite at.2 _ files.output.now (ap (λ b. b.now) at.1) name k.0 c.keep_out.result k.3 k.5 in
+    (rest.0, w, k.3, [], and_then (log c.args.host.now) _ _ (rs ++ wrote w ∷ k.3) [] ended (then_none (log c.keep_out.new.host)), tt, refl, is_ended program files w c.keep_out.result k.3 refl closes)
+
+pub returns-in-Err-clause-files : goal.returns-in-Err-clause-files
+returns-in-Err-clause-files g c =
+    let log = g.H.Host.log in
+    let out = c.run_into-result.result.out in
+    let name = option_map string_bytes c.args.ready.out.name in
+    let gone = c.drop_out.ensures in
+    let told = c.tell_refusal.ensures in
+    let rest = close_rest g.H.In.Feed (feeds_of c.run_into-result.new.job) (log c.args.host.now) (log c.close_job.new.host) c.close_job.ensures in
+    let rs : List Event = map (λ r. read r) rest.0 in
+    let w : Writing = record { name = name; bytes = gone.2.0.0; reports = is_some (g.H.Out.Drain.taken out); failures = g.H.Out.Drain.failures out; kept = false; fault = gone.0 } in
+    let closed = and_then (log c.args.host.now) (log c.close_job.new.host) gone.1 rs (wrote w ∷ []) rest.1 gone.2.0.2 in
+    let ended = and_then (log c.args.host.now) gone.1 (log c.drop_out.new.host) (rs ++ wrote w ∷ []) gone.3 closed gone.4 ∙ ap (λ es. then_all (log c.args.host.now) es) (append_assoc rs (wrote w ∷ []) gone.3) in
+    (rest.0, w, gone.3, told.events, and_then (log c.args.host.now) _ _ (rs ++ wrote w ∷ gone.3) told.events ended told.log, still_of told.events told.calm, refl, inr gone.5)

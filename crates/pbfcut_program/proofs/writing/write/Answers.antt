@@ -14,6 +14,8 @@ use Rattle.pbfcut_program.proofs.Beginning.{length_has, opens_begun, quiet_begun
 use Rattle.pbfcut_program.proofs.FailLemmas.{fails_early, opened_fails, opening_fails, opens_before, print_stops, printing_after}
 use Rattle.pbfcut_program.proofs.LeavingLemmas.{leaves_after, opening_leaves}
 use Rattle.pbfcut_program.proofs.Logging.{and_then}
+use Rattle.pbfcut_program.proofs.Printed.{calm_prints}
+use Rattle.pbfcut_program.proofs.SettlingLemmas.{calm_done, settles_before, still_settles, told_still, write_settles}
 use Rattle.pbfcut_program.proofs.writing.write.Goals as goal
 
 pub returns-in_err-ready-clause-err : goal.returns-in_err-ready-clause-err
@@ -134,3 +136,27 @@ returns-clause-ok g c =
         work = subst (λ t. IsWork (manner_of c.args.engine) (check_in c.args.engine key) t d.0 d.1.bytes r.report.counts r.report.input r.report.raw) c.in_ok-ready.ensures.planned.0 d.4.work;
       },
     )
+
+pub returns-in_err-ready-clause-files : goal.returns-in_err-ready-clause-files
+returns-in_err-ready-clause-files g c =
+    let f = c.in_err-ready.ensures.err in
+    still_settles c.args.engine.program c.args.files.now _ _ (calm_done _ _ f.0 f.1 f.2.0)
+
+pub returns-in_err-done-clause-files : goal.returns-in_err-done-clause-files
+returns-in_err-done-clause-files g c =
+    let ready = c.in_ok-ready.ready in
+    write_settles c.args.engine.program c.args.files.now (map g.H.In.Feed.remaining (feeds_of ready.job)) ready.seed.key _ _ _ _ c.in_ok-ready.ensures.ok c.in_err-done.ensures.files
+
+pub returns-in_err-print_done-clause-files : goal.returns-in_err-print_done-clause-files
+returns-in_err-print_done-clause-files g c =
+    let ready = c.in_ok-ready.ready in
+    let program = c.args.engine.program in
+    let files = c.args.files.now in
+    settles_before program files _ _ _ (write_settles program files (map g.H.In.Feed.remaining (feeds_of ready.job)) ready.seed.key _ _ _ _ c.in_ok-ready.ensures.ok c.in_ok-done.ensures.files) (told_still _ _ _ c.print_done.result c.print_done.ensures (calm_prints _ _))
+
+pub returns-clause-files : goal.returns-clause-files
+returns-clause-files g c =
+    let ready = c.in_ok-ready.ready in
+    let program = c.args.engine.program in
+    let files = c.args.files.now in
+    settles_before program files _ _ _ (write_settles program files (map g.H.In.Feed.remaining (feeds_of ready.job)) ready.seed.key _ _ _ _ c.in_ok-ready.ensures.ok c.in_ok-done.ensures.files) (told_still _ _ _ c.print_done.result c.print_done.ensures (calm_prints _ _))

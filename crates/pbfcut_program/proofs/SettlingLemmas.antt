@@ -1,0 +1,163 @@
+-- What was done to files, put together.
+use Rattle.std.proofs.Common.{arith, ◌≡◌, ◌∙◌, ◌⊎◌, inl, inr, ℕ, List, [], ◌∷◌, ◌++◌, map, Bool, true, Option, Some, None, Result, Ok, Err, refl, ap, subst, sym, append_assoc}
+use Rattle.clap.specs.Words.{Text}
+use Rattle.pbf_frame.specs.declared.device.Drain as drain
+use Rattle.pbf_frame.specs.declared.device.Feed as feed
+use Rattle.pbfcut_cli.specs.declared.endings.Ending.{Ending}
+use Rattle.pbfcut_cli.specs.declared.programs.Program.{Program}
+use Rattle.pbfcut_cli.specs.declared.words.Command.{Command}
+use Rattle.pbfcut_cli.specs.declared.words.Command.TheVariants.{Blobs, Check, Convert, Extract, Help, Info, Pack, Show, Unpack}
+use Rattle.pbfcut_cli.specs.declared.words.Files.{Files}
+use Rattle.pbfcut_program.specs.declared.host.FinishFault.{FinishFault}
+use Rattle.pbfcut_program.specs.Devices.{CloseAll, Finishes}
+use Rattle.pbfcut_program.specs.Events.{Event, Reading, Writing, read, seeded, then_all, then_one, wrote}
+use Rattle.pbfcut_program.specs.Fails.{Calm, Each}
+use Rattle.pbfcut_program.specs.Files.{EndsOut, IsDropped, IsKept, IsMade, Still}
+use Rattle.pbfcut_program.specs.Program.{begun, is_screen, looks, openings}
+use Rattle.pbfcut_program.specs.Settling.{IsEnded, IsStill, Returns, RunSettles, Settled, Settles, SettlesIn}
+use Rattle.pbfcut_program.specs.Telling.{Tells}
+use Rattle.pbfcut_program.proofs.Beginning.{calm_looks, calm_openings}
+use Rattle.pbfcut_program.proofs.Closing.{close_rest}
+use Rattle.pbfcut_program.proofs.EventLemmas.{each_both}
+use Rattle.pbfcut_program.proofs.Logging.{and_then, then_none}
+
+calm_still : (e : Event) → Calm e → Still e
+calm_still e h1 = grind arith
+
+pub still_of : (xs : List Event) → Each Calm xs → Each Still xs
+still_of [] q = tt
+still_of (x ∷ xs) q = (calm_still x q.0, still_of xs q.1)
+
+reads_still : (rs : List Reading) → Each Still (map (λ r. read r) rs)
+reads_still [] = tt
+reads_still (r ∷ rs) = (tt, reads_still rs)
+
+-- ---- nothing was done to any
+
+pub nothing_done : (l : Option (List Event)) → IsStill l l
+nothing_done l = ([], then_none l, tt)
+
+pub one_still : (l m : Option (List Event)) (e : Event) → m ≡ then_one l e → Still e → IsStill l m
+one_still l m e is s = (e ∷ [], is, (s, tt))
+
+pub calm_done : (l m : Option (List Event)) (xs : List Event) → m ≡ then_all l xs → Each Calm xs → IsStill l m
+calm_done l m xs is q = (xs, is, still_of xs q)
+
+pub still_then : (l m n : Option (List Event)) → IsStill l m → IsStill m n → IsStill l n
+still_then l m n a b = (a.0 ++ b.0, and_then l m n a.0 b.0 a.1 b.1, each_both Still a.0 b.0 a.2 b.2)
+
+pub told_still : {A : Type 0} (l m : Option (List Event)) (xs : List Event) (r : Result A Ending) → Tells l m xs r → Each Calm xs → IsStill l m
+told_still l m xs (Ok a) t q = calm_done l m xs t q
+told_still l m xs (Err how) t q = calm_done l m t.0 t.1 t.3
+
+pub closed_still : {F : Type 0} (f : feed.Ghosts F) (news : List F) (l m : Option (List Event)) → CloseAll f news l m → IsStill l m
+closed_still f news l m c =
+    let rest = close_rest f news l m c in
+    (map (λ r. read r) rest.0, rest.1, reads_still rest.0)
+
+pub screen_still : {D : Type 0} (d : drain.Ghosts D) (out : D) (kept : Bool) (fault : Option FinishFault) (l m : Option (List Event)) → Finishes d out None kept fault l m → IsStill l m
+screen_still d out kept fault l m fin = one_still l m _ fin.0.2 refl
+
+-- ---- OUT is kept, or dropped
+
+kept_or_dropped : {A : Type 0} (program : Program) (overwrite : Bool) (output : List ℕ) (name : Option (List ℕ)) (fault : Option FinishFault) (result : Result A FinishFault) (ends : List Event) → EndsOut program overwrite output name fault result ends
+    → ((fault ≡ None) × IsKept program overwrite output name ends) ⊎ IsDropped program name ends
+kept_or_dropped program overwrite output name (Some why) (Ok a) ends e = absurd e
+kept_or_dropped program overwrite output name (Some why) (Err told) ends e = inr e.1
+kept_or_dropped program overwrite output name None (Ok a) ends e = inl (refl, e)
+kept_or_dropped program overwrite output name None (Err told) ends e = of e.1 where
+  of : (IsDropped program name ends ⊎ IsKept program overwrite output name ends) → ((None ≡ None) × IsKept program overwrite output name ends) ⊎ IsDropped program name ends
+  of (inl dropped) = inr dropped
+  of (inr kept) = inl (refl, kept)
+
+pub is_ended : {A : Type 0} (program : Program) (files : Files) (out : Writing) (result : Result A FinishFault) (ends : List Event) → out.kept ≡ true → EndsOut program files.overwrite files.output.now out.name out.fault result ends → IsEnded program files out ends
+is_ended program files out result ends kept e = of (kept_or_dropped program files.overwrite files.output.now out.name out.fault result ends e) where
+  of : ((out.fault ≡ None) × IsKept program files.overwrite files.output.now out.name ends) ⊎ IsDropped program out.name ends → IsEnded program files out ends
+  of (inl k) = inl (kept, k.0, k.1)
+  of (inr dropped) = inr dropped
+
+-- ---- around what was done
+
+settled_events : (a makes rs w last : List Event) (s : Event) → (a ++ s ∷ makes) ++ ((rs ++ w) ++ last) ≡ ((((a ++ s ∷ []) ++ makes) ++ rs) ++ w) ++ last
+settled_events a makes rs w last s =
+    let first = (a ++ s ∷ []) ++ makes in
+    ap (λ x. x ++ ((rs ++ w) ++ last)) (sym (append_assoc a (s ∷ []) makes)) ∙ sym (append_assoc first (rs ++ w) last) ∙ ap (λ x. x ++ last) (sym (append_assoc first rs w))
+
+pub write_settles : (program : Program) (files : Files) (has : List (Option (List ℕ))) (key : ℕ) (name : Option (List ℕ)) (l m n : Option (List Event))
+    → ((makes : List Event) × (m ≡ then_all l (begun (is_screen program files.output.now) files has key makes)) × IsMade program (is_screen program files.output.now) files.output.now name makes) → Returns program files name m n → Settles program files l n
+write_settles program files has key name l m n ready r =
+    let is = is_screen program files.output.now in
+    let opens = openings files.input.now 1 has in
+    let a : List Event = looks is files ++ opens in
+    let rs : List Event = map (λ r. read r) r.0 in
+    let w : List Event = wrote r.1 ∷ r.2 in
+    let s = seeded (Some key) in (
+      (a ++ s ∷ ready.0) ++ ((rs ++ w) ++ r.3),
+      and_then l m n (a ++ s ∷ ready.0) ((rs ++ w) ++ r.3) ready.1 r.4,
+      inr (record {
+        before = a ++ s ∷ [];
+        makes = ready.0;
+        between = rs;
+        out = r.1;
+        ends = r.2;
+        last = r.3;
+        happened = settled_events a ready.0 rs w r.3 s;
+        still = (still_of (a ++ s ∷ []) (each_both Calm a (s ∷ []) (each_both Calm (looks is files) opens (calm_looks is files) (calm_openings files.input.now 1 has)) (tt, tt)), reads_still r.0, r.5);
+        made = subst (λ (n : Option (List ℕ)). IsMade program is files.output.now n ready.0) (sym r.6) ready.2;
+        ended = r.7;
+      }),
+    )
+
+pub still_settles : (program : Program) (files : Files) (l m : Option (List Event)) → IsStill l m → Settles program files l m
+still_settles program files l m s = (s.0, s.1, inl s.2)
+
+before_settled : (xs b m n w last : List Event) → xs ++ ((((b ++ m) ++ n) ++ w) ++ last) ≡ ((((xs ++ b) ++ m) ++ n) ++ w) ++ last
+before_settled xs b m n w last =
+    sym (append_assoc xs (((b ++ m) ++ n) ++ w) last)
+    ∙ ap (λ x. x ++ last) (sym (append_assoc xs ((b ++ m) ++ n) w) ∙ ap (λ x. x ++ w) (sym (append_assoc xs (b ++ m) n) ∙ ap (λ x. x ++ n) (sym (append_assoc xs b m))))
+
+pub settles_after : (program : Program) (files : Files) (l m n : Option (List Event)) → IsStill l m → Settles program files m n → Settles program files l n
+settles_after program files l m n s (events, e, inl t) = (s.0 ++ events, and_then l m n s.0 events s.1 e, inl (each_both Still s.0 events s.2 t))
+settles_after program files l m n s (events, e, inr t) = (s.0 ++ events, and_then l m n s.0 events s.1 e, inr (record {
+  before = s.0 ++ t.before;
+  makes = t.makes;
+  between = t.between;
+  out = t.out;
+  ends = t.ends;
+  last = t.last;
+  happened = ap (λ es. s.0 ++ es) t.happened ∙ before_settled s.0 t.before t.makes t.between (wrote t.out ∷ t.ends) t.last;
+  still = (each_both Still s.0 t.before s.2 t.still.0, t.still.1, t.still.2);
+  made = t.made;
+  ended = t.ended;
+}))
+
+pub settles_before : (program : Program) (files : Files) (l m n : Option (List Event)) → Settles program files l m → IsStill m n → Settles program files l n
+settles_before program files l m n (events, e, inl t) s = (events ++ s.0, and_then l m n events s.0 e s.1, inl (each_both Still events s.0 t s.2))
+settles_before program files l m n (events, e, inr t) s = (events ++ s.0, and_then l m n events s.0 e s.1, inr (record {
+  before = t.before;
+  makes = t.makes;
+  between = t.between;
+  out = t.out;
+  ends = t.ends;
+  last = t.last ++ s.0;
+  happened = ap (λ es. es ++ s.0) t.happened ∙ append_assoc (((t.before ++ t.makes) ++ t.between) ++ wrote t.out ∷ t.ends) t.last s.0;
+  still = (t.still.0, t.still.1, each_both Still t.last s.0 t.still.2 s.2);
+  made = t.made;
+  ended = t.ended;
+}))
+
+settles_in_before : (program : Program) (command : Command) (l m n : Option (List Event)) → SettlesIn program command l m → IsStill m n → SettlesIn program command l n
+settles_in_before program (Convert files) l m n t s = settles_before program files l m n t s
+settles_in_before program (Pack files) l m n t s = settles_before program files l m n t s
+settles_in_before program (Unpack files) l m n t s = settles_before program files l m n t s
+settles_in_before program (Extract region by files) l m n t s = settles_before program files l m n t s
+settles_in_before program (Help text) l m n t s = still_then l m n t s
+settles_in_before program (Blobs input) l m n t s = still_then l m n t s
+settles_in_before program (Info input json) l m n t s = still_then l m n t s
+settles_in_before program (Show input dates progress) l m n t s = still_then l m n t s
+settles_in_before program (Check input progress digests) l m n t s = still_then l m n t s
+
+-- the line of how it ended comes last
+pub run_settles_before : (program : Program) (words : List Text) (l m n : Option (List Event)) → RunSettles program words l m → IsStill m n → RunSettles program words l n
+run_settles_before program words l m n (inl t) s = inl (still_then l m n t s)
+run_settles_before program words l m n (inr (command, meant, t)) s = inr (command, meant, settles_in_before program command l m n t s)
