@@ -116,6 +116,52 @@ none_stays name [] s h = h
 none_stays name (x ∷ xs) s (inl h) = stays_not_still name x h s.0
 none_stays name (x ∷ xs) s (inr h) = none_stays name xs s.1 h
 
+-- a part that stays is told of among events of which the first and the last change nothing
+stays_later : (p : List ℕ) (xs ys : List Event) → Each Still xs → Happened (stays p) (xs ++ ys) → Happened (stays p) ys
+stays_later p xs ys s h = of (happened_either (stays p) xs ys h) where
+  of : Happened (stays p) xs ⊎ Happened (stays p) ys → Happened (stays p) ys
+  of (inl k) = absurd (none_stays p xs s k)
+  of (inr k) = k
+
+stays_earlier : (p : List ℕ) (xs ys : List Event) → Each Still ys → Happened (stays p) (xs ++ ys) → Happened (stays p) xs
+stays_earlier p xs ys s h = of (happened_either (stays p) xs ys h) where
+  of : Happened (stays p) xs ⊎ Happened (stays p) ys → Happened (stays p) xs
+  of (inl k) = k
+  of (inr k) = absurd (none_stays p ys s k)
+
+stays_among : (p : List ℕ) (xs ys zs : List Event) → Each Still xs → Each Still zs → Happened (stays p) (xs ++ (ys ++ zs)) → Happened (stays p) ys
+stays_among p xs ys zs s t h = stays_earlier p ys zs t (stays_later p xs (ys ++ zs) s h)
+
+stays_inside : (p : List ℕ) (xs ys zs : List Event) → Happened (stays p) ys → Happened (stays p) (xs ++ (ys ++ zs))
+stays_inside p xs ys zs h = happened_after (stays p) xs (ys ++ zs) (happened_before (stays p) ys zs h)
+
+-- ---- what is said of a file system
+
+-- no name but OUT's has changed by these events, but that of a part that stays, which none had
+pub record IsLeft (output : List ℕ) (old : Disk) (events : List Event) (now : Disk) : Type 0 where
+  pub others : (p : List ℕ) → (p ≡ output → ⊥) → (Happened (stays p) events → ⊥) → now p ≡ old p
+  pub parts : (p : List ℕ) → Happened (stays p) events → (p ≡ output → ⊥) × (old p ≡ None)
+
+-- and OUT has these bytes
+pub record IsNow (overwrite : Bool) (output bytes : List ℕ) (old : Disk) (events : List Event) (now : Disk) : Type 0 where
+  pub there : now output ≡ Some bytes
+  pub fresh : overwrite ≡ false → old output ≡ None
+  pub left : IsLeft output old events now
+
+-- or what it had
+pub record IsBack (output : List ℕ) (old : Disk) (events : List Event) (now : Disk) : Type 0 where
+  pub back : now output ≡ old output
+  pub left : IsLeft output old events now
+
+-- what is so after the events of a file that is dropped
+abbrev pub LeftBy : Program → (output bytes : List ℕ) → (old : Disk) → List Event → (now : Disk) → Type 0
+LeftBy Pbfcut output bytes old events now = IsNow false output bytes old events now
+LeftBy Pbfcutz output bytes old events now = IsBack output old events now
+
+-- the same by other events, as far as parts that stay are concerned
+left_by : (output : List ℕ) (old : Disk) (xs ys : List Event) (now : Disk) → ((p : List ℕ) → Happened (stays p) xs → Happened (stays p) ys) → ((p : List ℕ) → Happened (stays p) ys → Happened (stays p) xs) → IsLeft output old xs now → IsLeft output old ys now
+left_by output old xs ys now to from n = record { others = λ p o q. n.others p o (λ h. q (to p h)); parts = λ p h. n.parts p (from p h) }
+
 -- ---- a file that is made, and filled
 
 module _ (output name bytes : List ℕ) (disk : Disk) where
@@ -169,13 +215,6 @@ module _ (output name bytes : List ℕ) (disk : Disk) where
 
   -- ---- it gets OUT's name
 
-  -- what is so after these events, which gave OUT the file
-  pub record IsNow (overwrite : Bool) (part : List Event) (now : Disk) : Type 0 where
-    pub there : now output ≡ Some bytes
-    pub others : (p : List ℕ) → (p ≡ output → ⊥) → (Happened (stays p) part → ⊥) → now p ≡ disk p
-    pub parts : (p : List ℕ) → Happened (stays p) part → (p ≡ output → ⊥) × (disk p ≡ None)
-    pub fresh : overwrite ≡ false → disk output ≡ None
-
   true_false : true ≡ false → ⊥
   true_false h = cc
 
@@ -183,127 +222,92 @@ module _ (output name bytes : List ℕ) (disk : Disk) where
   name_of_stays p q h = cc
 
   module _ (differ : name ≡ output → ⊥) (none : disk name ≡ None) where
-    is_alone : (overwrite : Bool) (part : List Event) → ((p : List ℕ) → Happened (stays p) part → ⊥) → (overwrite ≡ false → disk output ≡ None) → IsNow overwrite part alone
-    is_alone overwrite part gone free = record { there = alone_whole differ; others = λ p o q. alone_other none p o; parts = λ p h. absurd (gone p h); fresh = free }
+    -- a part that stays
+    part_left : (events : List Event) (now : Disk) → ((p : List ℕ) → Happened (stays p) events → p ≡ name) → Happened (stays name) events → ((p : List ℕ) → (p ≡ name → ⊥) → (p ≡ output → ⊥) → now p ≡ disk p) → IsLeft output disk events now
+    part_left events now only is other = record {
+        others = λ p o q. other p (λ h. q (subst (λ (n : List ℕ). Happened (stays n) events) (sym h) is)) o;
+        parts = λ p h. (λ o. differ (sym (only p h) ∙ o), ap disk (only p h) ∙ none);
+      }
 
-    linked_and : (overwrite : Bool) (end : Event) → IsEnd name end → disk output ≡ None → IsNow overwrite (linked name output ∷ end ∷ []) (changed end both)
-    linked_and overwrite end (inl e) free = subst (λ (x : Event). IsNow overwrite (linked name output ∷ x ∷ []) (changed x both)) (sym e) (is_alone overwrite (linked name output ∷ removed name ∷ []) (λ p h. none_said p h) (λ o. free)) where
-      none_said : (p : List ℕ) → Happened (stays p) (linked name output ∷ removed name ∷ []) → ⊥
-      none_said p (inl h) = linked_stays h where
-        linked_stays : linked name output ≡ stays p → ⊥
-        linked_stays h = cc
-      none_said p (inr (inl h)) = removed_stays h where
-        removed_stays : removed name ≡ stays p → ⊥
-        removed_stays h = cc
-      none_said p (inr (inr h)) = h
-    linked_and overwrite end (inr e) free = subst (λ (x : Event). IsNow overwrite (linked name output ∷ x ∷ []) (changed x both)) (sym e) (record {
+    -- none does
+    none_left : (events : List Event) (now : Disk) → ((p : List ℕ) → Happened (stays p) events → ⊥) → ((p : List ℕ) → (p ≡ output → ⊥) → now p ≡ disk p) → IsLeft output disk events now
+    none_left events now no_part other = record { others = λ p o q. other p o; parts = λ p h. absurd (no_part p h) }
+
+    alone_now : (overwrite : Bool) (events : List Event) → ((p : List ℕ) → Happened (stays p) events → ⊥) → (overwrite ≡ false → disk output ≡ None) → IsNow overwrite output bytes disk events alone
+    alone_now overwrite events no_part free = record { there = alone_whole differ; fresh = free; left = none_left events alone no_part (alone_other none) }
+
+    linked_now : (overwrite : Bool) (end : Event) → IsEnd name end → disk output ≡ None → IsNow overwrite output bytes disk (linked name output ∷ end ∷ []) (changed end both)
+    linked_now overwrite end (inl e) free = subst (λ (x : Event). IsNow overwrite output bytes disk (linked name output ∷ x ∷ []) (changed x both)) (sym e) (alone_now overwrite (linked name output ∷ removed name ∷ []) no_part (λ o. free)) where
+      no_part : (p : List ℕ) → Happened (stays p) (linked name output ∷ removed name ∷ []) → ⊥
+      no_part p h1 = grind arith
+    linked_now overwrite end (inr e) free = subst (λ (x : Event). IsNow overwrite output bytes disk (linked name output ∷ x ∷ []) (changed x both)) (sym e) (record {
         there = both_whole;
-        others = λ p o q. both_other p (λ h. q (inr (inl (ap stays (sym h))))) o;
-        parts = λ p h. (λ o. differ (sym (of p h) ∙ o), ap disk (of p h) ∙ none);
         fresh = λ o. free;
+        left = part_left (linked name output ∷ stays name ∷ []) both only (inr (inl refl)) both_other;
       }) where
-      of : (p : List ℕ) → Happened (stays p) (linked name output ∷ stays name ∷ []) → p ≡ name
-      of p (inl h) = absurd (linked_stays h) where
-        linked_stays : linked name output ≡ stays p → ⊥
-        linked_stays h = cc
-      of p (inr (inl h)) = sym (name_of_stays name p h)
-      of p (inr (inr h)) = absurd h
+      only : (p : List ℕ) → Happened (stays p) (linked name output ∷ stays name ∷ []) → p ≡ name
+      only p h1 = grind arith
 
     no_moved : (p : List ℕ) → Happened (stays p) (moved name output ∷ []) → ⊥
-    no_moved p (inl h) = moved_stays h where
-      moved_stays : moved name output ≡ stays p → ⊥
-      moved_stays h = cc
-    no_moved p (inr h) = h
+    no_moved p h1 = grind arith
 
     no_renamed : (p : List ℕ) → Happened (stays p) (renamed name output ∷ []) → ⊥
-    no_renamed p (inl h) = renamed_stays h where
-      renamed_stays : renamed name output ≡ stays p → ⊥
-      renamed_stays h = cc
-    no_renamed p (inr h) = h
+    no_renamed p h1 = grind arith
 
-    named_out : (overwrite : Bool) (names : List Event) → Names overwrite output name names → AllowsAll taken names → IsNow overwrite names (after names taken)
-    named_out overwrite names (inl n) a = subst (λ (x : List Event). IsNow overwrite x (after x taken)) (sym n.2) (linked_and overwrite n.0 n.1 (was_missing differ (subst (λ (x : List Event). AllowsAll taken x) n.2 a).0))
-    named_out overwrite names (inr (inl n)) a = subst (λ (x : List Event). IsNow overwrite x (after x taken)) (sym n) (is_alone overwrite (moved name output ∷ []) no_moved (λ o. was_missing differ (subst (λ (x : List Event). AllowsAll taken x) n a).0))
-    named_out overwrite names (inr (inr n)) a = subst (λ (x : List Event). IsNow overwrite x (after x taken)) (sym n.1) (is_alone overwrite (renamed name output ∷ []) no_renamed (λ o. absurd (true_false (sym n.0 ∙ o))))
+    named_now : (overwrite : Bool) (names : List Event) → Names overwrite output name names → AllowsAll taken names → IsNow overwrite output bytes disk names (after names taken)
+    named_now overwrite names (inl n) a = subst (λ (x : List Event). IsNow overwrite output bytes disk x (after x taken)) (sym n.2) (linked_now overwrite n.0 n.1 (was_missing differ (subst (λ (x : List Event). AllowsAll taken x) n.2 a).0))
+    named_now overwrite names (inr (inl n)) a = subst (λ (x : List Event). IsNow overwrite output bytes disk x (after x taken)) (sym n) (alone_now overwrite (moved name output ∷ []) no_moved (λ o. was_missing differ (subst (λ (x : List Event). AllowsAll taken x) n a).0))
+    named_now overwrite names (inr (inr n)) a = subst (λ (x : List Event). IsNow overwrite output bytes disk x (after x taken)) (sym n.1) (alone_now overwrite (renamed name output ∷ []) no_renamed (λ o. absurd (true_false (sym n.0 ∙ o))))
 
     -- other names were tried before, and something may fail after
-    around : (overwrite : Bool) (tries names last : List Event) → Each Still tries → Each Still last → IsNow overwrite names (after names taken) → IsNow overwrite (tries ++ (names ++ last)) (after (tries ++ (names ++ last)) taken)
-    around overwrite tries names last t l n =
-        let same : after (tries ++ (names ++ last)) taken ≡ after names taken = past_still tries (names ++ last) taken t ∙ after_both names last taken ∙ after_still last (after names taken) l in
-        subst (λ (d : Disk). IsNow overwrite (tries ++ (names ++ last)) d) (sym same) (record {
-          there = n.there;
-          others = λ p o q. n.others p o (λ h. q (happened_after (stays p) tries (names ++ last) (happened_before (stays p) names last h)));
-          parts = λ p h. n.parts p (inside p (happened_either (stays p) tries (names ++ last) h));
-          fresh = n.fresh;
-        }) where
-      inside : (p : List ℕ) → Happened (stays p) tries ⊎ Happened (stays p) (names ++ last) → Happened (stays p) names
-      inside p (inl h) = absurd (none_stays p tries t h)
-      inside p (inr h) = of (happened_either (stays p) names last h) where
-        of : Happened (stays p) names ⊎ Happened (stays p) last → Happened (stays p) names
-        of (inl k) = k
-        of (inr k) = absurd (none_stays p last l k)
+    kept_now : (overwrite : Bool) (keeps : List Event) → Keeps Pbfcutz overwrite output name keeps → AllowsAll taken keeps → IsNow overwrite output bytes disk keeps (after keeps taken)
+    kept_now overwrite keeps (tries, names, last, e, t, n, l) a =
+        let before = misnames_still tries t in
+        let later = misnames_still last l in
+        let named = named_now overwrite names n (allows_first names last taken (allows_past tries (names ++ last) taken before (subst (λ (es : List Event). AllowsAll taken es) e a))) in
+        let same : after (tries ++ (names ++ last)) taken ≡ after names taken = past_still tries (names ++ last) taken before ∙ after_both names last taken ∙ after_still last (after names taken) later in
+        subst (λ (es : List Event). IsNow overwrite output bytes disk es (after es taken)) (sym e) (subst (λ (d : Disk). IsNow overwrite output bytes disk (tries ++ (names ++ last)) d) (sym same) (record {
+          there = named.there;
+          fresh = named.fresh;
+          left = left_by output disk names (tries ++ (names ++ last)) (after names taken) (λ p h. stays_inside p tries names last h) (λ p h. stays_among p tries names last before later h) named.left;
+        }))
 
-  kept_there : (overwrite : Bool) → name ≡ output → disk name ≡ None → IsNow overwrite [] taken
-  kept_there overwrite is none = record {
-      there = ap taken (sym is) ∙ taken_is;
-      others = λ p o q. taken_other p (λ h. o (h ∙ is));
-      parts = λ p h. absurd h;
-      fresh = λ o. ap disk (sym is) ∙ none;
-    }
+    -- it is dropped
+    ended_back : (end : Event) → IsEnd name end → IsBack output disk (end ∷ []) (changed end taken)
+    ended_back end (inl e) = subst (λ (x : Event). IsBack output disk (x ∷ []) (changed x taken)) (sym e) (record { back = gone_is none output; left = none_left (removed name ∷ []) gone no_part (λ p o. gone_is none p) }) where
+      no_part : (p : List ℕ) → Happened (stays p) (removed name ∷ []) → ⊥
+      no_part p h1 = grind arith
+    ended_back end (inr e) = subst (λ (x : Event). IsBack output disk (x ∷ []) (changed x taken)) (sym e) (record { back = taken_other output (λ h. differ (sym h)); left = part_left (stays name ∷ []) taken only (inl refl) (λ p e o. taken_other p e) }) where
+      only : (p : List ℕ) → Happened (stays p) (stays name ∷ []) → p ≡ name
+      only p h1 = grind arith
 
-  kept_out : (program : Program) (overwrite : Bool) (keeps : List Event) → IsName program output name → disk name ≡ None → Keeps program overwrite output name keeps → AllowsAll taken keeps → IsNow overwrite keeps (after keeps taken)
-  kept_out Pbfcut overwrite keeps is none k a = subst (λ (es : List Event). IsNow overwrite es (after es taken)) (sym k) (kept_there overwrite is none)
-  kept_out Pbfcutz overwrite keeps is none (tries, names, last, e, t, n, l) a =
-      let still = misnames_still tries t in
-      let allowed = allows_first names last taken (allows_past tries (names ++ last) taken still (subst (λ (es : List Event). AllowsAll taken es) e a)) in
-      subst (λ (es : List Event). IsNow overwrite es (after es taken)) (sym e) (around is none overwrite tries names last still (misnames_still last l) (named_out is none overwrite names n allowed))
-
-  -- ---- it is dropped
-
-  -- what is so after these events, if it has OUT's name no more, or had it from the beginning
-  pub record IsLeft (part : List Event) (now : Disk) : Type 0 where
-    pub others : (p : List ℕ) → (p ≡ output → ⊥) → (Happened (stays p) part → ⊥) → now p ≡ disk p
-    pub parts : (p : List ℕ) → Happened (stays p) part → (p ≡ output → ⊥) × (disk p ≡ None)
-
-  dropped_there : name ≡ output → IsLeft [] taken
-  dropped_there is = record { others = λ p o q. taken_other p (λ h. o (h ∙ is)); parts = λ p h. absurd h }
-
-  module _ (differ : name ≡ output → ⊥) (none : disk name ≡ None) where
-    -- of pbfcutz OUT is what it was
-    abbrev IsBack : List Event → Disk → Type 0
-    IsBack part now = IsLeft part now × (now output ≡ disk output)
-
-    ended : (end : Event) → IsEnd name end → IsBack (end ∷ []) (changed end taken)
-    ended end (inl e) = subst (λ (x : Event). IsBack (x ∷ []) (changed x taken)) (sym e) (record { others = λ p o q. gone_is none p; parts = λ p h. absurd (none_said p h) }, gone_is none output) where
-      none_said : (p : List ℕ) → Happened (stays p) (removed name ∷ []) → ⊥
-      none_said p (inl h) = removed_stays h where
-        removed_stays : removed name ≡ stays p → ⊥
-        removed_stays h = cc
-      none_said p (inr h) = h
-    ended end (inr e) = subst (λ (x : Event). IsBack (x ∷ []) (changed x taken)) (sym e) (record {
-        others = λ p o q. taken_other p (λ h. q (inl (ap stays (sym h))));
-        parts = λ p h. (λ o. differ (sym (of p h) ∙ o), ap disk (of p h) ∙ none);
-      }, taken_other output (λ h. differ (sym h))) where
-      of : (p : List ℕ) → Happened (stays p) (stays name ∷ []) → p ≡ name
-      of p (inl h) = sym (name_of_stays name p h)
-      of p (inr h) = absurd h
-
-    dropped_back : (drops : List Event) → Drops Pbfcutz name drops → IsBack drops (after drops taken)
+    dropped_back : (drops : List Event) → Drops Pbfcutz name drops → IsBack output disk drops (after drops taken)
     dropped_back drops (tries, end, e, t, is) =
-        let still = misnames_still tries t in
-        let last = ended end is in
-        let same = past_still tries (end ∷ []) taken still in
-        subst (λ (es : List Event). IsBack es (after es taken)) (sym e) (subst (λ (d : Disk). IsBack (tries ++ end ∷ []) d) (sym same) (record {
-          others = λ p o q. last.0.others p o (λ h. q (happened_after (stays p) tries (end ∷ []) h));
-          parts = λ p h. last.0.parts p (inside p (happened_either (stays p) tries (end ∷ []) h));
-        }, last.1)) where
-      inside : (p : List ℕ) → Happened (stays p) tries ⊎ Happened (stays p) (end ∷ []) → Happened (stays p) (end ∷ [])
-      inside p (inl h) = absurd (none_stays p tries (misnames_still tries t) h)
-      inside p (inr h) = h
+        let before = misnames_still tries t in
+        let last = ended_back end is in
+        subst (λ (es : List Event). IsBack output disk es (after es taken)) (sym e) (subst (λ (d : Disk). IsBack output disk (tries ++ end ∷ []) d) (sym (past_still tries (end ∷ []) taken before)) (record {
+          back = last.back;
+          left = left_by output disk (end ∷ []) (tries ++ end ∷ []) (changed end taken) (λ p h. happened_after (stays p) tries (end ∷ []) h) (λ p h. stays_later p tries (end ∷ []) before h) last.left;
+        }))
 
-  dropped_out : (program : Program) (drops : List Event) → IsName program output name → disk name ≡ None → Drops program name drops → IsLeft drops (after drops taken)
-  dropped_out Pbfcut drops is none d = subst (λ (es : List Event). IsLeft es (after es taken)) (sym d) (dropped_there is)
-  dropped_out Pbfcutz drops is none d = (dropped_back is none drops d).0
+  -- under OUT's own name
+  module _ (is : name ≡ output) where
+    there_whole : taken output ≡ Some bytes
+    there_whole = ap taken (sym is) ∙ taken_is
+
+    there_left : IsLeft output disk [] taken
+    there_left = record { others = λ p o q. taken_other p (λ h. o (h ∙ is)); parts = λ p h. absurd h }
+
+    there_fresh : disk name ≡ None → disk output ≡ None
+    there_fresh none = ap disk (sym is) ∙ none
+
+  kept_out : (program : Program) (overwrite : Bool) (keeps : List Event) → IsName program output name → disk name ≡ None → Keeps program overwrite output name keeps → AllowsAll taken keeps → IsNow overwrite output bytes disk keeps (after keeps taken)
+  kept_out Pbfcut overwrite keeps is none k a = subst (λ (es : List Event). IsNow overwrite output bytes disk es (after es taken)) (sym k) (record { there = there_whole is; fresh = λ o. there_fresh is none; left = there_left is })
+  kept_out Pbfcutz overwrite keeps differ none k a = kept_now differ none overwrite keeps k a
+
+  dropped_out : (program : Program) (drops : List Event) → IsName program output name → disk name ≡ None → Drops program name drops → LeftBy program output bytes disk drops (after drops taken)
+  dropped_out Pbfcut drops is none d = subst (λ (es : List Event). IsNow false output bytes disk es (after es taken)) (sym d) (record { there = there_whole is; fresh = λ o. there_fresh is none; left = there_left is })
+  dropped_out Pbfcutz drops differ none d = dropped_back differ none drops d
 
 -- ---- one file among events that change nothing
 
@@ -360,42 +364,45 @@ module _ (program : Program) (output : List ℕ) (w : Writing) (before makes bet
       (happened_after (stays p) before _ (happened_after (stays p) makes _ (happened_after (stays p) between rest (inr (happened_before (stays p) part last h)))))
 
   stays_of : (p : List ℕ) → Happened (stays p) events → Happened (stays p) part
-  stays_of p h = one (happened_either (stays p) before (makes ++ (between ++ rest)) (subst (λ (es : List Event). Happened (stays p) es) happened h)) where
-    made_not : Happened (stays p) (made file.name ∷ []) → ⊥
-    made_not (inl e) = other e where
-      other : made file.name ≡ stays p → ⊥
-      other h = cc
-    made_not (inr h) = h
-    no_makes : Happened (stays p) file.tries ⊎ Happened (stays p) (made file.name ∷ []) → ⊥
-    no_makes (inl k) = none_stays p file.tries (misses_still file.tries file.misses) k
-    no_makes (inr k) = made_not k
-    four : Happened (stays p) part ⊎ Happened (stays p) last → Happened (stays p) part
-    four (inl k) = k
-    four (inr k) = absurd (none_stays p last still.2 k)
+  stays_of p h = filling (stays_later p between rest still.1 (making (happened_either (stays p) makes (between ++ rest) (stays_later p before (makes ++ (between ++ rest)) still.0 (subst (λ (es : List Event). Happened (stays p) es) happened h))))) where
     filling : Happened (stays p) rest → Happened (stays p) part
     filling (inl e) = absurd (other e) where
       other : wrote w ≡ stays p → ⊥
       other h = cc
-    filling (inr k) = four (happened_either (stays p) part last k)
-    three : Happened (stays p) between ⊎ Happened (stays p) rest → Happened (stays p) part
-    three (inl k) = absurd (none_stays p between still.1 k)
-    three (inr k) = filling k
-    two : Happened (stays p) makes ⊎ Happened (stays p) (between ++ rest) → Happened (stays p) part
-    two (inl k) = absurd (no_makes (happened_either (stays p) file.tries (made file.name ∷ []) (subst (λ (es : List Event). Happened (stays p) es) file.happened k)))
-    two (inr k) = three (happened_either (stays p) between rest k)
-    one : Happened (stays p) before ⊎ Happened (stays p) (makes ++ (between ++ rest)) → Happened (stays p) part
-    one (inl k) = absurd (none_stays p before still.0 k)
-    one (inr k) = two (happened_either (stays p) makes (between ++ rest) k)
+    filling (inr k) = stays_earlier p part last still.2 k
+    no_made : Happened (stays p) (made file.name ∷ []) → ⊥
+    no_made h1 = grind arith
+    making : Happened (stays p) makes ⊎ Happened (stays p) (between ++ rest) → Happened (stays p) (between ++ rest)
+    making (inl k) = absurd (no_made (stays_later p file.tries (made file.name ∷ []) (misses_still file.tries file.misses) (subst (λ (es : List Event). Happened (stays p) es) file.happened k)))
+    making (inr k) = k
 
--- a file that is kept: it has its name
-pub keeps_now : (program : Program) (overwrite : Bool) (output : List ℕ) (w : Writing) (events : List Event) (disk : Disk) → KeepsFile program overwrite output w events → AllowsAll disk events → (name : List ℕ) × IsNow output name w.bytes disk overwrite events (after events disk)
+  all_left : IsLeft output disk part (after part filled) → IsLeft output disk events (after part filled)
+  all_left n = left_by output disk part events (after part filled) stays_in stays_of n
+
+-- a file that is kept
+pub keeps_now : (program : Program) (overwrite : Bool) (output : List ℕ) (w : Writing) (events : List Event) (disk : Disk) → KeepsFile program overwrite output w events → AllowsAll disk events → IsNow overwrite output w.bytes disk events (after events disk)
 keeps_now program overwrite output w events disk k a =
     let f = file_of program output w.name k.makes k.is_made in
     let allowed = one_allowed program output w k.before k.makes k.between k.keeps k.last events k.happened k.still k.is_made disk a in
     let n = kept_out output f.name w.bytes disk program overwrite k.keeps f.named allowed.0 (subst (λ (g : Option (List ℕ)). IsKept program overwrite output g k.keeps) f.is k.is_kept) allowed.1 in
-    (f.name, subst (λ (d : Disk). IsNow output f.name w.bytes disk overwrite events d) (sym (one_after program output w k.before k.makes k.between k.keeps k.last events k.happened k.still k.is_made disk)) (record {
+    subst (λ (d : Disk). IsNow overwrite output w.bytes disk events d) (sym (one_after program output w k.before k.makes k.between k.keeps k.last events k.happened k.still k.is_made disk)) (record {
       there = n.there;
-      others = λ p o q. n.others p o (λ h. q (stays_in program output w k.before k.makes k.between k.keeps k.last events k.happened k.still k.is_made disk p h));
-      parts = λ p h. n.parts p (stays_of program output w k.before k.makes k.between k.keeps k.last events k.happened k.still k.is_made disk p h);
       fresh = n.fresh;
-    }))
+      left = all_left program output w k.before k.makes k.between k.keeps k.last events k.happened k.still k.is_made disk n.left;
+    })
+
+dropped_by : (program : Program) (output bytes : List ℕ) (old : Disk) (xs ys : List Event) (now : Disk) → (IsLeft output old xs now → IsLeft output old ys now) → LeftBy program output bytes old xs now → LeftBy program output bytes old ys now
+dropped_by Pbfcut output bytes old xs ys now of n = record { there = n.there; fresh = n.fresh; left = of n.left }
+dropped_by Pbfcutz output bytes old xs ys now of n = record { back = n.back; left = of n.left }
+
+pub drops_now : (program : Program) (output : List ℕ) (w : Writing) (events : List Event) (disk : Disk) → DropsFile program output w events → AllowsAll disk events → LeftBy program output w.bytes disk events (after events disk)
+drops_now program output w events disk k a =
+    let f = file_of program output w.name k.makes k.is_made in
+    let allowed = one_allowed program output w k.before k.makes k.between k.drops k.last events k.happened k.still k.is_made disk a in
+    let n = dropped_out output f.name w.bytes disk program k.drops f.named allowed.0 (subst (λ (g : Option (List ℕ)). IsDropped program g k.drops) f.is k.is_dropped) in
+    subst (λ (d : Disk). LeftBy program output w.bytes disk events d) (sym (one_after program output w k.before k.makes k.between k.drops k.last events k.happened k.still k.is_made disk))
+        (dropped_by program output w.bytes disk k.drops events (after k.drops (taken output f.name w.bytes disk)) (all_left program output w k.before k.makes k.between k.drops k.last events k.happened k.still k.is_made disk) n)
+
+pub drops_left : (program : Program) (output : List ℕ) (w : Writing) (events : List Event) (disk : Disk) → DropsFile program output w events → AllowsAll disk events → IsLeft output disk events (after events disk)
+drops_left Pbfcut output w events disk k a = (drops_now Pbfcut output w events disk k a).left
+drops_left Pbfcutz output w events disk k a = (drops_now Pbfcutz output w events disk k a).left
