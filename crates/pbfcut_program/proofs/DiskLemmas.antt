@@ -39,7 +39,7 @@ some_same e = cc
 put_same : (name : List ℕ) (b : Option (List ℕ)) (disk : Disk) → put name b disk name ≡ b
 put_same name b disk = rw (same_name name) refl
 
-put_other : (name p : List ℕ) (b : Option (List ℕ)) (disk : Disk) → (p ≡ name → ⊥) → put name b disk p ≡ disk p
+pub put_other : (name p : List ℕ) (b : Option (List ℕ)) (disk : Disk) → (p ≡ name → ⊥) → put name b disk p ≡ disk p
 put_other name p b disk differ = rw (other_name p name differ) refl
 
 -- ---- events that change nothing
@@ -47,11 +47,11 @@ put_other name p b disk differ = rw (other_name p name differ) refl
 unwritten : (name : Option (List ℕ)) (bytes : List ℕ) (disk : Disk) → name ≡ None → written name bytes disk ≡ disk
 unwritten name bytes disk none = subst (λ n. written n bytes disk ≡ disk) (sym none) refl
 
-still_one : (e : Event) (disk : Disk) → Still e → changed e disk ≡ disk
+pub still_one : (e : Event) (disk : Disk) → Still e → changed e disk ≡ disk
 still_one (wrote w) disk s = unwritten w.name w.bytes disk s
 still_one e disk s = grind arith
 
-after_both : (xs ys : List Event) (disk : Disk) → after (xs ++ ys) disk ≡ after ys (after xs disk)
+pub after_both : (xs ys : List Event) (disk : Disk) → after (xs ++ ys) disk ≡ after ys (after xs disk)
 after_both [] ys disk = refl
 after_both (x ∷ xs) ys disk = after_both xs ys (changed x disk)
 
@@ -165,37 +165,37 @@ left_by output old xs ys now to from n = record { others = λ p o q. n.others p 
 -- ---- a file that is made, and filled
 
 module _ (output name bytes : List ℕ) (disk : Disk) where
-  abbrev begun : Disk
+  abbrev pub begun : Disk
   begun = put name (Some []) disk
 
-  abbrev taken : Disk
+  abbrev pub taken : Disk
   taken = put name (append (begun name) bytes) begun
 
   taken_is : taken name ≡ Some bytes
   taken_is = put_same name (append (begun name) bytes) begun ∙ ap (λ b. append b bytes) (put_same name (Some []) disk)
 
-  taken_other : (p : List ℕ) → (p ≡ name → ⊥) → taken p ≡ disk p
+  pub taken_other : (p : List ℕ) → (p ≡ name → ⊥) → taken p ≡ disk p
   taken_other p differ = put_other name p (append (begun name) bytes) begun differ ∙ put_other name p (Some []) disk differ
 
   -- it has OUT's name, too
-  abbrev both : Disk
+  abbrev pub both : Disk
   both = put output (taken name) taken
 
-  both_whole : both output ≡ Some bytes
+  pub both_whole : both output ≡ Some bytes
   both_whole = put_same output (taken name) taken ∙ taken_is
 
   both_other : (p : List ℕ) → (p ≡ name → ⊥) → (p ≡ output → ⊥) → both p ≡ disk p
   both_other p e o = put_other output p (taken name) taken o ∙ taken_other p e
 
   -- it has OUT's name only
-  abbrev alone : Disk
+  abbrev pub alone : Disk
   alone = put name None both
 
   -- it has none
   abbrev gone : Disk
   gone = put name None taken
 
-  alone_whole : (name ≡ output → ⊥) → alone output ≡ Some bytes
+  pub alone_whole : (name ≡ output → ⊥) → alone output ≡ Some bytes
   alone_whole differ = put_other name output None both (λ h. differ (sym h)) ∙ both_whole
 
   alone_other : disk name ≡ None → (p : List ℕ) → (p ≡ output → ⊥) → alone p ≡ disk p
@@ -312,15 +312,15 @@ module _ (output name bytes : List ℕ) (disk : Disk) where
 -- ---- one file among events that change nothing
 
 -- OUT is a file, so it has a name
-record IsFile (program : Program) (output : List ℕ) (given : Option (List ℕ)) (makes : List Event) : Type 0 where
-  name : List ℕ
-  is : given ≡ Some name
-  tries : List Event
-  happened : makes ≡ tries ++ made name ∷ []
-  misses : Each Misses tries
-  named : IsName program output name
+pub record IsFile (program : Program) (output : List ℕ) (given : Option (List ℕ)) (makes : List Event) : Type 0 where
+  pub name : List ℕ
+  pub is : given ≡ Some name
+  pub tries : List Event
+  pub happened : makes ≡ tries ++ made name ∷ []
+  pub misses : Each Misses tries
+  pub named : IsName program output name
 
-file_of : (program : Program) (output : List ℕ) (given : Option (List ℕ)) (makes : List Event) → IsMade program false output given makes → IsFile program output given makes
+pub file_of : (program : Program) (output : List ℕ) (given : Option (List ℕ)) (makes : List Event) → IsMade program false output given makes → IsFile program output given makes
 file_of program output None makes m = absurd m
 file_of program output (Some name) makes (tries, misses, named, e) = record { name = name; is = refl; tries = tries; happened = e; misses = misses; named = named }
 
@@ -352,7 +352,7 @@ module _ (program : Program) (output : List ℕ) (w : Writing) (before makes bet
       ap (λ es. after es disk) happened ∙ past_still before (makes ++ (between ++ rest)) disk still.0 ∙ after_both makes (between ++ rest) disk ∙ ap (λ d. after (between ++ rest) d) made_after
       ∙ past_still between rest first still.1 ∙ ap (λ d. after (part ++ last) d) filled_is ∙ after_both part last filled ∙ after_still last (after part filled) still.2
 
-  one_allowed : AllowsAll disk events → (disk file.name ≡ None) × AllowsAll filled part
+  pub one_allowed : AllowsAll disk events → (disk file.name ≡ None) × AllowsAll filled part
   one_allowed a =
       let later = allows_past before (makes ++ (between ++ rest)) disk still.0 (subst (λ (es : List Event). AllowsAll disk es) happened a) in
       let mine = subst (λ (es : List Event). AllowsAll disk es) file.happened (allows_first makes (between ++ rest) disk later) in

@@ -7,6 +7,7 @@ pub mod FrontLemmas
 pub mod LeavingLemmas
 pub mod Listings
 pub mod Logging
+pub mod MomentLemmas
 pub mod OutLemmas
 pub mod Meaning
 pub mod Printed

@@ -54,3 +54,21 @@ pub fn drops_out()
         → (path : List ℕ) → Happened (stays path) events
         → (path ≡ output → ⊥) × (disk path ≡ None) }
 {}
+
+/// pbfcutz never shows an OUT that isn't whole, not even to another program while it runs, and also not if the run is killed at any moment:
+/// OUT is as it was before, or has all that was written to it. If the run drops OUT, it is always as it was before. Of both programs, each
+/// other file that was there keeps its bytes at each moment.
+pub fn always_whole()
+    ensures kept { (overwrite : Bool) (output : List ℕ) (w : Writing) (started later : List Event)
+        (disk : Disk) → KeepsFile Pbfcutz overwrite output w (started ++ later)
+        → (after started disk output ≡ disk output) ⊎ (after started disk output ≡ Some w.bytes) }
+    ensures dropped { (output : List ℕ) (w : Writing) (started later : List Event) (disk : Disk)
+        → DropsFile Pbfcutz output w (started ++ later)
+        → after started disk output ≡ disk output }
+    ensures others { (program : Program) (overwrite : Bool) (output : List ℕ) (w : Writing)
+        (started later : List Event) (disk : Disk)
+        → KeepsFile program overwrite output w (started ++ later)
+        ⊎ DropsFile program output w (started ++ later)
+        → AllowsAll disk (started ++ later) → (path bytes : List ℕ) → (path ≡ output → ⊥)
+        → disk path ≡ Some bytes → after started disk path ≡ Some bytes }
+{}
