@@ -63,7 +63,7 @@ after_still (x ∷ xs) disk s = ap (λ d. after xs d) (still_one x disk s.0) ∙
 past_still : (xs ys : List Event) (disk : Disk) → Each Still xs → after (xs ++ ys) disk ≡ after ys disk
 past_still xs ys disk s = after_both xs ys disk ∙ ap (λ d. after ys d) (after_still xs disk s)
 
-allows_first : (xs ys : List Event) (disk : Disk) → AllowsAll disk (xs ++ ys) → AllowsAll disk xs
+pub allows_first : (xs ys : List Event) (disk : Disk) → AllowsAll disk (xs ++ ys) → AllowsAll disk xs
 allows_first [] ys disk a = tt
 allows_first (x ∷ xs) ys disk a = (a.0, allows_first xs ys (changed x disk) a.1)
 
@@ -111,7 +111,7 @@ happened_either e (x ∷ xs) ys (inr h) = of (happened_either e xs ys h) where
 stays_not_still : (name : List ℕ) (e : Event) → e ≡ stays name → Still e → ⊥
 stays_not_still name e is s = subst (λ x. Still x) is s
 
-none_stays : (name : List ℕ) (xs : List Event) → Each Still xs → Happened (stays name) xs → ⊥
+pub none_stays : (name : List ℕ) (xs : List Event) → Each Still xs → Happened (stays name) xs → ⊥
 none_stays name [] s h = h
 none_stays name (x ∷ xs) s (inl h) = stays_not_still name x h s.0
 none_stays name (x ∷ xs) s (inr h) = none_stays name xs s.1 h

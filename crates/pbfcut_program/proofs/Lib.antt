@@ -4,6 +4,7 @@ pub mod DiskLemmas
 pub mod EventLemmas
 pub mod FailLemmas
 pub mod FrontLemmas
+pub mod GivingLemmas
 pub mod LeavingLemmas
 pub mod Listings
 pub mod Logging

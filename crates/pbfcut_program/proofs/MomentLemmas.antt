@@ -132,7 +132,7 @@ module _ (output name p : List ℕ) (o : p ≡ output → ⊥) (e : p ≡ name �
   end_spares end (inr is) = subst (λ (x : Event). Spares p x) (sym is) (λ (d : Disk). refl)
 
   names_spare : (overwrite : Bool) (names : List Event) → Names overwrite output name names → Each (Spares p) names
-  names_spare overwrite names (inl n) = subst (λ (es : List Event). Each (Spares p) es) (sym n.2) ((λ (d : Disk). put_other output p (d name) d o), end_spares n.0 n.1, tt)
+  names_spare overwrite names (inl n) = subst (λ (es : List Event). Each (Spares p) es) (sym n.2) ((λ (d : Disk). put_other output p (d name) d o), (end_spares n.0 n.1, tt))
   names_spare overwrite names (inr (inl n)) = subst (λ (es : List Event). Each (Spares p) es) (sym n) ((λ (d : Disk). from_to (d name) d), tt)
   names_spare overwrite names (inr (inr n)) = subst (λ (es : List Event). Each (Spares p) es) (sym n.1) ((λ (d : Disk). from_to (d name) d), tt)
 

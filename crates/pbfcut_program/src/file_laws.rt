@@ -72,3 +72,22 @@ pub fn always_whole()
         → AllowsAll disk (started ++ later) → (path bytes : List ℕ) → (path ≡ output → ⊥)
         → disk path ≡ Some bytes → after started disk path ≡ Some bytes }
 {}
+
+/// A run that ended with status 0, of words that `clap` takes as `extract`, over a disk on which IN has these bytes, if each pass gave what IN
+/// had when it was opened: OUT has bytes that mean exactly the extract of IN, and every other file has what it had. Only a part may be left, which
+/// is new. Without `--overwrite` nothing had OUT's name before. If OUT is standard output, no file has changed.
+pub fn run_of_extract()
+    ensures reads { (program : Program) (words : List Text) (rows : List Row) (events : List Event)
+        (disk : Disk) (file : List ℕ) → takes (program_app program) (normalized words) ≡ true
+        → subcommand_of (program_app program) (normalized words) ≡ Some (codes "extract", rows)
+        → IsRun program words events 0 → AllowsAll disk events → ReadsOpened events
+        → disk (argument_value (codes "IN") rows) ≡ Some file → ReadsOnly file events }
+    ensures gives { (program : Program) (words : List Text) (rows : List Row) (events : List Event)
+        (disk : Disk) (file : List ℕ) → takes (program_app program) (normalized words) ≡ true
+        → subcommand_of (program_app program) (normalized words) ≡ Some (codes "extract", rows)
+        → IsRun program words events 0 → AllowsAll disk events → ReadsOpened events
+        → disk (argument_value (codes "IN") rows) ≡ Some file
+        → (cut : Region) × (by : Strategy) × (files : Files)
+        × ReadsAs (codes "extract") rows (Extract cut by files)
+        × GivesExtract (manner_in program (Extract cut by files)) cut by files file events disk }
+{}
