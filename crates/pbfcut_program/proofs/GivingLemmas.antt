@@ -20,7 +20,7 @@ use Rattle.pbfcut_program.specs.Tasks.{Task, extracting}
 use Rattle.pbfcut_program.specs.declared.host.Screen.{Screen}
 use Rattle.pbfcut_program.proofs.DiskLemmas.{after_still, allows_first, allows_past, keeps_now, none_stays}
 use Rattle.pbfcut_program.proofs.EventLemmas.{each_both}
-use Rattle.pbfcut_program.proofs.TakingLemmas.{extracts_take}
+use Rattle.pbfcut_program.proofs.TakingLemmas.{extract_took, extracts_take}
 
 -- ---- what changes nothing
 
@@ -147,8 +147,11 @@ module _ (m : Manner) (task : Task) (files : Files) (counts : Counts) (first eve
   abbrev is : Bool
   is = is_screen m.program files.output.now
 
+  abbrev lines : List (List ℕ)
+  lines = counts_text counts ∷ done_lines x.known x.meaning x.digest x.raw files.input.now files.output.now
+
   abbrev printed : List Event
-  printed = prints (screen_of is) (counts_text counts ∷ done_lines x.known x.meaning x.digest x.raw files.input.now files.output.now)
+  printed = prints (screen_of is) lines
 
   abbrev before : List Event
   before = first ++ (looks is files ++ (openings files.input.now 1 x.has ++ seeded (Some x.key) ∷ []))
@@ -163,7 +166,7 @@ module _ (m : Manner) (task : Task) (files : Files) (counts : Counts) (first eve
   before_still = each_both Still first _ still.0 (each_both Still (looks is files) _ (looks_still is files) (each_both Still (openings files.input.now 1 x.has) (seeded (Some x.key) ∷ []) (openings_still files.input.now 1 x.has) (tt, tt)))
 
   last_still : Each Still (printed ++ last)
-  last_still = each_both Still printed last (prints_still (screen_of is) _) still.1
+  last_still = each_both Still printed last (prints_still (screen_of is) lines) still.1
 
   -- a file
   pub writes_file : is ≡ false → KeepsFile m.program files.overwrite files.output.now x.out (first ++ events ++ last)
@@ -174,7 +177,7 @@ module _ (m : Manner) (task : Task) (files : Files) (counts : Counts) (first eve
       keeps = x.keeps;
       last = printed ++ last;
       happened = parts_are;
-      still = (before_still, (reads_still x.rs, last_still));
+      still = (before_still, reads_still x.rs, last_still);
       is_made = subst (λ (t : Bool). IsMade m.program t files.output.now x.out.name x.makes) no_screen x.made;
       kept = x.kept;
       whole = x.whole;
@@ -203,7 +206,7 @@ module _ (m : Manner) (task : Task) (files : Files) (counts : Counts) (first eve
       (each_both p x.makes _ (makes_open bytes m.program is files.output.now x.out.name x.makes x.made)
       (each_both p between _ (reads_open bytes x.rs)
       (tt, each_both p x.keeps _ (keeps_open bytes m.program files.overwrite files.output.now x.out.name x.keeps x.named)
-      (each_both p printed last (prints_open bytes (screen_of is) _) l)))))
+      (each_both p printed last (prints_open bytes (screen_of is) lines) l)))))
 
 -- ---- a run of `extract`
 
@@ -237,13 +240,14 @@ module _ (m : Manner) (cut : Region) (by : Strategy) (files : Files) (events : L
   parts_new false no_screen = λ path h. ((keeps_now m.program files.overwrite files.output.now x.writes.out events disk (keeps_it no_screen) a).left.parts path h).1
   parts_new true screen = λ path h. absurd (none_stays path events (all_still screen) h)
 
-  unfolding extracts_take
   pub gives_extract : (file : List ℕ) → ReadsOnly file events → GivesExtract m cut by files file events disk
-  gives_extract file reads = record {
-      took = extracts_take file m cut by files events x reads;
-      cut_first = (x.after ++ advice x.counts, x.happened ∙ append_assoc x.before x.after (advice x.counts));
-      there = λ no_screen. (keeps_now m.program files.overwrite files.output.now x.writes.out events disk (keeps_it no_screen) a).there;
-      fresh = λ no_screen. (keeps_now m.program files.overwrite files.output.now x.writes.out events disk (keeps_it no_screen) a).fresh;
-      others = others_left (is_screen m.program files.output.now) refl;
-      parts = parts_new (is_screen m.program files.output.now) refl;
-    }
+  gives_extract file reads =
+      let took = extract_took file m cut by files events x reads in
+      record {
+        took = extracts_take file m cut by files events x reads;
+        cut_first = (x.after ++ advice x.counts, x.happened ∙ append_assoc x.before x.after (advice x.counts) ∙ ap (λ es. es ++ (x.after ++ advice x.counts)) (sym took.1));
+        there = λ no_screen. (keeps_now m.program files.overwrite files.output.now x.writes.out events disk (keeps_it no_screen) a).there ∙ ap Some (sym took.0);
+        fresh = λ no_screen. (keeps_now m.program files.overwrite files.output.now x.writes.out events disk (keeps_it no_screen) a).fresh;
+        others = others_left (is_screen m.program files.output.now) refl;
+        parts = parts_new (is_screen m.program files.output.now) refl;
+      }
