@@ -5,10 +5,10 @@ use Rattle.std.proofs.lemmas.Slice.Eq.{bytes_eq-Decides}
 use Rattle.pbf_frame.specs.Devices.{append}
 use Rattle.pbfcut_cli.specs.declared.programs.Program.{Program}
 use Rattle.pbfcut_cli.specs.declared.programs.Program.TheVariants.{Pbfcut, Pbfcutz}
-use Rattle.pbfcut_program.specs.Changes.{DropsFile, KeepsFile}
+use Rattle.pbfcut_program.specs.Changes.{DropsFile, HasOneFile, KeepsFile}
 use Rattle.pbfcut_program.specs.Events.{Event, Writing, linked, made, moved, removed, renamed, stays, wrote}
 use Rattle.pbfcut_program.specs.Fails.{Each}
-use Rattle.pbfcut_program.specs.Files.{Allows, AllowsAll, Disk, Drops, IsDropped, IsEnd, IsKept, IsMade, IsName, Keeps, Misnames, Misses, Names, Still, after, changed, put, written}
+use Rattle.pbfcut_program.specs.Files.{AllowsAll, Disk, Drops, IsDropped, IsEnd, IsKept, IsMade, IsName, Keeps, Misnames, Misses, Names, Still, after, changed, put, written}
 use Rattle.pbfcut_program.specs.Taking.{Happened}
 
 -- ---- names
@@ -152,11 +152,6 @@ pub record IsNow (overwrite : Bool) (output bytes : List ℕ) (old : Disk) (even
 pub record IsBack (output : List ℕ) (old : Disk) (events : List Event) (now : Disk) : Type 0 where
   pub back : now output ≡ old output
   pub left : IsLeft output old events now
-
--- what is so after the events of a file that is dropped
-abbrev pub LeftBy : Program → (output bytes : List ℕ) → (old : Disk) → List Event → (now : Disk) → Type 0
-LeftBy Pbfcut output bytes old events now = IsNow false output bytes old events now
-LeftBy Pbfcutz output bytes old events now = IsBack output old events now
 
 -- the same by other events, as far as parts that stay are concerned
 left_by : (output : List ℕ) (old : Disk) (xs ys : List Event) (now : Disk) → ((p : List ℕ) → Happened (stays p) xs → Happened (stays p) ys) → ((p : List ℕ) → Happened (stays p) ys → Happened (stays p) xs) → IsLeft output old xs now → IsLeft output old ys now
@@ -305,10 +300,6 @@ module _ (output name bytes : List ℕ) (disk : Disk) where
   kept_out Pbfcut overwrite keeps is none k a = subst (λ (es : List Event). IsNow overwrite output bytes disk es (after es taken)) (sym k) (record { there = there_whole is; fresh = λ o. there_fresh is none; left = there_left is })
   kept_out Pbfcutz overwrite keeps differ none k a = kept_now differ none overwrite keeps k a
 
-  dropped_out : (program : Program) (drops : List Event) → IsName program output name → disk name ≡ None → Drops program name drops → LeftBy program output bytes disk drops (after drops taken)
-  dropped_out Pbfcut drops is none d = subst (λ (es : List Event). IsNow false output bytes disk es (after es taken)) (sym d) (record { there = there_whole is; fresh = λ o. there_fresh is none; left = there_left is })
-  dropped_out Pbfcutz drops differ none d = dropped_back differ none drops d
-
 -- ---- one file among events that change nothing
 
 -- OUT is a file, so it has a name
@@ -324,10 +315,10 @@ pub file_of : (program : Program) (output : List ℕ) (given : Option (List ℕ)
 file_of program output None makes m = absurd m
 file_of program output (Some name) makes (tries, misses, named, e) = record { name = name; is = refl; tries = tries; happened = e; misses = misses; named = named }
 
-module _ (program : Program) (output : List ℕ) (w : Writing) (before makes between part last events : List Event) (happened : events ≡ before ++ (makes ++ (between ++ (wrote w ∷ (part ++ last)))))
-    (still : Each Still before × Each Still between × Each Still last) (m : IsMade program false output w.name makes) (disk : Disk) where
-  abbrev file : IsFile program output w.name makes
-  file = file_of program output w.name makes m
+-- the events of one file, of which these are the last
+module _ (program : Program) (output : List ℕ) (w : Writing) (part events : List Event) (x : HasOneFile program output w part events) (disk : Disk) where
+  abbrev pub file : IsFile program output w.name x.makes
+  file = file_of program output w.name x.makes x.is_made
 
   abbrev first : Disk
   first = begun output file.name w.bytes disk
@@ -335,13 +326,13 @@ module _ (program : Program) (output : List ℕ) (w : Writing) (before makes bet
   abbrev filled : Disk
   filled = taken output file.name w.bytes disk
 
-  abbrev rest : List Event
-  rest = wrote w ∷ (part ++ last)
+  abbrev filling : List Event
+  filling = wrote w ∷ (part ++ x.last)
 
-  abbrev all : List Event
-  all = before ++ (makes ++ (between ++ rest))
+  abbrev making : List Event
+  making = x.makes ++ (x.between ++ filling)
 
-  made_after : after makes disk ≡ first
+  made_after : after x.makes disk ≡ first
   made_after = ap (λ es. after es disk) file.happened ∙ past_still file.tries (made file.name ∷ []) disk (misses_still file.tries file.misses)
 
   filled_is : written w.name w.bytes first ≡ filled
@@ -349,60 +340,69 @@ module _ (program : Program) (output : List ℕ) (w : Writing) (before makes bet
 
   one_after : after events disk ≡ after part filled
   one_after =
-      ap (λ es. after es disk) happened ∙ past_still before (makes ++ (between ++ rest)) disk still.0 ∙ after_both makes (between ++ rest) disk ∙ ap (λ d. after (between ++ rest) d) made_after
-      ∙ past_still between rest first still.1 ∙ ap (λ d. after (part ++ last) d) filled_is ∙ after_both part last filled ∙ after_still last (after part filled) still.2
+      ap (λ es. after es disk) x.happened ∙ past_still x.before making disk x.still.0 ∙ after_both x.makes (x.between ++ filling) disk ∙ ap (λ d. after (x.between ++ filling) d) made_after
+      ∙ past_still x.between filling first x.still.1 ∙ ap (λ d. after (part ++ x.last) d) filled_is ∙ after_both part x.last filled ∙ after_still x.last (after part filled) x.still.2
 
+  -- its name was no file's
   pub one_allowed : AllowsAll disk events → (disk file.name ≡ None) × AllowsAll filled part
   one_allowed a =
-      let later = allows_past before (makes ++ (between ++ rest)) disk still.0 (subst (λ (es : List Event). AllowsAll disk es) happened a) in
-      let mine = subst (λ (es : List Event). AllowsAll disk es) file.happened (allows_first makes (between ++ rest) disk later) in
-      let more = allows_past between rest first still.1 (subst (λ (d : Disk). AllowsAll d (between ++ rest)) made_after (allows_last makes (between ++ rest) disk later)) in
-      ((allows_past file.tries (made file.name ∷ []) disk (misses_still file.tries file.misses) mine).0, allows_first part last filled (subst (λ (d : Disk). AllowsAll d (part ++ last)) filled_is more.1))
+      let later = allows_past x.before making disk x.still.0 (subst (λ (es : List Event). AllowsAll disk es) x.happened a) in
+      let mine = subst (λ (es : List Event). AllowsAll disk es) file.happened (allows_first x.makes (x.between ++ filling) disk later) in
+      let more = allows_past x.between filling first x.still.1 (subst (λ (d : Disk). AllowsAll d (x.between ++ filling)) made_after (allows_last x.makes (x.between ++ filling) disk later)) in
+      ((allows_past file.tries (made file.name ∷ []) disk (misses_still file.tries file.misses) mine).0, allows_first part x.last filled (subst (λ (d : Disk). AllowsAll d (part ++ x.last)) filled_is more.1))
 
   stays_in : (p : List ℕ) → Happened (stays p) part → Happened (stays p) events
-  stays_in p h = subst (λ (es : List Event). Happened (stays p) es) (sym happened)
-      (happened_after (stays p) before _ (happened_after (stays p) makes _ (happened_after (stays p) between rest (inr (happened_before (stays p) part last h)))))
+  stays_in p h = subst (λ (es : List Event). Happened (stays p) es) (sym x.happened)
+      (happened_after (stays p) x.before making (happened_after (stays p) x.makes (x.between ++ filling) (happened_after (stays p) x.between filling (inr (happened_before (stays p) part x.last h)))))
+
+  no_wrote : (p : List ℕ) → wrote w ≡ stays p → ⊥
+  no_wrote p h = cc
+
+  no_made : (p : List ℕ) → Happened (stays p) (made file.name ∷ []) → ⊥
+  no_made p h1 = grind arith
+
+  no_makes : (p : List ℕ) → Happened (stays p) x.makes → ⊥
+  no_makes p h = no_made p (stays_later p file.tries (made file.name ∷ []) (misses_still file.tries file.misses) (subst (λ (es : List Event). Happened (stays p) es) file.happened h))
+
+  stays_filling : (p : List ℕ) → Happened (stays p) filling → Happened (stays p) part
+  stays_filling p (inl e) = absurd (no_wrote p e)
+  stays_filling p (inr h) = stays_earlier p part x.last x.still.2 h
+
+  stays_making : (p : List ℕ) → Happened (stays p) x.makes ⊎ Happened (stays p) (x.between ++ filling) → Happened (stays p) part
+  stays_making p (inl h) = absurd (no_makes p h)
+  stays_making p (inr h) = stays_filling p (stays_later p x.between filling x.still.1 h)
 
   stays_of : (p : List ℕ) → Happened (stays p) events → Happened (stays p) part
-  stays_of p h = filling (stays_later p between rest still.1 (making (happened_either (stays p) makes (between ++ rest) (stays_later p before (makes ++ (between ++ rest)) still.0 (subst (λ (es : List Event). Happened (stays p) es) happened h))))) where
-    filling : Happened (stays p) rest → Happened (stays p) part
-    filling (inl e) = absurd (other e) where
-      other : wrote w ≡ stays p → ⊥
-      other h = cc
-    filling (inr k) = stays_earlier p part last still.2 k
-    no_made : Happened (stays p) (made file.name ∷ []) → ⊥
-    no_made h1 = grind arith
-    making : Happened (stays p) makes ⊎ Happened (stays p) (between ++ rest) → Happened (stays p) (between ++ rest)
-    making (inl k) = absurd (no_made (stays_later p file.tries (made file.name ∷ []) (misses_still file.tries file.misses) (subst (λ (es : List Event). Happened (stays p) es) file.happened k)))
-    making (inr k) = k
+  stays_of p h = stays_making p (happened_either (stays p) x.makes (x.between ++ filling) (stays_later p x.before making x.still.0 (subst (λ (es : List Event). Happened (stays p) es) x.happened h)))
 
-  all_left : IsLeft output disk part (after part filled) → IsLeft output disk events (after part filled)
-  all_left n = left_by output disk part events (after part filled) stays_in stays_of n
+  all_left : IsLeft output disk part (after part filled) → IsLeft output disk events (after events disk)
+  all_left n = subst (λ (d : Disk). IsLeft output disk events d) (sym one_after) (left_by output disk part events (after part filled) stays_in stays_of n)
 
--- a file that is kept
+  all_now : (overwrite : Bool) → IsNow overwrite output w.bytes disk part (after part filled) → IsNow overwrite output w.bytes disk events (after events disk)
+  all_now overwrite n = record { there = ap (λ (d : Disk). d output) one_after ∙ n.there; fresh = n.fresh; left = all_left n.left }
+
+  all_back : IsBack output disk part (after part filled) → IsBack output disk events (after events disk)
+  all_back n = record { back = ap (λ (d : Disk). d output) one_after ∙ n.back; left = all_left n.left }
+
+-- ---- a file that is kept, or dropped
+
 pub keeps_now : (program : Program) (overwrite : Bool) (output : List ℕ) (w : Writing) (events : List Event) (disk : Disk) → KeepsFile program overwrite output w events → AllowsAll disk events → IsNow overwrite output w.bytes disk events (after events disk)
 keeps_now program overwrite output w events disk k a =
-    let f = file_of program output w.name k.makes k.is_made in
-    let allowed = one_allowed program output w k.before k.makes k.between k.keeps k.last events k.happened k.still k.is_made disk a in
-    let n = kept_out output f.name w.bytes disk program overwrite k.keeps f.named allowed.0 (subst (λ (g : Option (List ℕ)). IsKept program overwrite output g k.keeps) f.is k.is_kept) allowed.1 in
-    subst (λ (d : Disk). IsNow overwrite output w.bytes disk events d) (sym (one_after program output w k.before k.makes k.between k.keeps k.last events k.happened k.still k.is_made disk)) (record {
-      there = n.there;
-      fresh = n.fresh;
-      left = all_left program output w k.before k.makes k.between k.keeps k.last events k.happened k.still k.is_made disk n.left;
-    })
+    let f = file_of program output w.name k.file.makes k.file.is_made in
+    let allowed = one_allowed program output w k.keeps events k.file disk a in
+    all_now program output w k.keeps events k.file disk overwrite (kept_out output f.name w.bytes disk program overwrite k.keeps f.named allowed.0 (subst (λ (g : Option (List ℕ)). IsKept program overwrite output g k.keeps) f.is k.is_kept) allowed.1)
 
-dropped_by : (program : Program) (output bytes : List ℕ) (old : Disk) (xs ys : List Event) (now : Disk) → (IsLeft output old xs now → IsLeft output old ys now) → LeftBy program output bytes old xs now → LeftBy program output bytes old ys now
-dropped_by Pbfcut output bytes old xs ys now of n = record { there = n.there; fresh = n.fresh; left = of n.left }
-dropped_by Pbfcutz output bytes old xs ys now of n = record { back = n.back; left = of n.left }
+pub drops_now : (output : List ℕ) (w : Writing) (events : List Event) (disk : Disk) → DropsFile Pbfcut output w events → AllowsAll disk events → IsNow false output w.bytes disk events (after events disk)
+drops_now output w events disk k a =
+    let f = file_of Pbfcut output w.name k.file.makes k.file.is_made in
+    let there = subst (λ (g : Option (List ℕ)). IsDropped Pbfcut g k.drops) f.is k.is_dropped in
+    all_now Pbfcut output w k.drops events k.file disk false (kept_out output f.name w.bytes disk Pbfcut false k.drops f.named (one_allowed Pbfcut output w k.drops events k.file disk a).0 there (one_allowed Pbfcut output w k.drops events k.file disk a).1)
 
-pub drops_now : (program : Program) (output : List ℕ) (w : Writing) (events : List Event) (disk : Disk) → DropsFile program output w events → AllowsAll disk events → LeftBy program output w.bytes disk events (after events disk)
-drops_now program output w events disk k a =
-    let f = file_of program output w.name k.makes k.is_made in
-    let allowed = one_allowed program output w k.before k.makes k.between k.drops k.last events k.happened k.still k.is_made disk a in
-    let n = dropped_out output f.name w.bytes disk program k.drops f.named allowed.0 (subst (λ (g : Option (List ℕ)). IsDropped program g k.drops) f.is k.is_dropped) in
-    subst (λ (d : Disk). LeftBy program output w.bytes disk events d) (sym (one_after program output w k.before k.makes k.between k.drops k.last events k.happened k.still k.is_made disk))
-        (dropped_by program output w.bytes disk k.drops events (after k.drops (taken output f.name w.bytes disk)) (all_left program output w k.before k.makes k.between k.drops k.last events k.happened k.still k.is_made disk) n)
+pub drops_back : (output : List ℕ) (w : Writing) (events : List Event) (disk : Disk) → DropsFile Pbfcutz output w events → AllowsAll disk events → IsBack output disk events (after events disk)
+drops_back output w events disk k a =
+    let f = file_of Pbfcutz output w.name k.file.makes k.file.is_made in
+    all_back Pbfcutz output w k.drops events k.file disk (dropped_back output f.name w.bytes disk f.named (one_allowed Pbfcutz output w k.drops events k.file disk a).0 k.drops (subst (λ (g : Option (List ℕ)). IsDropped Pbfcutz g k.drops) f.is k.is_dropped))
 
 pub drops_left : (program : Program) (output : List ℕ) (w : Writing) (events : List Event) (disk : Disk) → DropsFile program output w events → AllowsAll disk events → IsLeft output disk events (after events disk)
-drops_left Pbfcut output w events disk k a = (drops_now Pbfcut output w events disk k a).left
-drops_left Pbfcutz output w events disk k a = (drops_now Pbfcutz output w events disk k a).left
+drops_left Pbfcut output w events disk k a = (drops_now output w events disk k a).left
+drops_left Pbfcutz output w events disk k a = (drops_back output w events disk k a).left

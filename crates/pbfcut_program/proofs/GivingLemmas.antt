@@ -1,5 +1,5 @@
 -- What a run of `extract` that ended well changes in the file system.
-use Rattle.std.proofs.Common.{arith, rules, ◌≡◌, ◌⊎◌, inl, inr, ℕ, ◌+◌, List, [], ◌∷◌, ◌++◌, map, Bool, true, false, Option, Some, None, refl, sym, subst, ap, ◌∙◌, append_assoc}
+use Rattle.std.proofs.Common.{arith, rules, ◌≡◌, inl, inr, ℕ, ◌+◌, List, [], ◌∷◌, ◌++◌, map, Bool, true, false, Option, Some, None, refl, sym, subst, ap, ◌∙◌, append_assoc}
 use Rattle.pbf_frame.specs.Devices.{prepend}
 use Rattle.osm_area.specs.Area.{AreaSpec}
 use Rattle.pbf_block.specs.declared.counts.Counts.{Counts}
@@ -10,9 +10,9 @@ use Rattle.pbfcut_cli.specs.declared.words.Region.{Region}
 use Rattle.pbfcut_cli.specs.declared.words.Region.TheVariants as region
 use Rattle.pbfcut_cli.specs.declared.words.Strategy.{Strategy}
 use Rattle.pbfcut_program.specs.Changes.{GivesExtract, IsOpened, KeepsFile, OpensWith, ReadsOpened}
-use Rattle.pbfcut_program.specs.Events.{Event, Reading, made, opened, read, screened, seeded, stays, text_read, wrote}
+use Rattle.pbfcut_program.specs.Events.{Event, Reading, made, opened, read, seeded, stays, wrote}
 use Rattle.pbfcut_program.specs.Fails.{Each, Has}
-use Rattle.pbfcut_program.specs.Files.{AllowsAll, Disk, IsEnd, IsKept, IsMade, Keeps, Misnames, Misses, Names, Still, after}
+use Rattle.pbfcut_program.specs.Files.{AllowsAll, Disk, IsEnd, IsKept, IsMade, Misnames, Misses, Names, Still, after}
 use Rattle.pbfcut_program.specs.Manner.{Manner}
 use Rattle.pbfcut_program.specs.Program.{Extracts, MeansArea, WritesCounts, advice, counts_text, done_lines, is_empty, is_screen, looks, openings, prints, screen_of, strategy_of}
 use Rattle.pbfcut_program.specs.Taking.{Happened, ReadOf, ReadsOnly}
@@ -171,17 +171,19 @@ module _ (m : Manner) (task : Task) (files : Files) (counts : Counts) (first eve
   -- a file
   pub writes_file : is ≡ false → KeepsFile m.program files.overwrite files.output.now x.out (first ++ events ++ last)
   writes_file no_screen = record {
-      before = before;
-      makes = x.makes;
-      between = between;
       keeps = x.keeps;
-      last = printed ++ last;
-      happened = parts_are;
-      still = (before_still, reads_still x.rs, last_still);
-      is_made = subst (λ (t : Bool). IsMade m.program t files.output.now x.out.name x.makes) no_screen x.made;
+      file = record {
+        before = before;
+        makes = x.makes;
+        between = between;
+        last = printed ++ last;
+        happened = parts_are;
+        is_made = subst (λ (t : Bool). IsMade m.program t files.output.now x.out.name x.makes) no_screen x.made;
+        still = (before_still, reads_still x.rs, last_still);
+      };
+      is_kept = x.named;
       kept = x.kept;
       whole = x.whole;
-      is_kept = x.named;
     }
 
   -- standard output

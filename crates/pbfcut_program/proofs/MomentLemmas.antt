@@ -1,13 +1,13 @@
 -- What is so at each moment of the events of one file.
-use Rattle.std.proofs.Common.{arith, ◌≡◌, ◌⊎◌, inl, inr, ℕ, List, [], ◌∷◌, ◌++◌, Bool, true, false, Option, Some, None, refl, sym, subst, ap, ◌∙◌, append_assoc}
+use Rattle.std.proofs.Common.{◌≡◌, ◌⊎◌, inl, inr, ℕ, List, [], ◌∷◌, ◌++◌, Bool, Option, Some, None, refl, sym, subst, ap, ◌∙◌, append_assoc}
 use Rattle.pbf_frame.specs.Devices.{append}
 use Rattle.pbfcut_cli.specs.declared.programs.Program.{Program}
 use Rattle.pbfcut_cli.specs.declared.programs.Program.TheVariants.{Pbfcut, Pbfcutz}
-use Rattle.pbfcut_program.specs.Changes.{DropsFile, KeepsFile}
-use Rattle.pbfcut_program.specs.Events.{Event, Writing, linked, made, moved, removed, renamed, stays, wrote}
+use Rattle.pbfcut_program.specs.Changes.{DropsFile, HasOneFile, KeepsFile}
+use Rattle.pbfcut_program.specs.Events.{Event, Writing, made, wrote}
 use Rattle.pbfcut_program.specs.Fails.{Each}
-use Rattle.pbfcut_program.specs.Files.{AllowsAll, Disk, Drops, IsDropped, IsEnd, IsKept, IsMade, IsName, Keeps, Misnames, Misses, Names, Still, after, changed, put, written}
-use Rattle.pbfcut_program.proofs.DiskLemmas.{after_both, after_still, alone, alone_whole, begun, both, both_whole, file_of, misnames_still, misses_still, one_allowed, put_other, still_one, taken, taken_other}
+use Rattle.pbfcut_program.specs.Files.{AllowsAll, Disk, Drops, IsDropped, IsEnd, IsKept, Keeps, Misses, Names, Still, after, changed, put, written}
+use Rattle.pbfcut_program.proofs.DiskLemmas.{IsFile, alone, alone_whole, begun, both, both_whole, file_of, misnames_still, misses_still, one_allowed, put_other, still_one, taken, taken_other}
 use Rattle.pbfcut_program.proofs.EventLemmas.{each_both}
 
 -- this holds of the file system at each moment
@@ -81,7 +81,7 @@ module _ (output name bytes : List ℕ) (disk : Disk) (differ : name ≡ output 
       subst (λ (es : List Event). Always Same es filled) (sym (ap (λ es. es ++ last) e ∙ append_assoc tries (end ∷ []) last))
       (always_still Same tries (end ∷ last) filled (misnames_still tries t) (gone_same end last is s))
 
-  -- what holds as the file is filled, and later, held before
+  -- this holds before the file is filled, and then
   module _ (holds : Disk → Type 0) (at_first : holds disk) (at_begun : holds (begun output name bytes disk)) where
     filled_holds : (w : Writing) (before makes between tries part : List Event) → w.name ≡ Some name → w.bytes ≡ bytes → makes ≡ tries ++ made name ∷ [] → Each Still before → Each Misses tries → Each Still between
         → Always holds part filled → Always holds (before ++ (makes ++ (between ++ (wrote w ∷ part)))) disk
@@ -93,21 +93,25 @@ module _ (output name bytes : List ℕ) (disk : Disk) (differ : name ≡ output 
         (subst (λ (es : List Event). Always holds es disk) (sym (ap (λ es. es ++ (between ++ (wrote w ∷ part))) e ∙ append_assoc tries (made name ∷ []) (between ++ (wrote w ∷ part))))
         (always_still holds tries (made name ∷ (between ++ (wrote w ∷ part))) disk (misses_still tries t) (at_first, mine)))
 
+module _ (output : List ℕ) (w : Writing) (part started later : List Event) (x : HasOneFile Pbfcutz output w part (started ++ later)) (disk : Disk) where
+  abbrev file : IsFile Pbfcutz output w.name x.makes
+  file = file_of Pbfcutz output w.name x.makes x.is_made
+
+  always_one : (holds : Disk → Type 0) → holds disk → holds (begun output file.name w.bytes disk) → Always holds (part ++ x.last) (taken output file.name w.bytes disk) → holds (after started disk)
+  always_one holds at_first at_begun h = always_after holds started later disk (subst (λ (es : List Event). Always holds es disk) (sym x.happened)
+      (filled_holds output file.name w.bytes disk file.named holds at_first at_begun w x.before x.makes x.between file.tries (part ++ x.last) file.is refl file.happened x.still.0 file.misses x.still.1 h))
+
 pub kept_whole : (overwrite : Bool) (output : List ℕ) (w : Writing) (started later : List Event) (disk : Disk) → KeepsFile Pbfcutz overwrite output w (started ++ later) → (after started disk output ≡ disk output) ⊎ (after started disk output ≡ Some w.bytes)
 kept_whole overwrite output w started later disk k =
-    let f = file_of Pbfcutz output w.name k.makes k.is_made in
-    let holds = Fine output f.name w.bytes disk f.named in
-    let part = kept_fine output f.name w.bytes disk f.named overwrite k.keeps k.last (subst (λ (g : Option (List ℕ)). IsKept Pbfcutz overwrite output g k.keeps) f.is k.is_kept) k.still.2 in
-    let all = filled_holds output f.name w.bytes disk f.named holds (inl refl) (inl (begun_same output f.name w.bytes disk f.named)) w k.before k.makes k.between f.tries (k.keeps ++ k.last) f.is refl f.happened k.still.0 f.misses k.still.1 part in
-    always_after holds started later disk (subst (λ (es : List Event). Always holds es disk) (sym k.happened) all)
+    let f = file_of Pbfcutz output w.name k.file.makes k.file.is_made in
+    always_one output w k.keeps started later k.file disk (Fine output f.name w.bytes disk f.named) (inl refl) (inl (begun_same output f.name w.bytes disk f.named))
+    (kept_fine output f.name w.bytes disk f.named overwrite k.keeps k.file.last (subst (λ (g : Option (List ℕ)). IsKept Pbfcutz overwrite output g k.keeps) f.is k.is_kept) k.file.still.2)
 
 pub dropped_whole : (output : List ℕ) (w : Writing) (started later : List Event) (disk : Disk) → DropsFile Pbfcutz output w (started ++ later) → after started disk output ≡ disk output
 dropped_whole output w started later disk k =
-    let f = file_of Pbfcutz output w.name k.makes k.is_made in
-    let holds = Same output f.name w.bytes disk f.named in
-    let part = dropped_same output f.name w.bytes disk f.named k.drops k.last (subst (λ (g : Option (List ℕ)). IsDropped Pbfcutz g k.drops) f.is k.is_dropped) k.still.2 in
-    let all = filled_holds output f.name w.bytes disk f.named holds refl (begun_same output f.name w.bytes disk f.named) w k.before k.makes k.between f.tries (k.drops ++ k.last) f.is refl f.happened k.still.0 f.misses k.still.1 part in
-    always_after holds started later disk (subst (λ (es : List Event). Always holds es disk) (sym k.happened) all)
+    let f = file_of Pbfcutz output w.name k.file.makes k.file.is_made in
+    always_one output w k.drops started later k.file disk (Same output f.name w.bytes disk f.named) refl (begun_same output f.name w.bytes disk f.named)
+    (dropped_same output f.name w.bytes disk f.named k.drops k.file.last (subst (λ (g : Option (List ℕ)). IsDropped Pbfcutz g k.drops) f.is k.is_dropped) k.file.still.2)
 
 -- ---- each other file
 
@@ -149,33 +153,45 @@ module _ (output name p : List ℕ) (o : p ≡ output → ⊥) (e : p ≡ name �
   wrote_spares : (w : Writing) → w.name ≡ Some name → Spares p (wrote w)
   wrote_spares w is = λ (d : Disk). ap (λ (n : Option (List ℕ)). written n w.bytes d p) is ∙ put_other name p (append (d name) w.bytes) d e
 
-  file_spares : (w : Writing) (before makes between tries part last : List Event) → w.name ≡ Some name → makes ≡ tries ++ made name ∷ [] → Each Misses tries → Each Still before × Each Still between × Each Still last
-      → Each (Spares p) part → Each (Spares p) (before ++ (makes ++ (between ++ (wrote w ∷ (part ++ last)))))
-  file_spares w before makes between tries part last is m t s k =
-      let made_spares = each_both (Spares p) tries (made name ∷ []) (still_spares tries (misses_still tries t)) ((λ (d : Disk). put_other name p (Some []) d e), tt) in
-      each_both (Spares p) before (makes ++ (between ++ (wrote w ∷ (part ++ last)))) (still_spares before s.0)
-      (each_both (Spares p) makes (between ++ (wrote w ∷ (part ++ last))) (subst (λ (es : List Event). Each (Spares p) es) (sym m) made_spares)
-      (each_both (Spares p) between (wrote w ∷ (part ++ last)) (still_spares between s.1)
-      (wrote_spares w is, each_both (Spares p) part last k (still_spares last s.2))))
-
 -- a file that is there isn't made
-there_differs : (p name : List ℕ) (bytes : List ℕ) (disk : Disk) → disk p ≡ Some bytes → disk name ≡ None → p ≡ name → ⊥
+there_differs : (p name bytes : List ℕ) (disk : Disk) → disk p ≡ Some bytes → disk name ≡ None → p ≡ name → ⊥
 there_differs p name bytes disk there none is = none_some (sym none ∙ ap disk (sym is) ∙ there) where
   none_some : None ≡ Some bytes → ⊥
   none_some h = cc
 
+module _ (program : Program) (output : List ℕ) (w : Writing) (part started later : List Event) (x : HasOneFile program output w part (started ++ later)) (disk : Disk) (a : AllowsAll disk (started ++ later)) (path bytes : List ℕ)
+    (o : path ≡ output → ⊥) (there : disk path ≡ Some bytes) where
+  abbrev one : IsFile program output w.name x.makes
+  one = file_of program output w.name x.makes x.is_made
+
+  part_differs : path ≡ one.name → ⊥
+  part_differs = there_differs path one.name bytes disk there (one_allowed program output w part (started ++ later) x disk a).0
+
+  makes_spare : Each (Spares path) x.makes
+  makes_spare = subst (λ (es : List Event). Each (Spares path) es) (sym one.happened)
+      (each_both (Spares path) one.tries (made one.name ∷ []) (still_spares output one.name path o part_differs one.tries (misses_still one.tries one.misses)) ((λ (d : Disk). put_other one.name path (Some []) d part_differs), tt))
+
+  still_spare : (xs : List Event) → Each Still xs → Each (Spares path) xs
+  still_spare = still_spares output one.name path o part_differs
+
+  one_spares : Each (Spares path) part → Each (Spares path) (started ++ later)
+  one_spares s = subst (λ (es : List Event). Each (Spares path) es) (sym x.happened)
+      (each_both (Spares path) x.before (x.makes ++ (x.between ++ (wrote w ∷ (part ++ x.last)))) (still_spare x.before x.still.0)
+      (each_both (Spares path) x.makes (x.between ++ (wrote w ∷ (part ++ x.last))) makes_spare
+      (each_both (Spares path) x.between (wrote w ∷ (part ++ x.last)) (still_spare x.between x.still.1)
+      (wrote_spares output one.name path o part_differs w one.is, each_both (Spares path) part x.last s (still_spare x.last x.still.2)))))
+
+  others_one : Each (Spares path) part → after started disk path ≡ Some bytes
+  others_one s = always_after (λ (d : Disk). d path ≡ disk path) started later disk (always_spared path disk (started ++ later) disk (one_spares s) refl) ∙ there
+
 pub keeps_others : (program : Program) (overwrite : Bool) (output : List ℕ) (w : Writing) (started later : List Event) (disk : Disk) → KeepsFile program overwrite output w (started ++ later) → AllowsAll disk (started ++ later) → (path bytes : List ℕ) → (path ≡ output → ⊥) → disk path ≡ Some bytes → after started disk path ≡ Some bytes
 keeps_others program overwrite output w started later disk k a path bytes o there =
-    let f = file_of program output w.name k.makes k.is_made in
-    let e = there_differs path f.name bytes disk there (one_allowed program output w k.before k.makes k.between k.keeps k.last (started ++ later) k.happened k.still k.is_made disk a).0 in
-    let part = keeps_spare output f.name path o e program overwrite k.keeps (subst (λ (g : Option (List ℕ)). IsKept program overwrite output g k.keeps) f.is k.is_kept) in
-    let all = file_spares output f.name path o e w k.before k.makes k.between f.tries k.keeps k.last f.is f.happened f.misses k.still part in
-    always_after (λ (d : Disk). d path ≡ disk path) started later disk (always_spared path disk (started ++ later) disk (subst (λ (es : List Event). Each (Spares path) es) (sym k.happened) all) refl) ∙ there
+    let f = file_of program output w.name k.file.makes k.file.is_made in
+    let e = part_differs program output w k.keeps started later k.file disk a path bytes o there in
+    others_one program output w k.keeps started later k.file disk a path bytes o there (keeps_spare output f.name path o e program overwrite k.keeps (subst (λ (g : Option (List ℕ)). IsKept program overwrite output g k.keeps) f.is k.is_kept))
 
 pub drops_others : (program : Program) (output : List ℕ) (w : Writing) (started later : List Event) (disk : Disk) → DropsFile program output w (started ++ later) → AllowsAll disk (started ++ later) → (path bytes : List ℕ) → (path ≡ output → ⊥) → disk path ≡ Some bytes → after started disk path ≡ Some bytes
 drops_others program output w started later disk k a path bytes o there =
-    let f = file_of program output w.name k.makes k.is_made in
-    let e = there_differs path f.name bytes disk there (one_allowed program output w k.before k.makes k.between k.drops k.last (started ++ later) k.happened k.still k.is_made disk a).0 in
-    let part = drops_spare output f.name path o e program k.drops (subst (λ (g : Option (List ℕ)). IsDropped program g k.drops) f.is k.is_dropped) in
-    let all = file_spares output f.name path o e w k.before k.makes k.between f.tries k.drops k.last f.is f.happened f.misses k.still part in
-    always_after (λ (d : Disk). d path ≡ disk path) started later disk (always_spared path disk (started ++ later) disk (subst (λ (es : List Event). Each (Spares path) es) (sym k.happened) all) refl) ∙ there
+    let f = file_of program output w.name k.file.makes k.file.is_made in
+    let e = part_differs program output w k.drops started later k.file disk a path bytes o there in
+    others_one program output w k.drops started later k.file disk a path bytes o there (drops_spare output f.name path o e program k.drops (subst (λ (g : Option (List ℕ)). IsDropped program g k.drops) f.is k.is_dropped))

@@ -1,5 +1,5 @@
 -- What the events of a run are to the file system: those of one file, which is kept or dropped, among others that change nothing.
-use Rattle.std.specs.Prelude.{◌≡◌, List, ℕ, ◌∷◌, ◌++◌, Bool, true, false, Option, Some, None}
+use Rattle.std.specs.Prelude.{◌≡◌, List, ℕ, ◌∷◌, ◌++◌, Bool, true, false, Some, None}
 use Rattle.pbf_frame.specs.Devices.{prepend}
 use Rattle.pbfcut_cli.specs.declared.programs.Program.{Program}
 use Rattle.pbfcut_cli.specs.declared.words.Files.{Files}
@@ -12,30 +12,30 @@ use Rattle.pbfcut_program.specs.Manner.{Manner}
 use Rattle.pbfcut_program.specs.Program.{is_screen}
 use Rattle.pbfcut_program.specs.Taking.{Happened, TookExtract}
 
--- OUT is a file that is made, took these bytes, all of which went out, and is kept
-pub record KeepsFile (program : Program) (overwrite : Bool) (output : List ℕ) (w : Writing) (events : List Event) : Type 0 where
+-- ---- the events of one file
+
+-- OUT is a file that is made and filled, and these are its last events; all others change nothing
+pub record HasOneFile (program : Program) (output : List ℕ) (w : Writing) (part events : List Event) : Type 0 where
   pub before : List Event
   pub makes : List Event
   pub between : List Event
-  pub keeps : List Event
   pub last : List Event
-  pub happened : events ≡ before ++ (makes ++ (between ++ (wrote w ∷ (keeps ++ last))))
-  pub still : Each Still before × Each Still between × Each Still last
+  pub happened : events ≡ before ++ (makes ++ (between ++ (wrote w ∷ (part ++ last))))
   pub is_made : IsMade program false output w.name makes
+  pub still : Each Still before × Each Still between × Each Still last
+
+-- all that it took went out, and it is kept
+pub record KeepsFile (program : Program) (overwrite : Bool) (output : List ℕ) (w : Writing) (events : List Event) : Type 0 where
+  pub keeps : List Event
+  pub file : HasOneFile program output w keeps events
+  pub is_kept : IsKept program overwrite output w.name keeps
   pub kept : w.kept ≡ true
   pub whole : w.fault ≡ None
-  pub is_kept : IsKept program overwrite output w.name keeps
 
--- the same of one that is dropped
+-- it is dropped
 pub record DropsFile (program : Program) (output : List ℕ) (w : Writing) (events : List Event) : Type 0 where
-  pub before : List Event
-  pub makes : List Event
-  pub between : List Event
   pub drops : List Event
-  pub last : List Event
-  pub happened : events ≡ before ++ (makes ++ (between ++ (wrote w ∷ (drops ++ last))))
-  pub still : Each Still before × Each Still between × Each Still last
-  pub is_made : IsMade program false output w.name makes
+  pub file : HasOneFile program output w drops events
   pub is_dropped : IsDropped program w.name drops
 
 -- ---- what the passes read

@@ -1,7 +1,8 @@
-//! The laws of files: what a run changes in the file system, by the events that happened. Like the laws of runs, each is the contract
-//! of a function that does nothing.
+//! The laws of files: what a run changes in the file system, if this is as its events say (`AllowsAll`) and nobody else changes it. Names
+//! count as they are written: of another spelling of the same name nothing is said. Like the laws of runs, each is the contract of a
+//! function that does nothing.
 
-ghost use Rattle.std.specs.Prelude.{◌≡◌, ◌⊎◌, ◌++◌, ℕ, List, Bool, true, false, Option, Some, None, codes};
+ghost use Rattle.std.specs.Prelude.{◌≡◌, ◌⊎◌, ◌++◌, ℕ, List, Bool, true, false, Some, None, codes};
 ghost use Rattle.clap.specs.Words.{Row, Text, subcommand_of, takes};
 ghost use Rattle.pbfcut_cli.specs.Joined.{normalized};
 ghost use Rattle.pbfcut_cli.specs.Words.{ReadsAs, argument_value, program_app};
@@ -17,8 +18,9 @@ ghost use Rattle.pbfcut_program.specs.Files.{AllowsAll, Disk, after};
 ghost use Rattle.pbfcut_program.specs.Program.{IsRun, manner_in};
 ghost use Rattle.pbfcut_program.specs.Taking.{Happened, ReadsOnly};
 
-/// An OUT that is kept is whole, and nothing else has changed: OUT has all that was written to it. Every other file has what it had. Only a
-/// part, the file that OUT was until it was whole, may be left if it couldn't be removed; it is new. Without `--overwrite` nothing had OUT's name.
+/// What a user finds after a run that keeps OUT: OUT has all that was written to it, and every other file is as it was. pbfcutz writes OUT as
+/// a part, a file by another name. If the part couldn't be removed, it is left: it is a new file, so no other one is lost by it. Without
+/// `--overwrite` there was nothing by OUT's name before.
 pub fn writes_out()
     ensures there { (program : Program) (overwrite : Bool) (output : List ℕ) (w : Writing)
         (events : List Event) (disk : Disk) → KeepsFile program overwrite output w events
@@ -36,8 +38,9 @@ pub fn writes_out()
         → AllowsAll disk events → overwrite ≡ false → disk output ≡ None }
 {}
 
-/// An OUT that is dropped: pbfcutz leaves the file that had OUT's name, or none, as it was. pbfcut leaves an OUT that is new, with all that
-/// was written to it, if the last of it went out. Every other file has what it had. Only a part may be left, as in [`writes_out`].
+/// What a user finds after a run that fails once it has made OUT: pbfcutz leaves what OUT's name had before, or nothing if it had nothing.
+/// pbfcut leaves a new file, with what was written to it, if all of that went out. Every other file is as it was, and again only a part may be
+/// left, which is new.
 pub fn drops_out()
     ensures pbfcut { (output : List ℕ) (w : Writing) (events : List Event) (disk : Disk)
         → DropsFile Pbfcut output w events → AllowsAll disk events
@@ -55,9 +58,9 @@ pub fn drops_out()
         → (path ≡ output → ⊥) × (disk path ≡ None) }
 {}
 
-/// pbfcutz never shows an OUT that isn't whole, not even to another program while it runs, and also not if the run is killed at any moment:
-/// OUT is as it was before, or has all that was written to it. If the run drops OUT, it is always as it was before. Of both programs, each
-/// other file that was there keeps its bytes at each moment.
+/// Nobody ever finds a piece of an OUT of pbfcutz: at each moment, also if the run is killed then, OUT is as it was before, or it has all that was
+/// written to it. While a run goes on that will drop OUT, it is as it was before. Of both programs, every other file that was there keeps
+/// its bytes at each moment.
 pub fn always_whole()
     ensures kept { (overwrite : Bool) (output : List ℕ) (w : Writing) (started later : List Event)
         (disk : Disk) → KeepsFile Pbfcutz overwrite output w (started ++ later)
@@ -73,9 +76,10 @@ pub fn always_whole()
         → disk path ≡ Some bytes → after started disk path ≡ Some bytes }
 {}
 
-/// A run that ended with status 0, of words that `clap` takes as `extract`, over a disk on which IN has these bytes, if each pass gave what IN
-/// had when it was opened: OUT has bytes that mean exactly the extract of IN, and every other file has what it had. Only a part may be left, which
-/// is new. Without `--overwrite` nothing had OUT's name before. If OUT is standard output, no file has changed.
+/// What status 0 of `extract` says of a user's files, if the words are some that `clap` takes, and each pass gave the bytes that IN had when it
+/// was opened: these are the bytes that IN has on the disk. OUT has bytes that mean exactly the extract of them, by the area and the
+/// strategy of the words. Every other file is as it was, but a part may be left, which is new. Without `--overwrite` there was nothing by OUT's
+/// name before. If OUT is standard output, it took the extract, and no file has changed.
 pub fn run_of_extract()
     ensures reads { (program : Program) (words : List Text) (rows : List Row) (events : List Event)
         (disk : Disk) (file : List ℕ) → takes (program_app program) (normalized words) ≡ true
@@ -86,8 +90,7 @@ pub fn run_of_extract()
         (disk : Disk) (file : List ℕ) → takes (program_app program) (normalized words) ≡ true
         → subcommand_of (program_app program) (normalized words) ≡ Some (codes "extract", rows)
         → IsRun program words events 0 → AllowsAll disk events → ReadsOpened events
-        → disk (argument_value (codes "IN") rows) ≡ Some file
-        → (cut : Region) × (by : Strategy) × (files : Files)
-        × ReadsAs (codes "extract") rows (Extract cut by files)
+        → disk (argument_value (codes "IN") rows) ≡ Some file → (cut : Region) × (by : Strategy)
+        × (files : Files) × ReadsAs (codes "extract") rows (Extract cut by files)
         × GivesExtract (manner_in program (Extract cut by files)) cut by files file events disk }
 {}
