@@ -234,8 +234,8 @@ module _ (m : Manner) (cut : Region) (by : Strategy) (files : Files) (events : L
   all_still : is_screen m.program files.output.now ≡ true → Each Still events
   all_still screen = subst (λ (es : List Event). Each Still es) (sym x.happened) (writes_screen m task files x.counts x.before x.after (advice x.counts) x.writes around screen)
 
-  others_left : (t : Bool) → is_screen m.program files.output.now ≡ t → (path : List ℕ) → (path ≡ files.output.now → ⊥) → (Happened (stays path) events → ⊥) → after events disk path ≡ disk path
-  others_left false no_screen = (keeps_now m.program files.overwrite files.output.now x.writes.out events disk (keeps_it no_screen) a).left.others
+  others_left : (t : Bool) → is_screen m.program files.output.now ≡ t → (path : List ℕ) → (is_screen m.program files.output.now ≡ false → path ≡ files.output.now → ⊥) → (Happened (stays path) events → ⊥) → after events disk path ≡ disk path
+  others_left false no_screen = λ path o. (keeps_now m.program files.overwrite files.output.now x.writes.out events disk (keeps_it no_screen) a).left.others path (o no_screen)
   others_left true screen = λ path o q. ap (λ (d : Disk). d path) (after_still events disk (all_still screen))
 
   parts_new : (t : Bool) → is_screen m.program files.output.now ≡ t → (path : List ℕ) → Happened (stays path) events → disk path ≡ None
@@ -247,7 +247,7 @@ module _ (m : Manner) (cut : Region) (by : Strategy) (files : Files) (events : L
       let took = extract_took file m cut by files events x reads in
       record {
         took = extracts_take file m cut by files events x reads;
-        cut_first = (x.after ++ advice x.counts, x.happened ∙ append_assoc x.before x.after (advice x.counts) ∙ ap (λ es. es ++ (x.after ++ advice x.counts)) (sym took.1));
+        area_first = (x.after ++ advice x.counts, x.happened ∙ append_assoc x.before x.after (advice x.counts) ∙ ap (λ es. es ++ (x.after ++ advice x.counts)) (sym took.1));
         there = λ no_screen. (keeps_now m.program files.overwrite files.output.now x.writes.out events disk (keeps_it no_screen) a).there ∙ ap Some (sym took.0);
         fresh = λ no_screen. (keeps_now m.program files.overwrite files.output.now x.writes.out events disk (keeps_it no_screen) a).fresh;
         others = others_left (is_screen m.program files.output.now) refl;

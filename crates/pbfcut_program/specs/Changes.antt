@@ -45,24 +45,23 @@ abbrev pub OpensWith : Reading → Event → Type 0
 OpensWith r (opened path pass has) = prepend r.bytes r.left ≡ has
 OpensWith r _ = ⊥
 
--- if it is a pass, it read of what IN had when it was opened
+-- if it is a pass, IN had what it read and left when IN was opened, for this pass or another one
 abbrev pub IsOpened : (events : List Event) → Event → Type 0
 IsOpened events (read r) = Has (OpensWith r) events
 IsOpened events _ = Unit {0}
 
--- each pass gave the bytes that IN had when it was opened: the device's word, and not the disk's
+-- no pass gave other bytes than those that IN had when it was opened
 abbrev pub ReadsOpened : List Event → Type 0
 ReadsOpened events = Each (IsOpened events) events
 
 -- ---- a run of `extract`
 
--- OUT took the extract of this file. If OUT is a file, it has what it took, and only with `overwrite` was one there before. Each other file has
--- what it had, but a part that stays, which is new
+-- OUT took the extract of this file, in a run that began with what it had to read of the area. If OUT is a file, it has what it took, and was there
+-- before only if it may be replaced. Each other file has what it had, but a part that stays, which is new
 pub record GivesExtract (m : Manner) (cut : Region) (by : Strategy) (files : Files) (file : List ℕ) (events : List Event) (old : Disk) : Type 0 where
   pub took : TookExtract m cut by file events
-  -- what is cut out was read first, if it was read
-  pub cut_first : (later : List Event) × (events ≡ took.before ++ later)
+  pub area_first : (later : List Event) × (events ≡ took.before ++ later)
   pub there : is_screen m.program files.output.now ≡ false → after events old files.output.now ≡ Some took.bytes
   pub fresh : is_screen m.program files.output.now ≡ false → files.overwrite ≡ false → old files.output.now ≡ None
-  pub others : (path : List ℕ) → (path ≡ files.output.now → ⊥) → (Happened (stays path) events → ⊥) → after events old path ≡ old path
+  pub others : (path : List ℕ) → (is_screen m.program files.output.now ≡ false → path ≡ files.output.now → ⊥) → (Happened (stays path) events → ⊥) → after events old path ≡ old path
   pub parts : (path : List ℕ) → Happened (stays path) events → old path ≡ None

@@ -1,5 +1,5 @@
-//! The laws of files: what a run changes in the file system, if this is as its events say (`AllowsAll`) and nobody else changes it. Names
-//! count as they are written: of another spelling of the same name nothing is said. Like the laws of runs, each is the contract of a
+//! The laws of files: what a run changes in the file system, if that is as the events say (`AllowsAll`) and nobody else changes it.
+//! Names count as they are written: nothing is said of two spellings of one name. Like the laws of runs, each is the contract of a
 //! function that does nothing.
 
 ghost use Rattle.std.specs.Prelude.{◌≡◌, ◌⊎◌, ◌++◌, ℕ, List, Bool, true, false, Some, None, codes};
@@ -18,8 +18,8 @@ ghost use Rattle.pbfcut_program.specs.Files.{AllowsAll, Disk, after};
 ghost use Rattle.pbfcut_program.specs.Program.{IsRun, manner_in};
 ghost use Rattle.pbfcut_program.specs.Taking.{Happened, ReadsOnly};
 
-/// What a user finds after a run that keeps OUT: OUT has all that was written to it, and every other file is as it was. pbfcutz writes OUT as
-/// a part, a file by another name. If the part couldn't be removed, it is left: it is a new file, so no other one is lost by it. Without
+/// What a user finds after a run that keeps OUT: OUT has all that was written to it, and every other file is as it was. pbfcutz writes OUT
+/// by another name first, as a part. A part that couldn't be removed is left, but it is a new file, so no other one is lost by it. Without
 /// `--overwrite` there was nothing by OUT's name before.
 pub fn writes_out()
     ensures there { (program : Program) (overwrite : Bool) (output : List ℕ) (w : Writing)
@@ -38,9 +38,9 @@ pub fn writes_out()
         → AllowsAll disk events → overwrite ≡ false → disk output ≡ None }
 {}
 
-/// What a user finds after a run that fails once it has made OUT: pbfcutz leaves what OUT's name had before, or nothing if it had nothing.
-/// pbfcut leaves a new file, with what was written to it, if all of that went out. Every other file is as it was, and again only a part may be
-/// left, which is new.
+/// What a user finds after a run that fails once it has made OUT: pbfcutz leaves what there was by OUT's name, or nothing if there was
+/// nothing. pbfcut leaves a new file, with all that was written to it, if all of that went out. Every other file is as it was, but a part may
+/// be left, which is new.
 pub fn drops_out()
     ensures pbfcut { (output : List ℕ) (w : Writing) (events : List Event) (disk : Disk)
         → DropsFile Pbfcut output w events → AllowsAll disk events
@@ -58,9 +58,9 @@ pub fn drops_out()
         → (path ≡ output → ⊥) × (disk path ≡ None) }
 {}
 
-/// Nobody ever finds a piece of an OUT of pbfcutz: at each moment, also if the run is killed then, OUT is as it was before, or it has all that was
-/// written to it. While a run goes on that will drop OUT, it is as it was before. Of both programs, every other file that was there keeps
-/// its bytes at each moment.
+/// Nobody ever finds an incomplete OUT of pbfcutz: at each moment, also if the run is killed then, OUT is as it was before, or it has all
+/// that was written to it. In a run that drops OUT it is always as it was before. Of both programs, every other file that was there keeps its
+/// bytes at each moment.
 pub fn always_whole()
     ensures kept { (overwrite : Bool) (output : List ℕ) (w : Writing) (started later : List Event)
         (disk : Disk) → KeepsFile Pbfcutz overwrite output w (started ++ later)
@@ -76,10 +76,10 @@ pub fn always_whole()
         → disk path ≡ Some bytes → after started disk path ≡ Some bytes }
 {}
 
-/// What status 0 of `extract` says of a user's files, if the words are some that `clap` takes, and each pass gave the bytes that IN had when it
-/// was opened: these are the bytes that IN has on the disk. OUT has bytes that mean exactly the extract of them, by the area and the
-/// strategy of the words. Every other file is as it was, but a part may be left, which is new. Without `--overwrite` there was nothing by OUT's
-/// name before. If OUT is standard output, it took the extract, and no file has changed.
+/// What status 0 of `extract` says of a user's files, if `clap` takes the words, and each pass gave bytes that IN had when it was opened:
+/// these are the bytes that IN has on the disk. OUT has bytes that mean exactly the extract of them, by the area and the strategy of the
+/// words. Every other file is as it was, but a part may be left, which is new. Without `--overwrite` there was nothing by OUT's name before.
+/// If OUT is standard output, it took the extract, and no file has changed.
 pub fn run_of_extract()
     ensures reads { (program : Program) (words : List Text) (rows : List Row) (events : List Event)
         (disk : Disk) (file : List ℕ) → takes (program_app program) (normalized words) ≡ true
