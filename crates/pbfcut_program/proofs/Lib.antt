@@ -1,11 +1,14 @@
 pub mod Beginning
 pub mod Closing
+pub mod DiskLemmas
 pub mod EventLemmas
 pub mod FailLemmas
 pub mod FrontLemmas
+pub mod GivingLemmas
 pub mod LeavingLemmas
 pub mod Listings
 pub mod Logging
+pub mod MomentLemmas
 pub mod OutLemmas
 pub mod Meaning
 pub mod Printed

@@ -140,6 +140,11 @@ module _ (file : List ℕ) where
         extract = holds_extract m (strategy_of by) x.area w.work.files x.counts (of_output m w.out.bytes) known.0 w.work.holds;
       }
 
+  -- the bytes are those that OUT took, and what is cut out was read first
+  pub extract_took : (m : Manner) (cut : Region) (by : Strategy) (files : Files) (events : List Event) → (x : Extracts m cut by files events) → (e : ReadsOnly file events) → ((extracts_take m cut by files events x e).bytes ≡ x.writes.out.bytes) × ((extracts_take m cut by files events x e).before ≡ x.before)
+  unfolding extracts_take
+  extract_took m cut by files events x e = (refl, refl)
+
   pub converts_take : (m : Manner) (files : Files) (events : List Event) → Writes m converting files events → ReadsOnly file events → TookConversion m file events
   converts_take m files events w e =
       let known = known_of m converting files w.0 events w.1 e in

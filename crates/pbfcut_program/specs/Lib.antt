@@ -1,3 +1,4 @@
+pub mod Changes
 pub mod Devices
 pub mod Events
 pub mod Fails

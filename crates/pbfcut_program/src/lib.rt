@@ -3,6 +3,7 @@
 
 mod ending;
 mod engine;
+pub mod file_laws;
 mod host;
 mod jobs;
 pub mod laws;

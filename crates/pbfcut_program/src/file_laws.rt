@@ -1,0 +1,96 @@
+//! The laws of files: what a run changes in the file system, if that is as the events say (`AllowsAll`) and nobody else changes it.
+//! Names count as they are written: nothing is said of two spellings of one name. Like the laws of runs, each is the contract of a
+//! function that does nothing.
+
+ghost use Rattle.std.specs.Prelude.{◌≡◌, ◌⊎◌, ◌++◌, ℕ, List, Bool, true, false, Some, None, codes};
+ghost use Rattle.clap.specs.Words.{Row, Text, subcommand_of, takes};
+ghost use Rattle.pbfcut_cli.specs.Joined.{normalized};
+ghost use Rattle.pbfcut_cli.specs.Words.{ReadsAs, argument_value, program_app};
+ghost use Rattle.pbfcut_cli.specs.declared.programs.Program.{Program};
+ghost use Rattle.pbfcut_cli.specs.declared.programs.Program.TheVariants.{Pbfcut, Pbfcutz};
+ghost use Rattle.pbfcut_cli.specs.declared.words.Command.TheVariants.{Extract};
+ghost use Rattle.pbfcut_cli.specs.declared.words.Files.{Files};
+ghost use Rattle.pbfcut_cli.specs.declared.words.Region.{Region};
+ghost use Rattle.pbfcut_cli.specs.declared.words.Strategy.{Strategy};
+ghost use Rattle.pbfcut_program.specs.Changes.{DropsFile, GivesExtract, KeepsFile, ReadsOpened};
+ghost use Rattle.pbfcut_program.specs.Events.{Event, Writing, stays};
+ghost use Rattle.pbfcut_program.specs.Files.{AllowsAll, Disk, after};
+ghost use Rattle.pbfcut_program.specs.Program.{IsRun, manner_in};
+ghost use Rattle.pbfcut_program.specs.Taking.{Happened, ReadsOnly};
+
+/// What a user finds after a run that keeps OUT: OUT has all that was written to it, and every other file is as it was. pbfcutz writes OUT
+/// by another name first, as a part. A part that couldn't be removed is left, but it is a new file, so no other one is lost by it. Without
+/// `--overwrite` there was nothing by OUT's name before.
+pub fn writes_out()
+    ensures there { (program : Program) (overwrite : Bool) (output : List ℕ) (w : Writing)
+        (events : List Event) (disk : Disk) → KeepsFile program overwrite output w events
+        → AllowsAll disk events → after events disk output ≡ Some w.bytes }
+    ensures others { (program : Program) (overwrite : Bool) (output : List ℕ) (w : Writing)
+        (events : List Event) (disk : Disk) → KeepsFile program overwrite output w events
+        → AllowsAll disk events → (path : List ℕ) → (path ≡ output → ⊥)
+        → (Happened (stays path) events → ⊥) → after events disk path ≡ disk path }
+    ensures parts { (program : Program) (overwrite : Bool) (output : List ℕ) (w : Writing)
+        (events : List Event) (disk : Disk) → KeepsFile program overwrite output w events
+        → AllowsAll disk events → (path : List ℕ) → Happened (stays path) events
+        → (path ≡ output → ⊥) × (disk path ≡ None) }
+    ensures fresh { (program : Program) (overwrite : Bool) (output : List ℕ) (w : Writing)
+        (events : List Event) (disk : Disk) → KeepsFile program overwrite output w events
+        → AllowsAll disk events → overwrite ≡ false → disk output ≡ None }
+{}
+
+/// What a user finds after a run that fails once it has made OUT: pbfcutz leaves what there was by OUT's name, or nothing if there was
+/// nothing. pbfcut leaves a new file, with all that was written to it, if all of that went out. Every other file is as it was, but a part may
+/// be left, which is new.
+pub fn drops_out()
+    ensures pbfcut { (output : List ℕ) (w : Writing) (events : List Event) (disk : Disk)
+        → DropsFile Pbfcut output w events → AllowsAll disk events
+        → (disk output ≡ None) × (w.fault ≡ None → after events disk output ≡ Some w.bytes) }
+    ensures pbfcutz { (output : List ℕ) (w : Writing) (events : List Event) (disk : Disk)
+        → DropsFile Pbfcutz output w events → AllowsAll disk events
+        → after events disk output ≡ disk output }
+    ensures others { (program : Program) (output : List ℕ) (w : Writing) (events : List Event)
+        (disk : Disk) → DropsFile program output w events → AllowsAll disk events
+        → (path : List ℕ) → (path ≡ output → ⊥) → (Happened (stays path) events → ⊥)
+        → after events disk path ≡ disk path }
+    ensures parts { (program : Program) (output : List ℕ) (w : Writing) (events : List Event)
+        (disk : Disk) → DropsFile program output w events → AllowsAll disk events
+        → (path : List ℕ) → Happened (stays path) events
+        → (path ≡ output → ⊥) × (disk path ≡ None) }
+{}
+
+/// Nobody ever finds an incomplete OUT of pbfcutz: at each moment, also if the run is killed then, OUT is as it was before, or it has all
+/// that was written to it. In a run that drops OUT it is always as it was before. Of both programs, every other file that was there keeps its
+/// bytes at each moment.
+pub fn always_whole()
+    ensures kept { (overwrite : Bool) (output : List ℕ) (w : Writing) (started later : List Event)
+        (disk : Disk) → KeepsFile Pbfcutz overwrite output w (started ++ later)
+        → (after started disk output ≡ disk output) ⊎ (after started disk output ≡ Some w.bytes) }
+    ensures dropped { (output : List ℕ) (w : Writing) (started later : List Event) (disk : Disk)
+        → DropsFile Pbfcutz output w (started ++ later)
+        → after started disk output ≡ disk output }
+    ensures others { (program : Program) (overwrite : Bool) (output : List ℕ) (w : Writing)
+        (started later : List Event) (disk : Disk)
+        → KeepsFile program overwrite output w (started ++ later)
+        ⊎ DropsFile program output w (started ++ later)
+        → AllowsAll disk (started ++ later) → (path bytes : List ℕ) → (path ≡ output → ⊥)
+        → disk path ≡ Some bytes → after started disk path ≡ Some bytes }
+{}
+
+/// What status 0 of `extract` says of a user's files, if `clap` takes the words, and each pass gave bytes that IN had when it was opened:
+/// these are the bytes that IN has on the disk. OUT has bytes that mean exactly the extract of them, by the area and the strategy of the
+/// words. Every other file is as it was, but a part may be left, which is new. Without `--overwrite` there was nothing by OUT's name before.
+/// If OUT is standard output, it took the extract, and no file has changed.
+pub fn run_of_extract()
+    ensures reads { (program : Program) (words : List Text) (rows : List Row) (events : List Event)
+        (disk : Disk) (file : List ℕ) → takes (program_app program) (normalized words) ≡ true
+        → subcommand_of (program_app program) (normalized words) ≡ Some (codes "extract", rows)
+        → IsRun program words events 0 → AllowsAll disk events → ReadsOpened events
+        → disk (argument_value (codes "IN") rows) ≡ Some file → ReadsOnly file events }
+    ensures gives { (program : Program) (words : List Text) (rows : List Row) (events : List Event)
+        (disk : Disk) (file : List ℕ) → takes (program_app program) (normalized words) ≡ true
+        → subcommand_of (program_app program) (normalized words) ≡ Some (codes "extract", rows)
+        → IsRun program words events 0 → AllowsAll disk events → ReadsOpened events
+        → disk (argument_value (codes "IN") rows) ≡ Some file → (cut : Region) × (by : Strategy)
+        × (files : Files) × ReadsAs (codes "extract") rows (Extract cut by files)
+        × GivesExtract (manner_in program (Extract cut by files)) cut by files file events disk }
+{}
