@@ -1,5 +1,5 @@
 -- What was done to files, put together.
-use Rattle.std.proofs.Common.{arith, ◌≡◌, ◌∙◌, ◌⊎◌, inl, inr, ℕ, List, [], ◌∷◌, ◌++◌, map, Bool, true, Option, Some, None, Result, Ok, Err, refl, ap, subst, sym, append_assoc}
+use Rattle.std.proofs.Common.{arith, ◌≡◌, ◌∙◌, ◌⊎◌, inl, inr, ℕ, List, [], ◌∷◌, ◌++◌, map, Bool, false, true, Option, Some, None, Result, Ok, Err, refl, ap, subst, sym, append_assoc}
 use Rattle.clap.specs.Words.{Text}
 use Rattle.pbf_frame.specs.declared.device.Drain as drain
 use Rattle.pbf_frame.specs.declared.device.Feed as feed
@@ -9,12 +9,13 @@ use Rattle.pbfcut_cli.specs.declared.words.Command.{Command}
 use Rattle.pbfcut_cli.specs.declared.words.Command.TheVariants.{Blobs, Check, Convert, Extract, Help, Info, Pack, Show, Unpack}
 use Rattle.pbfcut_cli.specs.declared.words.Files.{Files}
 use Rattle.pbfcut_program.specs.declared.host.FinishFault.{FinishFault}
+use Rattle.pbfcut_program.specs.Changes.{DropsFile, HasOneFile, KeepsFile}
 use Rattle.pbfcut_program.specs.Devices.{CloseAll, Finishes}
 use Rattle.pbfcut_program.specs.Events.{Event, Reading, Writing, read, seeded, then_all, then_one, wrote}
 use Rattle.pbfcut_program.specs.Fails.{Calm, Each}
 use Rattle.pbfcut_program.specs.Files.{EndsOut, IsDropped, IsKept, IsMade, Still}
 use Rattle.pbfcut_program.specs.Program.{begun, is_screen, looks, openings}
-use Rattle.pbfcut_program.specs.Settling.{IsEnded, IsStill, Returns, RunSettles, Settled, Settles, SettlesIn}
+use Rattle.pbfcut_program.specs.Settling.{HandlesOut, IsEnded, IsStill, Returns, RunSettles, Settles, SettlesIn}
 use Rattle.pbfcut_program.specs.Telling.{Tells}
 use Rattle.pbfcut_program.proofs.Beginning.{calm_looks, calm_openings}
 use Rattle.pbfcut_program.proofs.Closing.{close_rest}
@@ -78,10 +79,49 @@ is_ended program files out result ends kept e = of (kept_or_dropped program file
 
 -- ---- around what was done
 
-settled_events : (a makes rs w last : List Event) (s : Event) → (a ++ s ∷ makes) ++ ((rs ++ w) ++ last) ≡ ((((a ++ s ∷ []) ++ makes) ++ rs) ++ w) ++ last
-settled_events a makes rs w last s =
-    let first = (a ++ s ∷ []) ++ makes in
-    ap (λ x. x ++ ((rs ++ w) ++ last)) (sym (append_assoc a (s ∷ []) makes)) ∙ sym (append_assoc first (rs ++ w) last) ∙ ap (λ x. x ++ last) (sym (append_assoc first rs w))
+some_none : (name : List ℕ) → Some name ≡ None → ⊥
+some_none name h = cc
+
+kept_screen : (program : Program) (overwrite : Bool) (output : List ℕ) (name : Option (List ℕ)) (ends : List Event) → name ≡ None → IsKept program overwrite output name ends → ends ≡ []
+kept_screen program overwrite output None ends none k = k
+kept_screen program overwrite output (Some name) ends none k = absurd (some_none name none)
+
+dropped_screen : (program : Program) (name : Option (List ℕ)) (ends : List Event) → name ≡ None → IsDropped program name ends → ends ≡ []
+dropped_screen program None ends none d = d
+dropped_screen program (Some name) ends none d = absurd (some_none name none)
+
+ended_screen : (program : Program) (files : Files) (out : Writing) (ends : List Event) → out.name ≡ None → IsEnded program files out ends → Each Still ends
+ended_screen program files out ends none (inl k) = subst (λ es. Each Still es) (sym (kept_screen program files.overwrite files.output.now out.name ends none k.2)) tt
+ended_screen program files out ends none (inr d) = subst (λ es. Each Still es) (sym (dropped_screen program out.name ends none d)) tt
+
+-- the events of a command that writes
+module _ (a makes rs ends last : List Event) (s : Event) (out : Writing) where
+  abbrev all : List Event
+  all = (a ++ s ∷ makes) ++ ((rs ++ wrote out ∷ ends) ++ last)
+
+  file_events : all ≡ (a ++ s ∷ []) ++ (makes ++ (rs ++ (wrote out ∷ (ends ++ last))))
+  file_events =
+      let first = a ++ s ∷ [] in
+      let rest = (rs ++ wrote out ∷ ends) ++ last in
+      ap (λ x. x ++ rest) (sym (append_assoc a (s ∷ []) makes)) ∙ append_assoc first makes rest ∙ ap (λ x. first ++ (makes ++ x)) (append_assoc rs (wrote out ∷ ends) last)
+
+  handled : (program : Program) (files : Files) → Each Still (a ++ s ∷ []) → Each Still rs → Each Still last → IsMade program false files.output.now out.name makes → IsEnded program files out ends → HandlesOut program files all
+  handled program files p q t m e = (out, of e) where
+    file : HasOneFile program files.output.now out ends all
+    file = record { before = a ++ s ∷ []; makes = makes; between = rs; last = last; happened = file_events; is_made = m; still = (p, q, t) }
+
+    of : IsEnded program files out ends → KeepsFile program files.overwrite files.output.now out all ⊎ DropsFile program files.output.now out all
+    of (inl k) = inl (record { keeps = ends; file = file; is_kept = k.2; kept = k.0; whole = k.1 })
+    of (inr d) = inr (record { drops = ends; file = file; is_dropped = d })
+
+  screened_still : (program : Program) (files : Files) → Each Still a → Still s → Each Still rs → Each Still last → IsMade program true files.output.now out.name makes → IsEnded program files out ends → Each Still all
+  screened_still program files p q r t m e = each_both Still (a ++ s ∷ makes) ((rs ++ wrote out ∷ ends) ++ last)
+      (each_both Still a (s ∷ makes) p (q, subst (λ es. Each Still es) (sym m.1) (tt, tt)))
+      (each_both Still (rs ++ wrote out ∷ ends) last (each_both Still rs (wrote out ∷ ends) r (m.0, ended_screen program files out ends m.0 e)) t)
+
+  settled : (program : Program) (files : Files) (is : Bool) → Each Still a → Still s → Each Still rs → Each Still last → IsMade program is files.output.now out.name makes → IsEnded program files out ends → Each Still all ⊎ HandlesOut program files all
+  settled program files true p q r t m e = inl (screened_still program files p q r t m e)
+  settled program files false p q r t m e = inr (handled program files (each_both Still a (s ∷ []) p (q, tt)) r t m e)
 
 pub write_settles : (program : Program) (files : Files) (has : List (Option (List ℕ))) (key : ℕ) (name : Option (List ℕ)) (l m n : Option (List Event))
     → ((makes : List Event) × (m ≡ then_all l (begun (is_screen program files.output.now) files has key makes)) × IsMade program (is_screen program files.output.now) files.output.now name makes) → Returns program files name m n → Settles program files l n
@@ -90,61 +130,60 @@ write_settles program files has key name l m n ready r =
     let opens = openings files.input.now 1 has in
     let a : List Event = looks is files ++ opens in
     let rs : List Event = map (λ r. read r) r.0 in
-    let w : List Event = wrote r.1 ∷ r.2 in
-    let s = seeded (Some key) in (
-      (a ++ s ∷ ready.0) ++ ((rs ++ w) ++ r.3),
-      and_then l m n (a ++ s ∷ ready.0) ((rs ++ w) ++ r.3) ready.1 r.4,
-      inr (record {
-        before = a ++ s ∷ [];
-        makes = ready.0;
-        between = rs;
-        out = r.1;
-        ends = r.2;
-        last = r.3;
-        happened = settled_events a ready.0 rs w r.3 s;
-        still = (still_of (a ++ s ∷ []) (each_both Calm a (s ∷ []) (each_both Calm (looks is files) opens (calm_looks is files) (calm_openings files.input.now 1 has)) (tt, tt)), reads_still r.0, r.5);
-        made = subst (λ (n : Option (List ℕ)). IsMade program is files.output.now n ready.0) (sym r.6) ready.2;
-        ended = r.7;
-      }),
+    let s = seeded (Some key) in
+    let still = still_of a (each_both Calm (looks is files) opens (calm_looks is files) (calm_openings files.input.now 1 has)) in (
+      (a ++ s ∷ ready.0) ++ ((rs ++ wrote r.1 ∷ r.2) ++ r.3),
+      and_then l m n (a ++ s ∷ ready.0) ((rs ++ wrote r.1 ∷ r.2) ++ r.3) ready.1 r.4,
+      settled a ready.0 rs r.2 r.3 s r.1 program files is still tt (reads_still r.0) r.5 (subst (λ (n : Option (List ℕ)). IsMade program is files.output.now n ready.0) (sym r.6) ready.2) r.7,
     )
 
 pub still_settles : (program : Program) (files : Files) (l m : Option (List Event)) → IsStill l m → Settles program files l m
 still_settles program files l m s = (s.0, s.1, inl s.2)
 
-before_settled : (xs b m n w last : List Event) → xs ++ ((((b ++ m) ++ n) ++ w) ++ last) ≡ ((((xs ++ b) ++ m) ++ n) ++ w) ++ last
-before_settled xs b m n w last =
-    sym (append_assoc xs (((b ++ m) ++ n) ++ w) last)
-    ∙ ap (λ x. x ++ last) (sym (append_assoc xs ((b ++ m) ++ n) w) ∙ ap (λ x. x ++ w) (sym (append_assoc xs (b ++ m) n) ∙ ap (λ x. x ++ n) (sym (append_assoc xs b m))))
+module _ (program : Program) (output : List ℕ) (w : Writing) (part events more : List Event) (still : Each Still more) where
+  file_after : HasOneFile program output w part events → HasOneFile program output w part (more ++ events)
+  file_after f =
+      let rest = f.makes ++ (f.between ++ (wrote w ∷ (part ++ f.last))) in
+      record {
+        before = more ++ f.before;
+        makes = f.makes;
+        between = f.between;
+        last = f.last;
+        happened = ap (λ es. more ++ es) f.happened ∙ sym (append_assoc more f.before rest);
+        is_made = f.is_made;
+        still = (each_both Still more f.before still f.still.0, f.still.1, f.still.2);
+      }
+
+  file_before : HasOneFile program output w part events → HasOneFile program output w part (events ++ more)
+  file_before f =
+      let filling : List Event = wrote w ∷ (part ++ f.last) in
+      record {
+        before = f.before;
+        makes = f.makes;
+        between = f.between;
+        last = f.last ++ more;
+        happened = ap (λ es. es ++ more) f.happened ∙ append_assoc f.before (f.makes ++ (f.between ++ filling)) more ∙ ap (λ x. f.before ++ x) (append_assoc f.makes (f.between ++ filling) more
+        ∙ ap (λ x. f.makes ++ x) (append_assoc f.between filling more ∙ ap (λ x. f.between ++ (wrote w ∷ x)) (append_assoc part f.last more)));
+        is_made = f.is_made;
+        still = (f.still.0, f.still.1, each_both Still f.last more f.still.2 still);
+      }
+
+module _ (program : Program) (files : Files) (events more : List Event) (still : Each Still more) where
+  handles_after : HandlesOut program files events → HandlesOut program files (more ++ events)
+  handles_after (w, inl k) = (w, inl (record { keeps = k.keeps; file = file_after program files.output.now w k.keeps events more still k.file; is_kept = k.is_kept; kept = k.kept; whole = k.whole }))
+  handles_after (w, inr d) = (w, inr (record { drops = d.drops; file = file_after program files.output.now w d.drops events more still d.file; is_dropped = d.is_dropped }))
+
+  handles_before : HandlesOut program files events → HandlesOut program files (events ++ more)
+  handles_before (w, inl k) = (w, inl (record { keeps = k.keeps; file = file_before program files.output.now w k.keeps events more still k.file; is_kept = k.is_kept; kept = k.kept; whole = k.whole }))
+  handles_before (w, inr d) = (w, inr (record { drops = d.drops; file = file_before program files.output.now w d.drops events more still d.file; is_dropped = d.is_dropped }))
 
 pub settles_after : (program : Program) (files : Files) (l m n : Option (List Event)) → IsStill l m → Settles program files m n → Settles program files l n
 settles_after program files l m n s (events, e, inl t) = (s.0 ++ events, and_then l m n s.0 events s.1 e, inl (each_both Still s.0 events s.2 t))
-settles_after program files l m n s (events, e, inr t) = (s.0 ++ events, and_then l m n s.0 events s.1 e, inr (record {
-  before = s.0 ++ t.before;
-  makes = t.makes;
-  between = t.between;
-  out = t.out;
-  ends = t.ends;
-  last = t.last;
-  happened = ap (λ es. s.0 ++ es) t.happened ∙ before_settled s.0 t.before t.makes t.between (wrote t.out ∷ t.ends) t.last;
-  still = (each_both Still s.0 t.before s.2 t.still.0, t.still.1, t.still.2);
-  made = t.made;
-  ended = t.ended;
-}))
+settles_after program files l m n s (events, e, inr t) = (s.0 ++ events, and_then l m n s.0 events s.1 e, inr (handles_after program files events s.0 s.2 t))
 
 pub settles_before : (program : Program) (files : Files) (l m n : Option (List Event)) → Settles program files l m → IsStill m n → Settles program files l n
 settles_before program files l m n (events, e, inl t) s = (events ++ s.0, and_then l m n events s.0 e s.1, inl (each_both Still events s.0 t s.2))
-settles_before program files l m n (events, e, inr t) s = (events ++ s.0, and_then l m n events s.0 e s.1, inr (record {
-  before = t.before;
-  makes = t.makes;
-  between = t.between;
-  out = t.out;
-  ends = t.ends;
-  last = t.last ++ s.0;
-  happened = ap (λ es. es ++ s.0) t.happened ∙ append_assoc (((t.before ++ t.makes) ++ t.between) ++ wrote t.out ∷ t.ends) t.last s.0;
-  still = (t.still.0, t.still.1, each_both Still t.last s.0 t.still.2 s.2);
-  made = t.made;
-  ended = t.ended;
-}))
+settles_before program files l m n (events, e, inr t) s = (events ++ s.0, and_then l m n events s.0 e s.1, inr (handles_before program files events s.0 s.2 t))
 
 settles_in_before : (program : Program) (command : Command) (l m n : Option (List Event)) → SettlesIn program command l m → IsStill m n → SettlesIn program command l n
 settles_in_before program (Convert files) l m n t s = settles_before program files l m n t s

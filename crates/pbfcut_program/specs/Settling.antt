@@ -1,39 +1,31 @@
 -- What a run did to files, however it ended.
-use Rattle.std.specs.Prelude.{◌≡◌, ◌⊎◌, ℕ, List, ◌∷◌, ◌++◌, map, Bool, true, Option, None}
+use Rattle.std.specs.Prelude.{◌≡◌, ◌⊎◌, ℕ, List, ◌∷◌, ◌++◌, map, true, Option, None}
 use Rattle.clap.specs.Words.{Text}
 use Rattle.pbfcut_cli.specs.declared.programs.Program.{Program}
 use Rattle.pbfcut_cli.specs.declared.words.Command.{Command}
 use Rattle.pbfcut_cli.specs.declared.words.Command.TheVariants.{Convert, Extract, Pack, Unpack}
 use Rattle.pbfcut_cli.specs.declared.words.Files.{Files}
+use Rattle.pbfcut_program.specs.Changes.{DropsFile, KeepsFile}
 use Rattle.pbfcut_program.specs.Events.{Event, Reading, Writing, read, wrote, then_all}
 use Rattle.pbfcut_program.specs.Fails.{Each}
-use Rattle.pbfcut_program.specs.Files.{IsDropped, IsKept, IsMade, Still}
-use Rattle.pbfcut_program.specs.Program.{IsMeant, is_screen}
+use Rattle.pbfcut_program.specs.Files.{IsDropped, IsKept, Still}
+use Rattle.pbfcut_program.specs.Program.{IsMeant}
 
 -- nothing was done to any
 abbrev pub IsStill : (before after : Option (List Event)) → Type 0
 IsStill before after = (events : List Event) × (after ≡ then_all before events) × Each Still events
 
+-- OUT is a file that is kept, or dropped
+abbrev pub HandlesOut : Program → Files → List Event → Type 0
+HandlesOut program files events = (w : Writing) × (KeepsFile program files.overwrite files.output.now w events ⊎ DropsFile program files.output.now w events)
+
+-- that was done, or nothing
+abbrev pub Settles : Program → Files → (before after : Option (List Event)) → Type 0
+Settles program files before after = (events : List Event) × (after ≡ then_all before events) × (Each Still events ⊎ HandlesOut program files events)
+
 -- OUT is kept, if it took all that it was to take, and all of that went out; or it is dropped
 abbrev pub IsEnded : Program → Files → Writing → List Event → Type 0
 IsEnded program files out ends = ((out.kept ≡ true) × (out.fault ≡ None) × IsKept program files.overwrite files.output.now out.name ends) ⊎ IsDropped program out.name ends
-
--- OUT was made, took what it took, and was kept or dropped; and nothing else was done
-pub record Settled (program : Program) (files : Files) (events : List Event) : Type 0 where
-  pub before : List Event
-  pub makes : List Event
-  pub between : List Event
-  pub out : Writing
-  pub ends : List Event
-  pub last : List Event
-  pub happened : events ≡ before ++ makes ++ between ++ wrote out ∷ ends ++ last
-  pub still : Each Still before × Each Still between × Each Still last
-  pub made : IsMade program (is_screen program files.output.now) files.output.now out.name makes
-  pub ended : IsEnded program files out ends
-
--- that, or nothing
-abbrev pub Settles : Program → Files → (before after : Option (List Event)) → Type 0
-Settles program files before after = (events : List Event) × (after ≡ then_all before events) × (Each Still events ⊎ Settled program files events)
 
 -- IN was returned, and then OUT, which has this name
 abbrev pub Returns : Program → Files → (name : Option (List ℕ)) → (before after : Option (List Event)) → Type 0
