@@ -66,10 +66,8 @@ kept_or_dropped : {A : Type 0} (program : Program) (overwrite : Bool) (output : 
 kept_or_dropped program overwrite output name (Some why) (Ok a) ends e = absurd e
 kept_or_dropped program overwrite output name (Some why) (Err told) ends e = inr e.1
 kept_or_dropped program overwrite output name None (Ok a) ends e = inl (refl, e)
-kept_or_dropped program overwrite output name None (Err told) ends e = of e.1 where
-  of : (IsDropped program name ends ⊎ IsKept program overwrite output name ends) → ((None ≡ None) × IsKept program overwrite output name ends) ⊎ IsDropped program name ends
-  of (inl dropped) = inr dropped
-  of (inr kept) = inl (refl, kept)
+kept_or_dropped program overwrite output name None (Err told) ends (cause, inl dropped) = inr dropped
+kept_or_dropped program overwrite output name None (Err told) ends (cause, inr kept) = inl (refl, kept)
 
 pub is_ended : {A : Type 0} (program : Program) (files : Files) (out : Writing) (result : Result A FinishFault) (ends : List Event) → out.kept ≡ true → EndsOut program files.overwrite files.output.now out.name out.fault result ends → IsEnded program files out ends
 is_ended program files out result ends kept e = of (kept_or_dropped program files.overwrite files.output.now out.name out.fault result ends e) where

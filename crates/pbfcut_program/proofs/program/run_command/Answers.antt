@@ -74,3 +74,9 @@ returns-in-Extract-clause-files g c = rw c.in-Extract.is c.run_extract.ensures.f
 
 pub returns-in-Convert-clause-files : goal.returns-in-Convert-clause-files
 returns-in-Convert-clause-files g c = rw c.in-Convert.is c.run_writing.ensures.files
+
+pub returns-in-Pack-clause-ok : goal.returns-in-Pack-clause-ok
+returns-in-Pack-clause-ok g c = rw c.in-Pack.is c.run_writing-in-Pack.ensures.ok
+
+pub returns-in-Pack-clause-err : goal.returns-in-Pack-clause-err
+returns-in-Pack-clause-err g c = rw c.in-Pack.is (IfErr-weaker c.run_writing-in-Pack.result _ _ (λ how f. (f.0, f.1, (f.2, f.3))) c.run_writing-in-Pack.ensures.err)

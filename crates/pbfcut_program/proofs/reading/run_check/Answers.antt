@@ -1,6 +1,8 @@
 use Rattle.std.proofs.Common.{[], ◌∷◌, List, refl}
 use Rattle.std.proofs.lemmas.Result.{IfErr-weaker, on_ok_weaker}
 use Rattle.pbf_pass.specs.Judged.{judged_file}
+use Rattle.pbfcut_program.specs.declared.host.Screen.TheVariants.{Output}
+use Rattle.pbfcut_program.specs.Program.{check_lines, counts_text}
 use Rattle.pbfcut_program.specs.Events.{Event, opened, read}
 use Rattle.pbfcut_program.specs.Fails.{judging}
 use Rattle.pbfcut_program.specs.Manner.{manner_of}
@@ -30,4 +32,6 @@ returns-clause-err g c =
     IfErr-weaker c.print_checked.result _ _ (λ how f. print_fails (manner_of c.args.engine) (judging judged_file) how (log c.args.host.now) _ _ first d.2 f) (tells_err _ _ _ c.print_checked.result c.print_checked.ensures)
 
 pub returns-clause-files : goal.returns-clause-files
-returns-clause-files g c = still_then _ _ _ c.in_ok-report.ensures.files (told_still _ _ _ c.print_checked.result c.print_checked.ensures (calm_prints _ _))
+returns-clause-files g c =
+    let r = c.in_ok-report.report in
+    still_then _ _ _ c.in_ok-report.ensures.files (told_still _ _ _ c.print_checked.result c.print_checked.ensures (calm_prints Output (counts_text r.counts ∷ check_lines c.args.engine.digests r.input r.raw c.args.path.now)))

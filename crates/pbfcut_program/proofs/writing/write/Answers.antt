@@ -152,11 +152,13 @@ returns-in_err-print_done-clause-files g c =
     let ready = c.in_ok-ready.ready in
     let program = c.args.engine.program in
     let files = c.args.files.now in
-    settles_before program files _ _ _ (write_settles program files (map g.H.In.Feed.remaining (feeds_of ready.job)) ready.seed.key _ _ _ _ c.in_ok-ready.ensures.ok c.in_ok-done.ensures.files) (told_still _ _ _ c.print_done.result c.print_done.ensures (calm_prints _ _))
+    let done = c.in_ok-done.done in
+    settles_before program files _ _ _ (write_settles program files (map g.H.In.Feed.remaining (feeds_of ready.job)) ready.seed.key _ _ _ _ c.in_ok-ready.ensures.ok c.in_ok-done.ensures.files) (told_still _ _ _ c.print_done.result c.print_done.ensures (calm_prints c.screen_of-screen.result (counts_text done.report.counts ∷ done_lines done.output done.meaning done.report.input done.report.raw files.input.now files.output.now)))
 
 pub returns-clause-files : goal.returns-clause-files
 returns-clause-files g c =
     let ready = c.in_ok-ready.ready in
     let program = c.args.engine.program in
     let files = c.args.files.now in
-    settles_before program files _ _ _ (write_settles program files (map g.H.In.Feed.remaining (feeds_of ready.job)) ready.seed.key _ _ _ _ c.in_ok-ready.ensures.ok c.in_ok-done.ensures.files) (told_still _ _ _ c.print_done.result c.print_done.ensures (calm_prints _ _))
+    let done = c.in_ok-done.done in
+    settles_before program files _ _ _ (write_settles program files (map g.H.In.Feed.remaining (feeds_of ready.job)) ready.seed.key _ _ _ _ c.in_ok-ready.ensures.ok c.in_ok-done.ensures.files) (told_still _ _ _ c.print_done.result c.print_done.ensures (calm_prints c.screen_of-screen.result (counts_text done.report.counts ∷ done_lines done.output done.meaning done.report.input done.report.raw files.input.now files.output.now)))
