@@ -7,13 +7,6 @@ use std::io::IsTerminal;
 /// How many names of a folder are read for this.
 const MOST_NAMES: usize = 10_000;
 
-/// How the name of a part begins: what comes before the numbers of its process and of its try.
-fn start_of(part: &str) -> Option<&str> {
-    let (start, _number) = part.strip_suffix(".part")?.rsplit_once('.')?;
-    let (start, _process) = start.rsplit_once('.')?;
-    Some(start)
-}
-
 /// The process of the run that made the part of this name, if it is one of OUT's.
 fn process_of(name: &str, output: &str) -> Option<u32> {
     let numbers = name
@@ -50,16 +43,12 @@ fn left_part(rt: &HostRuntime, output: &str) -> Option<String> {
     None
 }
 
-/// Says on a terminal that a part of the same OUT as this one was left.
-pub fn tell_left(rt: &HostRuntime, part: &str) {
+/// Says on a terminal that a part of OUT was left.
+pub fn tell_left(rt: &HostRuntime, output: &str) {
     if !rt.stderr().is_terminal() {
         return;
     }
-    let left = match start_of(part) {
-        Some(output) => left_part(rt, output),
-        None => None,
-    };
-    if let Some(part) = left {
+    if let Some(part) = left_part(rt, output) {
         let _ = eprintln!(rt;
             "hint: {part} is what another run wrote: remove it, if that run has ended"
         );

@@ -28,6 +28,8 @@ pub(crate) struct Os<'a> {
     /// The file of the polygon and IN, if the run has read them and they are plain files.
     area: Option<Identity>,
     input: Option<Identity>,
+    /// The path of an OUT that gets its name late, for a hint.
+    output: Option<String>,
     /// What the run would have spoiled, for a hint.
     spoiled: Option<Spoiled>,
     /// The last write that failed, for a hint.
@@ -41,6 +43,7 @@ impl<'a> Os<'a> {
             program,
             area: None,
             input: None,
+            output: None,
             spoiled: None,
             failed: None,
         }
@@ -177,6 +180,7 @@ impl Host for Os<'_> {
             return Err(CreateFault::Failed);
         }
         tell_form(self.rt, self.program, path);
+        self.output = String::from_str(self.rt.alloc(), path).ok();
         match replaces(self.rt, path, overwrite) {
             Some(is_there) => Ok(is_there),
             None => Err(self.unmade(path, overwrite)),
@@ -189,8 +193,8 @@ impl Host for Os<'_> {
         }
         match make_file(self.rt, name, replaced) {
             Ok(output) => {
-                if self.program == Program::Pbfcutz {
-                    tell_left(self.rt, name);
+                if let Some(output) = &self.output {
+                    tell_left(self.rt, output.as_str());
                 }
                 Ok(OutFile::new(output))
             }
