@@ -55,8 +55,8 @@ pub fn make_file(rt: &HostRuntime, name: &str, replaced: Option<&str>) -> io::Re
     made
 }
 
-/// Gives a file a name that none has, and takes the other one from it, where a file has one name only: an empty file takes the name first, and
-/// the whole one is put in its place. It has no other name then: the one that it had may be another file's by now.
+/// Gives a file a name that none has, and takes the other one from it: for a file system without links. An empty file takes the name first, and the
+/// whole one is put in its place. It has no other name then: the one that it had may be another file's by now.
 pub fn move_new(rt: &HostRuntime, from: &str, to: &str) -> io::Result<()> {
     open_new(rt, to, NEW_MODE)?;
     let moved = fs::rename(rt, from, to);

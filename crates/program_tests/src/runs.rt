@@ -49,7 +49,7 @@ fn prepared<R: Abort + AllocGlobal>(rt: &R, file: &[u8]) -> Result<Vec<Happened>
     Ok(events)
 }
 
-/// Adds the passes over the three nodes. No node comes after a way, so nothing is read in the second.
+/// Adds the passes, which read the three nodes. No node comes after a way, so nothing is read in the second.
 pub(crate) fn add_passes<R: Abort + AllocGlobal>(
     rt: &R,
     events: &mut Vec<Happened>,
