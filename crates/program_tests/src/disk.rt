@@ -143,7 +143,8 @@ impl<'a, R: Abort + AllocGlobal> Disk<'a, R> {
 
     /// Takes a name from a file.
     fn take(&mut self, name: &str) -> Option<Vec<u8>> {
-        let stored = self.files.swap_remove(self.position(name)?);
+        let place = self.position(name)?;
+        let stored = self.files.swap_remove(place);
         Some(stored.bytes)
     }
 
@@ -165,11 +166,11 @@ impl<'a, R: Abort + AllocGlobal> Disk<'a, R> {
 
     /// Lets another run make its file, if it does so now.
     fn let_another(&mut self, now: Moment) {
-        match self.another {
-            Some((moment, name)) if moment == now && self.position(name).is_none() => {
-                self.put(name, copy(self.rt, OTHER));
-            }
-            _ => {}
+        let Some((moment, name)) = self.another else {
+            return;
+        };
+        if moment == now && self.find(name).is_none() {
+            self.put(name, copy(self.rt, OTHER));
         }
     }
 

@@ -63,7 +63,8 @@ impl<'a, R: Abort + AllocGlobal> Recorder<'a, R> {
     fn text(&mut self, path: &str) -> Option<String>
         ensures { self.new.events ≡ self.old.events }
     {
-        if self.disk.is_refused(self.disk.refusals.text) {
+        let refusal = self.disk.refusals.text;
+        if self.disk.is_refused(refusal) {
             return None;
         }
         let text = str::from_utf8(self.disk.find(path)?).ok()?;
@@ -136,7 +137,8 @@ impl<'a, R: Abort + AllocGlobal> Host for Recorder<'a, R> {
     }
 
     fn seed(&mut self) -> Result<Seed<BuildHasherDefault<FoldHasher>>, NotDone> {
-        if self.disk.is_refused(self.disk.refusals.seed) {
+        let refusal = self.disk.refusals.seed;
+        if self.disk.is_refused(refusal) {
             self.record(Happened::Seeded(None));
             return Err(NotDone);
         }
