@@ -39,8 +39,8 @@ pub fn writes_out()
 {}
 
 /// What a user finds after a run that fails once it has made OUT: pbfcutz leaves what there was by OUT's name, or nothing if there was
-/// nothing. pbfcut leaves a new file, with all that was written to it, if all of that went out. Every other file is as it was, but a part may
-/// be left, which is new.
+/// nothing. pbfcut leaves a new file, with all that was written to it, if all of that went out. Every other file is as it was, but a part
+/// may be left, which is new.
 pub fn drops_out()
     ensures pbfcut { (output : List ℕ) (w : Writing) (events : List Event) (disk : Disk)
         → DropsFile Pbfcut output w events → AllowsAll disk events
@@ -59,8 +59,8 @@ pub fn drops_out()
 {}
 
 /// Nobody ever finds an incomplete OUT of pbfcutz: at each moment, also if the run is killed then, OUT is as it was before, or it has all
-/// that was written to it. In a run that drops OUT it is always as it was before. Of both programs, every other file that was there keeps its
-/// bytes at each moment.
+/// that was written to it. In a run that drops OUT it is always as it was before. Of both programs, every other file that was there keeps
+/// its bytes at each moment.
 pub fn always_whole()
     ensures kept { (overwrite : Bool) (output : List ℕ) (w : Writing) (started later : List Event)
         (disk : Disk) → KeepsFile Pbfcutz overwrite output w (started ++ later)
@@ -78,8 +78,8 @@ pub fn always_whole()
 
 /// What status 0 of `extract` says of a user's files, if `clap` takes the words, and each pass gave bytes that IN had when it was opened:
 /// these are the bytes that IN has on the disk. OUT has bytes that mean exactly the extract of them, by the area and the strategy of the
-/// words. Every other file is as it was, but a part may be left, which is new. Without `--overwrite` there was nothing by OUT's name before.
-/// If OUT is standard output, it took the extract, and no file has changed.
+/// words. Every other file is as it was, but a part may be left, which is new. Without `--overwrite` there was nothing by OUT's name
+/// before. If OUT is standard output, it took the extract, and no file has changed.
 pub fn run_of_extract()
     ensures reads { (program : Program) (words : List Text) (rows : List Row) (events : List Event)
         (disk : Disk) (file : List ℕ) → takes (program_app program) (normalized words) ≡ true
