@@ -161,7 +161,7 @@ module _ (program : Program) (output : List ℕ) (w : Writing) (part events more
         between = f.between;
         last = f.last ++ more;
         happened = ap (λ es. es ++ more) f.happened ∙ append_assoc f.before (f.makes ++ (f.between ++ filling)) more ∙ ap (λ x. f.before ++ x) (append_assoc f.makes (f.between ++ filling) more
-        ∙ ap (λ x. f.makes ++ x) (append_assoc f.between filling more ∙ ap (λ x. f.between ++ (wrote w ∷ x)) (append_assoc part f.last more)));
+            ∙ ap (λ x. f.makes ++ x) (append_assoc f.between filling more ∙ ap (λ x. f.between ++ (wrote w ∷ x)) (append_assoc part f.last more)));
         is_made = f.is_made;
         still = (f.still.0, f.still.1, each_both Still f.last more f.still.2 still);
       }
