@@ -2,12 +2,13 @@
 //! Names count as they are written: nothing is said of two spellings of one name. Like the laws of runs, each is the contract of a
 //! function that does nothing.
 
-ghost use Rattle.std.specs.Prelude.{◌≡◌, ◌⊎◌, ◌++◌, ℕ, List, Bool, true, false, Some, None, codes};
+ghost use Rattle.std.specs.Prelude.{[], ◌≡◌, ◌⊎◌, ◌++◌, ℕ, List, Bool, true, false, Some, None, codes};
 ghost use Rattle.clap.specs.Words.{Row, Text, subcommand_of, takes};
 ghost use Rattle.pbfcut_cli.specs.Joined.{normalized};
 ghost use Rattle.pbfcut_cli.specs.Words.{ReadsAs, argument_value, program_app};
 ghost use Rattle.pbfcut_cli.specs.declared.programs.Program.{Program};
 ghost use Rattle.pbfcut_cli.specs.declared.programs.Program.TheVariants.{Pbfcut, Pbfcutz};
+ghost use Rattle.pbfcut_cli.specs.declared.words.Command.{Command};
 ghost use Rattle.pbfcut_cli.specs.declared.words.Command.TheVariants.{Extract};
 ghost use Rattle.pbfcut_cli.specs.declared.words.Files.{Files};
 ghost use Rattle.pbfcut_cli.specs.declared.words.Region.{Region};
@@ -15,7 +16,8 @@ ghost use Rattle.pbfcut_cli.specs.declared.words.Strategy.{Strategy};
 ghost use Rattle.pbfcut_program.specs.Changes.{DropsFile, GivesExtract, KeepsFile, ReadsOpened};
 ghost use Rattle.pbfcut_program.specs.Events.{Event, Writing, stays};
 ghost use Rattle.pbfcut_program.specs.Files.{AllowsAll, Disk, after};
-ghost use Rattle.pbfcut_program.specs.Program.{IsRun, manner_in};
+ghost use Rattle.pbfcut_program.specs.Program.{IsMeant, IsRun, manner_in};
+ghost use Rattle.pbfcut_program.specs.Settling.{HandlesIn, RunSettles};
 ghost use Rattle.pbfcut_program.specs.Taking.{Happened, ReadsOnly};
 
 /// What a user finds after a run that keeps OUT: OUT has all that was written to it, and every other file is as it was. pbfcutz writes OUT
@@ -74,6 +76,16 @@ pub fn always_whole()
         ⊎ DropsFile program output w (started ++ later)
         → AllowsAll disk (started ++ later) → (path bytes : List ℕ) → (path ≡ output → ⊥)
         → disk path ≡ Some bytes → after started disk path ≡ Some bytes }
+{}
+
+/// What any run does to a user's files, however it ends: no file has changed; or OUT was made, and was kept or dropped, as `writes_out` and
+/// `drops_out` say. Only a command that writes a file does that.
+pub fn any_run()
+    ensures { (program : Program) (words : List Text) (events : List Event) (disk : Disk)
+        → RunSettles program words (Some []) (Some events)
+        → ((path : List ℕ) → after events disk path ≡ disk path)
+        ⊎ ((command : Command) × IsMeant program words command
+        × HandlesIn program command events) }
 {}
 
 /// What status 0 of `extract` says of a user's files, if `clap` takes the words, and each pass gave bytes that IN had when it was opened:
