@@ -49,9 +49,9 @@ pub(crate) fn sync_file(file: &File) -> io::Result<()> {
     }
 }
 
-/// Syncs a folder, with the names in it. Some file systems can't, and that is no failure.
-pub(crate) fn sync_folder(folder: Option<&File>) -> io::Result<()> {
-    let Some(folder) = folder else {
+/// Syncs the folder of a file, with the names in it, if it may be read. Some file systems can't, and that is no failure.
+pub fn sync_name(rt: &HostRuntime, path: &str) -> io::Result<()> {
+    let Some(folder) = open_folder(rt, path) else {
         return Ok(());
     };
     match folder.sync_all() {

@@ -32,27 +32,42 @@ pub fn plain_screen(rt: &HostRuntime) -> Option<Identity> {
     plain_file_at(rt, "/proc/self/fd/1")
 }
 
-/// Whether a plain file is there, and no link to one.
-pub(crate) fn is_plain(rt: &HostRuntime, path: &str) -> bool {
+/// What is known of the plain file at a path, if one is there, and no link to one.
+pub(crate) fn plain_metadata(rt: &HostRuntime, path: &str) -> Option<Metadata> {
     match fs::symlink_metadata(rt, path) {
-        Ok(metadata) => metadata.is_file(),
-        Err(_) => false,
+        Ok(metadata) if metadata.is_file() => Some(metadata),
+        _ => None,
     }
+}
+
+/// Whether a plain file is there, and no link to one.
+pub fn is_plain(rt: &HostRuntime, path: &str) -> bool {
+    plain_metadata(rt, path).is_some()
 }
 
 /// Whether an empty plain file is there, and no link to one.
 pub(crate) fn is_empty(rt: &HostRuntime, path: &str) -> bool {
-    match fs::symlink_metadata(rt, path) {
-        Ok(metadata) => metadata.is_file() && metadata.len() == 0,
-        Err(_) => false,
+    match plain_metadata(rt, path) {
+        Some(metadata) => metadata.len() == 0,
+        None => false,
     }
 }
 
 /// Whether something is there that can be opened for reading. A pipe, a device or a socket counts, and is not opened.
-pub(crate) fn is_there(rt: &HostRuntime, path: &str) -> bool {
+fn is_there(rt: &HostRuntime, path: &str) -> bool {
     match fs::metadata(rt, path) {
         Ok(metadata) if metadata.is_file() || metadata.is_dir() => File::open(rt, path).is_ok(),
         Ok(_) => true,
+        Err(_) => false,
+    }
+}
+
+/// Whether something has OUT's name, unless it is a plain file that is to be replaced.
+pub fn is_taken(rt: &HostRuntime, path: &str, overwrite: bool) -> bool {
+    // One look: between two another run may make the file that is to be replaced.
+    match fs::symlink_metadata(rt, path) {
+        Ok(metadata) if overwrite && metadata.is_file() => false,
+        Ok(_) => is_there(rt, path),
         Err(_) => false,
     }
 }

@@ -1,6 +1,8 @@
 //! A plain file that OUT replaces: whether the user may do that, and what the new file takes over from it.
 
+use crate::disk::open_folder;
 use std::fs::{self, File, Metadata, OpenOptions, Permissions};
+use std::io::ErrorKind;
 use std::os::fd::AsRawFd;
 use std::os::unix::fs::{MetadataExt, PermissionsExt, fchown};
 
@@ -36,10 +38,26 @@ fn is_mounted(rt: &HostRuntime, old: &File, folder: Option<&File>) -> bool {
 }
 
 /// Whether the user may write to the file at this path, and another file can get its name. It is opened for writing, and left as it is.
-pub(crate) fn may_replace(rt: &HostRuntime, path: &str, folder: Option<&File>) -> bool {
+fn may_replace(rt: &HostRuntime, path: &str) -> bool {
+    let folder = open_folder(rt, path);
     match OpenOptions::new().write(true).open(rt, path) {
-        Ok(old) => !is_mounted(rt, &old, folder),
+        Ok(old) => !is_mounted(rt, &old, folder.as_ref()),
         Err(_) => false,
+    }
+}
+
+/// Whether OUT is to replace a plain file that is there; `None` if OUT may not be made.
+pub fn replaces(rt: &HostRuntime, path: &str, overwrite: bool) -> Option<bool> {
+    // Without a name there is no file, though there would be a part.
+    if path.is_empty() {
+        return None;
+    }
+    match fs::symlink_metadata(rt, path) {
+        Err(error) if error.kind() == ErrorKind::NotFound => Some(false),
+        // As it isn't reached, or is longer than a name can be.
+        Err(_) => None,
+        Ok(old) if overwrite && old.is_file() && may_replace(rt, path) => Some(true),
+        Ok(_) => None,
     }
 }
 

@@ -220,9 +220,9 @@ module _ (output name bytes : List ℕ) (disk : Disk) where
     -- a part that stays
     part_left : (events : List Event) (now : Disk) → ((p : List ℕ) → Happened (stays p) events → p ≡ name) → Happened (stays name) events → ((p : List ℕ) → (p ≡ name → ⊥) → (p ≡ output → ⊥) → now p ≡ disk p) → IsLeft output disk events now
     part_left events now only is other = record {
-        others = λ p o q. other p (λ h. q (subst (λ (n : List ℕ). Happened (stays n) events) (sym h) is)) o;
-        parts = λ p h. (λ o. differ (sym (only p h) ∙ o), ap disk (only p h) ∙ none);
-      }
+      others = λ p o q. other p (λ h. q (subst (λ (n : List ℕ). Happened (stays n) events) (sym h) is)) o;
+      parts = λ p h. (λ o. differ (sym (only p h) ∙ o), ap disk (only p h) ∙ none);
+    }
 
     -- none does
     none_left : (events : List Event) (now : Disk) → ((p : List ℕ) → Happened (stays p) events → ⊥) → ((p : List ℕ) → (p ≡ output → ⊥) → now p ≡ disk p) → IsLeft output disk events now
@@ -236,10 +236,10 @@ module _ (output name bytes : List ℕ) (disk : Disk) where
       no_part : (p : List ℕ) → Happened (stays p) (linked name output ∷ removed name ∷ []) → ⊥
       no_part p h1 = grind arith
     linked_now overwrite end (inr e) free = subst (λ (x : Event). IsNow overwrite output bytes disk (linked name output ∷ x ∷ []) (changed x both)) (sym e) (record {
-        there = both_whole;
-        fresh = λ o. free;
-        left = part_left (linked name output ∷ stays name ∷ []) both only (inr (inl refl)) both_other;
-      }) where
+      there = both_whole;
+      fresh = λ o. free;
+      left = part_left (linked name output ∷ stays name ∷ []) both only (inr (inl refl)) both_other;
+    }) where
       only : (p : List ℕ) → Happened (stays p) (linked name output ∷ stays name ∷ []) → p ≡ name
       only p h1 = grind arith
 

@@ -171,20 +171,20 @@ module _ (m : Manner) (task : Task) (files : Files) (counts : Counts) (first eve
   -- a file
   pub writes_file : is ≡ false → KeepsFile m.program files.overwrite files.output.now x.out (first ++ events ++ last)
   writes_file no_screen = record {
-      keeps = x.keeps;
-      file = record {
-        before = before;
-        makes = x.makes;
-        between = between;
-        last = printed ++ last;
-        happened = parts_are;
-        is_made = subst (λ (t : Bool). IsMade m.program t files.output.now x.out.name x.makes) no_screen x.made;
-        still = (before_still, reads_still x.rs, last_still);
-      };
-      is_kept = x.named;
-      kept = x.kept;
-      whole = x.whole;
-    }
+    keeps = x.keeps;
+    file = record {
+      before = before;
+      makes = x.makes;
+      between = between;
+      last = printed ++ last;
+      happened = parts_are;
+      is_made = subst (λ (t : Bool). IsMade m.program t files.output.now x.out.name x.makes) no_screen x.made;
+      still = (before_still, reads_still x.rs, last_still);
+    };
+    is_kept = x.named;
+    kept = x.kept;
+    whole = x.whole;
+  }
 
   -- standard output
   pub writes_screen : is ≡ true → Each Still (first ++ events ++ last)
@@ -206,9 +206,11 @@ module _ (m : Manner) (task : Task) (files : Files) (counts : Counts) (first eve
       subst (λ (es : List Event). Each p es) (sym parts_are)
       (each_both p before rest (each_both p first _ f (each_both p (looks is files) _ (looks_open bytes is files) (each_both p (openings files.input.now 1 x.has) (seeded (Some x.key) ∷ []) openings_are (tt, tt))))
       (each_both p x.makes _ (makes_open bytes m.program is files.output.now x.out.name x.makes x.made)
-      (each_both p between _ (reads_open bytes x.rs)
-      (tt, each_both p x.keeps _ (keeps_open bytes m.program files.overwrite files.output.now x.out.name x.keeps x.named)
-      (each_both p printed last (prints_open bytes (screen_of is) lines) l)))))
+      (each_both p between _ (reads_open bytes x.rs) (
+        tt,
+        each_both p x.keeps _ (keeps_open bytes m.program files.overwrite files.output.now x.out.name x.keeps x.named)
+            (each_both p printed last (prints_open bytes (screen_of is) lines) l),
+      ))))
 
 -- ---- a run of `extract`
 

@@ -13,12 +13,13 @@ use Rattle.pbfcut_program.specs.Changes.{DropsFile, HasOneFile, KeepsFile}
 use Rattle.pbfcut_program.specs.Devices.{CloseAll, Finishes}
 use Rattle.pbfcut_program.specs.Events.{Event, Reading, Writing, read, seeded, then_all, then_one, wrote}
 use Rattle.pbfcut_program.specs.Fails.{Calm, Each}
-use Rattle.pbfcut_program.specs.Files.{EndsOut, IsDropped, IsKept, IsMade, Still}
-use Rattle.pbfcut_program.specs.Program.{begun, is_screen, looks, openings}
-use Rattle.pbfcut_program.specs.Settling.{HandlesOut, IsEnded, IsStill, Returns, RunSettles, Settles, SettlesIn}
+use Rattle.pbfcut_program.specs.Files.{Disk, EndsOut, IsDropped, IsKept, IsMade, Still, after}
+use Rattle.pbfcut_program.specs.Program.{IsMeant, begun, is_screen, looks, openings}
+use Rattle.pbfcut_program.specs.Settling.{HandlesIn, HandlesOut, IsEnded, IsStill, Returns, RunSettles, Settles, SettlesIn}
 use Rattle.pbfcut_program.specs.Telling.{Tells}
 use Rattle.pbfcut_program.proofs.Beginning.{calm_looks, calm_openings}
 use Rattle.pbfcut_program.proofs.Closing.{close_rest}
+use Rattle.pbfcut_program.proofs.DiskLemmas.{after_still}
 use Rattle.pbfcut_program.proofs.EventLemmas.{each_both}
 use Rattle.pbfcut_program.proofs.Logging.{and_then, then_none}
 
@@ -161,7 +162,7 @@ module _ (program : Program) (output : List ℕ) (w : Writing) (part events more
         between = f.between;
         last = f.last ++ more;
         happened = ap (λ es. es ++ more) f.happened ∙ append_assoc f.before (f.makes ++ (f.between ++ filling)) more ∙ ap (λ x. f.before ++ x) (append_assoc f.makes (f.between ++ filling) more
-        ∙ ap (λ x. f.makes ++ x) (append_assoc f.between filling more ∙ ap (λ x. f.between ++ (wrote w ∷ x)) (append_assoc part f.last more)));
+            ∙ ap (λ x. f.makes ++ x) (append_assoc f.between filling more ∙ ap (λ x. f.between ++ (wrote w ∷ x)) (append_assoc part f.last more)));
         is_made = f.is_made;
         still = (f.still.0, f.still.1, each_both Still f.last more f.still.2 still);
       }
@@ -198,3 +199,37 @@ settles_in_before program (Check input progress digests) l m n t s = still_then 
 pub run_settles_before : (program : Program) (words : List Text) (l m n : Option (List Event)) → RunSettles program words l m → IsStill m n → RunSettles program words l n
 run_settles_before program words l m n (inl t) s = inl (still_then l m n t s)
 run_settles_before program words l m n (inr (command, meant, t)) s = inr (command, meant, settles_in_before program command l m n t s)
+
+-- ---- what a whole run changes
+
+same_events : (xs ys : List Event) → Some xs ≡ then_all (Some []) ys → xs ≡ ys
+same_events xs ys e = cc
+
+-- every file has what it had
+abbrev pub IsSame : List Event → Disk → Type 0
+IsSame events disk = (path : List ℕ) → after events disk path ≡ disk path
+
+still_same : (events : List Event) (disk : Disk) → IsStill (Some []) (Some events) → IsSame events disk
+still_same events disk s path = ap (λ (d : Disk). d path) (ap (λ es. after es disk) (same_events events s.0 s.1) ∙ after_still s.0 disk s.2)
+
+settles_same : (program : Program) (files : Files) (events : List Event) (disk : Disk) → Settles program files (Some []) (Some events) → IsSame events disk ⊎ HandlesOut program files events
+settles_same program files events disk (mine, e, inl s) = inl (still_same events disk (mine, e, s))
+settles_same program files events disk (mine, e, inr h) = inr (subst (λ es. HandlesOut program files es) (sym (same_events events mine e)) h)
+
+command_same : (program : Program) (command : Command) (events : List Event) (disk : Disk) → SettlesIn program command (Some []) (Some events) → IsSame events disk ⊎ HandlesIn program command events
+command_same program (Convert files) events disk s = settles_same program files events disk s
+command_same program (Pack files) events disk s = settles_same program files events disk s
+command_same program (Unpack files) events disk s = settles_same program files events disk s
+command_same program (Extract region by files) events disk s = settles_same program files events disk s
+command_same program (Help text) events disk s = inl (still_same events disk s)
+command_same program (Blobs input) events disk s = inl (still_same events disk s)
+command_same program (Info input json) events disk s = inl (still_same events disk s)
+command_same program (Show input dates progress) events disk s = inl (still_same events disk s)
+command_same program (Check input progress digests) events disk s = inl (still_same events disk s)
+
+pub run_same : (program : Program) (words : List Text) (events : List Event) (disk : Disk) → RunSettles program words (Some []) (Some events) → IsSame events disk ⊎ ((command : Command) × IsMeant program words command × HandlesIn program command events)
+run_same program words events disk (inl s) = inl (still_same events disk s)
+run_same program words events disk (inr (command, meant, s)) = of (command_same program command events disk s) where
+  of : IsSame events disk ⊎ HandlesIn program command events → IsSame events disk ⊎ ((command : Command) × IsMeant program words command × HandlesIn program command events)
+  of (inl same) = inl same
+  of (inr h) = inr (command, meant, h)

@@ -40,6 +40,13 @@ SettlesIn program (Unpack files) before after = Settles program files before aft
 SettlesIn program (Extract region by files) before after = Settles program files before after
 SettlesIn program _ before after = IsStill before after
 
+abbrev pub HandlesIn : Program → Command → List Event → Type 0
+HandlesIn program (Convert files) events = HandlesOut program files events
+HandlesIn program (Pack files) events = HandlesOut program files events
+HandlesIn program (Unpack files) events = HandlesOut program files events
+HandlesIn program (Extract region by files) events = HandlesOut program files events
+HandlesIn program _ events = ⊥
+
 -- nor do words that mean none
 abbrev pub RunSettles : Program → List Text → (before after : Option (List Event)) → Type 0
 RunSettles program words before after = IsStill before after ⊎ ((command : Command) × IsMeant program words command × SettlesIn program command before after)

@@ -2,12 +2,13 @@
 //! Names count as they are written: nothing is said of two spellings of one name. Like the laws of runs, each is the contract of a
 //! function that does nothing.
 
-ghost use Rattle.std.specs.Prelude.{◌≡◌, ◌⊎◌, ◌++◌, ℕ, List, Bool, true, false, Some, None, codes};
+ghost use Rattle.std.specs.Prelude.{[], ◌≡◌, ◌⊎◌, ◌++◌, ℕ, List, Bool, true, false, Some, None, codes};
 ghost use Rattle.clap.specs.Words.{Row, Text, subcommand_of, takes};
 ghost use Rattle.pbfcut_cli.specs.Joined.{normalized};
 ghost use Rattle.pbfcut_cli.specs.Words.{ReadsAs, argument_value, program_app};
 ghost use Rattle.pbfcut_cli.specs.declared.programs.Program.{Program};
 ghost use Rattle.pbfcut_cli.specs.declared.programs.Program.TheVariants.{Pbfcut, Pbfcutz};
+ghost use Rattle.pbfcut_cli.specs.declared.words.Command.{Command};
 ghost use Rattle.pbfcut_cli.specs.declared.words.Command.TheVariants.{Extract};
 ghost use Rattle.pbfcut_cli.specs.declared.words.Files.{Files};
 ghost use Rattle.pbfcut_cli.specs.declared.words.Region.{Region};
@@ -15,7 +16,8 @@ ghost use Rattle.pbfcut_cli.specs.declared.words.Strategy.{Strategy};
 ghost use Rattle.pbfcut_program.specs.Changes.{DropsFile, GivesExtract, KeepsFile, ReadsOpened};
 ghost use Rattle.pbfcut_program.specs.Events.{Event, Writing, stays};
 ghost use Rattle.pbfcut_program.specs.Files.{AllowsAll, Disk, after};
-ghost use Rattle.pbfcut_program.specs.Program.{IsRun, manner_in};
+ghost use Rattle.pbfcut_program.specs.Program.{IsMeant, IsRun, manner_in};
+ghost use Rattle.pbfcut_program.specs.Settling.{HandlesIn, RunSettles};
 ghost use Rattle.pbfcut_program.specs.Taking.{Happened, ReadsOnly};
 
 /// What a user finds after a run that keeps OUT: OUT has all that was written to it, and every other file is as it was. pbfcutz writes OUT
@@ -39,8 +41,8 @@ pub fn writes_out()
 {}
 
 /// What a user finds after a run that fails once it has made OUT: pbfcutz leaves what there was by OUT's name, or nothing if there was
-/// nothing. pbfcut leaves a new file, with all that was written to it, if all of that went out. Every other file is as it was, but a part may
-/// be left, which is new.
+/// nothing. pbfcut leaves a new file, with all that was written to it, if all of that went out. Every other file is as it was, but a part
+/// may be left, which is new.
 pub fn drops_out()
     ensures pbfcut { (output : List ℕ) (w : Writing) (events : List Event) (disk : Disk)
         → DropsFile Pbfcut output w events → AllowsAll disk events
@@ -59,8 +61,8 @@ pub fn drops_out()
 {}
 
 /// Nobody ever finds an incomplete OUT of pbfcutz: at each moment, also if the run is killed then, OUT is as it was before, or it has all
-/// that was written to it. In a run that drops OUT it is always as it was before. Of both programs, every other file that was there keeps its
-/// bytes at each moment.
+/// that was written to it. In a run that drops OUT it is always as it was before. Of both programs, every other file that was there keeps
+/// its bytes at each moment.
 pub fn always_whole()
     ensures kept { (overwrite : Bool) (output : List ℕ) (w : Writing) (started later : List Event)
         (disk : Disk) → KeepsFile Pbfcutz overwrite output w (started ++ later)
@@ -76,10 +78,20 @@ pub fn always_whole()
         → disk path ≡ Some bytes → after started disk path ≡ Some bytes }
 {}
 
+/// What any run does to a user's files, however it ends: no file has changed; or OUT was made, and was kept or dropped, as `writes_out` and
+/// `drops_out` say. Only a command that writes a file does that.
+pub fn any_run()
+    ensures { (program : Program) (words : List Text) (events : List Event) (disk : Disk)
+        → RunSettles program words (Some []) (Some events)
+        → ((path : List ℕ) → after events disk path ≡ disk path)
+        ⊎ ((command : Command) × IsMeant program words command
+        × HandlesIn program command events) }
+{}
+
 /// What status 0 of `extract` says of a user's files, if `clap` takes the words, and each pass gave bytes that IN had when it was opened:
 /// these are the bytes that IN has on the disk. OUT has bytes that mean exactly the extract of them, by the area and the strategy of the
-/// words. Every other file is as it was, but a part may be left, which is new. Without `--overwrite` there was nothing by OUT's name before.
-/// If OUT is standard output, it took the extract, and no file has changed.
+/// words. Every other file is as it was, but a part may be left, which is new. Without `--overwrite` there was nothing by OUT's name
+/// before. If OUT is standard output, it took the extract, and no file has changed.
 pub fn run_of_extract()
     ensures reads { (program : Program) (words : List Text) (rows : List Row) (events : List Event)
         (disk : Disk) (file : List ℕ) → takes (program_app program) (normalized words) ≡ true

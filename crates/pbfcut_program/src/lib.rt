@@ -17,7 +17,7 @@ mod writing;
 
 pub use ending::report;
 pub use host::{
-    CreateFault, FinishFault, Host, NameFault, NotDone, OpenFault, PrintFault, Screen, Seed, TextFault,
-    Turn,
+    CreateFault, FinishFault, Host, NameFault, NotDone, OpenFault, PrintFault, Screen, Seed,
+    TextFault, Turn,
 };
 pub use program::run;

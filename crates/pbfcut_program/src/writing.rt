@@ -115,7 +115,12 @@ fn prepare<H: Host>(
     refuse_existing(host, to_screen, files)?;
     let job = open_job(host, files.input, progress, plan)?;
     let seed = draw_seed(host)?;
-    let out = make_out(engine.alloc, host, to_screen, place_of(engine.program, files))?;
+    let out = make_out(
+        engine.alloc,
+        host,
+        to_screen,
+        place_of(engine.program, files),
+    )?;
     Ok(Ready { job, out, seed })
 }
 

@@ -2,7 +2,7 @@
 #![tactic(auto)]
 
 mod os;
-mod out;
+mod out_file;
 
 use os::Os;
 use pbf_frame::Stop;

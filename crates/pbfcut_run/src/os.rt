@@ -2,20 +2,23 @@
 
 ghost use Rattle.std.specs.Prelude.{None};
 
-use crate::out::OutFile;
+use crate::out_file::OutFile;
 use pbf_frame::FromRead;
 use pbfcut_cli::{Command, Ending, Program, Region};
 use pbfcut_files::{
-    Asked, BROKEN_PIPE, FailedWrite, Identity, NotKept, Output, Place, Spoiled, Target, Watched,
-    create_output, is_long, is_taken, open_pass, open_screen, plain_file_at, plain_screen,
-    read_polygon_text, tell_box, tell_empty, tell_form, tell_hint, tell_left, tell_spoiled,
+    Asked, BROKEN_PIPE, FailedWrite, Identity, Output, Spoiled, Target, Watched, is_long, is_plain,
+    is_taken, make_file, move_new, open_pass, open_screen, plain_file_at, plain_screen,
+    read_polygon_text, replaces, sync_name, tell_box, tell_empty, tell_form, tell_hint, tell_left,
+    tell_spoiled,
 };
 use pbfcut_program::{
-    CreateFault, FinishFault, Host, NotDone, OpenFault, PrintFault, Screen, Seed, TextFault, Turn,
+    CreateFault, FinishFault, Host, NameFault, NotDone, OpenFault, PrintFault, Screen, Seed,
+    TextFault, Turn,
 };
-use std::fs::File;
+use std::fs::{self, File};
 use std::hash::{BuildHasher, RandomState};
-use std::io::{self, IsTerminal, Write};
+use std::io::{self, ErrorKind, IsTerminal, Write};
+use std::process;
 
 /// Files by their paths, and the standard streams.
 #[derive(Drop)]
@@ -25,6 +28,8 @@ pub(crate) struct Os<'a> {
     /// The file of the polygon and IN, if the run has read them and they are plain files.
     area: Option<Identity>,
     input: Option<Identity>,
+    /// The path of an OUT that gets its name late, for a hint.
+    output: Option<String>,
     /// What the run would have spoiled, for a hint.
     spoiled: Option<Spoiled>,
     /// The last write that failed, for a hint.
@@ -38,17 +43,9 @@ impl<'a> Os<'a> {
             program,
             area: None,
             input: None,
+            output: None,
             spoiled: None,
             failed: None,
-        }
-    }
-
-    /// The place of an OUT.
-    fn place<'p>(&self, path: &'p str, overwrite: bool) -> Place<'p> {
-        Place {
-            program: self.program,
-            path,
-            overwrite,
         }
     }
 
@@ -62,17 +59,51 @@ impl<'a> Os<'a> {
     fn note(&mut self, target: Target, code: Option<i32>) {
         self.failed = code.map(|code| FailedWrite { target, code });
     }
+
+    /// Notes what the system says of OUT.
+    fn note_error(&mut self, error: &io::Error) {
+        self.note(Target::Out, error.raw_os_error());
+    }
+
+    /// Writes what is left in the buffer. If nobody reads a pipe any more, bytes are lost even if none are left.
+    fn flush(&mut self, output: &mut Output) -> Result<(), FinishFault> {
+        let flushed = output.flush();
+        self.note(output.target(), output.code());
+        if output.is_closed() {
+            return Err(FinishFault::Closed);
+        }
+        match flushed {
+            Ok(()) => Ok(()),
+            Err(_) => Err(FinishFault::Failed),
+        }
+    }
+
+    /// Why OUT can't be made: there may be a file that was made since OUT was looked for.
+    fn unmade(&self, path: &str, overwrite: bool) -> CreateFault {
+        if is_taken(self.rt, path, overwrite) {
+            CreateFault::Exists
+        } else {
+            CreateFault::Failed
+        }
+    }
+
+    /// Why a file can't be made by this name. Only of a part does it matter that the name has a file, whatever that is.
+    fn create_fault(&self, name: &str, error: &io::Error) -> CreateFault {
+        match (error.kind(), self.program) {
+            (ErrorKind::OutOfMemory, _) => CreateFault::Memory,
+            (_, Program::Pbfcut) => self.unmade(name, false),
+            (ErrorKind::AlreadyExists, Program::Pbfcutz) => CreateFault::Exists,
+            (ErrorKind::InvalidFilename, Program::Pbfcutz) => CreateFault::Long,
+            (_, Program::Pbfcutz) => CreateFault::Failed,
+        }
+    }
 }
 
-/// Writes what is left in the buffer. If nobody reads a pipe any more, bytes are lost even if none are left.
-fn flush(output: &mut Output) -> Result<(), FinishFault> {
-    let flushed = output.flush();
-    if output.is_closed() {
-        return Err(FinishFault::Closed);
-    }
-    match flushed {
-        Ok(()) => Ok(()),
-        Err(_) => Err(FinishFault::Failed),
+/// Why a file isn't given a name that none has.
+fn name_fault(error: &io::Error) -> NameFault {
+    match error.kind() {
+        ErrorKind::AlreadyExists => NameFault::Exists,
+        _ => NameFault::Failed,
     }
 }
 
@@ -99,7 +130,7 @@ impl Host for Os<'_> {
     }
 
     fn exists(&mut self, path: &str, overwrite: bool) -> bool {
-        is_taken(self.rt, self.place(path, overwrite))
+        is_taken(self.rt, path, overwrite)
     }
 
     fn open(&mut self, path: &str, turn: Turn) -> Result<Watched<FromRead<File>>, OpenFault> {
@@ -139,22 +170,35 @@ impl Host for Os<'_> {
         })
     }
 
-    fn create(&mut self, path: &str, overwrite: bool) -> Result<OutFile, CreateFault> {
+    fn process(&self) -> u32 {
+        process::id(self.rt.process())
+    }
+
+    fn replaces(&mut self, path: &str, overwrite: bool) -> Result<bool, CreateFault> {
         if overwrite && self.is_read(path) {
             self.spoiled = Some(Spoiled::Source);
             return Err(CreateFault::Failed);
         }
         tell_form(self.rt, self.program, path);
-        match create_output(self.rt, self.place(path, overwrite)) {
+        self.output = String::from_str(self.rt.alloc(), path).ok();
+        match replaces(self.rt, path, overwrite) {
+            Some(is_there) => Ok(is_there),
+            None => Err(self.unmade(path, overwrite)),
+        }
+    }
+
+    fn make(&mut self, name: &str, replaced: Option<&str>) -> Result<OutFile, CreateFault> {
+        if self.program == Program::Pbfcut {
+            tell_form(self.rt, self.program, name);
+        }
+        match make_file(self.rt, name, replaced) {
             Ok(output) => {
-                if self.program == Program::Pbfcutz {
-                    tell_left(self.rt, path);
+                if let Some(output) = &self.output {
+                    tell_left(self.rt, output.as_str());
                 }
                 Ok(OutFile::new(output))
             }
-            Err(Ending::CannotOpen) => Err(CreateFault::Failed),
-            Err(Ending::OutExists) => Err(CreateFault::Exists),
-            Err(_) => Err(CreateFault::Memory),
+            Err(error) => Err(self.create_fault(name, &error)),
         }
     }
 
@@ -165,20 +209,70 @@ impl Host for Os<'_> {
         }
     }
 
-    fn finish(&mut self, out: OutFile, whole: bool) -> Result<(), FinishFault> {
+    fn sync(&mut self, name: &str, out: OutFile) -> Result<(), FinishFault> {
         let mut output = out.into_inner();
-        let flushed = flush(&mut output);
-        self.note(output.target(), output.code());
-        if !whole || flushed.is_err() {
-            output.discard(self.rt);
-            return flushed;
-        }
-        match output.keep(self.rt) {
+        self.flush(&mut output)?;
+        match output.sync(self.rt, name) {
             Ok(()) => Ok(()),
-            Err(NotKept::Exists) => Err(FinishFault::Exists),
-            Err(NotKept::Failed(code)) => {
-                self.note(Target::Out, code);
+            Err(error) => {
+                self.note_error(&error);
                 Err(FinishFault::Failed)
+            }
+        }
+    }
+
+    fn close_out(&mut self, _name: &str, out: OutFile) {
+        // What comes of it says nothing of OUT, which isn't whole.
+        let _ = self.flush(&mut out.into_inner());
+    }
+
+    fn finish_screen(&mut self, out: OutFile, _whole: bool) -> Result<(), FinishFault> {
+        self.flush(&mut out.into_inner())
+    }
+
+    fn is_plain(&self, path: &str) -> bool {
+        is_plain(self.rt, path)
+    }
+
+    fn link(&mut self, from: &str, to: &str) -> Result<(), NameFault> {
+        match fs::hard_link(self.rt, from, to) {
+            Ok(()) => Ok(()),
+            Err(error) => Err(name_fault(&error)),
+        }
+    }
+
+    fn move_new(&mut self, from: &str, to: &str) -> Result<(), NameFault> {
+        match move_new(self.rt, from, to) {
+            Ok(()) => Ok(()),
+            Err(error) => {
+                self.note_error(&error);
+                Err(name_fault(&error))
+            }
+        }
+    }
+
+    fn rename(&mut self, from: &str, to: &str) -> Result<(), NotDone> {
+        match fs::rename(self.rt, from, to) {
+            Ok(()) => Ok(()),
+            Err(error) => {
+                self.note_error(&error);
+                Err(NotDone)
+            }
+        }
+    }
+
+    fn remove(&mut self, name: &str) {
+        // If it can't be removed, it is a file by a name of its own, and no OUT.
+        let _ = fs::remove_file(self.rt, name);
+    }
+
+    fn sync_name(&mut self, name: &str) -> Result<(), NotDone> {
+        match sync_name(self.rt, name) {
+            Ok(()) => Ok(()),
+            Err(_) => {
+                // OUT is there, so there is nothing to do about the reason.
+                self.failed = None;
+                Err(NotDone)
             }
         }
     }

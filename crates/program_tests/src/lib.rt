@@ -5,11 +5,17 @@
 mod blobs;
 #[cfg(test)]
 mod check;
+#[cfg(test)]
+mod disk;
 mod happened;
 #[cfg(test)]
 mod later_pass;
 #[cfg(test)]
+mod parts;
+#[cfg(test)]
 mod recorder;
+#[cfg(test)]
+mod refused;
 #[cfg(test)]
 mod runs;
 #[cfg(test)]

@@ -8,15 +8,15 @@ use std::alloc::{AllocError, Global};
 
 /// Supplies the bytes of a file, of which so many have passed. No read fails.
 #[derive(Drop)]
-pub struct Tape<'a> {
-    pub(crate) whole: &'a [u8],
+pub struct Tape {
+    pub(crate) whole: Vec<u8>,
     pub(crate) place: usize,
-    ghost within: { place ≤ length whole.now },
+    ghost within: { place ≤ length whole.items },
 }
 
-impl<'a> Tape<'a> {
-    pub fn new(whole: &'a [u8]) -> Tape<'a>
-        ensures whole { result.whole.now ≡ whole.now }
+impl Tape {
+    pub fn new(whole: Vec<u8>) -> Tape
+        ensures whole { result.whole.items ≡ whole.items }
         ensures place { result.place ≡ 0 }
     {
         Tape { whole, place: 0 }
@@ -24,25 +24,25 @@ impl<'a> Tape<'a> {
 
     /// The bytes that have passed.
     pub fn passed(&self) -> &[u8]
-        ensures { result.now ≡ take self.now.place self.now.whole.now }
+        ensures { result.now ≡ take self.now.place self.now.whole.items }
     {
         &self.whole[..self.place]
     }
 
     /// The bytes still to supply.
     pub fn left(&self) -> &[u8]
-        ensures { result.now ≡ drop self.now.place self.now.whole.now }
+        ensures { result.now ≡ drop self.now.place self.now.whole.items }
     {
         &self.whole[self.place..]
     }
 }
 
-impl Feed for Tape<'_> {
-    ghost remaining = { λ t. Some (drop t.place t.whole.now) };
+impl Feed for Tape {
+    ghost remaining = { λ t. Some (drop t.place t.whole.items) };
 
     ghost failures = { λ _. 0 };
 
-    ghost has_passed = { λ t _ bytes. bytes ≡ take t.place t.whole.now };
+    ghost has_passed = { λ t _ bytes. bytes ≡ take t.place t.whole.items };
 
     fn read(&mut self, buf: &mut [u8]) -> Result<usize, FeedFault> {
         let rest = &self.whole[self.place..];

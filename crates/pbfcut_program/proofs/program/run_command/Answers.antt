@@ -6,6 +6,7 @@ use Rattle.pbfcut_program.specs.Fails.{printing}
 use Rattle.pbfcut_program.specs.Manner.{manner_of}
 use Rattle.pbfcut_program.proofs.FailLemmas.{print_fails, tells_err, tells_ok}
 use Rattle.pbfcut_program.proofs.Logging.{then_none}
+use Rattle.pbfcut_program.proofs.Meaning.{does_copy, fails_copy}
 use Rattle.pbfcut_program.proofs.SettlingLemmas.{told_still}
 use Rattle.pbfcut_program.proofs.program.run_command.Goals as goal
 
@@ -76,7 +77,7 @@ pub returns-in-Convert-clause-files : goal.returns-in-Convert-clause-files
 returns-in-Convert-clause-files g c = rw c.in-Convert.is c.run_writing.ensures.files
 
 pub returns-in-Pack-clause-ok : goal.returns-in-Pack-clause-ok
-returns-in-Pack-clause-ok g c = rw c.in-Pack.is c.run_writing-in-Pack.ensures.ok
+returns-in-Pack-clause-ok g c = on_ok_weaker c.run_writing-in-Pack.result (λ d. (d.0, d.1, does_copy (manner_of c.args.engine) c.args.command.now c.in-Pack.files d.0 c.in-Pack.is d.2)) c.run_writing-in-Pack.ensures.ok
 
 pub returns-in-Pack-clause-err : goal.returns-in-Pack-clause-err
-returns-in-Pack-clause-err g c = rw c.in-Pack.is (IfErr-weaker c.run_writing-in-Pack.result _ _ (λ how f. (f.0, f.1, (f.2, f.3))) c.run_writing-in-Pack.ensures.err)
+returns-in-Pack-clause-err g c = IfErr-weaker c.run_writing-in-Pack.result _ _ (λ how f. (f.0, f.1, fails_copy (manner_of c.args.engine) c.args.command.now c.in-Pack.files how f.0 c.in-Pack.is f.2 f.3)) c.run_writing-in-Pack.ensures.err

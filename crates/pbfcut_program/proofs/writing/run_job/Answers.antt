@@ -89,9 +89,13 @@ returns-in-Err-clause-err g c =
     let quiet = dropped_quiet engine.program name gone.3 gone.5 in
     let dropped = and_then (log c.args.host.now) gone.1 (log c.drop_out.new.host) fail.0 gone.3 fail.1 gone.4 in
     let fails = fails_before m (judging (judge_of (task_of job))) has c.in-Err.halted.ending fail.0 gone.3 quiet fail.2 in
-    let told = told_fails m (judging (judge_of (task_of job))) has c.in-Err.halted.ending c.tell_refusal.result (log c.args.host.now) (log c.drop_out.new.host) (log c.tell_refusal.new.host) (fail.0 ++ gone.3) dropped fails c.tell_refusal.ensures in
-    (told.0, told.1, told.2, stops_leaving m (task_of job) has (taken c.args.ready.out.drain) (taken ran.out) told.0 c.requires.fresh.1.1
-    (λ answer x. told.3 (TookFront answer) (quiet_front answer) (each_both _ fail.0 gone.3 (fail.3 answer x) (each_quiet _ (quiet_front answer) gone.3 quiet))) front)
+    let told = told_fails m (judging (judge_of (task_of job))) has c.in-Err.halted.ending c.tell_refusal.result (log c.args.host.now) (log c.drop_out.new.host) (log c.tell_refusal.new.host) (fail.0 ++ gone.3) dropped fails c.tell_refusal.ensures in (
+      told.0,
+      told.1,
+      told.2,
+      stops_leaving m (task_of job) has (taken c.args.ready.out.drain) (taken ran.out) told.0 c.requires.fresh.1.1
+          (λ answer x. told.3 (TookFront answer) (quiet_front answer) (each_both _ fail.0 gone.3 (fail.3 answer x) (each_quiet _ (quiet_front answer) gone.3 quiet))) front,
+    )
 
 pub returns-in-Ok-clause-files : goal.returns-in-Ok-clause-files
 returns-in-Ok-clause-files g c =

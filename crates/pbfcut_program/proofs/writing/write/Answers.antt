@@ -110,8 +110,7 @@ returns-clause-ok g c =
     let done = and_then log _ _ first (rs ++ out) ready.1 d.3 in
     let same_screen = c.screen_of-screen.ensures ∙ ap screen_of c.is_screen.ensures in
     let printed = subst (λ (s : Screen). g.H.Host.log c.print_done.new.host ≡ then_all (g.H.Host.log c.run_job.new.host) (prints s (counts_text r.report.counts ∷ done_lines r.output r.meaning r.report.input r.report.raw files.input.now files.output.now))) same_screen c.in_ok-print_done.ensures in
-    let all = and_then log _ _ (first ++ (rs ++ out)) lines done printed in
-    (
+    let all = and_then log _ _ (first ++ (rs ++ out)) lines done printed in (
       _,
       all ∙ ap (λ es. then_all log (es ++ lines)) (sym (append_assoc first rs out)),
       record {
