@@ -116,7 +116,7 @@ none_stays name [] s h = h
 none_stays name (x ∷ xs) s (inl h) = stays_not_still name x h s.0
 none_stays name (x ∷ xs) s (inr h) = none_stays name xs s.1 h
 
--- a part that stays is told of among events of which the first and the last change nothing
+-- the event of a part that stays is none of the first or the last, which change nothing
 stays_later : (p : List ℕ) (xs ys : List Event) → Each Still xs → Happened (stays p) (xs ++ ys) → Happened (stays p) ys
 stays_later p xs ys s h = of (happened_either (stays p) xs ys h) where
   of : Happened (stays p) xs ⊎ Happened (stays p) ys → Happened (stays p) ys

@@ -115,7 +115,7 @@ dropped_whole output w started later disk k =
 
 -- ---- each other file
 
--- an event leaves this name alone, whatever there is
+-- an event changes nothing of this name, whatever there is
 abbrev Spares : List ℕ → Event → Type 0
 Spares p e = (d : Disk) → changed e d p ≡ d p
 

@@ -27,7 +27,7 @@ ends_kept program overwrite output name fault (Err told) events e is = absurd (s
   some_none : Some told ≡ None → ⊥
   some_none h = cc
 
--- what is told of one that wasn't has its cause
+-- if it wasn't, the events have the cause
 pub ends_told : {A : Type 0} (program : Program) (overwrite : Bool) (output : List ℕ) (w : Writing) (name : Option (List ℕ)) (fault : Option FinishFault) (result : Result A FinishFault) (events : List Event) (told : FinishFault) → w.name ≡ name → w.fault ≡ fault → EndsOut program overwrite output name fault result events → result_err result ≡ Some told → Has (FailsToFinish told) (wrote w ∷ events)
 ends_told program overwrite output w name None (Ok a) events told by is e said = absurd (none_some said) where
   none_some : None ≡ Some told → ⊥

@@ -60,8 +60,8 @@ pub fn drops_out()
         → (path ≡ output → ⊥) × (disk path ≡ None) }
 {}
 
-/// Nobody ever finds an incomplete OUT of pbfcutz: at each moment, also if the run is killed then, OUT is as it was before, or it has all
-/// that was written to it. In a run that drops OUT it is always as it was before. Of both programs, every other file that was there keeps
+/// OUT of pbfcutz is never incomplete: after each event, also if the run is killed then, OUT is as it was before, or it has all that was
+/// written to it. (`moved` is one event; a file system without links takes two steps for it, and has an empty OUT between them.) In a run that drops OUT it is always as it was before. Of both programs, every other file that was there keeps
 /// its bytes at each moment.
 pub fn always_whole()
     ensures kept { (overwrite : Bool) (output : List ℕ) (w : Writing) (started later : List Event)

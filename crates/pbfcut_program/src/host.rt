@@ -157,7 +157,7 @@ pub trait Host {
     /// The number of this process.
     fn process(&self) -> u32;
 
-    /// Settles that OUT can be made: whether it replaces a file. Only a plain one can be replaced, and with `overwrite` alone.
+    /// Settles that OUT can be made: whether it replaces a file. Only a plain one can be replaced, and only with `overwrite`.
     fn replaces(&mut self, path: &str, overwrite: bool) -> Result<bool, CreateFault>
         ensures settled { OnOk result (log self.new ≡ log self.old) }
         ensures failed { IfErr result (λ fault. log self.new
@@ -199,7 +199,7 @@ pub trait Host {
         ensures failed { IfErr result (λ fault. log self.new
             ≡ then_one (log self.old) (not_named from.now to.now fault)) };
 
-    /// Gives a file another name, which none had, where a file has one name only.
+    /// Gives a file another name, which none had, if a file can have only one.
     fn move_new(&mut self, from: &str, to: &str) -> Result<(), NameFault>
         ensures moved { OnOk result (log self.new ≡ then_one (log self.old) (moved from.now to.now)) }
         ensures failed { IfErr result (λ fault. log self.new

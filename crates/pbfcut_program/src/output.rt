@@ -25,7 +25,7 @@ const MOST_PARTS: u32 = 1_000;
 /// How the name of a part begins if OUT's is too long to be its beginning.
 const SHORT_NAME: &str = "pbfcutz";
 
-/// Where OUT is to be.
+/// The place of OUT.
 #[derive(Clone, Copy)]
 pub(crate) struct Place<'a> {
     pub(crate) program: Program,

@@ -188,7 +188,7 @@ pub fn run<H: Host>(alloc: Global, host: &mut H, program: Program, words: &[Stri
     // What happened, and the exit status, is a run of these words.
     ensures run { (events : List Event) × (H.log host.new ≡ then_all (H.log host.old) events)
         × IsRun program (map string_bytes words.now) events result }
-    // Of all files it changes only OUT, which is kept if it is whole, and else dropped.
+    // It changes no file but OUT, which is kept, if all that it took went out, or dropped.
     ensures files { RunSettles program (map string_bytes words.now) (H.log host.old) (H.log host.new) }
 {
     match work(alloc, host, program, words) {

@@ -71,7 +71,7 @@ fn refuse_existing<H: Host>(host: &mut H, is_screen: bool, files: &Files<'_>) ->
     Ok(())
 }
 
-/// Where OUT is to be.
+/// The place of OUT.
 fn place_of<'a>(program: Program, files: &Files<'a>) -> Place<'a>
     ensures { (result.program ≡ program) × (result.path ≡ files.now.output)
         × (result.overwrite ≡ files.now.overwrite) }
