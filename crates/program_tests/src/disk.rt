@@ -1,7 +1,7 @@
 //! A disk in memory: the names of its files, and what each has. Each call can be refused, and another run can make a file meanwhile. A test ends
 //! if there is no memory for it.
 
-ghost use Rattle.std.specs.Prelude.{◌≡◌};
+ghost use Rattle.std.specs.Prelude.{◌≡◌, ◌<◌, IfSome, vec_len};
 
 use pbfcut_program::{CreateFault, FinishFault, NameFault, NotDone, OpenFault, PrintFault};
 use std::process::Abort;
@@ -117,7 +117,9 @@ impl<'a, R: Abort + AllocGlobal> Disk<'a, R> {
         disk
     }
 
-    fn position(&self, name: &str) -> Option<usize> {
+    fn position(&self, name: &str) -> Option<usize>
+        ensures { IfSome result (λ place. place < vec_len self.now.files) }
+    {
         self.files
             .iter()
             .position(|file| file.name.as_slice() == name.as_bytes())
