@@ -50,7 +50,7 @@ class Call:
 
     def __init__(self, crate: str, file: str, name: str, words: str):
         self.crate, self.file, self.words, self.clauses = crate, file, words, []
-        self.name = f"laws::{name}" if file == "laws" else name
+        self.name = f"{file}::{name}" if file.endswith("laws") else name
 
     def read_contract(self, lines: list):
         """A comment is of the clause below it; in a contract with empty lines it is of all clauses up to the next one."""

@@ -40,7 +40,7 @@ def functions_of(crate: str, file: str) -> list:
         # below clauses the body begins on a line of its own
         _, _, body = text[function.end():text.find(f"\n{indent}}}", function.end())].rpartition(f"\n{indent}{{\n")
         is_first = (
-            name == "main" or "#[test]" in marks or file == "laws.rt" or crate in EXAMPLES
+            name == "main" or "#[test]" in marks or file.endswith("laws.rt") or crate in EXAMPLES
             or any(start <= function.start() < stop for start, stop in traits)
         )
         found.append(Function(crate, file, name, body, is_first))
