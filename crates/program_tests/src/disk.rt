@@ -9,7 +9,9 @@ use std::process::Abort;
 /// The longest name of a file, without that of its folder.
 const LONGEST: usize = 255;
 
-/// What another run writes.
+/// The file that another run makes.
+const OTHER_NAME: &str = "b";
+
 pub(crate) const OTHER: &[u8] = b"another run's";
 
 /// Owned bytes; the test ends if there is no memory for them.
@@ -41,9 +43,9 @@ pub(crate) enum Moment {
     MoveNew,
 }
 
-/// Why the calls of a kind are refused, if they are: those of the disk, and those of a host over it.
+/// What goes wrong: why the calls of a kind are refused, if they are, those of the disk and those of a host over it; and more.
 #[derive(Clone, Copy)]
-pub(crate) struct Refusals {
+pub(crate) struct Mishaps {
     pub(crate) text: bool,
     pub(crate) open: Option<OpenFault>,
     pub(crate) seed: bool,
@@ -58,19 +60,19 @@ pub(crate) struct Refusals {
     /// Of what is written to standard output as OUT is, and of what is printed at once.
     pub(crate) screen: Option<FinishFault>,
     pub(crate) print: Option<PrintFault>,
+    /// The number of the one call that is refused too, from 0 on.
+    pub(crate) failing: Option<u64>,
+    /// Before which call another run makes its file.
+    pub(crate) another: Option<Moment>,
 }
 
-/// Some files, and what goes wrong with them.
+/// Some files, what goes wrong with them, and how many calls there were that can be refused.
 #[derive(Drop)]
 pub(crate) struct Disk<'a, R> {
     rt: &'a R,
     files: Vec<Stored>,
-    pub(crate) refusals: Refusals,
-    /// The number of the one call that is refused too, from 0 on, and how many there were.
-    pub(crate) failing: Option<u64>,
+    pub(crate) mishaps: Mishaps,
     pub(crate) calls: u64,
-    /// Before which call another run makes a file by this name.
-    pub(crate) another: Option<(Moment, &'a str)>,
 }
 
 /// Whether no file can have such a name.
@@ -81,9 +83,9 @@ fn is_too_long(name: &str) -> bool {
     }
 }
 
-impl Refusals {
-    pub(crate) fn none() -> Refusals {
-        Refusals {
+impl Mishaps {
+    pub(crate) fn none() -> Mishaps {
+        Mishaps {
             text: false,
             open: None,
             seed: false,
@@ -97,19 +99,19 @@ impl Refusals {
             sync_name: false,
             screen: None,
             print: None,
+            failing: None,
+            another: None,
         }
     }
 }
 
 impl<'a, R: Abort + AllocGlobal> Disk<'a, R> {
-    pub(crate) fn new(rt: &'a R, files: &[File<'_>]) -> Disk<'a, R> {
+    pub(crate) fn new(rt: &'a R, files: &[File<'_>], mishaps: Mishaps) -> Disk<'a, R> {
         let mut disk = Disk {
             rt,
             files: Vec::new(rt.alloc()),
-            refusals: Refusals::none(),
-            failing: None,
+            mishaps,
             calls: 0,
-            another: None,
         };
         for file in files {
             disk.put(file.path, copy(rt, file.bytes));
@@ -154,7 +156,7 @@ impl<'a, R: Abort + AllocGlobal> Disk<'a, R> {
     pub(crate) fn refusal<T: Copy>(&mut self, given: Option<T>, usual: T) -> Option<T> {
         let number = self.calls;
         self.calls = number.saturating_add(1);
-        if self.failing == Some(number) {
+        if self.mishaps.failing == Some(number) {
             Some(usual)
         } else {
             given
@@ -168,17 +170,14 @@ impl<'a, R: Abort + AllocGlobal> Disk<'a, R> {
 
     /// Lets another run make its file, if it does so now.
     fn let_another(&mut self, now: Moment) {
-        let Some((moment, name)) = self.another else {
-            return;
-        };
-        if moment == now && self.find(name).is_none() {
-            self.put(name, copy(self.rt, OTHER));
+        if self.mishaps.another == Some(now) && self.find(OTHER_NAME).is_none() {
+            self.put(OTHER_NAME, copy(self.rt, OTHER));
         }
     }
 
     /// All that a file has.
     pub(crate) fn open(&mut self, name: &str) -> Result<Vec<u8>, OpenFault> {
-        if let Some(fault) = self.refusal(self.refusals.open, OpenFault::Failed) {
+        if let Some(fault) = self.refusal(self.mishaps.open, OpenFault::Failed) {
             return Err(fault);
         }
         match self.find(name) {
@@ -189,7 +188,7 @@ impl<'a, R: Abort + AllocGlobal> Disk<'a, R> {
 
     /// Whether a file is there that OUT may replace.
     pub(crate) fn replaces(&mut self, name: &str, overwrite: bool) -> Result<bool, CreateFault> {
-        if let Some(fault) = self.refusal(self.refusals.replaces, CreateFault::Failed) {
+        if let Some(fault) = self.refusal(self.mishaps.replaces, CreateFault::Failed) {
             return Err(fault);
         }
         let is_there = self.find(name).is_some();
@@ -202,7 +201,7 @@ impl<'a, R: Abort + AllocGlobal> Disk<'a, R> {
     /// Makes an empty file.
     pub(crate) fn make(&mut self, name: &str) -> Result<(), CreateFault> {
         self.let_another(Moment::Make);
-        if let Some(fault) = self.refusal(self.refusals.make, CreateFault::Failed) {
+        if let Some(fault) = self.refusal(self.mishaps.make, CreateFault::Failed) {
             return Err(fault);
         }
         if is_too_long(name) {
@@ -225,12 +224,12 @@ impl<'a, R: Abort + AllocGlobal> Disk<'a, R> {
 
     /// Why what was written to a file isn't synced, if it isn't.
     pub(crate) fn sync(&mut self) -> Option<FinishFault> {
-        self.refusal(self.refusals.sync, FinishFault::Failed)
+        self.refusal(self.mishaps.sync, FinishFault::Failed)
     }
 
     pub(crate) fn link(&mut self, from: &str, to: &str) -> Result<(), NameFault> {
         self.let_another(Moment::Link);
-        if let Some(fault) = self.refusal(self.refusals.link, NameFault::Failed) {
+        if let Some(fault) = self.refusal(self.mishaps.link, NameFault::Failed) {
             return Err(fault);
         }
         if self.find(to).is_some() {
@@ -248,7 +247,7 @@ impl<'a, R: Abort + AllocGlobal> Disk<'a, R> {
 
     pub(crate) fn move_new(&mut self, from: &str, to: &str) -> Result<(), NameFault> {
         self.let_another(Moment::MoveNew);
-        if let Some(fault) = self.refusal(self.refusals.move_new, NameFault::Failed) {
+        if let Some(fault) = self.refusal(self.mishaps.move_new, NameFault::Failed) {
             return Err(fault);
         }
         if self.find(to).is_some() {
@@ -264,7 +263,7 @@ impl<'a, R: Abort + AllocGlobal> Disk<'a, R> {
     }
 
     pub(crate) fn rename(&mut self, from: &str, to: &str) -> Result<(), NotDone> {
-        if self.is_refused(self.refusals.rename) {
+        if self.is_refused(self.mishaps.rename) {
             return Err(NotDone);
         }
         let Some(bytes) = self.take(from) else {
@@ -276,7 +275,7 @@ impl<'a, R: Abort + AllocGlobal> Disk<'a, R> {
     }
 
     pub(crate) fn remove(&mut self, name: &str) -> Result<(), NotDone> {
-        if self.is_refused(self.refusals.remove) {
+        if self.is_refused(self.mishaps.remove) {
             return Err(NotDone);
         }
         match self.take(name) {
@@ -286,7 +285,7 @@ impl<'a, R: Abort + AllocGlobal> Disk<'a, R> {
     }
 
     pub(crate) fn sync_name(&mut self) -> Result<(), NotDone> {
-        if self.is_refused(self.refusals.sync_name) {
+        if self.is_refused(self.mishaps.sync_name) {
             return Err(NotDone);
         }
         Ok(())

@@ -1,7 +1,7 @@
 //! How OUT is made, gets its name, or goes, over a disk in memory whose calls fail.
 
 use crate::blobs::THREE_DENSE_NODES;
-use crate::disk::{File, Moment, OTHER, copy};
+use crate::disk::{File, Mishaps, Moment, OTHER, copy};
 use crate::happened::Happened;
 use crate::recorder::Recorder;
 use crate::runs::{EXTRACTED, NODES, add_passes, seeded};
@@ -156,8 +156,9 @@ fn an_out_that_is_there(rt: HostRuntime) -> Result<(), Fail> {
 /// Another run makes OUT while this one writes its part: that OUT stays.
 #[test]
 fn an_out_made_meanwhile(rt: HostRuntime) -> Result<(), Fail> {
-    let mut host = Recorder::new(&rt, &NODES, 4_096);
-    host.disk.another = Some((Moment::Link, "b"));
+    let mut mishaps = Mishaps::none();
+    mishaps.another = Some(Moment::Link);
+    let mut host = Recorder::beset(&rt, &NODES, 4_096, mishaps);
     let mut events = written(&rt, false, PART, None)?;
     events.push(not_named(&rt, NameFault::Exists))?;
     events.push(removed(&rt))?;
@@ -170,8 +171,9 @@ fn an_out_made_meanwhile(rt: HostRuntime) -> Result<(), Fail> {
 /// The same with `-O`, which replaces that OUT too.
 #[test]
 fn an_out_made_meanwhile_and_replaced(rt: HostRuntime) -> Result<(), Fail> {
-    let mut host = Recorder::new(&rt, &NODES, 4_096);
-    host.disk.another = Some((Moment::Link, "b"));
+    let mut mishaps = Mishaps::none();
+    mishaps.another = Some(Moment::Link);
+    let mut host = Recorder::beset(&rt, &NODES, 4_096, mishaps);
     let mut events = written(&rt, true, PART, None)?;
     events.push(not_named(&rt, NameFault::Exists))?;
     events.push(renamed(&rt))?;
@@ -184,8 +186,9 @@ fn an_out_made_meanwhile_and_replaced(rt: HostRuntime) -> Result<(), Fail> {
 /// A disk without links.
 #[test]
 fn a_part_that_is_moved(rt: HostRuntime) -> Result<(), Fail> {
-    let mut host = Recorder::new(&rt, &NODES, 4_096);
-    host.disk.refusals.link = Some(NameFault::Failed);
+    let mut mishaps = Mishaps::none();
+    mishaps.link = Some(NameFault::Failed);
+    let mut host = Recorder::beset(&rt, &NODES, 4_096, mishaps);
     let mut events = written(&rt, false, PART, None)?;
     events.push(not_named(&rt, NameFault::Failed))?;
     events.push(Happened::Moved(name(&rt, PART), name(&rt, "b")))?;
@@ -198,9 +201,10 @@ fn a_part_that_is_moved(rt: HostRuntime) -> Result<(), Fail> {
 /// There another run makes OUT meanwhile.
 #[test]
 fn an_out_made_before_a_move(rt: HostRuntime) -> Result<(), Fail> {
-    let mut host = Recorder::new(&rt, &NODES, 4_096);
-    host.disk.refusals.link = Some(NameFault::Failed);
-    host.disk.another = Some((Moment::MoveNew, "b"));
+    let mut mishaps = Mishaps::none();
+    mishaps.link = Some(NameFault::Failed);
+    mishaps.another = Some(Moment::MoveNew);
+    let mut host = Recorder::beset(&rt, &NODES, 4_096, mishaps);
     let mut events = written(&rt, false, PART, None)?;
     events.push(not_named(&rt, NameFault::Failed))?;
     events.push(not_named(&rt, NameFault::Exists))?;
@@ -213,8 +217,9 @@ fn an_out_made_before_a_move(rt: HostRuntime) -> Result<(), Fail> {
 
 #[test]
 fn a_rename_that_is_refused(rt: HostRuntime) -> Result<(), Fail> {
-    let mut host = Recorder::new(&rt, &NODES_AND_OUT, 4_096);
-    host.disk.refusals.rename = true;
+    let mut mishaps = Mishaps::none();
+    mishaps.rename = true;
+    let mut host = Recorder::beset(&rt, &NODES_AND_OUT, 4_096, mishaps);
     let mut events = written(&rt, true, PART, None)?;
     events.push(not_named(&rt, NameFault::Failed))?;
     events.push(removed(&rt))?;
@@ -227,8 +232,9 @@ fn a_rename_that_is_refused(rt: HostRuntime) -> Result<(), Fail> {
 #[test]
 fn a_sync_that_is_refused(rt: HostRuntime) -> Result<(), Fail> {
     let failed = Some(FinishFault::Failed);
-    let mut host = Recorder::new(&rt, &NODES, 4_096);
-    host.disk.refusals.sync = failed;
+    let mut mishaps = Mishaps::none();
+    mishaps.sync = failed;
+    let mut host = Recorder::beset(&rt, &NODES, 4_096, mishaps);
     let mut events = written(&rt, false, PART, failed)?;
     events.push(removed(&rt))?;
     add_line(&rt, &mut events, FAILED)?;
@@ -240,8 +246,9 @@ fn a_sync_that_is_refused(rt: HostRuntime) -> Result<(), Fail> {
 /// OUT has its name, which may not be on the disk.
 #[test]
 fn a_name_that_is_not_synced(rt: HostRuntime) -> Result<(), Fail> {
-    let mut host = Recorder::new(&rt, &NODES, 4_096);
-    host.disk.refusals.sync_name = true;
+    let mut mishaps = Mishaps::none();
+    mishaps.sync_name = true;
+    let mut host = Recorder::beset(&rt, &NODES, 4_096, mishaps);
     let mut events = written(&rt, false, PART, None)?;
     events.push(linked(&rt))?;
     events.push(removed(&rt))?;
@@ -255,8 +262,9 @@ fn a_name_that_is_not_synced(rt: HostRuntime) -> Result<(), Fail> {
 /// OUT has two names.
 #[test]
 fn a_part_that_stays(rt: HostRuntime) -> Result<(), Fail> {
-    let mut host = Recorder::new(&rt, &NODES, 4_096);
-    host.disk.refusals.remove = true;
+    let mut mishaps = Mishaps::none();
+    mishaps.remove = true;
+    let mut host = Recorder::beset(&rt, &NODES, 4_096, mishaps);
     let mut events = written(&rt, false, PART, None)?;
     events.push(linked(&rt))?;
     events.push(Happened::Stays(name(&rt, PART)))?;
@@ -350,8 +358,9 @@ fn status_there<R: Abort + AllocGlobal>(
 fn an_out_of_pbfcut(rt: HostRuntime) -> Result<(), Fail> {
     let failed = Some(FinishFault::Failed);
     for (room, unsynced, status) in [(4_096, None, 0), (4_096, failed, 3), (100, None, 3)] {
-        let mut host = Recorder::new(&rt, &NODES, room);
-        host.disk.refusals.sync = unsynced;
+        let mut mishaps = Mishaps::none();
+        mishaps.sync = unsynced;
+        let mut host = Recorder::beset(&rt, &NODES, room, mishaps);
         assert_eq!(rt; status_there(&rt, &mut host)?, status);
         let length = EXTRACTED.len().min(room);
         assert!(rt; leaves(&host, &[with(&EXTRACTED[..length])]));

@@ -5,7 +5,7 @@ ghost use Rattle.program_tests.specs.Log.{event_of};
 ghost use Rattle.pbf_frame.specs.Memory.{taken_by};
 ghost use Rattle.pbfcut_program.specs.Events.{then_one};
 
-use crate::disk::{Disk, File, copy};
+use crate::disk::{Disk, File, Mishaps, copy};
 use crate::happened::Happened;
 use crate::tape::{Reel, Tape};
 use pbfcut_cli::{Command, Ending, Region};
@@ -50,10 +50,21 @@ fn make_reel<R: Abort + AllocGlobal>(
 }
 
 impl<'a, R: Abort + AllocGlobal> Recorder<'a, R> {
+    /// A host over these files, with which nothing goes wrong.
     pub(crate) fn new(rt: &'a R, files: &[File<'_>], room: usize) -> Recorder<'a, R> {
+        Recorder::beset(rt, files, room, Mishaps::none())
+    }
+
+    /// The same, with which this goes wrong.
+    pub(crate) fn beset(
+        rt: &'a R,
+        files: &[File<'_>],
+        room: usize,
+        mishaps: Mishaps,
+    ) -> Recorder<'a, R> {
         Recorder {
             rt,
-            disk: Disk::new(rt, files),
+            disk: Disk::new(rt, files, mishaps),
             room,
             events: Vec::new(rt.alloc()),
         }
@@ -63,7 +74,7 @@ impl<'a, R: Abort + AllocGlobal> Recorder<'a, R> {
     fn text(&mut self, path: &str) -> Option<String>
         ensures { self.new.events ≡ self.old.events }
     {
-        let refusal = self.disk.refusals.text;
+        let refusal = self.disk.mishaps.text;
         if self.disk.is_refused(refusal) {
             return None;
         }
@@ -137,7 +148,7 @@ impl<'a, R: Abort + AllocGlobal> Host for Recorder<'a, R> {
     }
 
     fn seed(&mut self) -> Result<Seed<BuildHasherDefault<FoldHasher>>, NotDone> {
-        let refusal = self.disk.refusals.seed;
+        let refusal = self.disk.mishaps.seed;
         if self.disk.is_refused(refusal) {
             self.record(Happened::Seeded(None));
             return Err(NotDone);
@@ -212,7 +223,7 @@ impl<'a, R: Abort + AllocGlobal> Host for Recorder<'a, R> {
 
     fn finish_screen(&mut self, out: Reel, whole: bool) -> Result<(), FinishFault> {
         let bytes = copy(self.rt, out.taken());
-        let refusal = self.disk.refusals.screen;
+        let refusal = self.disk.mishaps.screen;
         let unfinished = self.disk.refusal(refusal, FinishFault::Failed);
         self.record(Happened::WroteScreen(bytes, out.failures, whole, unfinished));
         match unfinished {
@@ -288,7 +299,7 @@ impl<'a, R: Abort + AllocGlobal> Host for Recorder<'a, R> {
 
     fn print(&mut self, screen: Screen, text: &[u8]) -> Result<(), PrintFault> {
         let text = copy(self.rt, text);
-        let refusal = self.disk.refusals.print;
+        let refusal = self.disk.mishaps.print;
         let unprinted = self.disk.refusal(refusal, PrintFault::Failed);
         self.record(Happened::Printed(screen, text, unprinted));
         match unprinted {

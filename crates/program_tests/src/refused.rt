@@ -1,6 +1,6 @@
 //! Each call of a host refused in turn: what a run leaves then.
 
-use crate::disk::{File, Refusals};
+use crate::disk::{File, Mishaps};
 use crate::happened::Happened;
 use crate::parts::{CUT, CUT_OVER, CUT_THERE, NODES_AND_OUT, OLD};
 use crate::recorder::Recorder;
@@ -21,7 +21,7 @@ struct Run<'a> {
     program: Program,
     words: &'a [&'a str],
     files: &'a [File<'a>],
-    refusals: Refusals,
+    mishaps: Mishaps,
 }
 
 /// Whether OUT got its name.
@@ -47,9 +47,9 @@ fn refused<'a, R: Abort + AllocGlobal>(
     one: Run<'_>,
     number: u64,
 ) -> Result<(u8, Recorder<'a, R>), AllocError> {
-    let mut host = Recorder::new(rt, one.files, 4_096);
-    host.disk.refusals = one.refusals;
-    host.disk.failing = Some(number);
+    let mut mishaps = one.mishaps;
+    mishaps.failing = Some(number);
+    let mut host = Recorder::beset(rt, one.files, 4_096, mishaps);
     let words = owned(rt.alloc(), one.words)?;
     let status = run(rt.alloc(), &mut host, one.program, &words);
     Ok((status, host))
@@ -91,30 +91,33 @@ fn refuse_each(rt: &(impl Abort + AllocGlobal), one: Run<'_>) -> Result<u64, Fai
 /// IN is opened three times; a seed; `replaces`, `make`, `sync`; a link and a removal, and `sync_name`; the counts. The same without links.
 #[test]
 fn a_new_out(rt: HostRuntime) -> Result<(), Fail> {
-    let mut one = Run {
-        program: Program::Pbfcutz,
-        words: &CUT,
-        files: &NODES,
-        refusals: Refusals::none(),
-    };
-    assert_eq!(rt; refuse_each(&rt, one)?, 11);
-    one.refusals.link = Some(NameFault::Failed);
-    assert_eq!(rt; refuse_each(&rt, one)?, 11);
+    let mut without_links = Mishaps::none();
+    without_links.link = Some(NameFault::Failed);
+    for mishaps in [Mishaps::none(), without_links] {
+        let one = Run {
+            program: Program::Pbfcutz,
+            words: &CUT,
+            files: &NODES,
+            mishaps,
+        };
+        assert_eq!(rt; refuse_each(&rt, one)?, 11);
+    }
     Ok(())
 }
 
 /// A rename takes the place of a link and a removal, if there is an OUT.
 #[test]
 fn an_out_that_is_replaced(rt: HostRuntime) -> Result<(), Fail> {
-    let mut one = Run {
-        program: Program::Pbfcutz,
-        words: &CUT_OVER,
-        files: &NODES_AND_OUT,
-        refusals: Refusals::none(),
-    };
-    assert_eq!(rt; refuse_each(&rt, one)?, 10);
-    one.files = &NODES;
-    assert_eq!(rt; refuse_each(&rt, one)?, 11);
+    let files: [(&[File<'_>], u64); 2] = [(&NODES_AND_OUT, 10), (&NODES, 11)];
+    for (files, calls) in files {
+        let one = Run {
+            program: Program::Pbfcutz,
+            words: &CUT_OVER,
+            files,
+            mishaps: Mishaps::none(),
+        };
+        assert_eq!(rt; refuse_each(&rt, one)?, calls);
+    }
     Ok(())
 }
 
@@ -125,7 +128,7 @@ fn an_out_of_pbfcut(rt: HostRuntime) -> Result<(), Fail> {
         program: Program::Pbfcut,
         words: &CUT_THERE,
         files: &NODES,
-        refusals: Refusals::none(),
+        mishaps: Mishaps::none(),
     };
     for number in 0..8 {
         let (status, host) = refused(&rt, one, number)?;

@@ -1,7 +1,7 @@
 //! Whole runs over a host in memory: what happened, in order, and the exit status.
 
 use crate::blobs::THREE_DENSE_NODES;
-use crate::disk::{File, Moment, copy};
+use crate::disk::{File, Mishaps, Moment, copy};
 use crate::happened::Happened;
 use crate::recorder::{KEY, Recorder};
 use crate::show::THREE_LINES;
@@ -156,8 +156,9 @@ pub(crate) const NODES: [File<'static>; 1] = [File {
 /// Another run makes OUT after it was looked for.
 #[test]
 fn an_out_made_meanwhile(rt: HostRuntime) -> Result<(), Fail> {
-    let mut host = Recorder::new(&rt, &NODES, 4_096);
-    host.disk.another = Some((Moment::Make, "b"));
+    let mut mishaps = Mishaps::none();
+    mishaps.another = Some(Moment::Make);
+    let mut host = Recorder::beset(&rt, &NODES, 4_096, mishaps);
     let mut events = seeded(&rt, &THREE_DENSE_NODES, false)?;
     events.push(Happened::NotMade(copy(&rt, b"b"), CreateFault::Exists))?;
     events.push(Happened::Told(copy(&rt, b"pbfcut: OUT exists\n")))?;
@@ -169,9 +170,10 @@ fn an_out_made_meanwhile(rt: HostRuntime) -> Result<(), Fail> {
 /// Nobody reads the text of `show` any more.
 #[test]
 fn a_text_that_nobody_reads(rt: HostRuntime) -> Result<(), Fail> {
-    let mut host = Recorder::new(&rt, &NODES, 4_096);
     let closed = Some(FinishFault::Closed);
-    host.disk.refusals.screen = closed;
+    let mut mishaps = Mishaps::none();
+    mishaps.screen = closed;
+    let mut host = Recorder::beset(&rt, &NODES, 4_096, mishaps);
     let mut events = Vec::new(rt.alloc());
     events.push(opened(&rt, 1, &THREE_DENSE_NODES))?;
     events.push(opened(&rt, 2, &THREE_DENSE_NODES))?;
@@ -188,9 +190,10 @@ fn a_text_that_nobody_reads(rt: HostRuntime) -> Result<(), Fail> {
 /// Nobody reads the counts of `check` any more.
 #[test]
 fn counts_that_nobody_reads(rt: HostRuntime) -> Result<(), Fail> {
-    let mut host = Recorder::new(&rt, &NODES, 4_096);
     let closed = Some(PrintFault::Closed);
-    host.disk.refusals.print = closed;
+    let mut mishaps = Mishaps::none();
+    mishaps.print = closed;
+    let mut host = Recorder::beset(&rt, &NODES, 4_096, mishaps);
     let counts = copy(&rt, b"nodes 3 ways 0 relations 0\n");
     let mut events = Vec::new(rt.alloc());
     events.push(opened(&rt, 1, &THREE_DENSE_NODES))?;
