@@ -24,7 +24,7 @@ use Rattle.pbf_unpack.specs.Unpacked.{unpacked}
 use Rattle.pbfcut.specs.Calls.{Differ, FeedUse, GaveBy, GaveOrNot, supply_of}
 use Rattle.pbfcut.proofs.ConvertingLemmas.{nothing_out}
 use Rattle.pbf_published.specs.declared.input.PublishedHalt.{PublishedHalt}
-use Rattle.pbf_published.specs.Published.{Closed, GavePublished, GaveOrNone, Opened, ReportsOutcome, UnlessChanged, raw_of}
+use Rattle.pbf_published.specs.Published.{Closed, GavePublished, GaveOrNone, Opened, PassedAs, ReportsOutcome, UnlessChanged, raw_of}
 
 -- what is one with a third is the same
 pub same_by : {F : Type 0} (mid last first : F) → mid ≡ last → mid ≡ first → last ≡ first
@@ -38,6 +38,13 @@ if_digest o digest holds is has = subst (λ (x : Option (List ℕ)). IfSome x ho
 none_left_of_all : (old new : Option (List ℕ)) (file all : List ℕ) → old ≡ prepend file new → IsAtEnd new → old ≡ Some all → new ≡ Some []
 none_left_of_all old new file all h4 h5 h6 = grind arith
 
+-- what a feed had to give, if that is known, is these bytes
+had_these : (known : Option (List ℕ)) (bytes : List ℕ) → ((all : List ℕ) → known ≡ Some all → known ≡ Some bytes) → IfSome known (λ all. all ≡ bytes)
+had_these None bytes h = tt
+had_these (Some all) bytes h = same_bytes (h all refl) where
+  same_bytes : Some all ≡ Some bytes → all ≡ bytes
+  same_bytes e = cc
+
 -- a feed of which all was read has the digest of what it had to give, as far as that is known
 abbrev pub DigestIsOf : PassCheck → (known digest : Option (List ℕ)) → Type 0
 DigestIsOf check known digest = (all : List ℕ) → known ≡ Some all → digest ≡ Some (digest_by check all)
@@ -46,9 +53,16 @@ module _ {F U : Type 0} (f : feed.Ghosts F) (first last : F) {u : feed.Ghosts U}
   ended : (all : List ℕ) → f.remaining first ≡ Some all → u.remaining new ≡ Some []
   ended all is = none_left_of_all (u.remaining old) (u.remaining new) given.file (unpacked all) given.supplied.gave.told given.supplied.end (remaining ∙ ap raw_of is)
 
+  -- what passed by a log is what the feed had to give
+  logged_whole : (digest : List ℕ) → o ≡ Some digest → (log : ℕ) → f.has_passed first log [] → PassedAs (f.has_passed last) log (mark_by check digest) given.file (λ passed. IfSome (f.remaining first) (λ all. all ≡ passed))
+  logged_whole digest is log start =
+      let p = if_digest o digest (λ d. PassedAs (f.has_passed last) log (mark_by check d) given.file (λ packed. u.remaining new ≡ Some [] → f.remaining first ≡ Some packed)) is
+          (closed.logged check log (f.remaining first) given.file (given.supplied.gave.logged _ [] (opened.logged log start))) in
+      record { packed = p.packed; passed = p.passed; digest_is = p.digest_is; means = p.means; is_known = had_these (f.remaining first) p.packed (λ all had. p.is_known (ended all had)) }
+
   -- what is said of the file that an unpacking feed gave is said of the raw file that packed bytes mean
   pub published_of : (digest : List ℕ) → o ≡ Some digest → (keeps : List ℕ → Type 0) → ((file : List ℕ) → holds file → keeps file) → GavePublished f first last (mark_by check digest) raw_digest keeps
-  published_of digest is keeps step = grind (arith, if_digest o digest, same_Some, ended)
+  published_of digest is keeps step = grind (arith, if_digest o digest, same_Some, ended, logged_whole digest is)
 
   -- the digest is that of what the feed had to give
   pub digest_told : DigestIsOf check (f.remaining first) o

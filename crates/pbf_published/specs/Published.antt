@@ -21,12 +21,13 @@ use Rattle.pbf_published.specs.declared.input.PublishedHalt.{PublishedHalt}
 
 -- ---- what was given
 
--- by a log of a feed packed bytes passed, of this digest by the check, that mean this raw file
-pub record PassedAs (has_passed : ℕ → List ℕ → Type 0) (log : ℕ) (digest : Mark) (raw : List ℕ) : Type 0 where
+-- by a log of a feed packed bytes passed, of this digest by the check, that mean this raw file, and of which this is known
+pub record PassedAs (has_passed : ℕ → List ℕ → Type 0) (log : ℕ) (digest : Mark) (raw : List ℕ) (known : List ℕ → Type 0) : Type 0 where
   pub packed : List ℕ
   pub passed : has_passed log packed
   pub digest_is : IsDigestOf digest packed
   pub means : unpacked packed ≡ raw
+  pub is_known : known packed
 
 -- a feed gave packed bytes of one digest, to its end, which mean a raw file of another, each by its check, and this holds of that file.
 -- They are what the feed had to give, if it reports its bytes
@@ -36,8 +37,9 @@ pub record GavePublished {F : Type 0} (f : feed.Ghosts F) (old new : F) (digest 
   pub raw_digest_is : IsDigestOf raw_digest (unpacked packed)
   pub told : (all : List ℕ) → f.remaining old ≡ Some all → all ≡ packed
   pub end : IsAtEnd (f.remaining new)
-  -- that file is also what those bytes mean that passed by each log of a feed that was at its start, and they have that digest
-  pub logged : (log : ℕ) → f.has_passed old log [] → PassedAs (f.has_passed new) log digest (unpacked packed)
+  -- that file is also what those bytes mean that passed by each log of a feed that was at its start; they have that digest, and are what the feed
+  -- had to give
+  pub logged : (log : ℕ) → f.has_passed old log [] → PassedAs (f.has_passed new) log digest (unpacked packed) (λ passed. IfSome (f.remaining old) (λ all. all ≡ passed))
   pub holding : holds (unpacked packed)
 
 -- a later feed did so; or nothing was read of it, and this holds of the first raw file
@@ -102,11 +104,11 @@ pub record Opened (known : Option (List ℕ)) (passed : ℕ → List ℕ → Typ
   pub hashed : supplied (log_number (hash_log check) (hash_log check) known) []
   pub logged : (log : ℕ) → passed log [] → supplied (log_number (hash_log check) (below_log log) known) []
 
--- if there is a digest, packed bytes have it by the check, mean what was supplied, and passed by each log of the feed below; and there is
--- one if nothing is reported to be left
+-- if there is a digest, packed bytes have it by the check, mean what was supplied, and passed by each log of the feed below. If nothing is
+-- reported to be left, there is one, and they are what there was at the start
 pub record Closed (passed : ℕ → List ℕ → Type 0) (left_below : Option (List ℕ)) (supplied : ℕ → List ℕ → Type 0) (left digest : Option (List ℕ)) : Type 0 where
   pub means : (check : PassCheck) (start : Option (List ℕ)) (raw : List ℕ) → supplied (log_number (hash_log check) (hash_log check) start) raw → IfSome digest (λ d. Means (mark_by check d) start left left_below raw)
-  pub logged : (check : PassCheck) (log : ℕ) (start : Option (List ℕ)) (raw : List ℕ) → supplied (log_number (hash_log check) (below_log log) start) raw → IfSome digest (λ d. PassedAs passed log (mark_by check d) raw)
+  pub logged : (check : PassCheck) (log : ℕ) (start : Option (List ℕ)) (raw : List ℕ) → supplied (log_number (hash_log check) (below_log log) start) raw → IfSome digest (λ d. PassedAs passed log (mark_by check d) raw (λ packed. left ≡ Some [] → start ≡ Some packed))
   pub there : left ≡ Some [] → digest ≡ None → ⊥
 
 -- ---- why a call stops

@@ -56,11 +56,11 @@ module _ {F : Type 0} (f : feed.Ghosts F) where
       (reading f now c.1.0.0 ∷ rest.0, and_then l c.0 m (read (reading f now c.1.0.0) ∷ []) (reads rest.0) c.1.0.1 rest.1, ap (λ n. suc n) rest.2)
 
   close_next : (known : List ℕ → Type 0) (may : ℕ) (first : List ℕ) (old now : F) (file : List ℕ) (l m : Option (List Event)) → IsFresh f old → Closes f now l m → GivesOrNot f known may first old now file
-      → (r : Reading) × (m ≡ then_one l (read r)) × IsWholeOrSpared known may first r file
+      → (r : Reading) × (m ≡ then_one l (read r)) × IsWholeOrSpared known may first (f.remaining old) r file
   close_next known may first old now file l m h8 h9 h10 = grind arith
 
   close_later : (known : List ℕ → Type 0) (may : ℕ) (first : List ℕ) (olds news : List F) (files : List (List ℕ)) (l m : Option (List Event)) → AreFresh f olds → CloseAll f news l m → GiveLater f known may first olds news files
-      → (rs : List Reading) × (m ≡ then_all l (reads rs)) × ReadLater known may first rs files × (length rs ≡ length news)
+      → (rs : List Reading) × (m ≡ then_all l (reads rs)) × ReadLater known may first (map f.remaining olds) rs files × (length rs ≡ length news)
   close_later known may first [] [] [] l m fresh c g = ([], c ∙ then_none l, tt, refl)
   close_later known may first (old ∷ olds) (now ∷ news) (b ∷ bs) l m fresh c g =
       let one = close_next known may first old now b l c.0 fresh.0 c.1 g.0 in
@@ -70,11 +70,11 @@ module _ {F : Type 0} (f : feed.Ghosts F) where
 
   -- each gave its file
   pub close_given : (known : List ℕ → Type 0) (may : ℕ) (olds news : List F) (files : List (List ℕ)) (l m : Option (List Event)) → AreFresh f olds → CloseAll f news l m → GiveAll f known may olds news files
-      → (rs : List Reading) × (m ≡ then_all l (reads rs)) × ReadAll known may rs files × (length rs ≡ length news)
+      → (rs : List Reading) × (m ≡ then_all l (reads rs)) × ReadAll known may (map f.remaining olds) rs files × (length rs ≡ length news)
   close_given known may (old ∷ olds) (now ∷ news) (b ∷ bs) l m fresh c g =
-      let one = c.1.1 b g.0.passed in
+      let one = c.1.1 b g.0.0.passed in
       let rest = close_later known may b olds news bs c.0 m fresh.1 c.2 g.1 in
-      (reading f now b ∷ rest.0, and_then l c.0 m (read (reading f now b) ∷ []) (reads rest.0) one rest.1, (record { are = refl; end = g.0.end; is_known = g.0.is_known }, rest.2), ap (λ n. suc n) rest.3)
+      (reading f now b ∷ rest.0, and_then l c.0 m (read (reading f now b) ∷ []) (reads rest.0) one rest.1, (record { are = refl; end = g.0.0.end; is_known = g.0.0.is_known; opened = g.0.1 }, rest.2), ap (λ n. suc n) rest.3)
   close_given known may _ _ _ l m fresh c g = absurd g
 
   -- one of them failed
@@ -229,7 +229,7 @@ work_fails program packs digests check f task took failed front l m n olds news 
 -- the same, and its drain too
 pub work_done : {F D : Type 0} (f : feed.Ghosts F) (d : drain.Ghosts D) (out : D) (name : Option (List ℕ)) (kept : Bool) (fault : Option FinishFault) (by : Manner) (check : PassCheck) (task : Task) (took : List ℕ → Type 0) (failed : Type 0) (l m n : Option (List Event)) (olds news : List F) (report : Report)
     → AreFresh f olds → CloseAll f news l m → Finishes d out name kept fault m n → ((w : List ℕ) → took w → d.has_taken out 0 w) → Works by check f task olds news took failed (Ok report)
-    → (rs : List Reading) × (w : Writing) × (n ≡ then_all l (reads rs ++ wrote w ∷ [])) × (w.fault ≡ fault) × took w.bytes × IsWork by check task rs w.bytes report.counts report.input report.raw × (w.kept ≡ kept) × (w.name ≡ name)
+    → (rs : List Reading) × (w : Writing) × (n ≡ then_all l (reads rs ++ wrote w ∷ [])) × (w.fault ≡ fault) × took w.bytes × IsWork by check task (map f.remaining olds) rs w.bytes report.counts report.input report.raw × (w.kept ≡ kept) × (w.name ≡ name)
 work_done f d out name kept fault by check task took failed l m n olds news report fresh c fin taken works =
     let given = close_given f (AreDigests by check report.input report.raw) (spares task) olds news works.files l m fresh c works.gave in (
       given.0,
@@ -257,13 +257,13 @@ finish_fails f d out name kept fault l m n news c fin why e =
 -- the same of one pass
 pub work_read_once : {F : Type 0} (f : feed.Ghosts F) (by : Manner) (check : PassCheck) (task : Task) (failed : Type 0) (l m : Option (List Event)) (old now : F) (report : Report)
     → IsFresh f old → Closes f now l m → Works by check f task (old ∷ []) (now ∷ []) (λ took. took ≡ []) failed (Ok report)
-    → (first : Reading) × (m ≡ then_one l (read first)) × IsWork by check task (first ∷ []) [] report.counts report.input report.raw
+    → (first : Reading) × (m ≡ then_one l (read first)) × IsWork by check task (f.remaining old ∷ []) (first ∷ []) [] report.counts report.input report.raw
 work_read_once f by check task failed l m old now report fresh c works = grind arith
 
 -- what a call did, however it ended
 pub if_done : {F D : Type 0} (f : feed.Ghosts F) (d : drain.Ghosts D) (out : D) (name : Option (List ℕ)) (kept : Bool) (fault : Option FinishFault) (by : Manner) (check : PassCheck) (task : Task) (took : List ℕ → Type 0) (failed : Type 0) (l m n : Option (List Event)) (olds news : List F) (outcome : Result Report Halted)
     → AreFresh f olds → CloseAll f news l m → Finishes d out name kept fault m n → ((w : List ℕ) → took w → d.has_taken out 0 w) → Works by check f task olds news took failed outcome
-    → OnOk outcome ((report : Report) × (rs : List Reading) × (w : Writing) × (n ≡ then_all l (reads rs ++ wrote w ∷ [])) × (w.fault ≡ fault) × IsWork by check task rs w.bytes report.counts report.input report.raw)
+    → OnOk outcome ((report : Report) × (rs : List Reading) × (w : Writing) × (n ≡ then_all l (reads rs ++ wrote w ∷ [])) × (w.fault ≡ fault) × IsWork by check task (map f.remaining olds) rs w.bytes report.counts report.input report.raw)
 if_done f d out name kept fault by check task took failed l m n olds news (Ok report) fresh c fin taken works = grind (arith, work_done f d out name kept fault by check task took failed l m n olds news report fresh c fin taken works)
 if_done f d out name kept fault by check task took failed l m n olds news (Err halted) fresh c fin taken works = tt
 

@@ -23,16 +23,16 @@ use Rattle.pbf_published.specs.Published.{ChangedOf, GaveOrNone, GavePublished, 
 use Rattle.pbfcut_cli.specs.declared.programs.Program.TheVariants.{Pbfcutz}
 use Rattle.pbfcut_program.specs.declared.engine.Report.{Report}
 use Rattle.pbfcut_program.specs.declared.engine.Halted.{Halted}
-use Rattle.pbfcut_program.specs.Devices.{GiveAll, AreFresh, Gives, GivesOrNot, Works}
+use Rattle.pbfcut_program.specs.Devices.{GiveAll, AreFresh, GivesIts, GivesOrNot, Works}
 use Rattle.pbfcut_program.specs.Manner.{AreDigests, manner}
 use Rattle.pbfcut_program.specs.Outcomes.{ReportsPublished}
 use Rattle.pbfcut_program.specs.Tasks.{Holds, Task, checking, judge_of, showing, converting, copying, extracting, spares_by}
 use Rattle.pbfcut_program.proofs.FailLemmas.{caused_weaker}
 
 -- a feed gave packed bytes, and this holds of the raw file that they mean
-record Gave {F : Type 0} (f : feed.Ghosts F) (known : List ℕ → Type 0) (now : F) (holds : List ℕ → Type 0) : Type 0 where
+record Gave {F : Type 0} (f : feed.Ghosts F) (known : List ℕ → Type 0) (old now : F) (holds : List ℕ → Type 0) : Type 0 where
   file : List ℕ
-  gives : Gives f known now file
+  gives : GivesIts f known old now file
   holding : holds (unpacked file)
 
 -- the same of a later one, which may have been spared
@@ -47,7 +47,7 @@ module _ {F : Type 0} (f : feed.Ghosts F) (packs digests : Bool) (by : PassCheck
   Known = AreDigests (manner Pbfcutz packs digests) by input raw
 
   -- what passed by the first log is what is said of
-  gave : {old now : F} {holds : List ℕ → Type 0} → f.has_passed old 0 [] → GavePublished f old now (mark_by by input) (mark_by (raw_check by) r) holds → Gave f Known now holds
+  gave : {old now : F} {holds : List ℕ → Type 0} → f.has_passed old 0 [] → GavePublished f old now (mark_by by input) (mark_by (raw_check by) r) holds → Gave f Known old now holds
   gave {holds = holds} start g = grind (arith, (g.logged 0 start).packed, (g.logged 0 start).digest_is)
 
   gave_after : (may : ℕ) → 0 < may → {old now : F} {first : List ℕ} {holds : List ℕ → Type 0} → f.has_passed old 0 [] → GaveOrNone f old now (mark_by by input) (mark_by (raw_check by) r) (unpacked first) holds → GaveAfter f Known may first old now holds

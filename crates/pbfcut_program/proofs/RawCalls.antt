@@ -28,7 +28,7 @@ use Rattle.pbfcut_cli.specs.declared.endings.Ending.TheVariants as ending
 use Rattle.pbfcut_cli.specs.declared.programs.Program.TheVariants.{Pbfcut}
 use Rattle.pbfcut_program.specs.declared.engine.Report.{Report}
 use Rattle.pbfcut_program.specs.declared.engine.Halted.{Halted}
-use Rattle.pbfcut_program.specs.Devices.{GiveAll, AreFresh, EndsFor, StopsFor, Gives, GivesFaulty, GivesOrNot, GivesOther, GivesOtherAt, Works, used}
+use Rattle.pbfcut_program.specs.Devices.{GiveAll, AreFresh, EndsFor, StopsFor, Gives, GivesIts, GivesFaulty, GivesOrNot, GivesOther, GivesOtherAt, Works, used}
 use Rattle.pbfcut_program.specs.Fails.{EndsAsStop, UnlessPacked}
 use Rattle.pbfcut_program.specs.Manner.{AreDigests, manner, output_form}
 use Rattle.pbfcut_program.specs.Outcomes.{ReportsRaw}
@@ -38,9 +38,23 @@ use Rattle.pbfcut_program.specs.Tasks.{Holds, Task, checking, showing, convertin
 abbrev Stopped : (X : Type 0) → Halt → Result X Halt
 Stopped X h = Err h
 
+-- what was supplied to the end is what there was to supply
+whole_had : (file : List ℕ) (had left : Option (List ℕ)) → had ≡ prepend file left → IsAtEnd left → IfSome had (λ all. all ≡ file)
+whole_had file None left is end = tt
+whole_had file (Some all) None is end = absurd (some_none is) where
+  some_none : {A : Type 0} {a : A} → ◌≡◌ {A = Option A} (Some a) None → ⊥
+  some_none e = cc
+whole_had file (Some all) (Some rest) is end = some_same is ∙ ap (λ r. file ++ r) end ∙ append-nil file where
+  some_same : {A : Type 0} {a b : A} → Some a ≡ Some b → a ≡ b
+  some_same e = cc
+
 module _ {F : Type 0} (f : feed.Ghosts F) where
   gives_file : {digest : Mark} {holds : List ℕ → Type 0} {old now : F} (known : List ℕ → Type 0) → ((file : List ℕ) → IsDigestOf digest file → known file) → f.has_passed old 0 [] → (g : GaveFile f old now digest holds) → Gives f known now g.file
   gives_file known is start g = record { passed = g.supplied.gave.logged 0 [] start; end = g.supplied.end; is_known = is g.file g.digest_is }
+
+  -- and it is what the feed had to give
+  gives_its : {digest : Mark} {holds : List ℕ → Type 0} {old now : F} (known : List ℕ → Type 0) → ((file : List ℕ) → IsDigestOf digest file → known file) → f.has_passed old 0 [] → (g : GaveFile f old now digest holds) → GivesIts f known old now g.file
+  gives_its known is start g = (gives_file known is start g, whole_had g.file _ _ g.supplied.gave.told g.supplied.end)
 
   -- of which nothing is known
   gives_some : {holds : List ℕ → Type 0} {old now : F} → f.has_passed old 0 [] → (g : GaveFile f old now no_mark holds) → Gives f (λ _. Unit {0}) now g.file
@@ -136,7 +150,7 @@ module _ {F D : Type 0} (f : feed.Ghosts F) (d : drain.Ghosts D) (out out_now : 
       rw (r.0, r.1) record {
         files = given.file ∷ again.file ∷ [];
         written = took.written;
-        gave = (gives_file f known is fresh.0.0 given, (inl (gives_file f known is fresh.1.0.0 again), tt));
+        gave = (gives_its f known is fresh.0.0 given, (inl (gives_its f known is fresh.1.0.0 again), tt));
         took_them = took.added.logged log [] start;
         holds = meant receipt given.file again.file took.written given.holding.0 took.holding;
       }
@@ -165,7 +179,7 @@ module _ {F D : Type 0} (f : feed.Ghosts F) (d : drain.Ghosts D) (out out_now : 
   -- a pass that may have been spared
   later_of : (may : ℕ) → 0 < may → (digest : Mark) {first : List ℕ} {holds : List ℕ → Type 0} (known : List ℕ → Type 0) → ((file : List ℕ) → IsDigestOf digest file → known file) → (spared : Bool) (old now : F) → f.has_passed old 0 [] → GaveOrNot (fed f old now) spared digest first holds
       → (file : List ℕ) × GivesOrNot f known may first old now file × holds file
-  later_of may some digest known h2 spared old now h6 h7 = grind (arith, gives_file)
+  later_of may some digest known h2 spared old now h6 h7 = grind (arith, gives_its)
 
   -- three passes
   pub extract_works : (strategy : Strategy) (area : AreaSpec) → spares_by strategy ≡ 1 → (one one_now two two_now three three_now : F) (outcome : Result InputReceipt Halt) (result : Result Report Halted) → AreFresh f (one ∷ two ∷ three ∷ [])
@@ -177,7 +191,7 @@ module _ {F D : Type 0} (f : feed.Ghosts F) (d : drain.Ghosts D) (out out_now : 
       rw (r.0, r.1) record {
         files = extracts.receipt.file ∷ again.0 ∷ last.file ∷ [];
         written = took.written;
-        gave = subst (λ n. GiveAll f (AreDigests (manner Pbfcut false digests) by receipt.input report.raw) n (one ∷ two ∷ three ∷ []) (one_now ∷ two_now ∷ three_now ∷ []) (extracts.receipt.file ∷ again.0 ∷ last.file ∷ [])) (sym one_spared) (gives_file f known is fresh.0.0 extracts.receipt, (again.1, (inl (gives_file f known is fresh.1.1.0.0 last), tt)));
+        gave = subst (λ n. GiveAll f (AreDigests (manner Pbfcut false digests) by receipt.input report.raw) n (one ∷ two ∷ three ∷ []) (one_now ∷ two_now ∷ three_now ∷ []) (extracts.receipt.file ∷ again.0 ∷ last.file ∷ [])) (sym one_spared) (gives_its f known is fresh.0.0 extracts.receipt, (again.1, (inl (gives_its f known is fresh.1.1.0.0 last), tt)));
         took_them = took.added.logged log [] start;
         holds = (extracts.receipt.holding.0, took.holding);
       }
@@ -197,7 +211,7 @@ module _ {F D : Type 0} (f : feed.Ghosts F) (d : drain.Ghosts D) (out out_now : 
       rw (r.0, r.1) record {
         files = extracts.receipt.file ∷ again.0 ∷ third.0 ∷ last.file ∷ [];
         written = took.written;
-        gave = (gives_file f known is fresh.0.0 extracts.receipt, (again.1, (third.1, (inl (gives_file f known is fresh.1.1.1.0.0 last), tt))));
+        gave = (gives_its f known is fresh.0.0 extracts.receipt, (again.1, (third.1, (inl (gives_its f known is fresh.1.1.1.0.0 last), tt))));
         took_them = took.added.logged log [] start;
         holds = (extracts.receipt.holding.0, took.holding);
       }

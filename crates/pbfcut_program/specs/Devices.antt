@@ -66,9 +66,13 @@ pub record Gives {F : Type 0} (f : feed.Ghosts F) (known : List ℕ → Type 0) 
   pub end : IsAtEnd (f.remaining now)
   pub is_known : known file
 
+-- it did, and that is what it had, if it reports it
+abbrev pub GivesIts : {F : Type 0} → feed.Ghosts F → (List ℕ → Type 0) → (old now : F) → List ℕ → Type 0
+GivesIts f known old now file = Gives f known now file × IfSome (f.remaining old) (λ all. all ≡ file)
+
 -- a later one did; or it was spared, as so many of those that follow may be
 abbrev pub GivesOrNot : {F : Type 0} → feed.Ghosts F → (List ℕ → Type 0) → ℕ → (first : List ℕ) → (old now : F) → List ℕ → Type 0
-GivesOrNot f known may first old now file = Gives f known now file ⊎ ((0 < may) × (now ≡ old) × (file ≡ first))
+GivesOrNot f known may first old now file = GivesIts f known old now file ⊎ ((0 < may) × (now ≡ old) × (file ≡ first))
 
 abbrev pub GiveLater : {F : Type 0} → feed.Ghosts F → (List ℕ → Type 0) → ℕ → (first : List ℕ) → (olds news : List F) → List (List ℕ) → Type 0
 GiveLater f known may first [] [] [] = Unit {0}
@@ -76,7 +80,7 @@ GiveLater f known may first (old ∷ olds) (now ∷ news) (b ∷ bs) = GivesOrNo
 GiveLater f known may first _ _ _ = ⊥
 
 abbrev pub GiveAll : {F : Type 0} → feed.Ghosts F → (List ℕ → Type 0) → ℕ → (olds news : List F) → List (List ℕ) → Type 0
-GiveAll f known may (old ∷ olds) (now ∷ news) (b ∷ bs) = Gives f known now b × GiveLater f known may b olds news bs
+GiveAll f known may (old ∷ olds) (now ∷ news) (b ∷ bs) = GivesIts f known old now b × GiveLater f known may b olds news bs
 GiveAll f known may _ _ _ = ⊥
 
 -- ---- why a call stops

@@ -15,7 +15,7 @@ TookFront answer (wrote w) = w.reports ≡ true → (count : ℕ) × (w.bytes �
 TookFront answer _ = Unit {0}
 
 -- the work was done, and OUT took all of it; what comes after it failed: a rest that didn't go out, OUT's name, or a line
-pub record IsWorked (m : Manner) (task : Task) (events : List Event) : Type 0 where
+pub record IsWorked (m : Manner) (task : Task) (has : List (Option (List ℕ))) (events : List Event) : Type 0 where
   pub before : List Event
   pub rs : List Reading
   pub out : Writing
@@ -25,12 +25,12 @@ pub record IsWorked (m : Manner) (task : Task) (events : List Event) : Type 0 wh
   pub counts : Counts
   pub digest : List ℕ
   pub raw : Option (List ℕ)
-  pub work : IsWork m by task rs out.bytes counts digest raw
+  pub work : IsWork m by task has rs out.bytes counts digest raw
 
 -- OUT took a prefix of the answer, if IN has the same bytes for each pass, and raw blobs are written; or all of it
 abbrev pub Leaves : Manner → Task → (has : List (Option (List ℕ))) → List Event → Type 0
 Leaves m task has events =
-    UnlessPacked (output_form m.packs m.program) ((bytes : List ℕ) → AllSupply bytes has → Each (TookFront (answer_of task (of_input m bytes))) events) ⊎ IsWorked m task events
+    UnlessPacked (output_form m.packs m.program) ((bytes : List ℕ) → AllSupply bytes has → Each (TookFront (answer_of task (of_input m bytes))) events) ⊎ IsWorked m task has events
 
 -- IN has this for the passes, and by that the command leaves such an OUT
 pub record LeavesFor (m : Manner) (task : Task) (events : List Event) : Type 0 where

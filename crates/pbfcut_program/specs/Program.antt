@@ -92,7 +92,7 @@ pub record Checks (m : Manner) (input : List ℕ) (events : List Event) : Type 0
   pub digest : List ℕ
   pub raw : Option (List ℕ)
   pub happened : events ≡ opened input 1 has ∷ read first ∷ prints Output (counts_text counts ∷ check_lines m.digests digest raw input)
-  pub work : IsWork m (once_check m.digests) checking (first ∷ []) [] counts digest raw
+  pub work : IsWork m (once_check m.digests) checking (has ∷ []) (first ∷ []) [] counts digest raw
 
 -- pbfcutz draws a key, even if it draws nothing else
 abbrev pub draws : Program → (key : ℕ) → List Event
@@ -111,7 +111,7 @@ pub record Shows (m : Manner) (dates : Bool) (input : List ℕ) (events : List E
   pub happened : events ≡ openings input 1 has ++ draws m.program key ++ screened true ∷ map read rs ++ wrote out ∷ []
   pub passes : length has ≡ 2
   pub whole : out.fault ≡ None
-  pub work : IsWork (to_raw m) (check_of m key) (showing dates) rs out.bytes counts digest raw
+  pub work : IsWork (to_raw m) (check_of m key) (showing dates) has rs out.bytes counts digest raw
 
 -- what went out are the lines of the frames of the raw file that IN means, as far as the host reports what it has
 abbrev pub IsListing : Program → Option (List ℕ) → List ℕ → Type 0
@@ -171,7 +171,7 @@ pub record WritesCounts (m : Manner) (task : Task) (files : Files) (counts : Cou
   pub whole : out.fault ≡ None
   pub hashed : known ≡ digest_if_asked m.digests out.bytes
   pub meaning_hashed : meaning ≡ digest_if_asked (hashes_meaning (output_form m.packs m.program) m.digests) (of_output m out.bytes)
-  pub work : IsWork m (check_of m key) task rs out.bytes counts digest raw
+  pub work : IsWork m (check_of m key) task has rs out.bytes counts digest raw
 
 abbrev pub Writes : Manner → Task → Files → List Event → Type 0
 Writes m task files events = (counts : Counts) × WritesCounts m task files counts events

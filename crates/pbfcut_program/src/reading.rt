@@ -33,7 +33,8 @@ fn read_once<H: Host>(
 ) -> Result<Report, Ending>
     ensures ok { IfOk result (λ report. (has : Option (List ℕ)) × (first : Reading)
         × (H.log host.new ≡ then_all (H.log host.old) (opened path.now 1 has ∷ read first ∷ []))
-        × IsWork (manner_of engine) (once_check engine.digests) checking (first ∷ []) []
+        × IsWork (manner_of engine) (once_check engine.digests) checking (has ∷ []) (first ∷ [])
+        []
         report.counts report.input report.raw) }
     ensures err { IfErr result (λ how. (events : List Event)
         × (H.log host.new ≡ then_all (H.log host.old) events)

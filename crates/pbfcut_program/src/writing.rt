@@ -391,7 +391,8 @@ fn run_job<H: Host>(
     requires fresh { AreFresh H.In.Feed (feeds_of ready.job) × IsFreshOut H.Out.Drain ready.out.drain }
     ensures ok { IfOk result (λ done. (rs : List Reading) × (out : Writing) × (keeps : List Event)
         × (H.log host.new ≡ then_all (H.log host.old) (map read rs ++ wrote out ∷ keeps))
-        × Worked engine ready.seed.key (task_of ready.job) rs out done
+        × Worked engine ready.seed.key (task_of ready.job)
+        (map H.In.remaining (feeds_of ready.job)) rs out done
         × (out.name ≡ option_map string_bytes ready.out.name)
         × IsKept engine.program files.now.overwrite files.now.output.now out.name keeps) }
     ensures err { IfErr result (λ how. (events : List Event)

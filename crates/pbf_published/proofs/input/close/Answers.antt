@@ -34,6 +34,7 @@ returns-clause-closed g c = elim c.if-all.branch [
               passed = rw below (below_to (g.F.Feed.has_passed c.args.feed.feed.feed.feed) c.args.feed.feed.feed.hasher c.args.feed.feed.feed.count log gave.packed passed.1);
               digest_is = digest_hashed (g.F.Feed.has_passed hashed.feed) hashed.hasher hashed.count check c.digest-digest.result gave.packed c.digest-digest.ensures.digest (rw c.into_feed-traced.ensures.feed passed.0);
               means = ap (λ (u : Unpacked). u.0) gave.means;
+              is_known = λ ended. traced_all _ _ (hash_log check) (below_log log) start gave.packed (gave.end ended) gave.passed;
             };
         there = λ ended none. none-some _ (sym none);
       }
