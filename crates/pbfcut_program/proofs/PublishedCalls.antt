@@ -48,7 +48,7 @@ module _ {F : Type 0} (f : feed.Ghosts F) (packs digests : Bool) (by : PassCheck
 
   -- what passed by the first log is what is said of
   gave : {old now : F} {holds : List ℕ → Type 0} → f.has_passed old 0 [] → GavePublished f old now (mark_by by input) (mark_by (raw_check by) r) holds → Gave f Known old now holds
-  gave {holds = holds} start g = grind (arith, (g.logged 0 start).packed, (g.logged 0 start).digest_is)
+  gave {holds = holds} start g = grind (arith, (g.logged 0 start).packed, (g.logged 0 start).digest_is, (g.logged 0 start).is_known)
 
   gave_after : (may : ℕ) → 0 < may → {old now : F} {first : List ℕ} {holds : List ℕ → Type 0} → f.has_passed old 0 [] → GaveOrNone f old now (mark_by by input) (mark_by (raw_check by) r) (unpacked first) holds → GaveAfter f Known may first old now holds
   gave_after may some h0 h1 = grind (arith, gave)

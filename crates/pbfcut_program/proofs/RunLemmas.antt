@@ -1,5 +1,7 @@
--- What a run did that ended with 0, of words that are taken as `extract`.
-use Rattle.std.proofs.Common.{arith, ◌≡◌, ◌⊎◌, inl, inr, ℕ, List, [], ◌∷◌, true, Some, codes, refl, subst, ap, ◌∙◌}
+-- What a run did that ended with 0, of words that are taken as a command that writes.
+use Rattle.std.proofs.Common.{arith, ◌≡◌, inl, inr, ℕ, List, true, false, Some, codes, refl, subst, sym, ◌∙◌}
+use Rattle.std.specs.Str.{bytes_eq}
+use Rattle.std.proofs.lemmas.Slice.Eq.{bytes_eq-Decides}
 use Rattle.clap.specs.Words.{Row, Text, subcommand_of, takes}
 use Rattle.pbfcut_cli.specs.Endings.{ending_status}
 use Rattle.pbfcut_cli.specs.Joined.{normalized}
@@ -12,14 +14,19 @@ use Rattle.pbfcut_cli.specs.declared.words.Files.{Files}
 use Rattle.pbfcut_cli.specs.declared.words.Region.{Region}
 use Rattle.pbfcut_cli.specs.declared.words.Strategy.{Strategy}
 use Rattle.pbfcut_program.specs.Events.{Event}
-use Rattle.pbfcut_program.specs.Program.{Does, Extracts, IsRun, manner_in}
+use Rattle.pbfcut_program.specs.Program.{Does, Extracts, IsRun, Writes, manner_in}
+use Rattle.pbfcut_program.specs.Changes.{EndsWell}
+use Rattle.pbfcut_program.specs.Files.{Disk}
+use Rattle.pbfcut_program.specs.Tasks.{Task, converting, copying}
 
 no_zero : (how : Ending) → 0 ≡ ending_status how → ⊥
 no_zero how e = grind arith
 
-abbrev first_letter : List ℕ → ℕ
-first_letter [] = 0
-first_letter (x ∷ xs) = x
+-- two names that aren't the same
+differ : (a b : List ℕ) → bytes_eq a b ≡ false → a ≡ b → ⊥
+differ a b not same = true_false (sym ((bytes_eq-Decides a b).1 same) ∙ not) where
+  true_false : true ≡ false → ⊥
+  true_false e = cc
 
 -- the command that these rows mean, and what it did
 pub record RunsExtract (program : Program) (rows : List Row) (events : List Event) : Type 0 where
@@ -29,22 +36,76 @@ pub record RunsExtract (program : Program) (rows : List Row) (events : List Even
   pub reads : ReadsAs (codes "extract") rows (Extract cut by files)
   pub extracts : Extracts (manner_in program (Extract cut by files)) cut by files events
 
-module _ (program : Program) (rows : List Row) (events : List Event) where
-  other : (name : List ℕ) (letter : ℕ) → codes "extract" ≡ name → first_letter name ≡ letter → (101 ≡ letter → ⊥) → ⊥
-  other name letter e is not = not (ap first_letter e ∙ is)
+-- the same of one that converts or copies
+pub record RunsWriting (program : Program) (name : List ℕ) (rows : List Row) (events : List Event) (command : Files → Command) (task : Task) : Type 0 where
+  pub files : Files
+  pub reads : ReadsAs name rows (command files)
+  pub writes : Writes (manner_in program (command files)) task files events
 
-  done : (command : Command) → ReadsAs (codes "extract") rows command → Does (manner_in program command) command events → RunsExtract program rows events
-  done (Extract cut by files) r d = record { cut = cut; by = by; files = files; reads = r; extracts = d }
-  done (Blobs input) r d = absurd (other (codes "blobs") 98 r.0 refl (λ e. omega (arith, e)))
-  done (Info input json) r d = absurd (other (codes "info") 105 r.0 refl (λ e. omega (arith, e)))
-  done (Show input dates progress) r d = absurd (other (codes "show") 115 r.0 refl (λ e. omega (arith, e)))
-  done (Check input progress digests) r d = absurd (other (codes "check") 99 r.0 refl (λ e. omega (arith, e)))
-  done (Convert files) r d = absurd (other (codes "convert") 99 r.0 refl (λ e. omega (arith, e)))
-  done (Pack files) r d = absurd (other (codes "pack") 112 r.0 refl (λ e. omega (arith, e)))
-  done (Unpack files) r d = absurd (other (codes "unpack") 117 r.0 refl (λ e. omega (arith, e)))
-  done (Help text) r d = absurd r
+module _ (program : Program) (rows : List Row) (events : List Event) where
+  extract_done : (command : Command) → ReadsAs (codes "extract") rows command → Does (manner_in program command) command events → RunsExtract program rows events
+  extract_done (Extract cut by files) r d = record { cut = cut; by = by; files = files; reads = r; extracts = d }
+  extract_done (Blobs input) r d = absurd (differ (codes "extract") (codes "blobs") refl r.0)
+  extract_done (Info input json) r d = absurd (differ (codes "extract") (codes "info") refl r.0)
+  extract_done (Show input dates progress) r d = absurd (differ (codes "extract") (codes "show") refl r.0)
+  extract_done (Check input progress digests) r d = absurd (differ (codes "extract") (codes "check") refl r.0)
+  extract_done (Convert files) r d = absurd (differ (codes "extract") (codes "convert") refl r.0)
+  extract_done (Pack files) r d = absurd (differ (codes "extract") (codes "pack") refl r.0)
+  extract_done (Unpack files) r d = absurd (differ (codes "extract") (codes "unpack") refl r.0)
+  extract_done (Help text) r d = absurd r
+
+  convert_done : (command : Command) → ReadsAs (codes "convert") rows command → Does (manner_in program command) command events → RunsWriting program (codes "convert") rows events Convert converting
+  convert_done (Convert files) r d = record { files = files; reads = r; writes = d }
+  convert_done (Extract cut by files) r d = absurd (differ (codes "convert") (codes "extract") refl r.0)
+  convert_done (Blobs input) r d = absurd (differ (codes "convert") (codes "blobs") refl r.0)
+  convert_done (Info input json) r d = absurd (differ (codes "convert") (codes "info") refl r.0)
+  convert_done (Show input dates progress) r d = absurd (differ (codes "convert") (codes "show") refl r.0)
+  convert_done (Check input progress digests) r d = absurd (differ (codes "convert") (codes "check") refl r.0)
+  convert_done (Pack files) r d = absurd (differ (codes "convert") (codes "pack") refl r.0)
+  convert_done (Unpack files) r d = absurd (differ (codes "convert") (codes "unpack") refl r.0)
+  convert_done (Help text) r d = absurd r
+
+  pack_done : (command : Command) → ReadsAs (codes "pack") rows command → Does (manner_in program command) command events → RunsWriting program (codes "pack") rows events Pack copying
+  pack_done (Pack files) r d = record { files = files; reads = r; writes = d }
+  pack_done (Extract cut by files) r d = absurd (differ (codes "pack") (codes "extract") refl r.0)
+  pack_done (Blobs input) r d = absurd (differ (codes "pack") (codes "blobs") refl r.0)
+  pack_done (Info input json) r d = absurd (differ (codes "pack") (codes "info") refl r.0)
+  pack_done (Show input dates progress) r d = absurd (differ (codes "pack") (codes "show") refl r.0)
+  pack_done (Check input progress digests) r d = absurd (differ (codes "pack") (codes "check") refl r.0)
+  pack_done (Convert files) r d = absurd (differ (codes "pack") (codes "convert") refl r.0)
+  pack_done (Unpack files) r d = absurd (differ (codes "pack") (codes "unpack") refl r.0)
+  pack_done (Help text) r d = absurd r
+
+  unpack_done : (command : Command) → ReadsAs (codes "unpack") rows command → Does (manner_in program command) command events → RunsWriting program (codes "unpack") rows events Unpack copying
+  unpack_done (Unpack files) r d = record { files = files; reads = r; writes = d }
+  unpack_done (Extract cut by files) r d = absurd (differ (codes "unpack") (codes "extract") refl r.0)
+  unpack_done (Blobs input) r d = absurd (differ (codes "unpack") (codes "blobs") refl r.0)
+  unpack_done (Info input json) r d = absurd (differ (codes "unpack") (codes "info") refl r.0)
+  unpack_done (Show input dates progress) r d = absurd (differ (codes "unpack") (codes "show") refl r.0)
+  unpack_done (Check input progress digests) r d = absurd (differ (codes "unpack") (codes "check") refl r.0)
+  unpack_done (Convert files) r d = absurd (differ (codes "unpack") (codes "convert") refl r.0)
+  unpack_done (Pack files) r d = absurd (differ (codes "unpack") (codes "pack") refl r.0)
+  unpack_done (Help text) r d = absurd r
+
+  -- what was done is what the words mean
+  ran : {Runs : Type 0} (name : List ℕ) (words : List Text) → ((command : Command) → ReadsAs name rows command → Does (manner_in program command) command events → Runs)
+      → takes (program_app program) (normalized words) ≡ true → subcommand_of (program_app program) (normalized words) ≡ Some (name, rows) → IsRun program words events 0 → Runs
+  ran name words done t s (inr f) = absurd (no_zero f.how f.status_is)
+  ran name words done t s (inl (z, (command, inl h, d))) = absurd (h.1 t)
+  ran name words done t s (inl (z, (command, inr r, d))) = done command (subst (λ x. IsRead x command) s r) d
 
   pub run_extracts : (words : List Text) → takes (program_app program) (normalized words) ≡ true → subcommand_of (program_app program) (normalized words) ≡ Some (codes "extract", rows) → IsRun program words events 0 → RunsExtract program rows events
-  run_extracts words t s (inr f) = absurd (no_zero f.how f.status_is)
-  run_extracts words t s (inl (z, (command, inl h, d))) = absurd (h.1 t)
-  run_extracts words t s (inl (z, (command, inr r, d))) = done command (subst (λ x. IsRead x command) s r) d
+  run_extracts words = ran (codes "extract") words extract_done
+
+  module _ (words : List Text) (disk : Disk) (file : List ℕ) where
+    pub extract_ran : EndsWell program words (codes "extract") rows events disk file → RunsExtract program rows events
+    extract_ran e = run_extracts words e.taken e.command e.run
+
+    pub convert_ran : EndsWell program words (codes "convert") rows events disk file → RunsWriting program (codes "convert") rows events Convert converting
+    convert_ran e = ran (codes "convert") words convert_done e.taken e.command e.run
+
+    pub pack_ran : EndsWell program words (codes "pack") rows events disk file → RunsWriting program (codes "pack") rows events Pack copying
+    pack_ran e = ran (codes "pack") words pack_done e.taken e.command e.run
+
+    pub unpack_ran : EndsWell program words (codes "unpack") rows events disk file → RunsWriting program (codes "unpack") rows events Unpack copying
+    unpack_ran e = ran (codes "unpack") words unpack_done e.taken e.command e.run

@@ -1,6 +1,7 @@
 -- What a command wrote that ended well is made of the one file that its passes read.
 use Rattle.std.proofs.Common.{arith, ◌≡◌, ◌⊎◌, inl, inr, ℕ, ◌-◌, List, [], ◌∷◌, ◌++◌, map, Bool, true, Option, Some, None, refl, ap, sym, subst, ◌∙◌}
 use Rattle.std.proofs.lemmas.List.{append-nil}
+use Rattle.std.specs.Prelude.{IfSome}
 use Rattle.osm_area.specs.Area.{AreaSpec}
 use Rattle.osm_ways.specs.Selection as selection
 use Rattle.pbf_block.specs.declared.counts.Counts.{Counts}
@@ -61,22 +62,42 @@ module _ (file : List ℕ) where
   whole_is bytes None end is = absurd (none_some is)
   whole_is bytes (Some rest) end is = sym (append-nil bytes) ∙ ap (λ r. bytes ++ r) (sym end) ∙ some_same is
 
-  read_is : (known : List ℕ → Type 0) (r : Reading) (b : List ℕ) → IsWhole known r b → prepend r.bytes r.left ≡ Some file → b ≡ file
-  read_is known r b w t = sym w.are ∙ whole_is r.bytes r.left w.end t
+  read_is : (known : List ℕ → Type 0) (has : Option (List ℕ)) (r : Reading) (b : List ℕ) → IsWhole known has r b → prepend r.bytes r.left ≡ Some file → b ≡ file
+  read_is known has r b w t = sym w.are ∙ whole_is r.bytes r.left w.end t
 
-  later_are : (known : List ℕ → Type 0) (may : ℕ) (first : List ℕ) (rs : List Reading) (bs : List (List ℕ)) → first ≡ file → ReadLater known may first rs bs → AllOf rs → AllAre bs
-  later_are known may first [] [] same l t = tt
-  later_are known may first (r ∷ rs) (b ∷ bs) same (inl w, l) t = (read_is known r b w t.0, later_are known (may - 1) first rs bs same l t.1)
-  later_are known may first (r ∷ rs) (b ∷ bs) same (inr s, l) t = (s.2 ∙ same, later_are known (may - 1) first rs bs same l t.1)
-  later_are known may first [] (b ∷ bs) same l t = absurd l
-  later_are known may first (r ∷ rs) [] same l t = absurd l
+  later_are : (known : List ℕ → Type 0) (may : ℕ) (first : List ℕ) (has : List (Option (List ℕ))) (rs : List Reading) (bs : List (List ℕ)) → first ≡ file → ReadLater known may first has rs bs → AllOf rs → AllAre bs
+  later_are known may first [] [] [] same l t = tt
+  later_are known may first (h ∷ hs) (r ∷ rs) (b ∷ bs) same (inl w, l) t = (read_is known h r b w t.0, later_are known (may - 1) first hs rs bs same l t.1)
+  later_are known may first (h ∷ hs) (r ∷ rs) (b ∷ bs) same (inr s, l) t = (s.2 ∙ same, later_are known (may - 1) first hs rs bs same l t.1)
+  later_are known may first _ _ _ same l t = absurd l
 
-  all_are : (known : List ℕ → Type 0) (may : ℕ) (rs : List Reading) (bs : List (List ℕ)) → ReadAll known may rs bs → AllOf rs → AllAre bs
-  all_are known may (r ∷ rs) (b ∷ bs) w t =
-      let same = read_is known r b w.0 t.0 in
-      (same, later_are known may b rs bs same w.1 t.1)
-  all_are known may [] bs w t = absurd w
-  all_are known may (r ∷ rs) [] w t = absurd w
+  all_are : (known : List ℕ → Type 0) (may : ℕ) (has : List (Option (List ℕ))) (rs : List Reading) (bs : List (List ℕ)) → ReadAll known may has rs bs → AllOf rs → AllAre bs
+  all_are known may (h ∷ hs) (r ∷ rs) (b ∷ bs) w t =
+      let same = read_is known h r b w.0 t.0 in
+      (same, later_are known may b hs rs bs same w.1 t.1)
+  all_are known may _ _ _ w t = absurd w
+
+  -- ---- what was opened
+
+  -- each time that IN was opened it had this file
+  abbrev pub AllHad : List (Option (List ℕ)) → Type 0
+  AllHad [] = Unit {0}
+  AllHad (h ∷ hs) = (h ≡ Some file) × AllHad hs
+
+  opened_is : (known : List ℕ → Type 0) (has : Option (List ℕ)) (r : Reading) (b : List ℕ) → IsWhole known has r b → has ≡ Some file → b ≡ file
+  opened_is known has r b w is = sym (subst (λ (h : Option (List ℕ)). IfSome h (λ all. all ≡ b)) is w.opened)
+
+  later_had : (known : List ℕ → Type 0) (may : ℕ) (first : List ℕ) (has : List (Option (List ℕ))) (rs : List Reading) (bs : List (List ℕ)) → first ≡ file → ReadLater known may first has rs bs → AllHad has → AllAre bs
+  later_had known may first [] [] [] same l t = tt
+  later_had known may first (h ∷ hs) (r ∷ rs) (b ∷ bs) same (inl w, l) t = (opened_is known h r b w t.0, later_had known (may - 1) first hs rs bs same l t.1)
+  later_had known may first (h ∷ hs) (r ∷ rs) (b ∷ bs) same (inr s, l) t = (s.2 ∙ same, later_had known (may - 1) first hs rs bs same l t.1)
+  later_had known may first _ _ _ same l t = absurd l
+
+  all_had : (known : List ℕ → Type 0) (may : ℕ) (has : List (Option (List ℕ))) (rs : List Reading) (bs : List (List ℕ)) → ReadAll known may has rs bs → AllHad has → AllAre bs
+  all_had known may (h ∷ hs) (r ∷ rs) (b ∷ bs) w t =
+      let same = opened_is known h r b w.0 t.0 in
+      (same, later_had known may b hs rs bs same w.1 t.1)
+  all_had known may _ _ _ w t = absurd w
 
   -- ---- what holds of the files that were read holds of the one
 
@@ -108,49 +129,97 @@ module _ (file : List ℕ) where
 
   -- ---- what is known of each command that writes
 
-  known_of : (m : Manner) (task : Task) (files : Files) (counts : Counts) (events : List Event) → (w : WritesCounts m task files counts events) → ReadsOnly file events → AllAre w.work.files × Happened (wrote w.out) events
-  known_of m task files counts events w e =
-      let is = is_screen m.program files.output.now in
-      let first = begun is files w.has w.key w.makes in
-      let rs : List Event = map (λ r. read r) w.rs in
-      let out : List Event = wrote w.out ∷ w.keeps in
-      let tail = prints (screen_of is) (counts_text counts ∷ done_lines w.known w.meaning w.digest w.raw files.input.now files.output.now) in
-      let parts = subst (λ es. Each (ReadOf file) es) w.happened e in
-      let reads = each_last (ReadOf file) first rs (each_first (ReadOf file) (first ++ rs) out (each_first (ReadOf file) ((first ++ rs) ++ out) tail parts)) in
-      (all_are _ _ w.rs w.work.files w.work.read (all_of w.rs reads), subst (λ es. Happened (wrote w.out) es) (sym w.happened) (happened_before _ ((first ++ rs) ++ out) tail (happened_after _ (first ++ rs) out (inl refl))))
+  module _ (m : Manner) (task : Task) (files : Files) (counts : Counts) (events : List Event) (w : WritesCounts m task files counts events) where
+    abbrev is : Bool
+    is = is_screen m.program files.output.now
 
-  -- OUT took what it has
-  abbrev whole_of : (m : Manner) (task : Task) (files : Files) (counts : Counts) (events all : List Event) → (w : WritesCounts m task files counts events) → Happened (wrote w.out) all → TookWhole w.out.bytes all
-  whole_of m task files counts events all w h = record { out = w.out; happened = h; are = refl; whole = w.whole; kept = w.kept }
+    abbrev first : List Event
+    first = begun is files w.has w.key w.makes
 
-  pub extracts_take : (m : Manner) (cut : Region) (by : Strategy) (files : Files) (events : List Event) → Extracts m cut by files events → ReadsOnly file events → TookExtract m cut by file events
-  extracts_take m cut by files events x e =
-      let w = x.writes in
-      let parts = subst (λ es. Each (ReadOf file) es) x.happened e in
-      let mine = each_last (ReadOf file) x.before x.after (each_first (ReadOf file) (x.before ++ x.after) (advice x.counts) parts) in
-      let task = extracting (strategy_of by) x.area in
-      let known = known_of m task files x.counts x.after w mine in
-      record {
-        area = x.area;
-        before = x.before;
-        means = x.means;
-        counts = x.counts;
-        bytes = w.out.bytes;
-        took = whole_of m task files x.counts x.after events w (subst (λ es. Happened (wrote w.out) es) (sym x.happened) (happened_before _ (x.before ++ x.after) (advice x.counts) (happened_after _ x.before x.after known.1)));
-        extract = holds_extract m (strategy_of by) x.area w.work.files x.counts (of_output m w.out.bytes) known.0 w.work.holds;
-      }
+    abbrev rs : List Event
+    rs = map (λ r. read r) w.rs
 
-  -- the bytes are those that OUT took, and what is cut out was read first
-  pub extract_took : (m : Manner) (cut : Region) (by : Strategy) (files : Files) (events : List Event) → (x : Extracts m cut by files events) → (e : ReadsOnly file events) → ((extracts_take m cut by files events x e).bytes ≡ x.writes.out.bytes) × ((extracts_take m cut by files events x e).before ≡ x.before)
-  unfolding extracts_take
-  extract_took m cut by files events x e = (refl, refl)
+    abbrev out : List Event
+    out = wrote w.out ∷ w.keeps
 
-  pub converts_take : (m : Manner) (files : Files) (events : List Event) → Writes m converting files events → ReadsOnly file events → TookConversion m file events
-  converts_take m files events w e =
-      let known = known_of m converting files w.0 events w.1 e in
-      record { counts = w.0; bytes = w.1.out.bytes; took = whole_of m converting files w.0 events events w.1 known.1; converted = holds_convert m w.1.work.files w.0 (of_output m w.1.out.bytes) known.0 w.1.work.holds }
+    abbrev tail : List Event
+    tail = prints (screen_of is) (counts_text counts ∷ done_lines w.known w.meaning w.digest w.raw files.input.now files.output.now)
 
-  pub copies_take : (m : Manner) (files : Files) (events : List Event) → Writes m copying files events → ReadsOnly file events → TookCopy m file events
-  copies_take m files events w e =
-      let known = known_of m copying files w.0 events w.1 e in
-      record { bytes = w.1.out.bytes; took = whole_of m copying files w.0 events events w.1 known.1; same = holds_copy m w.1.work.files w.0 (of_output m w.1.out.bytes) known.0 w.1.work.holds }
+    -- the files that were read are this one, by what the passes say of it, or by what IN had
+    reads_it : ReadsOnly file events → AllAre w.work.files
+    reads_it e =
+        let parts = subst (λ es. Each (ReadOf file) es) w.happened e in
+        let reads = each_last (ReadOf file) first rs (each_first (ReadOf file) (first ++ rs) out (each_first (ReadOf file) ((first ++ rs) ++ out) tail parts)) in
+        all_are _ _ w.has w.rs w.work.files w.work.read (all_of w.rs reads)
+
+    had_it : AllHad w.has → AllAre w.work.files
+    had_it had = all_had _ _ w.has w.rs w.work.files w.work.read had
+
+    happened : Happened (wrote w.out) events
+    happened = subst (λ es. Happened (wrote w.out) es) (sym w.happened) (happened_before _ ((first ++ rs) ++ out) tail (happened_after _ (first ++ rs) out (inl refl)))
+
+    -- OUT took what it has
+    abbrev whole_of : (all : List Event) → Happened (wrote w.out) all → TookWhole w.out.bytes all
+    whole_of all h = record { out = w.out; happened = h; are = refl; whole = w.whole; kept = w.kept }
+
+  -- ---- of `extract`
+
+  module _ (m : Manner) (cut : Region) (by : Strategy) (files : Files) (events : List Event) (x : Extracts m cut by files events) where
+    abbrev task : Task
+    task = extracting (strategy_of by) x.area
+
+    took_extract : AllAre x.writes.work.files → TookExtract m cut by file events
+    took_extract are =
+        let w = x.writes in
+        let mine = happened m task files x.counts x.after w in
+        record {
+          area = x.area;
+          before = x.before;
+          means = x.means;
+          counts = x.counts;
+          bytes = w.out.bytes;
+          took = whole_of m task files x.counts x.after w events (subst (λ es. Happened (wrote w.out) es) (sym x.happened) (happened_before _ (x.before ++ x.after) (advice x.counts) (happened_after _ x.before x.after mine)));
+          extract = holds_extract m (strategy_of by) x.area w.work.files x.counts (of_output m w.out.bytes) are w.work.holds;
+        }
+
+    pub extracts_take : ReadsOnly file events → TookExtract m cut by file events
+    extracts_take e =
+        let parts = subst (λ es. Each (ReadOf file) es) x.happened e in
+        took_extract (reads_it m task files x.counts x.after x.writes (each_last (ReadOf file) x.before x.after (each_first (ReadOf file) (x.before ++ x.after) (advice x.counts) parts)))
+
+    pub extracts_had : AllHad x.writes.has → TookExtract m cut by file events
+    extracts_had had = took_extract (had_it m task files x.counts x.after x.writes had)
+
+    -- the bytes are those that OUT took, and what is cut out was read first
+    pub extract_had : (had : AllHad x.writes.has) → ((extracts_had had).bytes ≡ x.writes.out.bytes) × ((extracts_had had).before ≡ x.before)
+    unfolding extracts_had took_extract
+    extract_had had = (refl, refl)
+
+  -- ---- of `convert`, `pack` and `unpack`
+
+  module _ (m : Manner) (files : Files) (events : List Event) where
+    took_conversion : (w : Writes m converting files events) → AllAre w.1.work.files → TookConversion m file events
+    took_conversion w are = record { counts = w.0; bytes = w.1.out.bytes; took = whole_of m converting files w.0 events w.1 events (happened m converting files w.0 events w.1); converted = holds_convert m w.1.work.files w.0 (of_output m w.1.out.bytes) are w.1.work.holds }
+
+    took_copy : (w : Writes m copying files events) → AllAre w.1.work.files → TookCopy m file events
+    took_copy w are = record { bytes = w.1.out.bytes; took = whole_of m copying files w.0 events w.1 events (happened m copying files w.0 events w.1); same = holds_copy m w.1.work.files w.0 (of_output m w.1.out.bytes) are w.1.work.holds }
+
+    pub converts_take : Writes m converting files events → ReadsOnly file events → TookConversion m file events
+    converts_take w e = took_conversion w (reads_it m converting files w.0 events w.1 e)
+
+    pub copies_take : Writes m copying files events → ReadsOnly file events → TookCopy m file events
+    copies_take w e = took_copy w (reads_it m copying files w.0 events w.1 e)
+
+    pub converts_had : (w : Writes m converting files events) → AllHad w.1.has → TookConversion m file events
+    converts_had w had = took_conversion w (had_it m converting files w.0 events w.1 had)
+
+    pub copies_had : (w : Writes m copying files events) → AllHad w.1.has → TookCopy m file events
+    copies_had w had = took_copy w (had_it m copying files w.0 events w.1 had)
+
+    pub convert_had : (w : Writes m converting files events) → (had : AllHad w.1.has) → (converts_had w had).bytes ≡ w.1.out.bytes
+    unfolding converts_had took_conversion
+    convert_had w had = refl
+
+    pub copy_had : (w : Writes m copying files events) → (had : AllHad w.1.has) → (copies_had w had).bytes ≡ w.1.out.bytes
+    unfolding copies_had took_copy
+    copy_had w had = refl

@@ -1,16 +1,18 @@
 -- What the events of a run are to the file system: those of one file, which is kept or dropped, among others that change nothing.
-use Rattle.std.specs.Prelude.{◌≡◌, List, ℕ, ◌∷◌, ◌++◌, Bool, true, false, Some, None}
-use Rattle.pbf_frame.specs.Devices.{prepend}
+use Rattle.std.specs.Prelude.{◌≡◌, List, ℕ, ◌∷◌, ◌++◌, Bool, true, false, Some, None, codes}
+use Rattle.clap.specs.Words.{Row, Text, subcommand_of, takes}
+use Rattle.pbfcut_cli.specs.Joined.{normalized}
+use Rattle.pbfcut_cli.specs.Words.{argument_value, program_app}
 use Rattle.pbfcut_cli.specs.declared.programs.Program.{Program}
 use Rattle.pbfcut_cli.specs.declared.words.Files.{Files}
 use Rattle.pbfcut_cli.specs.declared.words.Region.{Region}
 use Rattle.pbfcut_cli.specs.declared.words.Strategy.{Strategy}
-use Rattle.pbfcut_program.specs.Events.{Event, Reading, Writing, opened, read, stays, wrote}
-use Rattle.pbfcut_program.specs.Fails.{Each, Has}
-use Rattle.pbfcut_program.specs.Files.{Disk, IsDropped, IsKept, IsMade, Still, after}
+use Rattle.pbfcut_program.specs.Events.{Event, Writing, stays, wrote}
+use Rattle.pbfcut_program.specs.Fails.{Each}
+use Rattle.pbfcut_program.specs.Files.{AllowsAll, Disk, IsDropped, IsKept, IsMade, Still, after}
 use Rattle.pbfcut_program.specs.Manner.{Manner}
-use Rattle.pbfcut_program.specs.Program.{is_screen}
-use Rattle.pbfcut_program.specs.Taking.{Happened, TookExtract}
+use Rattle.pbfcut_program.specs.Program.{IsRun, is_screen}
+use Rattle.pbfcut_program.specs.Taking.{Happened, TookConversion, TookCopy, TookExtract}
 
 -- ---- the events of one file
 
@@ -38,30 +40,36 @@ pub record DropsFile (program : Program) (output : List ℕ) (w : Writing) (even
   pub file : HasOneFile program output w drops events
   pub is_dropped : IsDropped program w.name drops
 
--- ---- what the passes read
+-- ---- a run that ended well
 
--- IN was opened, and had what this pass read and left
-abbrev pub OpensWith : Reading → Event → Type 0
-OpensWith r (opened path pass has) = prepend r.bytes r.left ≡ has
-OpensWith r _ = ⊥
+-- of words that `clap` takes as the command of this name, over a disk of which all that is said is so, and on which IN has these bytes
+pub record EndsWell (program : Program) (words : List Text) (name : List ℕ) (rows : List Row) (events : List Event) (disk : Disk) (file : List ℕ) : Type 0 where
+  pub taken : takes (program_app program) (normalized words) ≡ true
+  pub command : subcommand_of (program_app program) (normalized words) ≡ Some (name, rows)
+  pub run : IsRun program words events 0
+  pub allowed : AllowsAll disk events
+  pub there : disk (argument_value (codes "IN") rows) ≡ Some file
 
--- if it is a pass, IN had what it read and left when IN was opened, for this pass or another one
-abbrev pub IsOpened : (events : List Event) → Event → Type 0
-IsOpened events (read r) = Has (OpensWith r) events
-IsOpened events _ = Unit {0}
-
--- no pass gave other bytes than those that IN had when it was opened
-abbrev pub ReadsOpened : List Event → Type 0
-ReadsOpened events = Each (IsOpened events) events
-
--- ---- a run of `extract`
-
--- OUT took the extract of this file, in a run that began with what it had to read of the area. If OUT is a file, it has what it took, and was there
--- before only if it may be replaced. Each other file has what it had, but a part that stays, which is new
-pub record GivesExtract (m : Manner) (cut : Region) (by : Strategy) (files : Files) (file : List ℕ) (events : List Event) (old : Disk) : Type 0 where
-  pub took : TookExtract m cut by file events
-  pub area_first : (later : List Event) × (events ≡ took.before ++ later)
-  pub there : is_screen m.program files.output.now ≡ false → after events old files.output.now ≡ Some took.bytes
+-- if OUT is a file, it has these bytes, and was there before only if it may be replaced. Each other file has what it had, but a part that stays,
+-- which is new
+pub record GivesFile (m : Manner) (files : Files) (bytes : List ℕ) (events : List Event) (old : Disk) : Type 0 where
+  pub there : is_screen m.program files.output.now ≡ false → after events old files.output.now ≡ Some bytes
   pub fresh : is_screen m.program files.output.now ≡ false → files.overwrite ≡ false → old files.output.now ≡ None
   pub others : (path : List ℕ) → (is_screen m.program files.output.now ≡ false → path ≡ files.output.now → ⊥) → (Happened (stays path) events → ⊥) → after events old path ≡ old path
   pub parts : (path : List ℕ) → Happened (stays path) events → old path ≡ None
+
+-- OUT took the extract of this file, in a run that began with what it had to read of the area
+pub record GivesExtract (m : Manner) (cut : Region) (by : Strategy) (files : Files) (file : List ℕ) (events : List Event) (old : Disk) : Type 0 where
+  pub took : TookExtract m cut by file events
+  pub area_first : (later : List Event) × (events ≡ took.before ++ later)
+  pub gives : GivesFile m files took.bytes events old
+
+-- a conversion of it
+pub record GivesConversion (m : Manner) (files : Files) (file : List ℕ) (events : List Event) (old : Disk) : Type 0 where
+  pub took : TookConversion m file events
+  pub gives : GivesFile m files took.bytes events old
+
+-- the same in other blobs
+pub record GivesCopy (m : Manner) (files : Files) (file : List ℕ) (events : List Event) (old : Disk) : Type 0 where
+  pub took : TookCopy m file events
+  pub gives : GivesFile m files took.bytes events old

@@ -3,22 +3,21 @@
 //! function that does nothing.
 
 ghost use Rattle.std.specs.Prelude.{[], ◌≡◌, ◌⊎◌, ◌++◌, ℕ, List, Bool, true, false, Some, None, codes};
-ghost use Rattle.clap.specs.Words.{Row, Text, subcommand_of, takes};
-ghost use Rattle.pbfcut_cli.specs.Joined.{normalized};
-ghost use Rattle.pbfcut_cli.specs.Words.{ReadsAs, argument_value, program_app};
+ghost use Rattle.clap.specs.Words.{Row, Text};
+ghost use Rattle.pbfcut_cli.specs.Words.{ReadsAs};
 ghost use Rattle.pbfcut_cli.specs.declared.programs.Program.{Program};
 ghost use Rattle.pbfcut_cli.specs.declared.programs.Program.TheVariants.{Pbfcut, Pbfcutz};
 ghost use Rattle.pbfcut_cli.specs.declared.words.Command.{Command};
-ghost use Rattle.pbfcut_cli.specs.declared.words.Command.TheVariants.{Extract};
+ghost use Rattle.pbfcut_cli.specs.declared.words.Command.TheVariants.{Convert, Extract, Pack, Unpack};
 ghost use Rattle.pbfcut_cli.specs.declared.words.Files.{Files};
 ghost use Rattle.pbfcut_cli.specs.declared.words.Region.{Region};
 ghost use Rattle.pbfcut_cli.specs.declared.words.Strategy.{Strategy};
-ghost use Rattle.pbfcut_program.specs.Changes.{DropsFile, GivesExtract, KeepsFile, ReadsOpened};
+ghost use Rattle.pbfcut_program.specs.Changes.{DropsFile, EndsWell, GivesConversion, GivesCopy, GivesExtract, KeepsFile};
 ghost use Rattle.pbfcut_program.specs.Events.{Event, Writing, stays};
 ghost use Rattle.pbfcut_program.specs.Files.{AllowsAll, Disk, after};
-ghost use Rattle.pbfcut_program.specs.Program.{IsMeant, IsRun, manner_in};
+ghost use Rattle.pbfcut_program.specs.Program.{IsMeant, manner_in};
 ghost use Rattle.pbfcut_program.specs.Settling.{HandlesIn, RunSettles};
-ghost use Rattle.pbfcut_program.specs.Taking.{Happened, ReadsOnly};
+ghost use Rattle.pbfcut_program.specs.Taking.{Happened};
 
 /// What a user finds after a run that keeps OUT: OUT has all that was written to it, and every other file is as it was. pbfcutz writes OUT
 /// by another name first, as a part. A part that couldn't be removed is left, but it is a new file, so no other one is lost by it. Without
@@ -88,21 +87,34 @@ pub fn any_run()
         × HandlesIn program command events) }
 {}
 
-/// What status 0 of `extract` says of a user's files, if `clap` takes the words, and each pass gave bytes that IN had when it was opened:
-/// these are the bytes that IN has on the disk. OUT has bytes that mean exactly the extract of them, by the area and the strategy of the
-/// words. Every other file is as it was, but a part may be left, which is new. Without `--overwrite` there was nothing by OUT's name
-/// before. If OUT is standard output, it took the extract, and no file has changed.
+/// What status 0 of `extract` says of a user's files: OUT has bytes that mean exactly the extract of those that IN has on the disk, by the area
+/// and the strategy of the words. Every other file is as it was, but a part may be left, which is new. Without `--overwrite` there was
+/// nothing by OUT's name before. If OUT is standard output, it took the extract, and no file has changed.
 pub fn run_of_extract()
-    ensures reads { (program : Program) (words : List Text) (rows : List Row) (events : List Event)
-        (disk : Disk) (file : List ℕ) → takes (program_app program) (normalized words) ≡ true
-        → subcommand_of (program_app program) (normalized words) ≡ Some (codes "extract", rows)
-        → IsRun program words events 0 → AllowsAll disk events → ReadsOpened events
-        → disk (argument_value (codes "IN") rows) ≡ Some file → ReadsOnly file events }
-    ensures gives { (program : Program) (words : List Text) (rows : List Row) (events : List Event)
-        (disk : Disk) (file : List ℕ) → takes (program_app program) (normalized words) ≡ true
-        → subcommand_of (program_app program) (normalized words) ≡ Some (codes "extract", rows)
-        → IsRun program words events 0 → AllowsAll disk events → ReadsOpened events
-        → disk (argument_value (codes "IN") rows) ≡ Some file → (cut : Region) × (by : Strategy)
-        × (files : Files) × ReadsAs (codes "extract") rows (Extract cut by files)
+    ensures { (program : Program) (words : List Text) (rows : List Row) (events : List Event)
+        (disk : Disk) (file : List ℕ) → EndsWell program words (codes "extract") rows events disk file
+        → (cut : Region) × (by : Strategy) × (files : Files)
+        × ReadsAs (codes "extract") rows (Extract cut by files)
         × GivesExtract (manner_in program (Extract cut by files)) cut by files file events disk }
+{}
+
+/// What status 0 of `convert` says of them: OUT has bytes that mean a conversion of what those of IN mean. All else is as after `extract`.
+pub fn run_of_convert()
+    ensures { (program : Program) (words : List Text) (rows : List Row) (events : List Event)
+        (disk : Disk) (file : List ℕ) → EndsWell program words (codes "convert") rows events disk file
+        → (files : Files) × ReadsAs (codes "convert") rows (Convert files)
+        × GivesConversion (manner_in program (Convert files)) files file events disk }
+{}
+
+/// What status 0 of `pack` and of `unpack` says of them: OUT has bytes that mean the same raw file as those of IN. All else is as after
+/// `extract`.
+pub fn run_of_copy()
+    ensures pack { (program : Program) (words : List Text) (rows : List Row) (events : List Event)
+        (disk : Disk) (file : List ℕ) → EndsWell program words (codes "pack") rows events disk file
+        → (files : Files) × ReadsAs (codes "pack") rows (Pack files)
+        × GivesCopy (manner_in program (Pack files)) files file events disk }
+    ensures unpack { (program : Program) (words : List Text) (rows : List Row) (events : List Event)
+        (disk : Disk) (file : List ℕ) → EndsWell program words (codes "unpack") rows events disk file
+        → (files : Files) × ReadsAs (codes "unpack") rows (Unpack files)
+        × GivesCopy (manner_in program (Unpack files)) files file events disk }
 {}

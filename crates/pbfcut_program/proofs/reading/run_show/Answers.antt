@@ -70,8 +70,8 @@ returns-clause-ok g c =
     let begun = and_then (log c.args.host.now) _ _ (opened input 1 (has ps.one) ∷ opened input 2 (has ps.two) ∷ []) last c.in_ok-passes.ensures.opened (and_then _ _ _ drawn (screened true ∷ []) c.in_ok-key.ensures.ok c.in_ok-out.ensures.opened.0) in
     let e = c.ended.ensures in
     let done : OnOk c.ended.result ((report : Report) × (rs : List Reading) × (w : Writing) × (log c.ended.new.host ≡ then_all (log c.open_screen.new.host) (map (λ r. read r) rs ++ wrote w ∷ []))
-    × (w.fault ≡ None) × IsWork (to_raw (manner_of c.args.engine)) (check_in c.args.engine c.in_ok-key.key) (showing c.args.dates) rs w.bytes report.counts report.input report.raw) = text_ok e.0 c.show-outcome.result c.ended.result _ e.2 (λ went. subst (λ (fault : Option FinishFault). OnOk c.show-outcome.result ((report : Report) × (rs : List Reading) × (w : Writing) × (log c.ended.new.host ≡ then_all (log c.open_screen.new.host) (map (λ r. read r) rs ++ wrote w ∷ []))
-    × (w.fault ≡ fault) × IsWork (to_raw (manner_of c.args.engine)) (check_in c.args.engine c.in_ok-key.key) (showing c.args.dates) rs w.bytes report.counts report.input report.raw)) went (if_done g.H.In.Feed g.H.Out.Drain out None (is_ok c.show-outcome.result) e.0 (to_raw (manner_of c.args.engine)) (check_in c.args.engine c.in_ok-key.key) (showing c.args.dates) (g.H.Out.Drain.has_taken out 0) (WriteFailed g.H.Out.Drain old out)
+    × (w.fault ≡ None) × IsWork (to_raw (manner_of c.args.engine)) (check_in c.args.engine c.in_ok-key.key) (showing c.args.dates) (has ps.one ∷ has ps.two ∷ []) rs w.bytes report.counts report.input report.raw) = text_ok e.0 c.show-outcome.result c.ended.result _ e.2 (λ went. subst (λ (fault : Option FinishFault). OnOk c.show-outcome.result ((report : Report) × (rs : List Reading) × (w : Writing) × (log c.ended.new.host ≡ then_all (log c.open_screen.new.host) (map (λ r. read r) rs ++ wrote w ∷ []))
+    × (w.fault ≡ fault) × IsWork (to_raw (manner_of c.args.engine)) (check_in c.args.engine c.in_ok-key.key) (showing c.args.dates) (has ps.one ∷ has ps.two ∷ []) rs w.bytes report.counts report.input report.raw)) went (if_done g.H.In.Feed g.H.Out.Drain out None (is_ok c.show-outcome.result) e.0 (to_raw (manner_of c.args.engine)) (check_in c.args.engine c.in_ok-key.key) (showing c.args.dates) (g.H.Out.Drain.has_taken out 0) (WriteFailed g.H.Out.Drain old out)
     (log c.open_screen.new.host) (log c.close_two.new.host) (log c.ended.new.host) (ps.one ∷ ps.two ∷ []) (now.one ∷ now.two ∷ []) c.show-outcome.result (c.in_ok-passes.ensures.fresh.0, (c.in_ok-passes.ensures.fresh.1, tt)) c.close_two.ensures e.1 (λ w t. t) (c.show-outcome.ensures.works (c.in_ok-passes.ensures.fresh.0, (c.in_ok-passes.ensures.fresh.1, tt)) 0 c.in_ok-out.ensures.opened.1.0))) in
     on_ok_weaker c.ended.result (λ d. (
       _,

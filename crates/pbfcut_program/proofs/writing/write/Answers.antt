@@ -76,8 +76,8 @@ returns-in_err-print_done-clause-err g c =
       and_then log _ _ before lines.0 done lines.1,
       fails_early m j how (before ++ lines.0) (print_stops m j how (before ++ lines.0) (printing_after how before lines.0 lines.2)),
       record {
-        has = [];
-        opens = tt;
+        has = has;
+        opens = opens_before 1 has before lines.0 (opens_before 1 has first (rs ++ out) (opens_begun is files has key ready.0));
         leaves = inr (record {
           before = first;
           rs = d.0;
@@ -88,7 +88,7 @@ returns-in_err-print_done-clause-err g c =
           counts = report.counts;
           digest = report.input;
           raw = report.raw;
-          work = subst (λ t. IsWork m (check_of m key) t d.0 d.1.bytes report.counts report.input report.raw) c.in_ok-ready.ensures.planned.0 d.4.work;
+          work = subst (λ t. IsWork m (check_of m key) t has d.0 d.1.bytes report.counts report.input report.raw) c.in_ok-ready.ensures.planned.0 d.4.work;
         });
       },
     )
@@ -132,7 +132,7 @@ returns-clause-ok g c =
         whole = d.4.whole;
         hashed = d.4.hashed;
         meaning_hashed = d.4.meaning_hashed;
-        work = subst (λ t. IsWork (manner_of c.args.engine) (check_in c.args.engine key) t d.0 d.1.bytes r.report.counts r.report.input r.report.raw) c.in_ok-ready.ensures.planned.0 d.4.work;
+        work = subst (λ t. IsWork (manner_of c.args.engine) (check_in c.args.engine key) t has d.0 d.1.bytes r.report.counts r.report.input r.report.raw) c.in_ok-ready.ensures.planned.0 d.4.work;
       },
     )
 
