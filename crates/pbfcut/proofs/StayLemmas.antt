@@ -1,7 +1,7 @@
 -- The fault of a file stays, whatever follows the file, unless it comes of the file's end.
 use Rattle.std.proofs.Common.{arith, ◌≡◌, ◌⊎◌, ℕ, false, List, [], ◌∷◌, ◌++◌, Option, Some, None, refl, ap, ◌∙◌}
 use Rattle.pbf_wire.specs.declared.fault.Fault.{Fault}
-use Rattle.pbf_wire.specs.declared.fault.Reason.TheVariants.{EntityLarge}
+use Rattle.pbf_wire.specs.declared.fault.Reason.TheVariants.{EntityLarge, Unsorted}
 use Rattle.pbf_frame.specs.Devices.{IsAtEnd}
 use Rattle.pbf_frame.specs.Ends.{comes_of_end}
 use Rattle.pbf_frame.specs.Frames.{FrameSpec}
@@ -9,6 +9,7 @@ use Rattle.pbf_frame.specs.Verdict.{Verdict, with_frame_first, judged}
 use Rattle.pbf_frame.proofs.Staying.{judged_longer}
 use Rattle.pbf_pass.specs.HeaderLimit.{limited, judged_writable}
 use Rattle.pbf_pass.specs.Judged.{payload_fault, sound_first, sound_front, fully, judged_file}
+use Rattle.pbf_pass.specs.SortedFile.{judged_sorted, ordered}
 use Rattle.pbf_pass.specs.Stops.{FaultOf}
 use Rattle.pbf_pass.proofs.LimitLemmas.{limited_fault}
 
@@ -44,6 +45,19 @@ limited_from v fs e h3 h4 h5 = grind arith
 
 pub writable_stays : (file rest : List ℕ) (e : Fault) → FaultOf (judged_writable (Some file)) e → comes_of_end e.reason ≡ false → (e.reason ≡ EntityLarge → ⊥) → FaultOf (judged_writable (Some (file ++ rest))) e
 writable_stays file rest e (fs, is) stays short = (fs, limited_fault (judged_file (Some (file ++ rest))) fs e (stays_fully file rest fs e (limited_from (fully (judged false 0 file)) fs e is stays short) stays))
+
+-- ---- of what has to be sorted
+
+ordered_from : (v : Verdict) (fs : List FrameSpec) (e : Fault) → ordered v ≡ (fs, Some e) → (e.reason ≡ Unsorted → ⊥) → v ≡ (fs, Some e)
+ordered_from v fs e h3 h4 = grind arith
+
+ordered_fault : (v : Verdict) (fs : List FrameSpec) (e : Fault) → v ≡ (fs, Some e) → ordered v ≡ (fs, Some e)
+ordered_fault v fs e is = ap ordered is
+
+pub sorted_stays : (file rest : List ℕ) (e : Fault) → FaultOf (judged_sorted (Some file)) e → comes_of_end e.reason ≡ false → (e.reason ≡ EntityLarge → ⊥) → (e.reason ≡ Unsorted → ⊥) → FaultOf (judged_sorted (Some (file ++ rest))) e
+sorted_stays file rest e (fs, is) stays short sorted =
+    let longer = writable_stays file rest e (fs, ordered_from (limited (fully (judged false 0 file))) fs e is sorted) stays short in
+    (longer.0, ordered_fault (limited (fully (judged false 0 (file ++ rest)))) longer.0 e longer.1)
 
 -- ---- of a refusal
 

@@ -5,7 +5,7 @@ ghost use Rattle.std.specs.Prelude.{◌≡◌, ℕ, [], ◌+◌, ◌++◌, ◌�
 ghost use Rattle.std.specs.List.{AllByRecursion};
 ghost use Rattle.std.specs.Option.{option_map};
 ghost use Rattle.pbf_wire.specs.declared.fault.Fault.{Fault};
-ghost use Rattle.pbf_wire.specs.declared.fault.Reason.TheVariants.{EntityLarge};
+ghost use Rattle.pbf_wire.specs.declared.fault.Reason.TheVariants.{EntityLarge, Unsorted};
 ghost use Rattle.pbf_wire.specs.Least.{least_by};
 ghost use Rattle.osm_box.specs.declared.bounding_box.BoundingBox.{BoundingBox};
 ghost use Rattle.osm_box.specs.BoundingBox.{is_box_within};
@@ -29,6 +29,7 @@ ghost use Rattle.pbfcut.specs.Extracting.{extract_bytes};
 ghost use Rattle.pbfcut.specs.FileFaults.{file_faults, file_rank};
 ghost use Rattle.pbf_pass.specs.HeaderLimit.{judged_writable};
 ghost use Rattle.pbf_pass.specs.Judged.{judged_file};
+ghost use Rattle.pbf_pass.specs.SortedFile.{judged_sorted};
 ghost use Rattle.pbf_pass.specs.Stops.{FaultOf};
 ghost use Rattle.pbfcut.specs.Kept.{verdict_within, verdict_on, IsWritable, header_read, conversion_of, extract_of};
 ghost use Rattle.pbfcut.specs.Theorem.{IsConversion, IsExtract, IsExtraction};
@@ -56,7 +57,7 @@ pub fn bytes_within_the_limit_are_a_file()
 {}
 
 /// The fault of a file is that of every file that begins with it, unless it comes of the file's end: the file is cut there, or has no
-/// header; or, of a file that is to be written, its header is too long.
+/// header; or, of a file that is to be written, its header is too long; or, of one that has to be sorted, it isn't.
 pub fn file_fault_stays()
     ensures judged { (file rest : List ℕ) (fault : Fault) → FaultOf (judged_file (Some file)) fault
         → comes_of_end fault.reason ≡ false → FaultOf (judged_file (Some (file ++ rest))) fault }
@@ -64,6 +65,10 @@ pub fn file_fault_stays()
         → FaultOf (judged_writable (Some file)) fault
         → comes_of_end fault.reason ≡ false → (fault.reason ≡ EntityLarge → ⊥)
         → FaultOf (judged_writable (Some (file ++ rest))) fault }
+    ensures sorted { (file rest : List ℕ) (fault : Fault)
+        → FaultOf (judged_sorted (Some file)) fault
+        → comes_of_end fault.reason ≡ false → (fault.reason ≡ EntityLarge → ⊥)
+        → (fault.reason ≡ Unsorted → ⊥) → FaultOf (judged_sorted (Some (file ++ rest))) fault }
 {}
 
 /// A refusal for another reason than these holds whatever follows the bytes that were read: what the calls say of a refusal at the end of
@@ -81,6 +86,13 @@ pub fn refusal_stays<F: Feed>()
         (F.has_passed new) (F.remaining old) (F.remaining new))
         → comes_of_end fault.reason ≡ false → (fault.reason ≡ EntityLarge → ⊥)
         → (rest : List ℕ) → FaultOf (judged_writable (Some (bytes.read ++ rest))) fault }
+    // Of the smart extract.
+    ensures sorted { (old new : F) (fault : Fault)
+        (bytes : Refuses (λ b. FaultOf (judged_sorted (Some b)) fault) (F.has_passed old)
+        (F.has_passed new) (F.remaining old) (F.remaining new))
+        → comes_of_end fault.reason ≡ false → (fault.reason ≡ EntityLarge → ⊥)
+        → (fault.reason ≡ Unsorted → ⊥)
+        → (rest : List ℕ) → FaultOf (judged_sorted (Some (bytes.read ++ rest))) fault }
 {}
 
 /// A file that is written is read back, however long it is: it has no fault of any phase, its header is the header that was
