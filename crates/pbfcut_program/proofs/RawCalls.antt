@@ -1,11 +1,13 @@
 -- What pbfcut's calls report of what went through their devices.
-use Rattle.std.proofs.Common.{◌≡◌, ◌⊎◌, inl, inr, ℕ, ◌<◌, suc, ◌+◌, arith, map, length, List, [], ◌∷◌, Bool, true, false, Option, Some, None, Result, Ok, Err, IfOk, refl, sym, subst}
+use Rattle.std.proofs.Common.{◌≡◌, ◌⊎◌, inl, inr, ℕ, ◌<◌, suc, ◌+◌, arith, map, length, List, [], ◌∷◌, ◌++◌, Bool, true, false, Option, Some, None, Result, Ok, Err, IfOk, IfSome, refl, sym, subst, ap, ◌∙◌}
+use Rattle.std.proofs.lemmas.List.{append-nil}
 use Rattle.osm_area.specs.Area.{AreaSpec}
 use Rattle.osm_ways.specs.Selection.{Strategy, all_parents}
 use Rattle.pbf_frame.specs.declared.device.Feed as feed
 use Rattle.pbf_frame.specs.declared.device.Drain as drain
 use Rattle.pbf_frame.specs.declared.stop.Stop.TheVariants as stop
 use Rattle.pbf_pass.specs.Stops.{WriteFailed}
+use Rattle.pbf_frame.specs.Devices.{IsAtEnd, prepend}
 use Rattle.pbf_frame.specs.Verdict.{Verdict}
 use Rattle.pbf_pass.specs.declared.receipt.Halt.{Halt}
 use Rattle.pbf_pass.specs.declared.receipt.Halt.TheVariants as halt
@@ -83,7 +85,7 @@ module _ {F : Type 0} (f : feed.Ghosts F) (packs digests : Bool) (by : PassCheck
       rw (r.0, r.1) record {
         files = given.file ∷ [];
         written = [];
-        gave = (gives_file f (AreDigests (manner Pbfcut packs digests) by receipt.input report.raw) (λ file is. (is, r.2)) fresh.0.0 given, tt);
+        gave = (gives_its f (AreDigests (manner Pbfcut packs digests) by receipt.input report.raw) (λ file is. (is, r.2)) fresh.0.0 given, tt);
         took_them = refl;
         holds = given.holding;
       }
@@ -179,7 +181,8 @@ module _ {F D : Type 0} (f : feed.Ghosts F) (d : drain.Ghosts D) (out out_now : 
   -- a pass that may have been spared
   later_of : (may : ℕ) → 0 < may → (digest : Mark) {first : List ℕ} {holds : List ℕ → Type 0} (known : List ℕ → Type 0) → ((file : List ℕ) → IsDigestOf digest file → known file) → (spared : Bool) (old now : F) → f.has_passed old 0 [] → GaveOrNot (fed f old now) spared digest first holds
       → (file : List ℕ) × GivesOrNot f known may first old now file × holds file
-  later_of may some digest known h2 spared old now h6 h7 = grind (arith, gives_its)
+  later_of may some digest {first} known is false old now start given = (given.file, inl (gives_its f known is start given), given.holding)
+  later_of may some digest {first} known is true old now start spared = (first, inr (some, spared.0, refl), spared.1)
 
   -- three passes
   pub extract_works : (strategy : Strategy) (area : AreaSpec) → spares_by strategy ≡ 1 → (one one_now two two_now three three_now : F) (outcome : Result InputReceipt Halt) (result : Result Report Halted) → AreFresh f (one ∷ two ∷ three ∷ [])
