@@ -57,7 +57,7 @@ module _ {F U : Type 0} (f : feed.Ghosts F) (first last : F) {u : feed.Ghosts U}
   logged_whole : (digest : List ℕ) → o ≡ Some digest → (log : ℕ) → f.has_passed first log [] → PassedAs (f.has_passed last) log (mark_by check digest) given.file (λ passed. IfSome (f.remaining first) (λ all. all ≡ passed))
   logged_whole digest is log start =
       let p = if_digest o digest (λ d. PassedAs (f.has_passed last) log (mark_by check d) given.file (λ packed. u.remaining new ≡ Some [] → f.remaining first ≡ Some packed)) is
-          (closed.logged check log (f.remaining first) given.file (given.supplied.gave.logged _ [] (opened.logged log start))) in
+      (closed.logged check log (f.remaining first) given.file (given.supplied.gave.logged _ [] (opened.logged log start))) in
       record { packed = p.packed; passed = p.passed; digest_is = p.digest_is; means = p.means; is_known = had_these (f.remaining first) p.packed (λ all had. p.is_known (ended all had)) }
 
   -- what is said of the file that an unpacking feed gave is said of the raw file that packed bytes mean
