@@ -82,7 +82,7 @@ fn take_tags<'a>(numbers: &mut Column<'a>, table: &'a Table<'a>, tags: &mut Tags
 
 /// Puts a node into a place, whose parts are all still to be given. It is a call for the same reason.
 #[inline(never)]
-fn fill(place: &mut Option<NodeRef<'_>>, scale: Scale)
+fn make_place(place: &mut Option<NodeRef<'_>>, scale: Scale)
     ensures { IsSome place.new }
 {
     let meta = MetaRef {
@@ -97,12 +97,12 @@ fn fill(place: &mut Option<NodeRef<'_>>, scale: Scale)
     *place = Some(NodeRef::new(0, 0, 0, meta, tags, scale));
 }
 
-/// Like [`fill`], of a place that may have one.
+/// Like [`make_place`], of a place that may have one.
 fn fill_if_empty(place: &mut Option<NodeRef<'_>>, scale: Scale)
     ensures { IsSome place.new }
 {
     if place.is_none() {
-        fill(place, scale);
+        make_place(place, scale);
     }
 }
 

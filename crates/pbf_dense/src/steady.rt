@@ -52,7 +52,7 @@ pub(crate) fn numbers_go_with(numbers: &Column<'_>, count: usize) -> bool
 }
 
 /// The length of the text of a stored number.
-fn length_of(table: &Table<'_>, number: u32) -> u64
+fn user_length(table: &Table<'_>, number: u32) -> u64
     ensures { result ≡ length (text table.now number) }
 {
     table.text(number as usize).len() as u64
@@ -73,8 +73,8 @@ fn weigh_run(numbers: &mut Column<'_>, table: &Table<'_>) -> u64
     'tags: while let Some((key, value)) = next_pair(&mut rest) {
         weight = weight
             .saturating_add(PART_WEIGHT)
-            .saturating_add(length_of(table, key))
-            .saturating_add(length_of(table, value));
+            .saturating_add(user_length(table, key))
+            .saturating_add(user_length(table, value));
     }
     *numbers = rest;
     weight
