@@ -15,9 +15,10 @@ ghost use Rattle.osm_polygon.specs.RingPlaces.{places_of, rings_of};
 
 use crate::fault::{PolyError, PolyFault, PolyPlace, PolyReason, refused};
 use crate::number::nanodegrees;
-use crate::place::{MOST_LAT, MOST_LON, Place, coordinate};
+use crate::place::{Place, coordinate};
 use crate::ring::{Ring, is_long_to};
 use json::{Error, Scratch, Value};
+use osm_box::{MOST_LAT, MOST_LON};
 use std::alloc::Global;
 
 /// What an object of GeoJSON is.
@@ -317,7 +318,11 @@ fn with_geometry(
         (result_map_both (λ polygons. map rings_of polygons.items) (λ e. e) result) }
 {
     match geometry_of(value) {
-        GeometryKind::GeometryCollection => with_shapes(alloc, polygons, member("geometries", value)?),
+        GeometryKind::GeometryCollection => with_shapes(
+            alloc,
+            polygons,
+            member("geometries", value)?,
+        ),
         _ => with_shape(alloc, polygons, value),
     }
 }
@@ -359,7 +364,11 @@ fn polygons_in(alloc: Global, value: &Value<'_>) -> Result<Vec<Vec<Ring>>, PolyE
 {
     let polygons = Vec::new(alloc);
     match geometry_of(value) {
-        GeometryKind::FeatureCollection => with_features(alloc, polygons, member("features", value)?),
+        GeometryKind::FeatureCollection => with_features(
+            alloc,
+            polygons,
+            member("features", value)?,
+        ),
         GeometryKind::Feature => with_feature(alloc, polygons, value),
         _ => with_geometry(alloc, polygons, value),
     }
