@@ -11,7 +11,7 @@ ghost use Rattle.osm_polygon.specs.Bands.{differ, is_south_of, crosses_border, i
 
 use crate::edge::{Axis, Edge, Meeting, strip_of};
 use crate::place::Place;
-use crate::strips::{StripRange, Strip, choose_cut, strips_of};
+use crate::strips::{Strip, StripRange, choose_cut, strips_of};
 use std::alloc::{AllocError, Global};
 
 /// A band, and its cells from the one with the number `first` to the west.
@@ -164,7 +164,11 @@ pub(crate) fn band_of(alloc: Global, edges: &[Edge], border: Border) -> Result<B
 }
 
 /// The bands of `cut`, each with its edges.
-pub(crate) fn bands_of(alloc: Global, edges: &[Edge], cut: StripRange) -> Result<Vec<Band>, AllocError>
+pub(crate) fn bands_of(
+    alloc: Global,
+    edges: &[Edge],
+    cut: StripRange,
+) -> Result<Vec<Band>, AllocError>
     requires { (cut.axis ≡ Latitude) × (cut.shift < 64) }
     ensures are { IfOk result (λ bands. AreBands cut.shift cut.first edges.now bands.items) }
     ensures number { IfOk result (λ bands. length bands.items ≡ cut.end - cut.first) }

@@ -8,7 +8,7 @@ ghost use Rattle.osm_polygon.specs.Edges.{is_in_strip};
 ghost use Rattle.osm_polygon.specs.Strips.{spans_of};
 ghost use Rattle.osm_polygon.specs.Belts.{IsBelt, IsNarrow, AreNarrow, AreBelts, BeltBandsTell, BeltTells, held_of, held_in, cells_of, cells_in};
 
-use crate::bands::{Probe, Band, Border, band_of, bands_of};
+use crate::bands::{Band, Border, Probe, band_of, bands_of};
 use crate::edge::{Axis, Edge, strip_of};
 use crate::place::Place;
 use crate::strips::{StripRange, choose_parts, strips_of};
@@ -62,7 +62,11 @@ fn belt_of(alloc: Global, edges: &[Edge], border: Border) -> Result<Belt, AllocE
 }
 
 /// The belts of `cut`, each with its edges.
-pub(crate) fn belts_of(alloc: Global, edges: &[Edge], cut: StripRange) -> Result<Vec<Belt>, AllocError>
+pub(crate) fn belts_of(
+    alloc: Global,
+    edges: &[Edge],
+    cut: StripRange,
+) -> Result<Vec<Belt>, AllocError>
     requires width { (cut.axis ≡ Latitude) × (cut.shift < 64) }
     requires small { cut.end ≤ 2 ^ 39 }
     ensures are { IfOk result (λ belts. AreBelts cut.shift cut.first edges.now belts.items) }

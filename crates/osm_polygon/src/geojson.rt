@@ -317,7 +317,11 @@ fn with_geometry(
         (result_map_both (λ polygons. map rings_of polygons.items) (λ e. e) result) }
 {
     match geometry_of(value) {
-        GeometryKind::GeometryCollection => with_shapes(alloc, polygons, member("geometries", value)?),
+        GeometryKind::GeometryCollection => with_shapes(
+            alloc,
+            polygons,
+            member("geometries", value)?,
+        ),
         _ => with_shape(alloc, polygons, value),
     }
 }
@@ -359,7 +363,11 @@ fn polygons_in(alloc: Global, value: &Value<'_>) -> Result<Vec<Vec<Ring>>, PolyE
 {
     let polygons = Vec::new(alloc);
     match geometry_of(value) {
-        GeometryKind::FeatureCollection => with_features(alloc, polygons, member("features", value)?),
+        GeometryKind::FeatureCollection => with_features(
+            alloc,
+            polygons,
+            member("features", value)?,
+        ),
         GeometryKind::Feature => with_feature(alloc, polygons, value),
         _ => with_geometry(alloc, polygons, value),
     }

@@ -213,7 +213,11 @@ fn add_edge(strips: &mut Vec<Strip>, cut: StripRange, edge: Edge) -> Result<(), 
 }
 
 /// The strips of `cut`, each with its edges. Each edge is compared with no strip but pushed to those that it reaches.
-pub(crate) fn strips_of(alloc: Global, edges: &[Edge], cut: StripRange) -> Result<Vec<Strip>, AllocError>
+pub(crate) fn strips_of(
+    alloc: Global,
+    edges: &[Edge],
+    cut: StripRange,
+) -> Result<Vec<Strip>, AllocError>
     requires { cut.shift < 64 }
     ensures are { IfOk result (λ strips.
         AreStrips cut.axis cut.shift cut.first edges.now (lists_of strips.items)) }
