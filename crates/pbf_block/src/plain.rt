@@ -242,7 +242,7 @@ fn are_tags(keys: &[u8], vals: &[u8], limit: u64) -> bool
 /// and the table of `limit` texts has one for each of its numbers: then no phase before the weights finds a fault. It is one call
 /// for each way.
 #[inline(never)]
-pub(crate) fn is_clean(message: Message<'_>, limit: u64) -> bool
+pub(crate) fn is_plain_way(message: Message<'_>, limit: u64) -> bool
     ensures { IsTrue result → (place : ℕ)
         → IsCleanWay limit place message.entry.at message.entry.bytes.now }
 {

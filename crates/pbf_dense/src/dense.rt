@@ -57,7 +57,7 @@ fn clear_tags(tags: &mut Tags<'_>)
 
 /// Puts the tags of the next node in this place, and skips its run. It is a call for the same reason.
 #[inline(never)]
-fn take_run<'a>(numbers: &mut Column<'a>, table: &'a Table<'a>, tags: &mut Tags<'a>)
+fn take_tag_run<'a>(numbers: &mut Column<'a>, table: &'a Table<'a>, tags: &mut Tags<'a>)
     ensures { TakesTags table.now numbers.old numbers.new tags.new }
 {
     let run = RunTags::new(*numbers, table);
@@ -69,12 +69,12 @@ fn take_run<'a>(numbers: &mut Column<'a>, table: &'a Table<'a>, tags: &mut Tags<
     *tags = Tags::Run(run);
 }
 
-/// Like [`take_run`], and quick if there is no tag, as of most nodes, and there was none in the place before.
+/// Like [`take_tag_run`], and quick if there is no tag, as of most nodes, and there was none in the place before.
 fn take_tags<'a>(numbers: &mut Column<'a>, table: &'a Table<'a>, tags: &mut Tags<'a>)
     ensures { TakesTags table.now numbers.old numbers.new tags.new }
 {
     if !numbers.pass_zero() {
-        take_run(numbers, table, tags);
+        take_tag_run(numbers, table, tags);
     } else if !tags.are_none() {
         clear_tags(tags);
     }

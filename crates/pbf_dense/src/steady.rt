@@ -11,7 +11,7 @@ ghost use Rattle.pbf_dense.specs.Taking.{PassesRun};
 use crate::dense::Dense;
 use crate::entries::next_sum;
 use crate::run_out::next_pair;
-use crate::user_texts::{text_if_some, text_of};
+use crate::user_texts::{text_if_some, user_text_of};
 use osm_entity::{ENTITY_WEIGHT, PART_WEIGHT};
 use pbf_strings::Table;
 use pbf_wire::{Column, Sums};
@@ -141,7 +141,7 @@ impl<'a> Weights<'a> {
             return None;
         }
         let user = next.users.last_value();
-        let text = text_of(next.table, user);
+        let text = user_text_of(next.table, user);
         let weight = (text.len() as u64)
             .saturating_add(ENTITY_WEIGHT)
             .saturating_mul(count as u64);

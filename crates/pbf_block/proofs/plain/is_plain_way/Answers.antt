@@ -1,7 +1,7 @@
 use Rattle.std.proofs.Common.{◌≡◌, refl, sym, ◌∙◌, rules}
 use Rattle.std.specs.Prelude.{None}
 use Rattle.pbf_block.proofs.PlainLemmas.{clean_way}
-use Rattle.pbf_block.proofs.plain.is_clean.Goals as goal
+use Rattle.pbf_block.proofs.plain.is_plain_way.Goals as goal
 
 pub returns-then-message-le-MOST_WAY_BYTES : goal.returns-then-message-le-MOST_WAY_BYTES
 returns-then-message-le-MOST_WAY_BYTES c = λ short place.
