@@ -8,10 +8,10 @@ use crate::degrees::{Parts, degrees};
 use thiserror::Error;
 
 /// The greatest longitude, 180 degrees, in nanodegrees.
-const MOST_LON: i64 = 180_000_000_000;
+pub const MOST_LON: i64 = 180_000_000_000;
 
 /// The greatest latitude, 90 degrees, in nanodegrees.
-const MOST_LAT: i64 = 90_000_000_000;
+pub const MOST_LAT: i64 = 90_000_000_000;
 
 /// A box between four edges in nanodegrees. The edges belong to it.
 #[derive(Clone, Copy, Debug, PartialEq, Eq)]

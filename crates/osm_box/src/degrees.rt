@@ -4,7 +4,7 @@ ghost use Rattle.std.specs.Prelude.{◌≡◌, ◌≤ℤ◌, ◌<ℤ◌, pos, �
 ghost use Rattle.osm_box.specs.Degrees.{degrees_of, magnitude_of, comma_parts};
 ghost use Rattle.osm_box.specs.BoxText.{texts_of};
 
-use crate::number::{cut, digits, halves};
+use crate::number::{cut_at_char, digits, halves};
 
 /// The nanodegrees of whole degrees and `count` digits after the point.
 fn nanos(degrees: u64, rest: u64, count: usize) -> i64
@@ -53,10 +53,10 @@ impl<'a> Parts<'a> {
     pub(crate) fn of(text: &'a str) -> Option<Parts<'a>>
         ensures { option_map texts_of result ≡ comma_parts text.now }
     {
-        let (left, rest) = cut(text, ',')?;
-        let (bottom, rest) = cut(rest, ',')?;
-        let (right, top) = cut(rest, ',')?;
-        if cut(top, ',').is_some() {
+        let (left, rest) = cut_at_char(text, ',')?;
+        let (bottom, rest) = cut_at_char(rest, ',')?;
+        let (right, top) = cut_at_char(rest, ',')?;
+        if cut_at_char(top, ',').is_some() {
             return None;
         }
         Some(Parts {

@@ -5,4 +5,4 @@ mod bounding_box;
 mod degrees;
 pub mod number;
 
-pub use bounding_box::{BoundingBox, BoxFault};
+pub use bounding_box::{BoundingBox, BoxFault, MOST_LAT, MOST_LON};

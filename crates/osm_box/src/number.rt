@@ -6,7 +6,7 @@ ghost use Rattle.std.specs.Char.{is_ascii_digit};
 ghost use Rattle.osm_box.specs.Degrees.{cut_of, digits_of, halves_of};
 
 /// The text before and after the first such ASCII character, if there is one.
-pub fn cut(text: &str, at: char) -> Option<(&str, &str)>
+pub fn cut_at_char(text: &str, at: char) -> Option<(&str, &str)>
     requires { at < 128 }
     ensures { option_map (λ p. (p.0.now, p.1.now)) result ≡ cut_of at text.now }
 {
@@ -37,5 +37,5 @@ pub fn digits(text: &str, most: usize) -> Option<u64>
 pub fn halves(text: &str) -> (&str, &str)
     ensures { (result.0.now, result.1.now) ≡ halves_of text.now }
 {
-    cut(text, '.').unwrap_or((text, "0"))
+    cut_at_char(text, '.').unwrap_or((text, "0"))
 }

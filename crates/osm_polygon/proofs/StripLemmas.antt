@@ -13,7 +13,7 @@ use Rattle.osm_polygon.specs.declared.edge.Axis.{Axis}
 use Rattle.osm_polygon.specs.declared.edge.Axis.TheVariants.{Latitude, Longitude}
 use Rattle.osm_polygon.specs.declared.place.Place.{Place}
 use Rattle.osm_polygon.specs.declared.strips.Strip.{Strip}
-use Rattle.osm_polygon.specs.declared.strips.Cut.{Cut}
+use Rattle.osm_polygon.specs.declared.strips.StripRange.{StripRange}
 use Rattle.osm_polygon.specs.Edges.{along, strip_number, lowest, highest, is_in_strip}
 use Rattle.osm_polygon.specs.Strips.{AreStrips, AreWithin, lists_of, cut_at, pushed_at, with_edge, end_of, span_of, spans_of, held}
 
@@ -123,12 +123,12 @@ zero_div : (n : ℕ) → n < 2 ^ 39 → n / 2 ^ 39 ≡ 0
 zero_div n h = omega (arith, h)
 
 -- an edge is in no more strips than there are
-span_most : (cut : Cut) (e : Edge) → span_of cut e ≤ cut.end - cut.first
+span_most : (cut : StripRange) (e : Edge) → span_of cut e ≤ cut.end - cut.first
 span_most cut e = by (lowest cut.axis cut.shift e) (highest cut.axis cut.shift e) cut.first cut.end where
   by : (low high first end : ℕ) → min (high + 1) end - max low first ≤ end - first
   by low high first end = omega arith
 
-pub one_strip : (cut : Cut) (edges : List Edge) → cut.end - cut.first ≤ 1 → spans_of cut edges ≤ length edges
+pub one_strip : (cut : StripRange) (edges : List Edge) → cut.end - cut.first ≤ 1 → spans_of cut edges ≤ length edges
 one_strip cut [] one = omega arith
 one_strip cut (e ∷ edges) one = omega (arith, sum_by-cons (span_of cut) e edges, span_most cut e, one, one_strip cut edges one)
 
@@ -145,7 +145,7 @@ none_held (first ∷ strips) strip none is =
     let more : held ((first ∷ strips) ++ strip ∷ []) ≡ length first.edges.items + held (strips ++ strip ∷ []) = sum_by-cons length first.edges.items (lists_of (strips ++ strip ∷ [])) in
     omega (arith, here, more, none, none_held strips strip (omega (arith, here, none)) is)
 
-pub spans_more : (cut : Cut) (edges : List Edge) (e : Edge) → spans_of cut (edges ++ e ∷ []) ≡ spans_of cut edges + span_of cut e
+pub spans_more : (cut : StripRange) (edges : List Edge) (e : Edge) → spans_of cut (edges ++ e ∷ []) ≡ spans_of cut edges + span_of cut e
 spans_more cut edges e = omega (arith, sum_by-append (span_of cut) edges (e ∷ []))
 
 -- ---- an edge more in one strip
@@ -283,7 +283,7 @@ past_all true false n high first end number size is low below all past = refl
 past_all true true n high first end number size is low below all past =
     lt_true n number (let most = nat_le_is n high is in omega (arith, most, low, below, all, past))
 
-pub all_pushed : (cut : Cut) (e : Edge) (number : ℕ) (l : List (List Edge)) → length l ≡ cut.end - cut.first → end_of cut e ≤ number
+pub all_pushed : (cut : StripRange) (e : Edge) (number : ℕ) (l : List (List Edge)) → length l ≡ cut.end - cut.first → end_of cut e ≤ number
     → with_edge (in_strip_below cut.axis cut.shift e number) e cut.first l ≡ with_edge (λ n. is_in_strip cut.axis cut.shift n e) e cut.first l
 all_pushed cut e number l all past =
     with_upto (in_strip_below cut.axis cut.shift e number) (λ n. is_in_strip cut.axis cut.shift n e) e cut.first l

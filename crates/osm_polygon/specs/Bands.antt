@@ -5,7 +5,7 @@ use Rattle.osm_polygon.specs.declared.edge.Edge.{Edge}
 use Rattle.osm_polygon.specs.declared.edge.Axis.TheVariants.{Latitude, Longitude}
 use Rattle.osm_polygon.specs.declared.place.Place.{Place}
 use Rattle.osm_polygon.specs.declared.bands.Band.{Band}
-use Rattle.osm_polygon.specs.declared.bands.Asked.{Asked}
+use Rattle.osm_polygon.specs.declared.bands.Probe.{Probe}
 use Rattle.osm_polygon.specs.declared.bands.Border.{Border}
 use Rattle.osm_polygon.specs.Polygon.{Point, Side, is_odd, is_on, crosses}
 use Rattle.osm_polygon.specs.Edges.{point_of, side_of, strip_number, highest, is_in_strip}
@@ -30,20 +30,20 @@ abbrev pub crosses_border : Border → Edge → Bool
 crosses_border border e = differ (is_south_of border e.from) (is_south_of border e.to)
 
 -- an end of an edge lies east of the place, no farther north, and north of the border
-abbrev pub is_beside : Asked → Place → Bool
+abbrev pub is_beside : Probe → Place → Bool
 is_beside asked end =
     int_lt asked.place.lon end.lon
     && (int_le end.lat asked.place.lat && is_south_of asked.border end)
 
 -- an edge crosses the way: either it crosses the ray from the place to the east, or just one of its ends lies
 -- between that ray and the way
-abbrev pub is_passed : Asked → Edge → Bool
+abbrev pub is_passed : Probe → Edge → Bool
 is_passed asked e =
     differ (crosses (point_of asked.place) (side_of e))
     (differ (is_beside asked e.from) (is_beside asked e.to))
 
 -- the place lies on one of the edges, or an odd number of edges crosses the way, of these and others
-abbrev pub is_told : Asked → (others : Bool) → List Edge → Bool
+abbrev pub is_told : Probe → (others : Bool) → List Edge → Bool
 is_told asked others edges =
     list_any (λ e. is_on (point_of asked.place) (side_of e)) edges
     || differ others (is_odd_of (is_passed asked) edges)
@@ -84,7 +84,7 @@ AreBands shift number edges (band ∷ more) =
     × AreBands shift (number + 1) edges more
 
 -- what a band says of a place in it, if these are its edges, and an even number of them crosses its border
-abbrev pub Tells : Band → Asked → Bool → Type 0
+abbrev pub Tells : Band → Probe → Bool → Type 0
 Tells band asked told =
     (edges : List Edge) → IsBand asked.border edges band
     → asked.border.band ≡ strip_number Latitude asked.border.shift asked.place

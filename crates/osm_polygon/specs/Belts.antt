@@ -5,7 +5,7 @@ use Rattle.osm_polygon.specs.declared.edge.Edge.{Edge}
 use Rattle.osm_polygon.specs.declared.edge.Axis.TheVariants.{Latitude}
 use Rattle.osm_polygon.specs.declared.place.Place.{Place}
 use Rattle.osm_polygon.specs.declared.bands.Band.{Band}
-use Rattle.osm_polygon.specs.declared.bands.Asked.{Asked}
+use Rattle.osm_polygon.specs.declared.bands.Probe.{Probe}
 use Rattle.osm_polygon.specs.declared.belts.Belt.{Belt}
 use Rattle.osm_polygon.specs.declared.belts.Belt.TheVariants.{One, Many}
 use Rattle.osm_polygon.specs.declared.belts.BeltBands.{BeltBands}
@@ -54,7 +54,7 @@ BeltBandsTell parts place told =
     → AreBeltBands shift (strip_number Latitude shift place) edges parts
     → AreClosed (map side_of edges) → told ≡ is_amid_edges (map side_of edges) (point_of place)
 
-abbrev pub BeltTells : Belt → Asked → Bool → Type 0
+abbrev pub BeltTells : Belt → Probe → Bool → Type 0
 BeltTells belt asked told =
     (edges : List Edge) → IsBelt asked.border.shift asked.border.band edges belt
     → asked.border.band ≡ strip_number Latitude asked.border.shift asked.place

@@ -11,8 +11,8 @@ use Rattle.osm_polygon.specs.declared.fault.PolyPlace.{PolyPlace}
 use Rattle.osm_polygon.specs.declared.fault.PolyPlace.TheVariants as where_
 use Rattle.osm_polygon.specs.declared.fault.PolyReason.{PolyReason}
 use Rattle.osm_polygon.specs.declared.fault.PolyReason.TheVariants as reason
-use Rattle.osm_polygon.specs.declared.geojson.Kind.{Kind}
-use Rattle.osm_polygon.specs.declared.geojson.Kind.TheVariants as kind
+use Rattle.osm_polygon.specs.declared.geojson.GeometryKind.{GeometryKind}
+use Rattle.osm_polygon.specs.declared.geojson.GeometryKind.TheVariants as kind
 use Rattle.osm_polygon.specs.Coordinates.{coordinate, is_long_to, place_at}
 use Rattle.osm_polygon.specs.Number.{nanodegrees_of}
 use Rattle.osm_polygon.specs.PolyFile.{RingsOrFault, PolygonsOrFault}
@@ -68,11 +68,11 @@ with_place ring places (Err r) = Err (record { place = where_.Ring ring (length 
 abbrev pub with_position : (ring : ℕ) → List Point → Json → OrFault (List Point)
 with_position ring places value = with_place ring places (position value)
 
-abbrev pub is_same : Point → Point → Bool
-is_same p q = int_eq p.lat q.lat && int_eq p.lon q.lon
+abbrev pub is_same_place : Point → Point → Bool
+is_same_place p q = int_eq p.lat q.lat && int_eq p.lon q.lon
 
 abbrev pub is_same_by : Option Point → Option Point → Bool
-is_same_by (Some p) (Some q) = is_same p q
+is_same_by (Some p) (Some q) = is_same_place p q
 is_same_by _ _ = false
 
 -- the last place is the first one again
@@ -122,8 +122,8 @@ with_polygon polygons value =
 
 -- ---- what has polygons
 
-abbrev pub kind_named : List ℕ → Kind
-kind_named name =
+abbrev pub geometry_named : List ℕ → GeometryKind
+geometry_named name =
     if bytes_eq name (codes "Polygon") then kind.Polygon
     else if bytes_eq name (codes "MultiPolygon") then kind.MultiPolygon
     else if bytes_eq name (codes "GeometryCollection") then kind.GeometryCollection
@@ -131,39 +131,39 @@ kind_named name =
     else if bytes_eq name (codes "FeatureCollection") then kind.FeatureCollection
     else kind.Other
 
-abbrev pub kind_by : Option (List ℕ) → Kind
+abbrev pub kind_by : Option (List ℕ) → GeometryKind
 kind_by None = kind.Other
-kind_by (Some name) = kind_named name
+kind_by (Some name) = geometry_named name
 
-abbrev pub kind_of : Json → Kind
-kind_of value = kind_by (option_and_then as_str (get (codes "type") value))
+abbrev pub geometry_of : Json → GeometryKind
+geometry_of value = kind_by (option_and_then as_str (get (codes "type") value))
 
 -- the polygons so far, with those of one thing more
-abbrev pub shape_by : Kind → List Rings → Json → PolygonsOrFault
+abbrev pub shape_by : GeometryKind → List Rings → Json → PolygonsOrFault
 shape_by kind.Polygon polygons value = and_then (member (codes "coordinates") value) (with_polygon polygons)
 shape_by kind.MultiPolygon polygons value =
     and_then (member (codes "coordinates") value) (each with_polygon polygons)
 shape_by _ polygons value = or_shape None
 
 abbrev pub with_shape : List Rings → Json → PolygonsOrFault
-with_shape polygons value = shape_by (kind_of value) polygons value
+with_shape polygons value = shape_by (geometry_of value) polygons value
 
-abbrev pub geometry_by : Kind → List Rings → Json → PolygonsOrFault
+abbrev pub geometry_by : GeometryKind → List Rings → Json → PolygonsOrFault
 geometry_by kind.GeometryCollection polygons value =
     and_then (member (codes "geometries") value) (each with_shape polygons)
 geometry_by _ polygons value = with_shape polygons value
 
 abbrev pub with_geometry : List Rings → Json → PolygonsOrFault
-with_geometry polygons value = geometry_by (kind_of value) polygons value
+with_geometry polygons value = geometry_by (geometry_of value) polygons value
 
-abbrev pub feature_by : Kind → List Rings → Json → PolygonsOrFault
+abbrev pub feature_by : GeometryKind → List Rings → Json → PolygonsOrFault
 feature_by kind.Feature polygons value = and_then (member (codes "geometry") value) (with_geometry polygons)
 feature_by _ polygons value = or_shape None
 
 abbrev pub with_feature : List Rings → Json → PolygonsOrFault
-with_feature polygons value = feature_by (kind_of value) polygons value
+with_feature polygons value = feature_by (geometry_of value) polygons value
 
-abbrev pub document_by : Kind → Json → PolygonsOrFault
+abbrev pub document_by : GeometryKind → Json → PolygonsOrFault
 document_by kind.FeatureCollection value =
     and_then (member (codes "features") value) (each with_feature [])
 document_by kind.Feature value = with_feature [] value
@@ -178,4 +178,4 @@ if_some (polygon ∷ polygons) = Ok (polygon ∷ polygons)
 -- the polygons of the JSON that a text is, or its first fault
 abbrev pub geojson_polygons : Option Json → PolygonsOrFault
 geojson_polygons None = Err (record { place = where_.Text; reason = reason.Json })
-geojson_polygons (Some value) = and_then (document_by (kind_of value) value) if_some
+geojson_polygons (Some value) = and_then (document_by (geometry_of value) value) if_some

@@ -3,7 +3,7 @@ use Rattle.std.specs.Prelude.{◌≡◌, ℕ, zero, suc, ◌+◌, ◌-◌, ◌*�
 use Rattle.std.specs.List.{sum_by}
 use Rattle.osm_polygon.specs.declared.edge.Edge.{Edge}
 use Rattle.osm_polygon.specs.declared.edge.Axis.{Axis}
-use Rattle.osm_polygon.specs.declared.strips.Cut.{Cut}
+use Rattle.osm_polygon.specs.declared.strips.StripRange.{StripRange}
 use Rattle.osm_polygon.specs.declared.strips.Strip.{Strip}
 use Rattle.osm_polygon.specs.Edges.{lowest, highest, is_in_strip}
 
@@ -26,12 +26,12 @@ AreWithin axis shift first end (e ∷ edges) =
     × AreWithin axis shift first end edges
 
 -- the strips from `first` to `last`, in nanodegrees along the axis
-abbrev pub cut_at : Axis → ℕ → ℕ → ℕ → Cut
+abbrev pub cut_at : Axis → ℕ → ℕ → ℕ → StripRange
 cut_at axis shift first last =
     record { axis = axis; shift = shift; first = first / 2 ^ shift; end = last / 2 ^ shift + 1 }
 
 -- strips, each cut into parts that are 2^finer nanodegrees wide
-abbrev pub parts_at : Cut → ℕ → Cut
+abbrev pub parts_at : StripRange → ℕ → StripRange
 parts_at strip finer = record {
   axis = strip.axis;
   shift = finer;
@@ -56,17 +56,17 @@ with_edge test e number (near ∷ more) =
 -- ---- how much that is
 
 -- the first of these strips that an edge has a place in, and the one after the last
-abbrev pub first_of : Cut → Edge → ℕ
+abbrev pub first_of : StripRange → Edge → ℕ
 first_of cut e = max (lowest cut.axis cut.shift e) cut.first
 
-abbrev pub end_of : Cut → Edge → ℕ
+abbrev pub end_of : StripRange → Edge → ℕ
 end_of cut e = min (highest cut.axis cut.shift e + 1) cut.end
 
 -- how many of them it has a place in
-abbrev pub span_of : Cut → Edge → ℕ
+abbrev pub span_of : StripRange → Edge → ℕ
 span_of cut e = end_of cut e - first_of cut e
 
-abbrev pub spans_of : Cut → List Edge → ℕ
+abbrev pub spans_of : StripRange → List Edge → ℕ
 spans_of cut edges = sum_by (span_of cut) edges
 
 -- how many edges the strips have together

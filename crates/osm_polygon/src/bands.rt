@@ -11,7 +11,7 @@ ghost use Rattle.osm_polygon.specs.Bands.{differ, is_south_of, crosses_border, i
 
 use crate::edge::{Axis, Edge, Meeting, strip_of};
 use crate::place::Place;
-use crate::strips::{Cut, Strip, choose_cut, strips_of};
+use crate::strips::{Strip, StripRange, choose_cut, strips_of};
 use std::alloc::{AllocError, Global};
 
 /// A band, and its cells from the one with the number `first` to the west.
@@ -36,7 +36,7 @@ pub(crate) struct Border {
 
 /// A place that is looked up, and the southern border of its band.
 #[derive(Clone, Copy, Debug)]
-pub(crate) struct Asked {
+pub(crate) struct Probe {
     pub(crate) place: Place,
     pub(crate) border: Border,
 }
@@ -68,7 +68,7 @@ impl Border {
     }
 }
 
-impl Asked {
+impl Probe {
     /// Whether an end of an edge lies north of the way from the place, and no farther north than the place.
     #[inline(always)]
     fn is_beside(self, end: Place) -> bool
@@ -95,7 +95,7 @@ impl Asked {
 /// Whether the place lies on one of these edges, or an odd number of edges crosses the way from it. `is_odd` says whether an odd number of others
 /// does.
 #[tactic(auto, using(crate::proofs::Counting::none_left, crate::proofs::Counting::step_on, crate::proofs::Counting::step_off))]
-fn is_within(edges: &[Edge], is_odd: bool, asked: Asked) -> bool
+fn is_within(edges: &[Edge], is_odd: bool, asked: Probe) -> bool
     requires { asked.border.shift < 64 }
     ensures { result ≡ is_told asked is_odd edges.now }
 {
@@ -164,7 +164,11 @@ pub(crate) fn band_of(alloc: Global, edges: &[Edge], border: Border) -> Result<B
 }
 
 /// The bands of `cut`, each with its edges.
-pub(crate) fn bands_of(alloc: Global, edges: &[Edge], cut: Cut) -> Result<Vec<Band>, AllocError>
+pub(crate) fn bands_of(
+    alloc: Global,
+    edges: &[Edge],
+    cut: StripRange,
+) -> Result<Vec<Band>, AllocError>
     requires { (cut.axis ≡ Latitude) × (cut.shift < 64) }
     ensures are { IfOk result (λ bands. AreBands cut.shift cut.first edges.now bands.items) }
     ensures number { IfOk result (λ bands. length bands.items ≡ cut.end - cut.first) }
@@ -190,7 +194,7 @@ pub(crate) fn bands_of(alloc: Global, edges: &[Edge], cut: Cut) -> Result<Vec<Ba
 impl Band {
     /// Whether a place of the band lies on one of its edges, or the ray from it to the east crosses an odd number of them.
     #[inline(always)]
-    pub(crate) fn has(&self, asked: Asked) -> bool
+    pub(crate) fn has(&self, asked: Probe) -> bool
         requires cells { self.now.shift < 64 }
         requires bands { asked.border.shift < 64 }
         ensures { Tells self.now asked result }

@@ -8,10 +8,10 @@ ghost use Rattle.osm_polygon.specs.Edges.{is_in_strip};
 ghost use Rattle.osm_polygon.specs.Strips.{spans_of};
 ghost use Rattle.osm_polygon.specs.Belts.{IsBelt, IsNarrow, AreNarrow, AreBelts, BeltBandsTell, BeltTells, held_of, held_in, cells_of, cells_in};
 
-use crate::bands::{Asked, Band, Border, band_of, bands_of};
+use crate::bands::{Band, Border, Probe, band_of, bands_of};
 use crate::edge::{Axis, Edge, strip_of};
 use crate::place::Place;
-use crate::strips::{Cut, choose_parts, strips_of};
+use crate::strips::{StripRange, choose_parts, strips_of};
 use std::alloc::{AllocError, Global};
 
 /// A belt.
@@ -43,7 +43,7 @@ fn belt_of(alloc: Global, edges: &[Edge], border: Border) -> Result<Belt, AllocE
     ensures few { IfOk result (λ belt. held_of belt ≤ 3 * length edges.now) }
     ensures number { IfOk result (λ belt. 2 * cells_of belt ≤ 5 * length edges.now + 2) }
 {
-    let strip = Cut {
+    let strip = StripRange {
         axis: Axis::Latitude,
         shift: border.shift,
         first: border.band,
@@ -62,7 +62,11 @@ fn belt_of(alloc: Global, edges: &[Edge], border: Border) -> Result<Belt, AllocE
 }
 
 /// The belts of `cut`, each with its edges.
-pub(crate) fn belts_of(alloc: Global, edges: &[Edge], cut: Cut) -> Result<Vec<Belt>, AllocError>
+pub(crate) fn belts_of(
+    alloc: Global,
+    edges: &[Edge],
+    cut: StripRange,
+) -> Result<Vec<Belt>, AllocError>
     requires width { (cut.axis ≡ Latitude) × (cut.shift < 64) }
     requires small { cut.end ≤ 2 ^ 39 }
     ensures are { IfOk result (λ belts. AreBelts cut.shift cut.first edges.now belts.items) }
@@ -104,14 +108,14 @@ impl BeltBands {
             shift: self.shift,
             band: number,
         };
-        band.has(Asked { place, border })
+        band.has(Probe { place, border })
     }
 }
 
 impl Belt {
     /// Whether a place of the belt north of this border lies on an edge of the polygon, or the ray from it to the east crosses an odd number of them.
     #[inline(always)]
-    pub(crate) fn has(&self, asked: Asked) -> bool
+    pub(crate) fn has(&self, asked: Probe) -> bool
         requires width { asked.border.shift < 64 }
         requires narrow { IsNarrow self.now }
         ensures { BeltTells self.now asked result }

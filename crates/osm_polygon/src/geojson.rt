@@ -6,8 +6,8 @@ ghost use Rattle.std.specs.Result.{result_map_both};
 ghost use Rattle.json.specs.Json.{document};
 ghost use Rattle.json.specs.Value.{items_view, value_view};
 ghost use Rattle.osm_polygon.specs.Edges.{point_of};
-ghost use Rattle.osm_polygon.specs.GeoJson.{and_polygon, each, fault_after, geojson_polygons, if_closed, if_some, is_closed, is_same, items_in};
-ghost use Rattle.osm_polygon.specs.GeoJson.{kind_named, kind_of, member, number_at, position, ring_places};
+ghost use Rattle.osm_polygon.specs.GeoJson.{and_polygon, each, fault_after, geojson_polygons, if_closed, if_some, is_closed, is_same_place, items_in};
+ghost use Rattle.osm_polygon.specs.GeoJson.{geometry_named, geometry_of, member, number_at, position, ring_places};
 ghost use Rattle.osm_polygon.specs.GeoJson.{document_by, feature_by, geometry_by, shape_by};
 ghost use Rattle.osm_polygon.specs.GeoJson.{with_feature, with_geometry, with_polygon, with_position, with_ring, with_shape};
 ghost use Rattle.osm_polygon.specs.Readings.{ReadsText, error_after};
@@ -15,14 +15,15 @@ ghost use Rattle.osm_polygon.specs.RingPlaces.{places_of, rings_of};
 
 use crate::fault::{PolyError, PolyFault, PolyPlace, PolyReason, refused};
 use crate::number::nanodegrees;
-use crate::place::{MOST_LAT, MOST_LON, Place, coordinate};
+use crate::place::{Place, coordinate};
 use crate::ring::{Ring, is_long_to};
 use json::{Error, Scratch, Value};
+use osm_box::{MOST_LAT, MOST_LON};
 use std::alloc::Global;
 
 /// What an object of GeoJSON is.
 #[derive(Clone, Copy, Debug, PartialEq, Eq)]
-enum Kind {
+enum GeometryKind {
     Polygon,
     MultiPolygon,
     GeometryCollection,
@@ -32,37 +33,37 @@ enum Kind {
 }
 
 /// The kind with this name.
-fn kind_named(name: &str) -> Kind
-    ensures { result ≡ kind_named name.now }
+fn geometry_named(name: &str) -> GeometryKind
+    ensures { result ≡ geometry_named name.now }
 {
     if name == "Polygon" {
-        return Kind::Polygon;
+        return GeometryKind::Polygon;
     }
     if name == "MultiPolygon" {
-        return Kind::MultiPolygon;
+        return GeometryKind::MultiPolygon;
     }
     if name == "GeometryCollection" {
-        return Kind::GeometryCollection;
+        return GeometryKind::GeometryCollection;
     }
     if name == "Feature" {
-        return Kind::Feature;
+        return GeometryKind::Feature;
     }
     if name == "FeatureCollection" {
-        return Kind::FeatureCollection;
+        return GeometryKind::FeatureCollection;
     }
-    Kind::Other
+    GeometryKind::Other
 }
 
 /// The kind that its member `type` names.
-fn kind_of(value: &Value<'_>) -> Kind
-    ensures { result ≡ kind_of (value_view value.now) }
+fn geometry_of(value: &Value<'_>) -> GeometryKind
+    ensures { result ≡ geometry_of (value_view value.now) }
 {
     let Some(name) = value.get("type") else {
-        return Kind::Other;
+        return GeometryKind::Other;
     };
     match name.as_str() {
-        Some(name) => kind_named(name),
-        None => Kind::Other,
+        Some(name) => geometry_named(name),
+        None => GeometryKind::Other,
     }
 }
 
@@ -105,8 +106,8 @@ fn position(value: &Value<'_>) -> Result<Place, PolyReason>
 }
 
 /// Whether two places are the same.
-fn is_same(first: &Place, last: &Place) -> bool
-    ensures { result ≡ is_same (point_of first.now) (point_of last.now) }
+fn is_same_place(first: &Place, last: &Place) -> bool
+    ensures { result ≡ is_same_place (point_of first.now) (point_of last.now) }
 {
     first.lat == last.lat && first.lon == last.lon
 }
@@ -118,7 +119,7 @@ fn is_closed(places: &[Place]) -> bool
     let (Some(first), Some(last)) = (places.first(), places.last()) else {
         return false;
     };
-    is_same(first, last)
+    is_same_place(first, last)
 }
 
 /// The places of the ring of this number, if it is whole.
@@ -285,9 +286,9 @@ fn with_shape(
     ensures { ReadsText (with_shape (map rings_of polygons.items) (value_view value.now))
         (result_map_both (λ polygons. map rings_of polygons.items) (λ e. e) result) }
 {
-    match kind_of(value) {
-        Kind::Polygon => with_polygon(alloc, polygons, member("coordinates", value)?),
-        Kind::MultiPolygon => with_polygons(alloc, polygons, member("coordinates", value)?),
+    match geometry_of(value) {
+        GeometryKind::Polygon => with_polygon(alloc, polygons, member("coordinates", value)?),
+        GeometryKind::MultiPolygon => with_polygons(alloc, polygons, member("coordinates", value)?),
         _ => Err(refused(PolyPlace::Text, PolyReason::Shape)),
     }
 }
@@ -316,8 +317,12 @@ fn with_geometry(
     ensures { ReadsText (with_geometry (map rings_of polygons.items) (value_view value.now))
         (result_map_both (λ polygons. map rings_of polygons.items) (λ e. e) result) }
 {
-    match kind_of(value) {
-        Kind::GeometryCollection => with_shapes(alloc, polygons, member("geometries", value)?),
+    match geometry_of(value) {
+        GeometryKind::GeometryCollection => with_shapes(
+            alloc,
+            polygons,
+            member("geometries", value)?,
+        ),
         _ => with_shape(alloc, polygons, value),
     }
 }
@@ -331,8 +336,8 @@ fn with_feature(
     ensures { ReadsText (with_feature (map rings_of polygons.items) (value_view value.now))
         (result_map_both (λ polygons. map rings_of polygons.items) (λ e. e) result) }
 {
-    match kind_of(value) {
-        Kind::Feature => with_geometry(alloc, polygons, member("geometry", value)?),
+    match geometry_of(value) {
+        GeometryKind::Feature => with_geometry(alloc, polygons, member("geometry", value)?),
         _ => Err(refused(PolyPlace::Text, PolyReason::Shape)),
     }
 }
@@ -354,13 +359,17 @@ fn with_features(
 
 /// The polygons of all that the text has.
 fn polygons_in(alloc: Global, value: &Value<'_>) -> Result<Vec<Vec<Ring>>, PolyError>
-    ensures { ReadsText (document_by (kind_of (value_view value.now)) (value_view value.now))
+    ensures { ReadsText (document_by (geometry_of (value_view value.now)) (value_view value.now))
         (result_map_both (λ polygons. map rings_of polygons.items) (λ e. e) result) }
 {
     let polygons = Vec::new(alloc);
-    match kind_of(value) {
-        Kind::FeatureCollection => with_features(alloc, polygons, member("features", value)?),
-        Kind::Feature => with_feature(alloc, polygons, value),
+    match geometry_of(value) {
+        GeometryKind::FeatureCollection => with_features(
+            alloc,
+            polygons,
+            member("features", value)?,
+        ),
+        GeometryKind::Feature => with_feature(alloc, polygons, value),
         _ => with_geometry(alloc, polygons, value),
     }
 }

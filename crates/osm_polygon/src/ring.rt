@@ -8,15 +8,15 @@ ghost use Rattle.osm_polygon.specs.Rings.{ring_sides, rings_sides, grown, box_ro
 
 use crate::edge::Edge;
 use crate::place::Place;
-use osm_box::BoundingBox;
+use osm_box::{BoundingBox, MOST_LAT, MOST_LON};
 use std::alloc::{AllocError, Global};
 
 /// A box that has no place.
 pub(crate) const NO_BOX: BoundingBox = BoundingBox {
-    left: 180_000_000_000,
-    bottom: 90_000_000_000,
-    right: -180_000_000_000,
-    top: -90_000_000_000,
+    left: MOST_LON,
+    bottom: MOST_LAT,
+    right: -MOST_LON,
+    top: -MOST_LAT,
 };
 
 /// A ring: its places in order. An edge joins the last to the first, whether they are the same place or not.

@@ -24,14 +24,14 @@ pub(crate) struct Strip {
 
 /// Which strips there are: those with the numbers from `first` on and before `end`, each 2^shift nanodegrees wide.
 #[derive(Clone, Copy, Debug)]
-pub(crate) struct Cut {
+pub(crate) struct StripRange {
     pub(crate) axis: Axis,
     pub(crate) shift: u32,
     pub(crate) first: u64,
     pub(crate) end: u64,
 }
 
-impl Cut {
+impl StripRange {
     /// The number of the first of its strips that an edge has a place in.
     fn first_of(self, edge: &Edge) -> u64
         requires { self.shift < 64 }
@@ -58,7 +58,7 @@ impl Cut {
 }
 
 /// Whether these strips have at most `most` edges together. An edge counts once in each strip that it has a place in.
-fn are_few(edges: &[Edge], cut: Cut, most: u64) -> bool
+fn are_few(edges: &[Edge], cut: StripRange, most: u64) -> bool
     requires { cut.shift < 64 }
     ensures { result ≡ true → spans_of cut edges.now ≤ most }
 {
@@ -87,13 +87,13 @@ fn ends(edges: &[Edge], axis: Axis) -> (u64, u64)
 }
 
 /// The strips of this width from `first` to `last`, in nanodegrees along the axis.
-fn cut_at(axis: Axis, shift: u32, first: u64, last: u64) -> Cut
+fn cut_at(axis: Axis, shift: u32, first: u64, last: u64) -> StripRange
     requires width { shift < 64 }
     requires small { last < 2 ^ 39 }
     ensures value { result ≡ cut_at axis shift first last }
     ensures small { result.end ≤ 2 ^ 39 }
 {
-    Cut {
+    StripRange {
         axis,
         shift,
         first: first >> shift,
@@ -104,7 +104,7 @@ fn cut_at(axis: Axis, shift: u32, first: u64, last: u64) -> Cut
 /// Which strips edges get: the narrowest such that there are no more strips than edges, and that they have at most `times` as many edges
 /// together. So edges that all reach from one end to the other get few strips, and no polygon gets strips that take more memory than that.
 #[tactic(auto, using(crate::proofs::StripLemmas::within_cut))]
-pub(crate) fn choose_cut(edges: &[Edge], axis: Axis, times: u64) -> Cut
+pub(crate) fn choose_cut(edges: &[Edge], axis: Axis, times: u64) -> StripRange
     requires { 1 ≤ times }
     ensures width { (result.axis ≡ axis) × (result.shift < 64) }
     ensures within { AreWithin axis result.shift result.first result.end edges.now }
@@ -126,14 +126,14 @@ pub(crate) fn choose_cut(edges: &[Edge], axis: Axis, times: u64) -> Cut
 }
 
 /// The strip with this number, cut evenly into parts that are 2^finer nanodegrees wide.
-fn parts_at(strip: Cut, finer: u32) -> Cut
+fn parts_at(strip: StripRange, finer: u32) -> StripRange
     requires width { (finer ≤ strip.shift) × (strip.shift ≤ finer + 24) × (strip.shift < 64) }
     requires small { strip.end ≤ 2 ^ 39 }
     requires some { strip.first ≤ strip.end }
     ensures { result ≡ parts_at strip finer }
 {
     let depth = strip.shift - finer;
-    Cut {
+    StripRange {
         axis: strip.axis,
         shift: finer,
         first: strip.first << depth,
@@ -143,7 +143,7 @@ fn parts_at(strip: Cut, finer: u32) -> Cut
 
 /// Into which parts a strip with these edges is cut: the narrowest such that there are no more parts than edges, and that they have at most half as
 /// many edges more together. A strip of few edges stays whole, and so does one whose edges go through it from one end to the other.
-pub(crate) fn choose_parts(edges: &[Edge], strip: Cut) -> Cut
+pub(crate) fn choose_parts(edges: &[Edge], strip: StripRange) -> StripRange
     requires width { strip.shift < 64 }
     requires small { strip.end ≤ 2 ^ 39 }
     requires one { strip.end ≡ strip.first + 1 }
@@ -168,7 +168,7 @@ pub(crate) fn choose_parts(edges: &[Edge], strip: Cut) -> Cut
 }
 
 /// As many strips as `cut` says, without edges.
-fn empty_strips(alloc: Global, cut: Cut) -> Result<Vec<Strip>, AllocError>
+fn empty_strips(alloc: Global, cut: StripRange) -> Result<Vec<Strip>, AllocError>
     ensures are { IfOk result (λ strips.
         AreStrips cut.axis cut.shift cut.first [] (lists_of strips.items)) }
     ensures number { IfOk result (λ strips. length strips.items ≡ cut.end - cut.first) }
@@ -195,7 +195,7 @@ fn push_at(strips: &mut Vec<Strip>, index: usize, edge: Edge) -> Result<(), Allo
 }
 
 /// Adds an edge to each strip that it has a place in.
-fn add_edge(strips: &mut Vec<Strip>, cut: Cut, edge: Edge) -> Result<(), AllocError>
+fn add_edge(strips: &mut Vec<Strip>, cut: StripRange, edge: Edge) -> Result<(), AllocError>
     requires width { cut.shift < 64 }
     requires number { length strips.now.items ≡ cut.end - cut.first }
     ensures with { OnOk result (lists_of strips.new.items
@@ -213,7 +213,11 @@ fn add_edge(strips: &mut Vec<Strip>, cut: Cut, edge: Edge) -> Result<(), AllocEr
 }
 
 /// The strips of `cut`, each with its edges. Each edge is compared with no strip but pushed to those that it reaches.
-pub(crate) fn strips_of(alloc: Global, edges: &[Edge], cut: Cut) -> Result<Vec<Strip>, AllocError>
+pub(crate) fn strips_of(
+    alloc: Global,
+    edges: &[Edge],
+    cut: StripRange,
+) -> Result<Vec<Strip>, AllocError>
     requires { cut.shift < 64 }
     ensures are { IfOk result (λ strips.
         AreStrips cut.axis cut.shift cut.first edges.now (lists_of strips.items)) }

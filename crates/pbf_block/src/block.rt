@@ -21,7 +21,7 @@ use crate::counts::Counts;
 use crate::entities::Entities;
 use crate::kinds::Kinds;
 use crate::primitive_block::{
-    self, STRINGTABLE, judge_structure, judge_values, judge_weights, judge_wire,
+    self, STRINGTABLE, judge_block_structure, judge_block_values, judge_block_wire, judge_weights,
 };
 use crate::runs::Runs;
 use crate::scale::scale_in;
@@ -34,12 +34,12 @@ use std::marker::Model;
 
 /// Whether the phases before the weights find no fault in a payload. It allocates nothing: the texts are only counted. `false` says
 /// nothing.
-fn is_clean(payload: Message<'_>) -> bool
+fn has_no_early_fault(payload: Message<'_>) -> bool
     ensures { IsTrue result → IsCleanBlock (length (stored_texts (found_in payload.entry)))
         payload.entry.at payload.entry.bytes.now }
 {
     let texts = text_count(occurrence_text(last_field(payload, STRINGTABLE)));
-    texts <= MOST_TEXTS && primitive_block::is_clean(payload, texts as u64)
+    texts <= MOST_TEXTS && primitive_block::is_clean_block(payload, texts as u64)
 }
 
 /// The first fault of the phases that need no table: of the wire form, otherwise of structure. A payload that is known to be clean has
@@ -54,10 +54,10 @@ fn early_fault(payload: Message<'_>, clean: bool) -> Option<Fault>
     if clean {
         return None;
     }
-    if let Some(fault) = judge_wire(payload) {
+    if let Some(fault) = judge_block_wire(payload) {
         return Some(fault);
     }
-    judge_structure(payload)
+    judge_block_structure(payload)
 }
 
 /// The texts of a payload that has no fault of structure: its table is judged already.
@@ -78,7 +78,7 @@ fn value_fault(payload: Message<'_>, clean: bool, limit: u64) -> Option<Fault>
     if clean {
         return None;
     }
-    judge_values(payload, limit)
+    judge_block_values(payload, limit)
 }
 
 /// The first fault of the phases that read texts: of values, otherwise of weights.
@@ -141,7 +141,7 @@ impl<'a> Block<'a> {
             → block_fault at payload.now ≡ Some fault }
     {
         let message = Message { bytes: payload, at };
-        let clean = is_clean(message);
+        let clean = has_no_early_fault(message);
         if let Some(fault) = early_fault(message, clean) {
             return Err(ReadFault::Refused(fault));
         }

@@ -32,7 +32,7 @@ pub(crate) const INFO: u64 = 4;
 
 /// The least fault of structure of what all entities have: an id, at most one Info, and as many keys as values.
 #[tactic(auto, using(crate::proofs::Parts::lesser_parts))]
-pub(crate) fn judge_structure(message: Message<'_>, place: u64) -> Option<Fault>
+pub(crate) fn judge_common_structure(message: Message<'_>, place: u64) -> Option<Fault>
     ensures { result ≡ least (entity_structure place (found_in message.entry)) }
 {
     let id = judge_missing(message, place, ID);
@@ -44,7 +44,7 @@ pub(crate) fn judge_structure(message: Message<'_>, place: u64) -> Option<Fault>
 
 /// The least fault of the values of tags and Infos, if the table has `limit` texts. An id is stored in two ways, and judged by its kind.
 #[tactic(auto, using(crate::proofs::Parts::lesser_parts))]
-pub(crate) fn judge_values(message: Message<'_>, limit: u64) -> Option<Fault>
+pub(crate) fn judge_common_values(message: Message<'_>, limit: u64) -> Option<Fault>
     ensures { result ≡ least (entity_values limit (found_in message.entry)) }
 {
     let keys = judge_low_numbers(message, KEYS, limit, Reason::StringIndex);

@@ -12,7 +12,9 @@ ghost use Rattle.pbf_block.specs.WrittenEntity.{entity_slots, way_message, relat
 ghost use Rattle.pbf_strings.specs.declared.table.TheConstants.{MOST_USED_TEXTS};
 
 use crate::entity::{ID, INFO, KEYS, VALS};
-use crate::entity_write::{put_info, put_locations, put_members, put_refs, put_tags};
+use crate::entity_write::{
+    put_info, put_locations, put_member_fields, put_ref_fields, put_tag_fields,
+};
 use crate::group::{RELATIONS, WAYS};
 use crate::relation::{MEMIDS, ROLES_SID, TYPES};
 use crate::way::{REFS, WAY_LAT, WAY_LON};
@@ -113,7 +115,7 @@ impl EntityOut {
             (begun_length self.new ≤ 120 + 20 * length (tags_left tags.entry)) }
         ensures columns { KeepsColumns self.old self.new }
     {
-        put_tags(&mut self.keys, &mut self.values, tags, table)?;
+        put_tag_fields(&mut self.keys, &mut self.values, tags, table)?;
         let user = table.index_if_some(meta.user)?;
         self.info.clear();
         put_info(&mut self.info, meta, user)?;
@@ -158,7 +160,7 @@ impl EntityOut {
             → OnOk result (writer_length self.new ≤ most_way_held (way_of way.now)) }
     {
         self.begin(way.id(), &way.meta(), way.tags(), table)?;
-        put_refs(&mut self.refs, way.refs())?;
+        put_ref_fields(&mut self.refs, way.refs())?;
         put_locations(&mut self.lats, &mut self.lons, way.locations())?;
         put_column(&mut self.message, REFS, self.refs.bytes())?;
         put_column(&mut self.message, WAY_LAT, self.lats.bytes())?;
@@ -189,7 +191,7 @@ impl EntityOut {
             (writer_length self.new ≤ most_relation_held (relation_of relation.now)) }
     {
         self.begin(relation.id(), &relation.meta(), relation.tags(), table)?;
-        put_members(
+        put_member_fields(
             &mut self.roles,
             &mut self.members,
             &mut self.kinds,

@@ -19,7 +19,7 @@ use std::alloc::AllocError;
 use std::hash::BuildHasher;
 
 /// Puts the indexes of the keys and of the values into two columns.
-pub(crate) fn put_tags<S: BuildHasher>(
+pub(crate) fn put_tag_fields<S: BuildHasher>(
     keys: &mut ColumnOut,
     values: &mut ColumnOut,
     tags: Tags<'_>,
@@ -45,7 +45,7 @@ pub(crate) fn put_tags<S: BuildHasher>(
 }
 
 /// Puts the refs into a column of differences.
-pub(crate) fn put_refs(column: &mut DeltaOut, refs: Refs<'_>) -> Result<(), AllocError>
+pub(crate) fn put_ref_fields(column: &mut DeltaOut, refs: Refs<'_>) -> Result<(), AllocError>
     requires { AllByRecursion IsStored (refs_left refs) }
     ensures { OnOk result (column.new ≡ refs_left refs.entry) }
 {
@@ -76,7 +76,7 @@ pub(crate) fn put_locations(
 }
 
 /// Puts the indexes of the roles, the ids and the kinds of members into three columns.
-pub(crate) fn put_members<S: BuildHasher>(
+pub(crate) fn put_member_fields<S: BuildHasher>(
     roles: &mut ColumnOut,
     ids: &mut DeltaOut,
     kinds: &mut ColumnOut,

@@ -59,7 +59,7 @@ impl Judge for GroupFieldForm {
         match field.number {
             NODES => judge_nested(message, &NODE_KINDS, INFO, &INFO_KINDS),
             DENSE => Dense::judge_wire(message),
-            WAYS => way::judge_wire(message),
+            WAYS => way::judge_way_wire(message),
             RELATIONS => judge_nested(message, &RELATION_KINDS, INFO, &INFO_KINDS),
             _ => None,
         }
@@ -97,10 +97,10 @@ fn judge_entities(field: Field<'_>) -> Option<Fault>
 {
     let message = field.message()?;
     match field.number {
-        NODES => node::judge_structure(message, field.offset),
+        NODES => node::judge_node_structure(message, field.offset),
         DENSE => Dense::judge_structure(message, field.offset),
-        WAYS => way::judge_structure(message, field.offset),
-        RELATIONS => relation::judge_structure(message, field.offset),
+        WAYS => way::judge_way_structure(message, field.offset),
+        RELATIONS => relation::judge_relation_structure(message, field.offset),
         _ => None,
     }
 }
@@ -128,7 +128,7 @@ impl Judge for MemberStructure {
 
 /// The least fault of structure of a group: a second dense message, entities of two kinds, changesets, and what its entities lack.
 #[tactic(auto, using(crate::proofs::Parts::lesser_parts))]
-pub(crate) fn judge_structure(message: Message<'_>) -> Option<Fault>
+pub(crate) fn judge_group_structure(message: Message<'_>) -> Option<Fault>
     ensures { result ≡ least (group_structure 0 message.entry.at message.entry.bytes.now) }
 {
     let members = MemberStructure {
@@ -152,10 +152,10 @@ impl Judge for GroupFieldValues {
     fn judge(&self, field: Field<'_>) -> Option<Fault> {
         let message = field.message()?;
         match field.number {
-            NODES => node::judge_values(message, self.limit),
+            NODES => node::judge_node_values(message, self.limit),
             DENSE => Dense::judge_values(message, self.limit),
-            WAYS => way::judge_values(message, self.limit),
-            RELATIONS => relation::judge_values(message, self.limit),
+            WAYS => way::judge_way_values(message, self.limit),
+            RELATIONS => relation::judge_relation_values(message, self.limit),
             _ => None,
         }
     }
@@ -173,7 +173,7 @@ fn is_clean_way(field: Field<'_>, limit: u64) -> bool
     let Some(message) = field.message() else {
         return false;
     };
-    way::is_clean(message, field.offset, limit)
+    way::is_sound_way(message, field.offset, limit)
 }
 
 /// Whether a group holds only ways, and no phase before the weights finds a fault in it, if the table has `limit` texts: found in

@@ -30,10 +30,10 @@ pub(crate) const NODE_KINDS: [(u64, Kind); 6] = [
 /// The least fault of structure: what all entities have, and a place. It is a call, since few nodes have a message of their own.
 #[inline(never)]
 #[tactic(auto, using(crate::proofs::Parts::lesser_parts))]
-pub(crate) fn judge_structure(message: Message<'_>, place: u64) -> Option<Fault>
+pub(crate) fn judge_node_structure(message: Message<'_>, place: u64) -> Option<Fault>
     ensures { result ≡ least (node_structure place message.entry.at message.entry.bytes.now) }
 {
-    let alike = entity::judge_structure(message, place);
+    let alike = entity::judge_common_structure(message, place);
     let lat = lesser(alike, judge_missing(message, place, NODE_LAT));
     lesser(lat, judge_missing(message, place, NODE_LON))
 }
@@ -41,11 +41,11 @@ pub(crate) fn judge_structure(message: Message<'_>, place: u64) -> Option<Fault>
 /// The least fault of values, if the table has `limit` texts. It is a call for the same reason.
 #[inline(never)]
 #[tactic(auto, using(crate::proofs::Parts::lesser_parts))]
-pub(crate) fn judge_values(message: Message<'_>, limit: u64) -> Option<Fault>
+pub(crate) fn judge_node_values(message: Message<'_>, limit: u64) -> Option<Fault>
     ensures { result ≡ least (node_values limit 0 message.entry.at message.entry.bytes.now) }
 {
     let id = judge_signed(last_value_left(message.fields(), ID));
-    let alike = lesser(id, entity::judge_values(message, limit));
+    let alike = lesser(id, entity::judge_common_values(message, limit));
     let lat = judge_signed(last_value_left(message.fields(), NODE_LAT));
     let lon = judge_signed(last_value_left(message.fields(), NODE_LON));
     lesser(lesser(alike, lat), lon)

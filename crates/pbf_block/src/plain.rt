@@ -194,7 +194,7 @@ impl<'a> PlainWay<'a> {
 }
 
 /// Messages of at most so many bytes have no more than 2^26 refs.
-const MOST_BYTES: usize = 1 << 26;
+const MOST_WAY_BYTES: usize = 1 << 26;
 
 /// Whether the values of a plain Info are in range, and the table of `limit` texts has one for its user.
 fn is_info_valued(info: PlainInfo, limit: u64) -> bool
@@ -242,7 +242,7 @@ fn are_tags(keys: &[u8], vals: &[u8], limit: u64) -> bool
 /// and the table of `limit` texts has one for each of its numbers: then no phase before the weights finds a fault. It is one call
 /// for each way.
 #[inline(never)]
-pub(crate) fn is_clean(message: Message<'_>, limit: u64) -> bool
+pub(crate) fn is_plain_way(message: Message<'_>, limit: u64) -> bool
     ensures { IsTrue result → (place : ℕ)
         → IsCleanWay limit place message.entry.at message.entry.bytes.now }
 {
@@ -258,5 +258,5 @@ pub(crate) fn is_clean(message: Message<'_>, limit: u64) -> bool
     if !are_tags(way.keys, way.vals, limit) {
         return false;
     }
-    message.bytes.len() <= MOST_BYTES && is_short(way.refs)
+    message.bytes.len() <= MOST_WAY_BYTES && is_short(way.refs)
 }

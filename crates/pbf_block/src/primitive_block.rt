@@ -61,7 +61,7 @@ impl Judge for PartForm {
 
 /// The least wire fault of a block, and of the messages in it.
 #[tactic(auto, unfolding(crate::specs::PrimitiveBlock::wire_faults))]
-pub(crate) fn judge_wire(payload: Message<'_>) -> Option<Fault>
+pub(crate) fn judge_block_wire(payload: Message<'_>) -> Option<Fault>
     ensures { result ≡ least (wire_faults payload.entry.at payload.entry.bytes.now) }
 {
     judge_form(payload, &BLOCK_KINDS, &PartForm)
@@ -78,7 +78,7 @@ impl Judge for PartStructure {
         let message = field.message()?;
         match field.number {
             STRINGTABLE => Table::judge_count(message.bytes, field.offset).err(),
-            PRIMITIVEGROUP => group::judge_structure(message),
+            PRIMITIVEGROUP => group::judge_group_structure(message),
             _ => None,
         }
     }
@@ -98,7 +98,7 @@ fn judge_table(payload: Message<'_>) -> Option<Fault>
 
 /// The least fault of structure of a block, and of the messages in it.
 #[tactic(auto, using(crate::proofs::Parts::lesser_parts), unfolding(crate::specs::PrimitiveBlock::structure_faults))]
-pub(crate) fn judge_structure(payload: Message<'_>) -> Option<Fault>
+pub(crate) fn judge_block_structure(payload: Message<'_>) -> Option<Fault>
     ensures { result ≡ least (structure_faults payload.entry.at payload.entry.bytes.now) }
 {
     lesser(judge_table(payload), judge_fields(payload, &PartStructure))
@@ -122,7 +122,7 @@ fn judge_scale(payload: Message<'_>) -> Option<Fault>
 
 /// The least fault of values of a block, and of the messages in it; its table has `limit` texts.
 #[tactic(auto, using(crate::proofs::Parts::lesser_parts), unfolding(crate::specs::PrimitiveBlock::value_faults))]
-pub(crate) fn judge_values(payload: Message<'_>, limit: u64) -> Option<Fault>
+pub(crate) fn judge_block_values(payload: Message<'_>, limit: u64) -> Option<Fault>
     requires { limit ≤ SUM_LIMIT }
     ensures { result ≡ least (value_faults limit payload.entry.at payload.entry.bytes.now) }
 {
@@ -167,7 +167,7 @@ fn has_clean_group(field: Field<'_>, limit: u64) -> bool
 
 /// Whether the phases before the weights find no fault in a block whose table has `limit` texts, nor in the messages in it. Each
 /// message is gone through once for all of them, as far as it holds ways. `false` says nothing.
-pub(crate) fn is_clean(payload: Message<'_>, limit: u64) -> bool
+pub(crate) fn is_clean_block(payload: Message<'_>, limit: u64) -> bool
     requires { limit ≤ SUM_LIMIT }
     ensures { IsTrue result → IsCleanBlock limit payload.entry.at payload.entry.bytes.now }
 {

@@ -46,10 +46,10 @@ fn are_members(message: Message<'_>) -> bool
 /// The least fault of structure: what all entities have, and the columns of members. It is a call, since few entities are relations.
 #[inline(never)]
 #[tactic(auto, using(crate::proofs::Parts::lesser_parts))]
-pub(crate) fn judge_structure(message: Message<'_>, place: u64) -> Option<Fault>
+pub(crate) fn judge_relation_structure(message: Message<'_>, place: u64) -> Option<Fault>
     ensures { result ≡ least (relation_structure place message.entry.at message.entry.bytes.now) }
 {
-    let alike = entity::judge_structure(message, place);
+    let alike = entity::judge_common_structure(message, place);
     let are_alike = are_members(message);
     lesser(alike, fault_where(!are_alike, place, Reason::MemberColumns))
 }
@@ -57,11 +57,11 @@ pub(crate) fn judge_structure(message: Message<'_>, place: u64) -> Option<Fault>
 /// The least fault of values, if the table has `limit` texts. It is a call for the same reason.
 #[inline(never)]
 #[tactic(auto, using(crate::proofs::Parts::lesser_parts))]
-pub(crate) fn judge_values(message: Message<'_>, limit: u64) -> Option<Fault>
+pub(crate) fn judge_relation_values(message: Message<'_>, limit: u64) -> Option<Fault>
     ensures { result ≡ least (relation_values limit 0 message.entry.at message.entry.bytes.now) }
 {
     let id = judge_wide(last_value_left(message.fields(), ID));
-    let alike = lesser(id, entity::judge_values(message, limit));
+    let alike = lesser(id, entity::judge_common_values(message, limit));
     let texts = judge_low_numbers(message, ROLES_SID, limit, Reason::StringIndex);
     let roles = lesser(alike, texts);
     let ids = lesser(roles, judge_stored_sums(message, MEMIDS));

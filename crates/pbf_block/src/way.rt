@@ -55,7 +55,7 @@ fn are_located(message: Message<'_>) -> bool
 }
 
 /// The least wire fault of a way and of its Infos.
-pub(crate) fn judge_wire(message: Message<'_>) -> Option<Fault>
+pub(crate) fn judge_way_wire(message: Message<'_>) -> Option<Fault>
     ensures { result ≡ least (nested_faults WAY_KINDS INFO INFO_KINDS 0
         message.entry.at message.entry.bytes.now) }
 {
@@ -64,10 +64,10 @@ pub(crate) fn judge_wire(message: Message<'_>) -> Option<Fault>
 
 /// The least fault of structure: what all entities have, and locations.
 #[tactic(auto, using(crate::proofs::Parts::lesser_parts))]
-pub(crate) fn judge_structure(message: Message<'_>, place: u64) -> Option<Fault>
+pub(crate) fn judge_way_structure(message: Message<'_>, place: u64) -> Option<Fault>
     ensures { result ≡ least (way_structure place message.entry.at message.entry.bytes.now) }
 {
-    let alike = entity::judge_structure(message, place);
+    let alike = entity::judge_common_structure(message, place);
     let is_located = are_located(message);
     lesser(
         alike,
@@ -77,27 +77,27 @@ pub(crate) fn judge_structure(message: Message<'_>, place: u64) -> Option<Fault>
 
 /// The least fault of values, if the table has `limit` texts.
 #[tactic(auto, using(crate::proofs::Parts::lesser_parts))]
-pub(crate) fn judge_values(message: Message<'_>, limit: u64) -> Option<Fault>
+pub(crate) fn judge_way_values(message: Message<'_>, limit: u64) -> Option<Fault>
     ensures { result ≡ least (way_values limit 0 message.entry.at message.entry.bytes.now) }
 {
     let id = judge_wide(last_value_left(message.fields(), ID));
-    let alike = lesser(id, entity::judge_values(message, limit));
+    let alike = lesser(id, entity::judge_common_values(message, limit));
     let refs = lesser(alike, judge_stored_sums(message, REFS));
     let lats = lesser(refs, judge_stored_sums(message, WAY_LAT));
     lesser(lats, judge_stored_sums(message, WAY_LON))
 }
 
 /// Whether no phase before the weights finds a fault, if the table has `limit` texts. Most ways are plain, and read once.
-pub(crate) fn is_clean(message: Message<'_>, place: u64, limit: u64) -> bool
+pub(crate) fn is_sound_way(message: Message<'_>, place: u64, limit: u64) -> bool
     ensures { IsTrue result → IsCleanWay limit place message.entry.at message.entry.bytes.now }
 {
-    if plain::is_clean(message, limit) {
+    if plain::is_plain_way(message, limit) {
         return true;
     }
-    if judge_wire(message).is_some() || judge_structure(message, place).is_some() {
+    if judge_way_wire(message).is_some() || judge_way_structure(message, place).is_some() {
         return false;
     }
-    judge_values(message, limit).is_none()
+    judge_way_values(message, limit).is_none()
 }
 
 /// The way of a message. It does not allocate.

@@ -30,7 +30,7 @@ use Rattle.osm_entity.specs.declared.scale.Scale.{Scale}
 use Rattle.pbf_wire.proofs.AllLemmas.{all_append, all_left, all_right, all_map, all_weaker}
 use Rattle.pbf_dense.specs.declared.dense_nodes.TheConstants.{DENSE_KINDS, ID, DENSEINFO, LAT, LON, KEYS_VALS}
 use Rattle.pbf_dense.specs.declared.dense_info.TheConstants.{DENSEINFO_KINDS}
-use Rattle.pbf_dense.specs.Judged.{dense_wire, dense_structure, dense_values, coordinate_counts, are_runs, are_tags, run_faults, info_counts, texts_named, dense_info_values, node_weight_fault, dense_weights, as_stored, early_fault, dense_fault}
+use Rattle.pbf_dense.specs.Judged.{dense_wire, dense_structure, dense_values, coordinate_counts, are_runs, are_tag_runs, run_faults, info_counts, texts_named, dense_info_values, node_weight_fault, dense_weights, as_stored, fault_before_weights, dense_fault}
 use Rattle.pbf_dense.specs.WrittenDense.{bit_of, info_columns, dense_info_slots, dense_info_message, tag_numbers, run_of, DenseColumns, columns_of, dense_slots, dense_message, AreAlike, NodesHeld, are_some, has_tag}
 use Rattle.pbf_dense.proofs.InfoLaw.{InfoFits, InfoCounts, no_faults_joined, wide_good, deltas_length, info_leaf, info_counted, info_valued, all_or_none, mapped, alike_later, meta_given, info_later, info_read}
 use Rattle.osm_entity.proofs.TagLemmas.{run_goes_on}
@@ -140,11 +140,11 @@ runs_are : (texts : List (List ℕ)) (ns : List NodeSpec) → are_runs (length n
 runs_are texts [] = refl
 runs_are texts (n ∷ ns) = run_is texts n.tags (length ns) (flat_map (λ n. run_of texts n.tags) ns) ∙ runs_are texts ns
 
-runs_or_none : (n : ℕ) (column : List ℕ) → are_runs n column ≡ true → are_tags n column ≡ true
+runs_or_none : (n : ℕ) (column : List ℕ) → are_runs n column ≡ true → are_tag_runs n column ≡ true
 runs_or_none n [] h = refl
 runs_or_none n (x ∷ column) h = h
 
-tags_are : (tagged : Bool) (n : ℕ) (runs : List ℕ) → are_runs n runs ≡ true → are_tags n (written_runs tagged runs) ≡ true
+tags_are : (tagged : Bool) (n : ℕ) (runs : List ℕ) → are_runs n runs ≡ true → are_tag_runs n (written_runs tagged runs) ≡ true
 tags_are true n runs h = runs_or_none n runs h
 tags_are false n runs h = refl
 
@@ -273,7 +273,7 @@ module _ (texts : List (List ℕ)) (scale : Scale) (ns : List NodeSpec) (h : Nod
 
   runs_sound : (place at : ℕ) → run_faults place (fields_in at (message (dense_slots written))) ≡ []
   runs_sound place at =
-      ap₂ (λ (n : ℕ) (w : List ℕ). fault_where (not (are_tags n w)) place KeysVals) (ids_counted at) (low_runs at)
+      ap₂ (λ (n : ℕ) (w : List ℕ). fault_where (not (are_tag_runs n w)) place KeysVals) (ids_counted at) (low_runs at)
       ∙ ap (λ b. fault_where (not b) place KeysVals) (tags_are written.tagged (length ns) written.runs (runs_are texts ns))
 
   info_once : (at : ℕ) → twice DENSEINFO (fields_in at (message (dense_slots written))) ≡ []
@@ -445,7 +445,7 @@ module _ (texts : List (List ℕ)) (scale : Scale) (ns : List NodeSpec) (h : Nod
 
   -- and the message has no fault
   pub dense_sound : (place at : ℕ) → dense_fault place at (table_of texts) (dense_message texts ns) ≡ None
-  unfolding dense_fault early_fault
+  unfolding dense_fault fault_before_weights
   dense_sound place at = rw (wire_written texts scale ns h place at, structure_written texts scale ns h place at, values_written texts scale ns h place at, weights_written place at) refl
 
 pub ruleset clauses = (wire_written, structure_written, values_written, nodes_written, dense_sound)

@@ -25,7 +25,7 @@ use Rattle.pbf_wire.specs.declared.kind.Kind.TheVariants as kind
 use Rattle.pbf_wire.specs.Wire.{kind_of}
 use Rattle.pbf_wire.proofs.AllLemmas.{all_weaker}
 use Rattle.pbf_wire.proofs.SoundLemmas.{both_nil, all_nil, is_right, sums_good, sums_within_limit, fields_sound, count_is_length, no_least}
-use Rattle.pbf_dense.specs.Judged.{id_count, dense_wire, dense_structure, dense_values, coordinate_counts, dense_info_values, range_faults, texts_named, IsSound, dense_weights, as_stored, early_fault, dense_fault, if_none}
+use Rattle.pbf_dense.specs.Judged.{id_count, dense_wire, dense_structure, dense_values, coordinate_counts, dense_info_values, range_faults, texts_named, IsSound, dense_weights, as_stored, fault_before_weights, dense_fault, if_none}
 use Rattle.std.specs.Option.{option_or, option_map}
 use Rattle.pbf_wire.specs.Least.{least}
 use Rattle.osm_entity.specs.Entity.{NodeSpec, node}
@@ -181,8 +181,8 @@ no_second : (f g : Option Fault) → option_or f g ≡ None → g ≡ None
 no_second None g e = e
 no_second (Some f) g e = absurd (cc)
 
-pub early_sound : (table : List (List ℕ)) (place at : ℕ) (m : List ℕ) → length table ≤ 2 ^ 62 → early_fault (length table) place at m ≡ None → IsSound table at m
-unfolding early_fault
+pub early_sound : (table : List (List ℕ)) (place at : ℕ) (m : List ℕ) → length table ≤ 2 ^ 62 → fault_before_weights (length table) place at m ≡ None → IsSound table at m
+unfolding fault_before_weights
 early_sound table place at m few e =
     let later = no_second (least (dense_wire place at m)) _ e in
     record {
@@ -195,11 +195,11 @@ early_sound table place at m few e =
 
 pub sound_at : (table : List (List ℕ)) (place at : ℕ) (m : List ℕ) → length table ≤ 2 ^ 62 → dense_fault place at table m ≡ None → IsSound table at m
 unfolding dense_fault
-sound_at table place at m few e = early_sound table place at m few (no_first (early_fault (length table) place at m) _ e)
+sound_at table place at m few e = early_sound table place at m few (no_first (fault_before_weights (length table) place at m) _ e)
 
 -- without a fault before them, the weights are those of the nodes by index
-pub weights_last : (table : List (List ℕ)) (place at : ℕ) (m : List ℕ) → length table ≤ 2 ^ 62 → early_fault (length table) place at m ≡ None
-    → least (dense_weights place (nodes_along table as_stored (fields_in at m))) ≡ least (if_none (early_fault (length table) place at m) (dense_weights place (nodes table as_stored (fields_in at m))))
+pub weights_last : (table : List (List ℕ)) (place at : ℕ) (m : List ℕ) → length table ≤ 2 ^ 62 → fault_before_weights (length table) place at m ≡ None
+    → least (dense_weights place (nodes_along table as_stored (fields_in at m))) ≡ least (if_none (fault_before_weights (length table) place at m) (dense_weights place (nodes table as_stored (fields_in at m))))
 weights_last table place at m few e =
     ap (λ (ns : List NodeSpec). least (dense_weights place ns)) (nodes_same table as_stored at m (early_sound table place at m few e))
     ∙ ap (λ (f : Option Fault). least (if_none f (dense_weights place (nodes table as_stored (fields_in at m))))) (sym e)

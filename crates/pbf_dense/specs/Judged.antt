@@ -68,11 +68,11 @@ are_runs (suc n) (suc key ∷ value ∷ rest) = are_runs (suc n) rest
 are_runs _ _ = false
 
 -- there are no tags at all, or a run of them for each node
-abbrev pub are_tags : ℕ → List ℕ → Bool
-are_tags n column = are_runs 0 column || are_runs n column
+abbrev pub are_tag_runs : ℕ → List ℕ → Bool
+are_tag_runs n column = are_runs 0 column || are_runs n column
 
 abbrev pub run_faults : ℕ → List Occurrence → List Fault
-run_faults place os = fault_where (not (are_tags (column_count ID os) (map low_32 (column KEYS_VALS os)))) place KeysVals
+run_faults place os = fault_where (not (are_tag_runs (column_count ID os) (map low_32 (column KEYS_VALS os)))) place KeysVals
 
 -- the faults of counts, of the tags' form, and of more than one DenseInfo
 unfoldable pub dense_structure : ℕ → ℕ → List ℕ → List Fault
@@ -110,8 +110,8 @@ as_stored = record { granularity = pos 1; date_granularity = pos 1; lat_offset =
 -- ---- the phases of both together
 
 -- the first fault of the phases before the weights
-unfoldable pub early_fault : ℕ → ℕ → ℕ → List ℕ → Option Fault
-early_fault limit place at m = option_or (least (dense_wire place at m)) (option_or (least (dense_structure place at m)) (least (dense_values limit place at m)))
+unfoldable pub fault_before_weights : ℕ → ℕ → ℕ → List ℕ → Option Fault
+fault_before_weights limit place at m = option_or (least (dense_wire place at m)) (option_or (least (dense_structure place at m)) (least (dense_values limit place at m)))
 
 -- if there is none, these
 abbrev pub if_none : Option Fault → List Fault → List Fault
@@ -123,11 +123,11 @@ abbrev pub phase_faults : Phase → ℕ → ℕ → List (List ℕ) → List ℕ
 phase_faults phase.Wire place at table m = dense_wire place at m
 phase_faults phase.Structure place at table m = dense_structure place at m
 phase_faults phase.Values place at table m = dense_values (length table) place at m
-phase_faults phase.Weights place at table m = if_none (early_fault (length table) place at m) (dense_weights place (nodes table as_stored (fields_in at m)))
+phase_faults phase.Weights place at table m = if_none (fault_before_weights (length table) place at m) (dense_weights place (nodes table as_stored (fields_in at m)))
 
 -- the first fault by phase
 unfoldable pub dense_fault : ℕ → ℕ → List (List ℕ) → List ℕ → Option Fault
-dense_fault place at table m = option_or (early_fault (length table) place at m) (least (phase_faults phase.Weights place at table m))
+dense_fault place at table m = option_or (fault_before_weights (length table) place at m) (least (phase_faults phase.Weights place at table m))
 
 -- the phases before the weights have no fault
 pub record IsSound (table : List (List ℕ)) (at : ℕ) (m : List ℕ) : Type 0 where

@@ -57,7 +57,7 @@ fn clear_tags(tags: &mut Tags<'_>)
 
 /// Puts the tags of the next node in this place, and skips its run. It is a call for the same reason.
 #[inline(never)]
-fn take_run<'a>(numbers: &mut Column<'a>, table: &'a Table<'a>, tags: &mut Tags<'a>)
+fn take_tag_run<'a>(numbers: &mut Column<'a>, table: &'a Table<'a>, tags: &mut Tags<'a>)
     ensures { TakesTags table.now numbers.old numbers.new tags.new }
 {
     let run = RunTags::new(*numbers, table);
@@ -69,12 +69,12 @@ fn take_run<'a>(numbers: &mut Column<'a>, table: &'a Table<'a>, tags: &mut Tags<
     *tags = Tags::Run(run);
 }
 
-/// Like [`take_run`], and quick if there is no tag, as of most nodes, and there was none in the place before.
+/// Like [`take_tag_run`], and quick if there is no tag, as of most nodes, and there was none in the place before.
 fn take_tags<'a>(numbers: &mut Column<'a>, table: &'a Table<'a>, tags: &mut Tags<'a>)
     ensures { TakesTags table.now numbers.old numbers.new tags.new }
 {
     if !numbers.pass_zero() {
-        take_run(numbers, table, tags);
+        take_tag_run(numbers, table, tags);
     } else if !tags.are_none() {
         clear_tags(tags);
     }
@@ -82,7 +82,7 @@ fn take_tags<'a>(numbers: &mut Column<'a>, table: &'a Table<'a>, tags: &mut Tags
 
 /// Puts a node into a place, whose parts are all still to be given. It is a call for the same reason.
 #[inline(never)]
-fn fill(place: &mut Option<NodeRef<'_>>, scale: Scale)
+fn make_place(place: &mut Option<NodeRef<'_>>, scale: Scale)
     ensures { IsSome place.new }
 {
     let meta = MetaRef {
@@ -97,12 +97,12 @@ fn fill(place: &mut Option<NodeRef<'_>>, scale: Scale)
     *place = Some(NodeRef::new(0, 0, 0, meta, tags, scale));
 }
 
-/// Like [`fill`], of a place that may have one.
+/// Like [`make_place`], of a place that may have one.
 fn fill_if_empty(place: &mut Option<NodeRef<'_>>, scale: Scale)
     ensures { IsSome place.new }
 {
     if place.is_none() {
-        fill(place, scale);
+        make_place(place, scale);
     }
 }
 

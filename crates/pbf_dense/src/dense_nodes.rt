@@ -9,7 +9,7 @@ ghost use Rattle.osm_entity.specs.Sources.{low_32};
 ghost use Rattle.osm_entity.specs.Views.{node_of};
 ghost use Rattle.pbf_dense.specs.Cursors.{dense_left};
 ghost use Rattle.pbf_dense.specs.Nodes.{nodes_along};
-ghost use Rattle.pbf_dense.specs.Judged.{coordinate_counts, are_runs, are_tags, texts_named, node_weight_fault, dense_wire, dense_structure, dense_values, dense_weights, as_stored};
+ghost use Rattle.pbf_dense.specs.Judged.{coordinate_counts, are_runs, are_tag_runs, texts_named, node_weight_fault, dense_wire, dense_structure, dense_values, dense_weights, as_stored};
 ghost use Rattle.pbf_wire.specs.declared.limits.TheConstants.{SUM_LIMIT};
 
 use crate::dense::Dense;
@@ -92,8 +92,8 @@ fn are_runs(keys_vals: Column<'_>, nodes: usize) -> bool
 }
 
 /// Whether there are no tags, or a run of them for each node.
-fn are_tags(keys_vals: Column<'_>, nodes: usize) -> bool
-    ensures { result ≡ are_tags nodes (map low_32 (numbers_left keys_vals.entry)) }
+fn are_tag_runs(keys_vals: Column<'_>, nodes: usize) -> bool
+    ensures { result ≡ are_tag_runs nodes (map low_32 (numbers_left keys_vals.entry)) }
 {
     let mut numbers = keys_vals;
     next_number(&mut numbers).is_none() || are_runs(keys_vals, nodes)
@@ -109,7 +109,7 @@ impl Dense<'_> {
     {
         let counts = judge_coordinates(message, place);
         let nodes = column_count(message, ID);
-        let formed = are_tags(message.column(KEYS_VALS), nodes);
+        let formed = are_tag_runs(message.column(KEYS_VALS), nodes);
         let tags = fault_where(!formed, place, Reason::KeysVals);
         let twice = judge_twice(message, DENSEINFO);
         let infos = judge_fields(message, &InField(DENSEINFO, InfoStructure { nodes }));

@@ -4,7 +4,7 @@ ghost use Rattle.std.specs.Prelude.{◌≡◌, ◌+◌, ◌≤◌, length};
 ghost use Rattle.pbf_wire.specs.Least.{least};
 ghost use Rattle.pbf_wire.specs.Wire.{ok_unless};
 ghost use Rattle.pbf_dense.specs.declared.phase.Phase.TheVariants as phase;
-ghost use Rattle.pbf_dense.specs.Judged.{early_fault, phase_faults, dense_fault};
+ghost use Rattle.pbf_dense.specs.Judged.{fault_before_weights, phase_faults, dense_fault};
 ghost use Rattle.pbf_wire.specs.declared.limits.TheConstants.{OFFSET_LIMIT, SUM_LIMIT};
 
 use crate::dense::Dense;
@@ -14,9 +14,9 @@ use pbf_strings::Table;
 use pbf_wire::{Fault, Message, refuse};
 
 /// The first fault of the phases before the weights.
-#[tactic(auto, unfolding(crate::specs::Judged::early_fault))]
-fn early_fault(message: Message<'_>, place: u64, table: &Table<'_>) -> Option<Fault>
-    ensures exact { result ≡ early_fault (length table.now) place
+#[tactic(auto, unfolding(crate::specs::Judged::fault_before_weights))]
+fn fault_before_weights(message: Message<'_>, place: u64, table: &Table<'_>) -> Option<Fault>
+    ensures exact { result ≡ fault_before_weights (length table.now) place
         message.entry.at message.entry.bytes.now }
     ensures few { length table.now ≤ SUM_LIMIT }
 {
@@ -34,13 +34,13 @@ fn early_fault(message: Message<'_>, place: u64, table: &Table<'_>) -> Option<Fa
 
 /// The least fault of the weights, if there is none before them.
 #[tactic(auto, using(crate::proofs::SoundDense::weights_last))]
-fn late_fault(
+fn weight_fault(
     early: Option<Fault>,
     message: Message<'_>,
     place: u64,
     table: &Table<'_>,
 ) -> Option<Fault>
-    requires early { early ≡ early_fault (length table.now) place message.at message.bytes.now }
+    requires early { early ≡ fault_before_weights (length table.now) place message.at message.bytes.now }
     requires few { length table.now ≤ SUM_LIMIT }
     ensures { result ≡ least (phase_faults phase.Weights place
         message.entry.at table.now message.entry.bytes.now) }
@@ -79,8 +79,8 @@ impl<'a> Dense<'a> {
             Phase::Structure => Dense::judge_structure(message, place),
             Phase::Values => Dense::judge_values(message, table.len() as u64),
             Phase::Weights => {
-                let early = early_fault(message, place, table);
-                late_fault(early, message, place, table)
+                let early = fault_before_weights(message, place, table);
+                weight_fault(early, message, place, table)
             }
         })
     }
@@ -114,8 +114,8 @@ impl<'a> Dense<'a> {
             → result ≡ Err fault ↔ dense_fault place at table.now message.now ≡ Some fault }
     {
         let whole = Message { bytes: message, at };
-        let early = early_fault(whole, place, table);
-        refuse(early.or(late_fault(early, whole, place, table)))?;
+        let early = fault_before_weights(whole, place, table);
+        refuse(early.or(weight_fault(early, whole, place, table)))?;
         Ok(Dense::open(message, at, table, scale))
     }
 }

@@ -11,7 +11,7 @@ ghost use Rattle.pbf_dense.specs.Taking.{PassesRun};
 use crate::dense::Dense;
 use crate::entries::next_sum;
 use crate::run_out::next_pair;
-use crate::user_texts::{text_if_some, text_of};
+use crate::user_texts::{text_if_some, user_text_of};
 use osm_entity::{ENTITY_WEIGHT, PART_WEIGHT};
 use pbf_strings::Table;
 use pbf_wire::{Column, Sums};
@@ -52,7 +52,7 @@ pub(crate) fn numbers_go_with(numbers: &Column<'_>, count: usize) -> bool
 }
 
 /// The length of the text of a stored number.
-fn length_of(table: &Table<'_>, number: u32) -> u64
+fn user_length(table: &Table<'_>, number: u32) -> u64
     ensures { result ≡ length (text table.now number) }
 {
     table.text(number as usize).len() as u64
@@ -73,8 +73,8 @@ fn weigh_run(numbers: &mut Column<'_>, table: &Table<'_>) -> u64
     'tags: while let Some((key, value)) = next_pair(&mut rest) {
         weight = weight
             .saturating_add(PART_WEIGHT)
-            .saturating_add(length_of(table, key))
-            .saturating_add(length_of(table, value));
+            .saturating_add(user_length(table, key))
+            .saturating_add(user_length(table, value));
     }
     *numbers = rest;
     weight
@@ -141,7 +141,7 @@ impl<'a> Weights<'a> {
             return None;
         }
         let user = next.users.last_value();
-        let text = text_of(next.table, user);
+        let text = user_text_of(next.table, user);
         let weight = (text.len() as u64)
             .saturating_add(ENTITY_WEIGHT)
             .saturating_mul(count as u64);

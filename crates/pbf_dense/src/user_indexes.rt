@@ -9,7 +9,7 @@ ghost use Rattle.pbf_dense.specs.Info.{user_text};
 ghost use Rattle.pbf_dense.specs.NodeTexts.{user_index, IsKnown};
 
 use crate::entries::next_sum;
-use crate::user_texts::text_of;
+use crate::user_texts::user_text_of;
 use pbf_strings::{Table, TableOut};
 use pbf_wire::{DeltaOut, Sums};
 use std::alloc::AllocError;
@@ -56,7 +56,7 @@ impl<'a> UserIndexes<'a> {
         if self.index > 0 && self.user == user {
             return Ok(self.index);
         }
-        let index = table.index_of(text_of(self.texts, user))?;
+        let index = table.index_of(user_text_of(self.texts, user))?;
         self.user = user;
         self.index = index;
         Ok(index)

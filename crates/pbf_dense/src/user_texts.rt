@@ -7,7 +7,7 @@ ghost use Rattle.pbf_dense.specs.Info.{user_text};
 use pbf_strings::Table;
 
 /// The text of an index; the empty text if it is negative or the table has none.
-pub(crate) fn text_of<'a>(table: &'a Table<'a>, index: i64) -> &'a [u8]
+pub(crate) fn user_text_of<'a>(table: &'a Table<'a>, index: i64) -> &'a [u8]
     ensures { result.now ≡ user_text table.now index }
 {
     if index < 0 {
@@ -21,5 +21,5 @@ pub(crate) fn text_if_some<'a>(table: &'a Table<'a>, index: Option<i64>) -> Opti
     ensures { option_map (λ text. text.now) result ≡ option_map (user_text table.now) index }
 {
     let index = index?;
-    Some(text_of(table, index))
+    Some(user_text_of(table, index))
 }

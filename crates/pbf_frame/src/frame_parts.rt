@@ -26,7 +26,7 @@ use byteorder::{BigEndian, ByteOrder};
 use pbf_wire::{Fault, Reason, fault_where, lesser};
 
 // How many bytes of a blob of another type are skipped at a time.
-const PIECE: usize = 8192;
+const SKIPPED_PIECE: usize = 8192;
 
 /// Where a frame begins, and whether the header came before it.
 #[derive(Clone, Copy)]
@@ -227,7 +227,7 @@ fn read_blob<F: Feed>(feed: &mut F, blob: &mut Vec<u8>, head: Head, at: u64) -> 
                 offset: at,
                 reason: Reason::BlobCut,
             };
-            skip(feed, head.size, &mut [0; PIECE], cut)?;
+            skip(feed, head.size, &mut [0; SKIPPED_PIECE], cut)?;
             Ok(())
         }
     }

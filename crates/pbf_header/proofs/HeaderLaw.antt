@@ -17,7 +17,7 @@ use Rattle.osm_entity.specs.Weight.{text_weight}
 use Rattle.osm_entity.specs.Ranges.{IsInt64, IfPresent}
 use Rattle.pbf_strings.specs.TableOut.{has_text}
 use Rattle.pbf_header.specs.declared.header.HeaderBox.{HeaderBox}
-use Rattle.pbf_header.specs.declared.header_block.TheConstants.{HEADER_KINDS, BBOX_KINDS, BBOX, REQUIRED_FEATURES, OPTIONAL_FEATURES, WRITINGPROGRAM, SOURCE, REPLICATION_TIMESTAMP, REPLICATION_SEQUENCE, REPLICATION_URL, LEFT, RIGHT, TOP, BOTTOM}
+use Rattle.pbf_header.specs.declared.header_block.TheConstants.{HEADER_BLOCK_KINDS, BBOX_KINDS, BBOX, REQUIRED_FEATURES, OPTIONAL_FEATURES, WRITINGPROGRAM, SOURCE, REPLICATION_TIMESTAMP, REPLICATION_SEQUENCE, REPLICATION_URL, LEFT, RIGHT, TOP, BOTTOM}
 use Rattle.pbf_header.specs.Header.{HeaderSpec, edge, box_in, last_text, header_in}
 use Rattle.pbf_header.specs.HeaderFaults.{edge_faults, header_structure, feature_faults, header_values, header_fault}
 use Rattle.pbf_header.specs.WrittenHeader.{known_features, header_out, header_out_for_convert, kept_features, EdgesTyped, BoxTyped, HeaderFits, box_slots, box_message, header_slots, header_message}
@@ -158,12 +158,12 @@ module _ (at : ℕ) (h : HeaderSpec) (fits : HeaderFits h) (room : length (heade
   unfolding header_message
   boxes = box_some h.bbox fits.bbox (embedded_below (2 ^ 64) (header_slots h) room).0
 
-  no_wire : nested_faults HEADER_KINDS BBOX BBOX_KINDS at at (header_message h) ≡ []
+  no_wire : nested_faults HEADER_BLOCK_KINDS BBOX BBOX_KINDS at at (header_message h) ≡ []
   unfolding header_message
   no_wire =
       let f = leaf_faults BBOX_KINDS in
       let box = each_box (λ m. (place at : ℕ) → leaf_faults BBOX_KINDS place at m ≡ []) h.bbox (λ b e lt place at. box_wire place at b e lt) boxes in
-      no_fault_within HEADER_KINDS (entered BBOX f) at (header_slots h) (refl, (refl, (refl, (refl, (refl, (refl, (refl, (refl, tt))))))))
+      no_fault_within HEADER_BLOCK_KINDS (entered BBOX f) at (header_slots h) (refl, (refl, (refl, (refl, (refl, (refl, (refl, (refl, tt))))))))
       (box_alone f h box)
       (header_slots_fit h fits) room
 

@@ -6,7 +6,7 @@ use Rattle.pbf_wire.specs.declared.fault.Reason.TheVariants.{Feature}
 use Rattle.pbf_wire.specs.Faults.{fault_where, entered, fields_in, nested_faults, missing, twice}
 use Rattle.pbf_wire.specs.Occurrence.{Occurrence}
 use Rattle.pbf_strings.specs.TableOut.{has_text}
-use Rattle.pbf_header.specs.declared.header_block.TheConstants.{BBOX, HEADER_KINDS, BBOX_KINDS, REQUIRED_FEATURES, LEFT, RIGHT, TOP, BOTTOM}
+use Rattle.pbf_header.specs.declared.header_block.TheConstants.{BBOX, HEADER_BLOCK_KINDS, BBOX_KINDS, REQUIRED_FEATURES, LEFT, RIGHT, TOP, BOTTOM}
 use Rattle.pbf_wire.specs.Phases.{first_fault, in_phases}
 use Rattle.pbf_header.specs.WrittenHeader.{known_features}
 
@@ -28,7 +28,7 @@ header_values os = flat_map (entered REQUIRED_FEATURES feature_faults) os
 
 -- the faults of a header whose first byte is at `at` in the file, phase by phase: first those of the wire form of it and of its boxes
 abbrev pub header_phases : ℕ → List ℕ → List (List Fault)
-header_phases at m = let os = fields_in at m in nested_faults HEADER_KINDS BBOX BBOX_KINDS at at m ∷ header_structure os ∷ header_values os ∷ []
+header_phases at m = let os = fields_in at m in nested_faults HEADER_BLOCK_KINDS BBOX BBOX_KINDS at at m ∷ header_structure os ∷ header_values os ∷ []
 
 -- the first of them: the least of the first phase that has one
 unfoldable pub header_fault : ℕ → List ℕ → Option Fault

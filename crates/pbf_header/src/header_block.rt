@@ -30,7 +30,7 @@ pub(crate) const REPLICATION_SEQUENCE: u64 = 33;
 pub(crate) const REPLICATION_URL: u64 = 34;
 
 /// How the fields of a HeaderBlock are stored.
-pub(crate) const HEADER_KINDS: [(u64, Kind); 8] = [
+pub(crate) const HEADER_BLOCK_KINDS: [(u64, Kind); 8] = [
     (BBOX, Kind::Bytes),
     (REQUIRED_FEATURES, Kind::Bytes),
     (OPTIONAL_FEATURES, Kind::Bytes),
@@ -77,7 +77,7 @@ impl JudgeMessage for BoxStructure {
 
 /// The least fault of structure.
 #[tactic(auto, using(crate::proofs::Parts::lesser_parts))]
-fn judge_structure(payload: Message<'_>) -> Option<Fault>
+fn judge_header_structure(payload: Message<'_>) -> Option<Fault>
     ensures { result ≡ least (header_structure (found_in payload.entry)) }
 {
     lesser(
@@ -104,8 +104,8 @@ impl JudgeMessage for FeatureValue {
 pub(crate) fn judge_header(payload: Message<'_>) -> Result<(), Fault>
     ensures { result ≡ ok_unless (header_fault payload.entry.at payload.entry.bytes.now) }
 {
-    refuse(judge_nested(payload, &HEADER_KINDS, BBOX, &BBOX_KINDS))?;
-    refuse(judge_structure(payload))?;
+    refuse(judge_nested(payload, &HEADER_BLOCK_KINDS, BBOX, &BBOX_KINDS))?;
+    refuse(judge_header_structure(payload))?;
     let features = InField(REQUIRED_FEATURES, FeatureValue);
     refuse(judge_fields(payload, &features))
 }

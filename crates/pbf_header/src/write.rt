@@ -22,7 +22,7 @@ use std::alloc::AllocError;
 pub const MOST_HEADER_TEXT: u64 = 12_000_000;
 
 /// Appends a HeaderBBox.
-fn put_edges(out: &mut Vec<u8>, bbox: HeaderBox) -> Result<(), AllocError>
+fn put_edge_fields(out: &mut Vec<u8>, bbox: HeaderBox) -> Result<(), AllocError>
     ensures { OnOk result (out.new.items ≡ out.old.items ++ box_message bbox) }
 {
     put_number(out, LEFT, zigzag(bbox.left))?;
@@ -39,7 +39,7 @@ fn put_box(out: &mut Vec<u8>, bbox: Option<HeaderBox>) -> Result<(), AllocError>
 {
     if let Some(bbox) = bbox {
         let mut edges = Vec::new(*out.allocator());
-        put_edges(&mut edges, bbox)?;
+        put_edge_fields(&mut edges, bbox)?;
         put_bytes(out, BBOX, &edges)?;
     }
     Ok(())

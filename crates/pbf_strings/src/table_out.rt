@@ -76,7 +76,7 @@ fn is_same_any(one: &[u8], other: &[u8]) -> bool
 }
 
 /// Whether two texts are the same. Of 4 to 16 bytes, which most have, the first and the last four or eight are compared: they meet.
-fn is_same(one: &[u8], other: &[u8]) -> bool
+fn is_same_text(one: &[u8], other: &[u8]) -> bool
     ensures { IsTrue result ↔ (one.now ≡ other.now) }
 {
     let length = one.len();
@@ -174,7 +174,7 @@ impl<S: BuildHasher> TableOut<S> {
         let index = self.in_slot(slot);
         let place = index.checked_sub(1)?;
         let known = self.texts.as_slice().get(place as usize)?;
-        if is_same(known.as_slice(), text) {
+        if is_same_text(known.as_slice(), text) {
             Some(index)
         } else {
             None

@@ -17,7 +17,7 @@ use std::marker::Model;
 
 /// How many values are still to be taken, and how many of them one by one, before a run is tried again.
 #[derive(Clone, Copy)]
-struct Run {
+struct NextRun {
     left: usize,
     apart: usize,
 }
@@ -76,7 +76,7 @@ impl DeltaOut {
 
     /// Adds the next values of another column, at most so many, as far as they are read quickly, if they are spelled as they are to be
     /// written: their bytes are copied. The values are taken from it. The last value must be the same in both, or none is taken.
-    fn take_spelled(&mut self, values: &mut Sums<'_>, count: usize) -> Result<Run, AllocError>
+    fn take_spelled(&mut self, values: &mut Sums<'_>, count: usize) -> Result<NextRun, AllocError>
         requires { AllByRecursion (IsWithin (pos SUM_LIMIT)) (sums_left values.old) }
         ensures few { IfOk result (λ run. run.left ≤ count) }
         ensures taken { IfOk result
@@ -85,7 +85,7 @@ impl DeltaOut {
             (λ run. sums_left values.new ≡ drop (count - run.left) (sums_left values.old)) }
     {
         if self.last != values.total {
-            return Ok(Run {
+            return Ok(NextRun {
                 left: count,
                 apart: 1,
             });
@@ -94,7 +94,7 @@ impl DeltaOut {
         let left = rest.pass_quick(count);
         let bytes = values.entries.bytes_until(&rest.entries);
         if !are_needed(bytes) {
-            return Ok(Run {
+            return Ok(NextRun {
                 left: count,
                 apart: count - left,
             });
@@ -102,7 +102,7 @@ impl DeltaOut {
         self.bytes.extend_from_slice(bytes)?;
         self.last = rest.total;
         *values = rest;
-        Ok(Run { left, apart: 1 })
+        Ok(NextRun { left, apart: 1 })
     }
 
     /// Adds the next values of another column, at most so many, which are taken from it. Where its entries are spelled as they are
@@ -112,7 +112,7 @@ impl DeltaOut {
         ensures taken { OnOk result (self.new ≡ self.old ++ take count (sums_left values.old)) }
         ensures rest { OnOk result (sums_left values.new ≡ drop count (sums_left values.old)) }
     {
-        let mut run = Run {
+        let mut run = NextRun {
             left: count,
             apart: 1,
         };

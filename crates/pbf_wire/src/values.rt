@@ -92,7 +92,7 @@ fn add_entry(sum: &mut Sum, narrow: bool, number: u64, limit: u64, signed: bool)
 /// strictly between `-limit` and `limit` or, if they are not `signed`, below 0. Of `narrow` columns the low 32 bits of each entry
 /// count. Reads up to the first such value.
 #[tactic(auto, using(crate::proofs::RisingLemmas::running_is, crate::proofs::RisingLemmas::left_rises))]
-fn judge_values(
+fn judge_each_value(
     fields: Fields<'_>,
     number: u64,
     limit: u64,
@@ -127,7 +127,7 @@ fn judge_sums_of(fields: Fields<'_>, number: u64, limit: u64, narrow: bool) -> O
     if limit == SUM_LIMIT && !narrow && has_small_sums(fields, number) {
         return None;
     }
-    judge_values(fields, number, limit, narrow, true, Reason::OutOfRange)
+    judge_each_value(fields, number, limit, narrow, true, Reason::OutOfRange)
 }
 
 /// The least fault of the values of a column of differences in the fields that are still to come: `OutOfRange` if one isn't
@@ -161,5 +161,5 @@ pub fn judge_index_sums(message: Message<'_>, number: u64, limit: u64) -> Option
     ensures { result ≡ least (index_sum_faults limit (joined number (found_in message.entry))) }
 {
     let fields = message.fields();
-    judge_values(fields, number, limit, true, false, Reason::StringIndex)
+    judge_each_value(fields, number, limit, true, false, Reason::StringIndex)
 }

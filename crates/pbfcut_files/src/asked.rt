@@ -75,7 +75,7 @@ pub(crate) enum Existing {
 }
 
 /// Whether both are the same file, maybe by two names.
-fn is_same(one: &Metadata, other: &Metadata) -> bool {
+fn is_same_file(one: &Metadata, other: &Metadata) -> bool {
     one.dev() == other.dev() && one.ino() == other.ino()
 }
 
@@ -95,7 +95,7 @@ pub(crate) fn what_exists(rt: &HostRuntime, asked: Asked<'_>) -> Option<Existing
     let Ok(input) = fs::metadata(rt, asked.input) else {
         return Some(Existing::Alone(length));
     };
-    if is_same(&there, &input) {
+    if is_same_file(&there, &input) {
         Some(Existing::Input)
     } else if asked.region.is_some() && input.is_file() && length > input.len() {
         Some(Existing::Longer(length))

@@ -7,7 +7,7 @@ use std::io::{self, ErrorKind};
 const EIO: i32 = 5;
 
 /// The folder of a path: what comes before its last slash, or the one that the program runs in.
-pub(crate) fn folder_of(path: &str) -> &str {
+pub(crate) fn parent_folder(path: &str) -> &str {
     match path.rsplit_once('/') {
         Some(("", _)) => "/",
         Some((folder, _)) => folder,
@@ -17,7 +17,7 @@ pub(crate) fn folder_of(path: &str) -> &str {
 
 /// Opens the folder of a path, if it is one and may be read.
 pub(crate) fn open_folder(rt: &HostRuntime, path: &str) -> Option<File> {
-    let folder = folder_of(path);
+    let folder = parent_folder(path);
     if !fs::metadata(rt, folder).ok()?.is_dir() {
         return None;
     }

@@ -46,7 +46,7 @@ pub fn is_plain(rt: &HostRuntime, path: &str) -> bool {
 }
 
 /// Whether an empty plain file is there, and no link to one.
-pub(crate) fn is_empty(rt: &HostRuntime, path: &str) -> bool {
+pub(crate) fn has_no_bytes(rt: &HostRuntime, path: &str) -> bool {
     match plain_metadata(rt, path) {
         Some(metadata) => metadata.len() == 0,
         None => false,

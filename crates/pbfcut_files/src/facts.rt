@@ -2,7 +2,7 @@
 //! Nothing here allocates.
 
 use crate::asked::{Asked, Existing, error_of, glance_at, what_exists};
-use crate::disk::folder_of;
+use crate::disk::parent_folder;
 use crate::failure::{FailedWrite, Target};
 use crate::formats::form_of;
 use crate::polygon_text::is_no_file;
@@ -68,7 +68,7 @@ pub(crate) fn words_of_unmade(rt: &HostRuntime, output: &str) -> &'static str {
         "it is there, and can't be read"
     } else if fs::symlink_metadata(rt, output).is_ok() {
         "it is a link to a file that isn't there"
-    } else if fs::metadata(rt, folder_of(output)).is_err() {
+    } else if fs::metadata(rt, parent_folder(output)).is_err() {
         "it can't be made: its folder isn't there"
     } else {
         "it can't be made: may its folder be written to?"

@@ -36,7 +36,7 @@ pub fn is_long(rt: &HostRuntime, input: &str) -> bool {
 }
 
 /// Opens IN for this pass of so many. A pipe is refused if there is more than one pass.
-pub fn open_pass(
+pub fn open_input(
     rt: &HostRuntime,
     path: &str,
     pass: u8,

@@ -2,7 +2,7 @@
 //! terminal; IN is read again for them only if it is a plain file. No hint has a file removed that this run did not make.
 
 use crate::asked::{Asked, Existing, error_of, glance_at, what_exists};
-use crate::disk::folder_of;
+use crate::disk::parent_folder;
 use crate::facts::{Refused, feature_of, refusal_of, tell_fact};
 use crate::failure::{BROKEN_PIPE, FailedWrite, Target};
 use crate::formats::{Form, form_of, osmium_target};
@@ -150,7 +150,7 @@ fn of_files(rt: &HostRuntime, asked: Asked<'_>) -> Option<String> {
         return text(rt, of_missing(asked, asked.input, &error));
     }
     let output = asked.output?;
-    let folder = folder_of(output);
+    let folder = parent_folder(output);
     if !output.is_empty() && fs::metadata(rt, folder).is_err() {
         return format!(in rt.alloc(); "make its folder first: mkdir -p {folder}").ok();
     }

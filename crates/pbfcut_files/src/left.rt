@@ -1,6 +1,6 @@
 //! What a run left that a signal stopped: a part of its OUT.
 
-use crate::disk::folder_of;
+use crate::disk::parent_folder;
 use std::fs;
 use std::io::IsTerminal;
 
@@ -33,7 +33,10 @@ fn left_part(rt: &HostRuntime, output: &str) -> Option<String> {
         Some((_, name)) => name,
         None => output,
     };
-    for entry in fs::read_dir(rt, folder_of(output)).ok()?.take(MOST_NAMES) {
+    for entry in fs::read_dir(rt, parent_folder(output))
+        .ok()?
+        .take(MOST_NAMES)
+    {
         let entry = entry.ok()?;
         let part = entry.file_name();
         if process_of(part, name).is_some_and(|process| has_ended(rt, process)) {

@@ -1,8 +1,8 @@
 //! Files that are made new: one that exists is never opened, so none is ever emptied.
 
 use crate::disk::open_folder;
-use crate::existing::{is_empty, plain_metadata};
-use crate::output::Output;
+use crate::existing::{has_no_bytes, plain_metadata};
+use crate::output::OutStream;
 use crate::replaced::{is_protected, take_over};
 use std::fs::{self, File, OpenOptions};
 use std::io::{self, ErrorKind};
@@ -43,12 +43,12 @@ fn open_replacing(rt: &HostRuntime, name: &str, path: &str) -> io::Result<File> 
 }
 
 /// Makes a file by this name, with a buffer: it is to replace the plain one at the other path, if there is one. On an error there is none.
-pub fn make_file(rt: &HostRuntime, name: &str, replaced: Option<&str>) -> io::Result<Output> {
+pub fn make_file(rt: &HostRuntime, name: &str, replaced: Option<&str>) -> io::Result<OutStream> {
     let file = match replaced {
         Some(path) => open_replacing(rt, name, path)?,
         None => open_new(rt, name, NEW_MODE)?,
     };
-    let made = Output::to_file(rt, file);
+    let made = OutStream::to_file(rt, file);
     if made.is_err() {
         discard(rt, name);
     }
@@ -60,7 +60,7 @@ pub fn make_file(rt: &HostRuntime, name: &str, replaced: Option<&str>) -> io::Re
 pub fn move_new(rt: &HostRuntime, from: &str, to: &str) -> io::Result<()> {
     open_new(rt, to, NEW_MODE)?;
     let moved = fs::rename(rt, from, to);
-    if moved.is_err() && is_empty(rt, to) {
+    if moved.is_err() && has_no_bytes(rt, to) {
         discard(rt, to);
     }
     moved

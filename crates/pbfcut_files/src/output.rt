@@ -12,47 +12,47 @@ const OUTPUT_BUFFER: usize = 65_536;
 
 /// What OUT is written to.
 #[derive(Drop)]
-enum Sink {
+enum OutSink {
     File(File),
     Screen(Stdout),
 }
 
-impl Write for Sink {
+impl Write for OutSink {
     fn write(&mut self, buf: &[u8]) -> io::Result<usize> {
         match self {
-            Sink::File(file) => file.write(buf),
-            Sink::Screen(screen) => screen.write(buf),
+            OutSink::File(file) => file.write(buf),
+            OutSink::Screen(screen) => screen.write(buf),
         }
     }
 
     fn flush(&mut self) -> io::Result<()> {
         match self {
-            Sink::File(file) => file.flush(),
-            Sink::Screen(screen) => screen.flush(),
+            OutSink::File(file) => file.flush(),
+            OutSink::Screen(screen) => screen.flush(),
         }
     }
 }
 
 /// OUT, or standard output, with a buffer.
 #[derive(Drop)]
-pub struct Output {
-    writer: BufWriter<Noted<Sink>>,
+pub struct OutStream {
+    writer: BufWriter<Noted<OutSink>>,
 }
 
-fn with_buffer(rt: &HostRuntime, sink: Sink) -> io::Result<Output> {
+fn with_buffer(rt: &HostRuntime, sink: OutSink) -> io::Result<OutStream> {
     let writer = BufWriter::with_capacity(rt.alloc(), OUTPUT_BUFFER, Noted::new(sink))?;
-    Ok(Output { writer })
+    Ok(OutStream { writer })
 }
 
 /// Standard output. An error is that memory was refused.
-pub fn open_screen(rt: &HostRuntime) -> io::Result<Output> {
-    with_buffer(rt, Sink::Screen(rt.stdout()))
+pub fn open_standard_output(rt: &HostRuntime) -> io::Result<OutStream> {
+    with_buffer(rt, OutSink::Screen(rt.stdout()))
 }
 
-impl Output {
+impl OutStream {
     /// An open file. An error is that memory was refused.
-    pub(crate) fn to_file(rt: &HostRuntime, file: File) -> io::Result<Output> {
-        with_buffer(rt, Sink::File(file))
+    pub(crate) fn to_file(rt: &HostRuntime, file: File) -> io::Result<OutStream> {
+        with_buffer(rt, OutSink::File(file))
     }
 
     /// Writes some of the bytes, by way of the buffer.
@@ -80,16 +80,16 @@ impl Output {
     /// What it is.
     pub fn target(&self) -> Target {
         match self.writer.get_ref().inner() {
-            Sink::File(_) => Target::Out,
-            Sink::Screen(_) => Target::StandardOutput,
+            OutSink::File(_) => Target::Out,
+            OutSink::Screen(_) => Target::StandardOutput,
         }
     }
 
     /// Has the system write what a file of this name was written to, and its name, to the disk. The buffer was written out before.
     pub fn sync(&self, rt: &HostRuntime, name: &str) -> io::Result<()> {
         match self.writer.get_ref().inner() {
-            Sink::File(file) => sync_file(file)?,
-            Sink::Screen(_) => return Ok(()),
+            OutSink::File(file) => sync_file(file)?,
+            OutSink::Screen(_) => return Ok(()),
         }
         sync_name(rt, name)
     }

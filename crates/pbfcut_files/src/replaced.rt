@@ -38,7 +38,7 @@ fn is_mounted(rt: &HostRuntime, old: &File, folder: Option<&File>) -> bool {
 }
 
 /// Whether the user may write to the file at this path, and another file can get its name. It is opened for writing, and left as it is.
-fn may_replace(rt: &HostRuntime, path: &str) -> bool {
+fn may_be_replaced(rt: &HostRuntime, path: &str) -> bool {
     let folder = open_folder(rt, path);
     match OpenOptions::new().write(true).open(rt, path) {
         Ok(old) => !is_mounted(rt, &old, folder.as_ref()),
@@ -56,7 +56,7 @@ pub fn replaces(rt: &HostRuntime, path: &str, overwrite: bool) -> Option<bool> {
         Err(error) if error.kind() == ErrorKind::NotFound => Some(false),
         // As it isn't reached, or is longer than a name can be.
         Err(_) => None,
-        Ok(old) if overwrite && old.is_file() && may_replace(rt, path) => Some(true),
+        Ok(old) if overwrite && old.is_file() && may_be_replaced(rt, path) => Some(true),
         Ok(_) => None,
     }
 }

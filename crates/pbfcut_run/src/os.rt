@@ -6,10 +6,10 @@ use crate::out_file::OutFile;
 use pbf_frame::FromRead;
 use pbfcut_cli::{Command, Ending, Program, Region};
 use pbfcut_files::{
-    Asked, BROKEN_PIPE, FailedWrite, Identity, Output, Spoiled, Target, Watched, is_long, is_plain,
-    is_taken, make_file, move_new, open_pass, open_screen, plain_file_at, plain_screen,
-    read_polygon_text, replaces, sync_name, tell_box, tell_empty, tell_form, tell_hint, tell_left,
-    tell_spoiled,
+    Asked, BROKEN_PIPE, FailedWrite, Identity, OutStream, Spoiled, Target, Watched, is_long,
+    is_plain, is_taken, make_file, move_new, open_input, open_standard_output, plain_file_at,
+    plain_screen, read_polygon_text, replaces, sync_name, tell_box, tell_empty, tell_form,
+    tell_hint, tell_left, tell_spoiled,
 };
 use pbfcut_program::{
     CreateFault, FinishFault, Host, NameFault, NotDone, OpenFault, PrintFault, Screen, Seed,
@@ -66,7 +66,7 @@ impl<'a> Os<'a> {
     }
 
     /// Writes what is left in the buffer. If nobody reads a pipe any more, bytes are lost even if none are left.
-    fn flush(&mut self, output: &mut Output) -> Result<(), FinishFault> {
+    fn flush(&mut self, output: &mut OutStream) -> Result<(), FinishFault> {
         let flushed = output.flush();
         self.note(output.target(), output.code());
         if output.is_closed() {
@@ -146,7 +146,7 @@ impl Host for Os<'_> {
             return Err(OpenFault::Failed);
         }
         self.input = input;
-        match open_pass(self.rt, path, pass, passes, progress) {
+        match open_input(self.rt, path, pass, passes, progress) {
             Ok(feed) => Ok(feed),
             Err(Ending::IsPipe) => Err(OpenFault::Pipe),
             Err(_) => Err(OpenFault::Failed),
@@ -203,7 +203,7 @@ impl Host for Os<'_> {
     }
 
     fn screen(&mut self) -> Result<OutFile, NotDone> {
-        match open_screen(self.rt) {
+        match open_standard_output(self.rt) {
             Ok(output) => Ok(OutFile::new(output)),
             Err(_) => Err(NotDone),
         }

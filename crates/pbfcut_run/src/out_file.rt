@@ -3,17 +3,17 @@
 ghost use Rattle.std.specs.Prelude.{◌≡◌, None};
 
 use pbf_frame::{Drain, DrainFault};
-use pbfcut_files::Output;
+use pbfcut_files::OutStream;
 
 /// OUT, to which so many writes failed.
 #[derive(Drop)]
 pub(crate) struct OutFile {
-    output: Output,
+    output: OutStream,
     failures: u64,
 }
 
 impl OutFile {
-    pub(crate) fn new(output: Output) -> OutFile
+    pub(crate) fn new(output: OutStream) -> OutFile
         ensures { result.failures ≡ 0 }
     {
         OutFile {
@@ -23,7 +23,7 @@ impl OutFile {
     }
 
     /// What it writes to.
-    pub(crate) fn into_inner(self) -> Output {
+    pub(crate) fn into_inner(self) -> OutStream {
         self.output
     }
 }

@@ -1,6 +1,6 @@
 use Rattle.std.proofs.Common.{◌≡◌, ◌+◌, ◌-◌, ◌*◌, ◌^◌, List, ap, subst, arith}
 use Rattle.osm_polygon.specs.declared.edge.Edge.{Edge}
-use Rattle.osm_polygon.specs.declared.strips.Cut.{Cut}
+use Rattle.osm_polygon.specs.declared.strips.StripRange.{StripRange}
 use Rattle.osm_polygon.specs.Bands.{IsBand, AreBands}
 use Rattle.osm_polygon.proofs.BeltLemmas.{are_belt_bands}
 use Rattle.osm_polygon.proofs.belts.belt_of.Goals as goal
@@ -15,8 +15,8 @@ returns-clause-is c = λ all same.
     let number = c.args.border.band in
     let cut = c.choose_parts-cut.result in
     let bands = c.in_ok-bands.bands in
-    let first : cut.first ≡ number * 2 ^ (shift - cut.shift) = ap (λ (k : Cut). k.first) c.choose_parts-cut.ensures.are in
-    let end : cut.end ≡ (number + 1) * 2 ^ (shift - cut.shift) = ap (λ (k : Cut). k.end) c.choose_parts-cut.ensures.are in
+    let first : cut.first ≡ number * 2 ^ (shift - cut.shift) = ap (λ (k : StripRange). k.first) c.choose_parts-cut.ensures.are in
+    let end : cut.end ≡ (number + 1) * 2 ^ (shift - cut.shift) = ap (λ (k : StripRange). k.end) c.choose_parts-cut.ensures.are in
     are_belt_bands shift number all (record { bands = bands; first = cut.first; shift = cut.shift }) c.choose_parts-cut.ensures.width c.requires.width
     first
     (omega (arith, c.in_ok-bands.ensures.number, first, end))

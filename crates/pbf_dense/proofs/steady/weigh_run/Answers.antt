@@ -10,6 +10,6 @@ tags-preserved c =
     let whole = ap (λ pairs. tags_weight (map (tag_of c.args.table.now) pairs)) e.pair in
     record {
       fits = omega (arith, c.saturating_add-weight.ensures);
-      so_far = omega (arith, whole, inv.so_far, inv.fits, c.saturating_add.ensures, c.saturating_add-in-Some.ensures, c.saturating_add-weight.ensures, c.length_of.ensures, c.length_of-in-Some.ensures);
+      so_far = omega (arith, whole, inv.so_far, inv.fits, c.saturating_add.ensures, c.saturating_add-in-Some.ensures, c.saturating_add-weight.ensures, c.user_length.ensures, c.user_length-in-Some.ensures);
       rest = sym e.rest ∙ inv.rest;
     }

@@ -19,8 +19,8 @@ returns-clause-same c =
     let all : c.pass_zeros.result ≡ n = omega (arith, c.pass_zeros.ensures.few, c.if-pass_zeros-count.false) in
     let some : 0 < n = omega (arith, c.if-count-eq0.false) in
     let fits : SFits w64 user = search rules in
-    let size : length c.text_of-text.result.now ≡ length (user_text old.table.now user) =
-    ap length (c.text_of-text.ensures ∙ ap (user_text old.table.now) (to_z-of_z w64 user fits)) in
+    let size : length c.user_text_of-text.result.now ≡ length (user_text old.table.now user) =
+    ap length (c.user_text_of-text.ensures ∙ ap (user_text old.table.now) (to_z-of_z w64 user fits)) in
     record {
       user = user;
       users_are = c.pass_same-count.ensures.same ∙ ap (λ z. replicate n z ++ sums_left users) (sym is);

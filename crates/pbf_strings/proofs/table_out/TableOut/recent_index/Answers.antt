@@ -6,8 +6,8 @@ use Rattle.pbf_strings.specs.TableOut.{has_text, index_in}
 use Rattle.pbf_strings.proofs.UsedTexts.{stands, place_at}
 use Rattle.pbf_strings.proofs.table_out.TableOut.recent_index.Goals as goal
 
-pub returns-then-is_same : goal.returns-then-is_same
-returns-then-is_same g c =
+pub returns-then-is_same_text : goal.returns-then-is_same_text
+returns-then-is_same_text g c =
     let texts = c.as_slice.result.now in
     let index = c.in_slot-index.result in
     let place = c.in_ok-place.place in
@@ -15,7 +15,7 @@ returns-then-is_same g c =
     let key = c.in_ok-known.known.now in
     let found = c.in_ok-known.ensures.lookup in
     let at : slice_get texts place ≡ Some key = slice_get_read texts _ place key refl (omega arith) found.1 in
-    let read : key.items ≡ c.args.text.now = sym c.as_slice-2.ensures.value ∙ c.is_same.ensures.0 c.if-is_same.true in
+    let read : key.items ≡ c.args.text.now = sym c.as_slice-2.ensures.value ∙ c.is_same_text.ensures.0 c.if-is_same_text.true in
     let held : map (λ k. k.items) texts ≡ c.args.self.now = ap (map (λ k. k.items)) c.as_slice.ensures.keys ∙ c.self.view_is in
     let distinct : IsDistinct (λ x y. bytes_eq x.items y.items) texts = subst (IsDistinct (λ x y. bytes_eq x.items y.items)) (sym c.as_slice.ensures.keys) c.as_slice.ensures.unique in
     subst (λ n. (has_text c.args.self.now c.args.text.now ≡ true) × (n ≡ index_in c.args.self.now c.args.text.now)) next

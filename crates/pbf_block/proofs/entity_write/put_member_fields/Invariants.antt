@@ -4,7 +4,7 @@ use Rattle.osm_entity.specs.Sources.{members_left}
 use Rattle.osm_entity.specs.Ranges.{MemberFits}
 use Rattle.pbf_block.specs.WrittenEntity.{kind_number}
 use Rattle.pbf_block.proofs.EntityLemmas.{RolesPut}
-use Rattle.pbf_block.proofs.entity_write.put_members.Given as goal
+use Rattle.pbf_block.proofs.entity_write.put_member_fields.Given as goal
 
 -- the numbers so far and those that are left are all
 abbrev pub invariant-loop-member : goal.invariant-loop-member

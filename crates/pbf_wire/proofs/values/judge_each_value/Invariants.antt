@@ -5,7 +5,7 @@ use Rattle.pbf_wire.specs.Cursors.{fields_left, column_left}
 use Rattle.pbf_wire.specs.Occurrence.{found}
 use Rattle.pbf_wire.specs.Faults.{is_allowed, faults_of_sums}
 use Rattle.pbf_wire.proofs.RisingLemmas.{Rising, running}
-use Rattle.pbf_wire.proofs.values.judge_values.Given as goal
+use Rattle.pbf_wire.proofs.values.judge_each_value.Given as goal
 
 abbrev pub invariant-loop-entry : goal.invariant-loop-entry
 invariant-loop-entry l = record {

@@ -1,7 +1,7 @@
 use Rattle.std.proofs.Common.{arith}
 use Rattle.pbf_strings.proofs.SameTexts.{both_ends, first_end}
-use Rattle.pbf_strings.proofs.table_out.is_same.Goals as goal
-use Rattle.pbf_strings.proofs.table_out.is_same.Goals.{then-same_eight, else-same_eight, then-same_four, else-same_four}
+use Rattle.pbf_strings.proofs.table_out.is_same_text.Goals as goal
+use Rattle.pbf_strings.proofs.table_out.is_same_text.Goals.{then-same_eight, else-same_eight, then-same_four, else-same_four}
 
 pub returns-then-length-le16 : goal.returns-then-length-le16
 returns-then-length-le16 c = elim c.if-same_eight.branch [

@@ -2,7 +2,7 @@ use Rattle.std.proofs.Common.{rules, ◌∙◌, arith}
 use Rattle.std.proofs.lemmas.Grind.{common_steps}
 use Rattle.osm_entity.specs.Sources.{lent_member}
 use Rattle.pbf_block.proofs.EntityLemmas.{role_step, all_roles_put}
-use Rattle.pbf_block.proofs.entity_write.put_members.Goals as goal
+use Rattle.pbf_block.proofs.entity_write.put_member_fields.Goals as goal
 
 pub loop-member-preserved : goal.loop-member-preserved
 loop-member-preserved g c = record {

@@ -2,7 +2,7 @@ use Rattle.std.proofs.Common.{◌≡◌, ◌++◌}
 use Rattle.std.specs.List.{AllByRecursion}
 use Rattle.osm_entity.specs.Sources.{refs_left}
 use Rattle.osm_entity.specs.Ranges.{IsStored}
-use Rattle.pbf_block.proofs.entity_write.put_refs.Given as goal
+use Rattle.pbf_block.proofs.entity_write.put_ref_fields.Given as goal
 
 -- the refs so far and those that are left are all
 abbrev pub invariant-loop-reference : goal.invariant-loop-reference

@@ -3,7 +3,7 @@ use Rattle.pbf_wire.specs.Least.{least}
 use Rattle.pbf_wire.specs.Cursors.{column_left, place_of_number}
 use Rattle.pbf_wire.specs.Faults.{is_allowed}
 use Rattle.pbf_wire.proofs.RisingLemmas.{not_good, running}
-use Rattle.pbf_wire.proofs.values.judge_values.Goals as goal
+use Rattle.pbf_wire.proofs.values.judge_each_value.Goals as goal
 
 pub returns-then-not-add_entry : goal.returns-then-not-add_entry
 returns-then-not-add_entry c =

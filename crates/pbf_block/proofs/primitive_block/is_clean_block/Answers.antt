@@ -1,7 +1,7 @@
 use Rattle.std.proofs.Common.{◌≡◌, sym, ◌∙◌, rules}
 use Rattle.std.specs.Prelude.{None}
 use Rattle.pbf_block.proofs.PlainLemmas.{clean_block}
-use Rattle.pbf_block.proofs.primitive_block.is_clean.Goals as goal
+use Rattle.pbf_block.proofs.primitive_block.is_clean_block.Goals as goal
 
 pub returns : goal.returns
 returns c = λ clean.

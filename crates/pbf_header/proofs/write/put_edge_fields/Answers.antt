@@ -2,7 +2,7 @@ use Rattle.std.proofs.Common.{rules}
 use Rattle.pbf_header.specs.WrittenHeader.{box_message}
 use Rattle.pbf_wire.proofs.WritingLemmas.{one_more, last_slot}
 use Rattle.pbf_header.proofs.WritingLemmas.{edge_put}
-use Rattle.pbf_header.proofs.write.put_edges.Goals as goal
+use Rattle.pbf_header.proofs.write.put_edge_fields.Goals as goal
 
 pub returns : goal.returns
 unfolding box_message

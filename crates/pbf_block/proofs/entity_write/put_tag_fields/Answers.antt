@@ -1,6 +1,6 @@
 use Rattle.std.proofs.Common.{◌∙◌}
 use Rattle.pbf_block.proofs.EntityLemmas.{put_step, all_put}
-use Rattle.pbf_block.proofs.entity_write.put_tags.Goals as goal
+use Rattle.pbf_block.proofs.entity_write.put_tag_fields.Goals as goal
 
 pub loop-key-preserved : goal.loop-key-preserved
 loop-key-preserved g c = record {

@@ -1,6 +1,6 @@
 use Rattle.osm_entity.specs.Sources.{tags_left}
 use Rattle.pbf_block.proofs.EntityLemmas.{ArePut}
-use Rattle.pbf_block.proofs.entity_write.put_tags.Given as goal
+use Rattle.pbf_block.proofs.entity_write.put_tag_fields.Given as goal
 
 abbrev pub invariant-loop-key : goal.invariant-loop-key
 invariant-loop-key g l = record {
