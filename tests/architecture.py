@@ -1,7 +1,8 @@
 #!/usr/bin/env python3
 """The map in docs/ARCHITECTURE.md is the tree's: it lists each crate once, with what it is for and its state, and each file of pbf_wire. Each file
 of src/ begins with its concept, as the page says. The calls, clauses and definitions that the tables of promises name are in the sources. No
-contract and no definition has a limit of the format as a numeral: each is a constant.
+contract and no definition has a limit of the format as a numeral: each is a constant. A name of a free item means one thing in the product, but for
+the calls that several layers have.
 
 usage: tests/architecture.py [PROGRAM]
 
@@ -112,6 +113,31 @@ def numerals(crates: set) -> list:
     return found
 
 
+# calls that several layers have, each for its own kind of file or command
+CALLS_OF_LAYERS = {
+    "check", "check_with_receipt", "convert", "convert_with_receipt", "copy_with_receipt", "extract", "extract_parents",
+    "extract_parents_sorted_with_receipt", "extract_sorted_with_receipt", "list_blobs", "show", "show_info", "show_with_receipt", "unpack",
+}
+# this many other names stand in two files or more, most of them short words such as `State`, `Place` and `put`
+MOST_SHARED_NAMES = 23
+OF_EXAMPLES = {"digest_pass", "pbf_examples", "pbf_vectors", "zlib_examples", "zlib_streams"}
+ITEM = re.compile(r"(?:pub(?:\([a-z]+\))? )?(?:const )?(?:fn|struct|enum|trait|const|static|type) (\w+)")
+
+
+def shared_names(crates: set) -> list:
+    """The names of free items that stand in two files or more, if they are too many."""
+    places = {}
+    for crate in crates:
+        for name in files_of(crate):
+            lines = read(os.path.join(TOP, "crates", crate, "src", name)).splitlines()
+            for item in filter(None, map(ITEM.match, lines)):
+                places.setdefault(item[1], set()).add(f"{crate}/src/{name}")
+    shared = {name: where for name, where in places.items() if len(where) > 1 and name not in CALLS_OF_LAYERS | {"main"}}
+    if len(shared) <= MOST_SHARED_NAMES:
+        return []
+    return [f"names: '{name}' is in {', '.join(sorted(where))}" for name, where in sorted(shared.items())]
+
+
 def main():
     text = read(PAGE)
     lines = read(os.path.join(TOP, "crates.txt")).splitlines()
@@ -119,6 +145,7 @@ def main():
     code = {crate for crate in crates if not is_of_tests(crate)}
     faults = unknown_promises(words_of_sources(crates))
     faults += numerals(code)
+    faults += shared_names({crate for crate in code if crate not in OF_EXAMPLES})
     faults += unknown_names(text, words_of_sources(crates))
     link = os.path.join(TOP, "pbfcutz")
     if not os.path.islink(link) or os.readlink(link) != "pbfcut":
