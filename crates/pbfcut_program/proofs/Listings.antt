@@ -27,7 +27,7 @@ use Rattle.pbfcut_program.specs.Tasks.{answer_of, listing_frames}
 use Rattle.pbfcut_program.proofs.Closing.{ends_with_out, has_failed, reading, stop_told}
 use Rattle.pbfcut_program.proofs.FailLemmas.{caused_weaker, opened_fails, stop_fails, text_stops}
 use Rattle.pbfcut_program.proofs.FrontLemmas.{meant_is}
-use Rattle.pbfcut_program.proofs.LeavingLemmas.{TakenFront, front_taken, taken_front}
+use Rattle.pbfcut_program.proofs.LeavingLemmas.{IsReturned, TakenFront, front_taken, taken_front}
 use Rattle.pbfcut_program.proofs.Logging.{and_then}
 use Rattle.pbfcut_program.proofs.Weaker.{ends_weaker}
 
@@ -70,7 +70,7 @@ module _ {F D : Type 0} (f : feed.Ghosts F) (d : drain.Ghosts D) (now : F) (out 
   LeavesLines m has events = ((bytes : List ℕ) → has ≡ Some bytes → TakenFront (d.taken out) (answer_of listing_frames (of_input m bytes))) → LeavesFor (to_raw m) listing_frames events
 
   lines_left : (m : Manner) (input : List ℕ) (has : Option (List ℕ)) → LeavesLines m has (all input has)
-  lines_left m input has front = record { has = has ∷ []; opens = (inl (refl, refl), tt); leaves = inl (λ bytes same. (tt, (tt, (tt, (front_taken _ fin.0.0 (d.taken out) fin.0.1 (front bytes same.0), tt))))) }
+  lines_left m input has front = record { has = has ∷ []; opens = (inl (refl, refl), tt); leaves = inl (tt, λ bytes same. (tt, (tt, (tt, (front_taken _ fin.0.0 (d.taken out) fin.0.1 (front bytes same.0), tt))))) }
 
   pub list_front : (program : Program) (old : F) (before : D) (outcome : Result ℕ Halted) → IsFreshOut d before → ListsBy program f d old now before out outcome → Fronts (input_form program) listing_frames (f.remaining old ∷ []) (d.taken before) (d.taken out) outcome
       → (bytes : List ℕ) → f.remaining old ≡ Some bytes → TakenFront (d.taken out) (answer_of listing_frames (meant (input_form program) bytes))
@@ -104,7 +104,7 @@ module _ {F D : Type 0} (f : feed.Ghosts F) (d : drain.Ghosts D) (now : F) (out 
       let first : List Event = opened input 1 (f.remaining old) ∷ screened true ∷ [] in
       let works = ends_weaker f (Added d before [] out) (took []) (λ none. none.logged 0 [] start.0) Pbfcutz judged_headings failed failed halted.ending (old ∷ []) (now ∷ []) (λ w. w) ends in
       let tail = ends_with_out d out name kept fault took failed m n (λ w t. t) (λ risen. has_failed _ _ start.2 risen) fin in
-      let end = stop_told f false digests judged_headings took failed (TakenFront (d.taken out)) l m n tail Pbfcutz works.0 (old ∷ []) (now ∷ []) (fresh, tt) (m, c, refl) works.2 in
+      let end = stop_told f false digests judged_headings took failed (IsReturned (d.taken out) kept) l m n tail Pbfcutz works.0 (old ∷ []) (now ∷ []) (fresh, tt) (m, c, refl) works.2 in
       let why = stop_fails (manner Pbfcutz false digests) (judging judged_headings) (f.remaining old ∷ []) halted.ending end.0 works.0 works.1 end.2 in
       (_, and_then k l n first end.0 e end.1, opened_fails (manner Pbfcutz false digests) (judging judged_headings) (f.remaining old ∷ []) halted.ending first end.0 (tt, (tt, tt)) (inl (refl, refl), tt) why)
   info_fails digests old before (Ok t) k input fresh start e ends = tt

@@ -22,7 +22,7 @@ returns-in-Err-clause-err g c =
     let log = g.H.Host.log in
     let one = c.in_ok-pass.pass in
     let now = c.check-outcome.new.pass in
-    let fail = work_fails c.args.engine.program c.args.engine.packs c.args.engine.digests (once_check c.args.engine.digests) g.H.In.Feed checking (λ took. took ≡ []) ⊥ (λ answer. ⊥) (log c.open_pass.new.host) (log c.close.new.self) (log c.close.new.self)
+    let fail = work_fails c.args.engine.program c.args.engine.packs c.args.engine.digests (once_check c.args.engine.digests) g.H.In.Feed checking (λ took. took ≡ []) ⊥ (λ w. ⊥) (log c.open_pass.new.host) (log c.close.new.self) (log c.close.new.self)
     (one ∷ []) (now ∷ []) c.in-Err.halted (ends_with_none (log c.close.new.self) (λ took. took ≡ [])) (c.in_ok-pass.ensures.fresh, tt) (log c.close.new.self, (c.close.ensures.some, c.close.ensures.logged), refl) (c.in-Err.ensures (c.in_ok-pass.ensures.fresh, tt)) in
     let has = g.H.In.Feed.remaining one in
     let m = manner_of c.args.engine in

@@ -115,7 +115,7 @@ returns-clause-err g c =
       opened_fails m (judging judged_file) hs how first f.0 quiet opens f.2,
       record { has = hs; opens = opens_before 1 hs first f.0 opens; leaves = leaves_after m (showing c.args.dates) hs first f.0 quiet f.3 },
     ))
-    (text_fails c.args.engine.program c.args.engine.digests (check_in c.args.engine c.in_ok-key.key) g.H.In.Feed g.H.Out.Drain (showing c.args.dates) c.in_ok-out.out c.show-outcome.new.drain None (is_ok c.show-outcome.result) e.0 (log c.open_screen.new.host) (log c.close_two.new.host) (log c.ended.new.host) (ps.one ∷ ps.two ∷ []) (now.one ∷ now.two ∷ []) c.show-outcome.result c.ended.result
+    (text_fails c.args.engine.program c.args.engine.digests (check_in c.args.engine c.in_ok-key.key) g.H.In.Feed g.H.Out.Drain (showing c.args.dates) c.in_ok-out.out c.show-outcome.new.drain None e.0 (log c.open_screen.new.host) (log c.close_two.new.host) (log c.ended.new.host) (ps.one ∷ ps.two ∷ []) (now.one ∷ now.two ∷ []) c.show-outcome.result c.ended.result
     fresh feeds c.close_two.ensures e.1 (c.show-outcome.ensures.works feeds 0 fresh.0) c.show-outcome.ensures.front e.2)
 
 pub returns-in_err-passes-clause-files : goal.returns-in_err-passes-clause-files

@@ -6,13 +6,13 @@ use Rattle.pbfcut_program.specs.Events.{Event, Writing, read, then_all, wrote}
 use Rattle.pbfcut_program.specs.Fails.{judging}
 use Rattle.pbfcut_program.specs.Files.{IsKept}
 use Rattle.pbfcut_program.specs.Jobs.{feeds_of, task_of}
-use Rattle.pbfcut_program.specs.Leaving.{TookFront}
+use Rattle.pbfcut_program.specs.Leaving.{IsUnkept, TookFront}
 use Rattle.pbfcut_program.specs.Manner.{check_in, hashes_meaning, manner_of, of_output, output_form}
 use Rattle.pbfcut_program.specs.Tasks.{judge_of}
 use Rattle.pbfcut_program.proofs.Closing.{close_rest, ends_with_out, hashed_as, stops_leaving, work_done, work_fails}
 use Rattle.pbfcut_program.proofs.EventLemmas.{each_both, each_quiet, has_after}
 use Rattle.pbfcut_program.proofs.FailLemmas.{fails_before, file_stops, told_fails}
-use Rattle.pbfcut_program.proofs.LeavingLemmas.{TakenFront, quiet_front}
+use Rattle.pbfcut_program.proofs.LeavingLemmas.{IsReturned, quiet_front, quiet_unkept, returned_front, returned_unkept}
 use Rattle.pbfcut_program.proofs.Logging.{and_then, then_none}
 use Rattle.pbfcut_program.proofs.OutLemmas.{dropped_quiet, ends_at, ends_kept, ends_told}
 use Rattle.pbfcut_program.proofs.SettlingLemmas.{is_ended, still_of}
@@ -83,8 +83,9 @@ returns-in-Err-clause-err g c =
     let gone = c.drop_out.ensures in
     let works = rw c.in-Err.is at (c.run_into-result.ensures.works c.requires.fresh.0) in
     let front = rw c.in-Err.is at c.run_into-result.ensures.front in
+    let known = taken ran.out in
     let tail = ends_with_out g.H.Out.Drain ran.out name false gone.0 took failed (log c.close_job.new.host) gone.1 (λ w t. t.0.0) (λ risen. risen) gone.2 in
-    let fail = work_fails engine.program engine.packs engine.digests (check_in engine c.args.ready.seed.key) g.H.In.Feed (task_of job) took failed (TakenFront (taken ran.out))
+    let fail = work_fails engine.program engine.packs engine.digests (check_in engine c.args.ready.seed.key) g.H.In.Feed (task_of job) took failed (IsReturned known false)
     (log c.args.host.now) (log c.close_job.new.host) gone.1 (feeds_of job) (feeds_of c.run_into-result.new.job) c.in-Err.halted tail c.requires.fresh.0 c.close_job.ensures works in
     let quiet = dropped_quiet engine.program name gone.3 gone.5 in
     let dropped = and_then (log c.args.host.now) gone.1 (log c.drop_out.new.host) fail.0 gone.3 fail.1 gone.4 in
@@ -93,8 +94,9 @@ returns-in-Err-clause-err g c =
       told.0,
       told.1,
       told.2,
-      stops_leaving m (task_of job) has (taken c.args.ready.out.drain) (taken ran.out) told.0 c.requires.fresh.1.1
-          (λ answer x. told.3 (TookFront answer) (quiet_front answer) (each_both _ fail.0 gone.3 (fail.3 answer x) (each_quiet _ (quiet_front answer) gone.3 quiet))) front,
+      stops_leaving m (task_of job) has (taken c.args.ready.out.drain) known told.0 c.requires.fresh.1.1
+          (told.3 IsUnkept quiet_unkept (each_both IsUnkept fail.0 gone.3 (returned_unkept known fail.0 fail.3) (each_quiet IsUnkept quiet_unkept gone.3 quiet)))
+          (λ answer x. told.3 (TookFront answer) (quiet_front answer) (each_both _ fail.0 gone.3 (returned_front known false answer x fail.0 fail.3) (each_quiet _ (quiet_front answer) gone.3 quiet))) front,
     )
 
 pub returns-in-Ok-clause-files : goal.returns-in-Ok-clause-files
