@@ -28,9 +28,10 @@ use Rattle.pbfcut_program.specs.Program.{digest_if_asked}
 use Rattle.pbfcut_program.specs.Readings.{IsOther, IsWholeOrSpared, IsWork, ReadAll, ReadLater}
 use Rattle.pbfcut_program.specs.Leaving.{IsUnkept, Leaves, TookFront}
 use Rattle.pbfcut_program.specs.Tasks.{Task, answer_of, judge_of, spares}
+use Rattle.pbfcut_program.specs.Telling.{Silent}
 use Rattle.pbfcut_program.proofs.EventLemmas.{each_both, has_after, has_before, nothing_read, readings_both, readings_of}
 use Rattle.pbfcut_program.proofs.FailLemmas.{stop_fails, text_stops, unless_packed}
-use Rattle.pbfcut_program.proofs.LeavingLemmas.{IsReturn, IsReturned, TakenFront, keeps_none, reads_return, returned_front, returned_unkept, taken_front}
+use Rattle.pbfcut_program.proofs.LeavingLemmas.{IsReturn, IsReturned, TakenFront, keeps_none, reads_return, returned_front, returned_silent, returned_unkept, taken_front}
 use Rattle.pbfcut_program.proofs.Logging.{and_then, then_none}
 
 -- what a feed gave
@@ -289,7 +290,7 @@ hashed_as digests known w h3 h4 = grind arith
 pub text_fails : {F D A : Type 0} (program : Program) (digests : Bool) (check : PassCheck) (f : feed.Ghosts F) (d : drain.Ghosts D) (task : Task) (before out : D) (name : Option (List ℕ)) (fault : Option FinishFault) (l m n : Option (List Event)) (olds news : List F) (outcome : Result Report Halted) (result : Result A Ending)
     → IsFreshOut d before → AreFresh f olds → CloseAll f news l m → Finishes d out name (is_ok outcome) fault m n → Works (manner program false digests) check f task olds news (d.has_taken out 0) (WriteFailed d before out) outcome
     → Fronts (input_form program) task (map f.remaining olds) (d.taken before) (d.taken out) outcome → EndsAs fault outcome result
-    → IfErr result (λ how. (events : List Event) × (n ≡ then_all l events) × Fails (manner program false digests) (judging (judge_of task)) (map f.remaining olds) how events × Leaves (manner program false digests) task (map f.remaining olds) events)
+    → IfErr result (λ how. (events : List Event) × (n ≡ then_all l events) × Fails (manner program false digests) (judging (judge_of task)) (map f.remaining olds) how events × Leaves (manner program false digests) task (map f.remaining olds) events × Each Silent events)
 text_fails program digests check f d task before out name None l m n olds news (Ok report) (Ok a) fresh begun c fin works front ends = tt
 text_fails program digests check f d task before out name None l m n olds news (Ok report) (Err how) fresh begun c fin works front ends = absurd ends
 text_fails program digests check f d task before out name None l m n olds news (Err halted) (Ok a) fresh begun c fin works front ends = absurd ends
@@ -298,7 +299,7 @@ text_fails program digests check f d task before out name None l m n olds news (
     let has = map f.remaining olds in
     let tail = ends_with_out d out name false None (d.has_taken out 0) (WriteFailed d before out) m n (λ w t. t) (λ risen. has_failed _ _ fresh.2 risen) fin in
     let fail = work_fails program false digests check f task (d.has_taken out 0) (WriteFailed d before out) (IsReturned (d.taken out) false) l m n olds news halted tail begun c works in
-    (fail.0, fail.1, subst (λ h. Fails by (judging (judge_of task)) has h fail.0) (sym ends) fail.2, returns_leaving by task has (d.taken before) (d.taken out) fail.0 fresh.1 fail.3 front)
+    (fail.0, fail.1, subst (λ h. Fails by (judging (judge_of task)) has h fail.0) (sym ends) fail.2, returns_leaving by task has (d.taken before) (d.taken out) fail.0 fresh.1 fail.3 front, returned_silent _ fail.0 fail.3)
 text_fails program digests check f d task before out name (Some why) l m n olds news (Ok report) (Ok a) fresh begun c fin works front ends = absurd ends
 text_fails program digests check f d task before out name (Some why) l m n olds news (Err halted) (Ok a) fresh begun c fin works front ends = absurd ends
 text_fails program digests check f d task before out name (Some why) l m n olds news (Ok report) (Err how) fresh begun c fin works front ends =
@@ -310,9 +311,10 @@ text_fails program digests check f d task before out name (Some why) l m n olds 
       done.2,
       subst (λ h. Fails by (judging (judge_of task)) has h events) (sym ends) (text_stops by (judging (judge_of task)) has why events (has_after _ (reads done.0) (wrote done.1 ∷ []) (inl done.3))),
       inr (record { before = []; rs = done.0; out = done.1; after = []; happened = refl; by = check; counts = report.counts; digest = report.input; raw = report.raw; work = done.5 }),
+      each_both Silent (reads done.0) (wrote done.1 ∷ []) (returned_silent (λ w. Unit {0}) (reads done.0) (reads_return (λ w. Unit {0}) done.0)) (tt, tt),
     )
 text_fails program digests check f d task before out name (Some why) l m n olds news (Err halted) (Err how) fresh begun c fin works front ends =
     let by = manner program false digests in
     let has = map f.remaining olds in
     let fail = finish_fails f d out name false (Some why) l m n news c fin why refl in
-    (fail.0, fail.1, subst (λ h. Fails by (judging (judge_of task)) has h fail.0) (sym ends) (text_stops by (judging (judge_of task)) has why fail.0 fail.2), returns_leaving by task has (d.taken before) (d.taken out) fail.0 fresh.1 fail.3 front)
+    (fail.0, fail.1, subst (λ h. Fails by (judging (judge_of task)) has h fail.0) (sym ends) (text_stops by (judging (judge_of task)) has why fail.0 fail.2), returns_leaving by task has (d.taken before) (d.taken out) fail.0 fresh.1 fail.3 front, returned_silent _ fail.0 fail.3)

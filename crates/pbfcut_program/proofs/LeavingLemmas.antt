@@ -10,6 +10,7 @@ use Rattle.pbfcut_program.specs.Fails.{Each, FailsOpening, Quiet}
 use Rattle.pbfcut_program.specs.Leaving.{IsUnkept, KeepsNone, Leaves, LeavesFor, TookFront}
 use Rattle.pbfcut_program.specs.Manner.{Manner, output_form}
 use Rattle.pbfcut_program.specs.Tasks.{Task, checking, listing_frames, showing, converting, copying, extracting}
+use Rattle.pbfcut_program.specs.Telling.{Silent}
 use Rattle.pbfcut_program.proofs.EventLemmas.{each_both, each_quiet, quiet_of}
 use Rattle.pbfcut_program.proofs.FailLemmas.{unless_packed, unless_said}
 
@@ -61,6 +62,9 @@ returned_front known kept answer x es is = returns_hold _ (TookFront answer) (λ
 
 pub returned_unkept : (known : Option (List ℕ)) (es : List Event) → Each (IsReturn (IsReturned known false)) es → Each IsUnkept es
 returned_unkept known es is = returns_hold _ IsUnkept (λ r. tt) (λ w x. x.2) es is
+
+pub returned_silent : (is : Writing → Type 0) (es : List Event) → Each (IsReturn is) es → Each Silent es
+returned_silent is es x = returns_hold is Silent (λ r. tt) (λ w y. tt) es x
 
 pub quiet_front : (answer : List ℕ) (e : Event) → Quiet e → TookFront answer e
 quiet_front answer e h2 = grind arith

@@ -157,10 +157,13 @@ pub(crate) fn tell_refusal<H: Host>(
     halted: Halted,
     input: &str,
 ) -> Ending
-    ensures { TellsQuietly (H.log host.old) (H.log host.new) halted.ending result }
+    ensures { TellsQuietly engine.digests (H.log host.old) (H.log host.new) halted.ending result }
 {
     let Halted { ending, refusal } = halted;
-    let Some(refusal) = refusal.filter(|_| engine.digests) else {
+    if !engine.digests {
+        return ending;
+    }
+    let Some(refusal) = refusal else {
         return ending;
     };
     match refusal_line(engine.alloc, engine.program, &refusal, input) {
