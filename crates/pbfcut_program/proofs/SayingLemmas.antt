@@ -40,11 +40,11 @@ little_after digests xs ys s l = record {
 
 pub refusal_quiet : (digests : Bool) (es : List Event) → TellsRefusal digests es → Each Quiet es
 refusal_quiet digests es (inl none) = subst (λ xs. Each Quiet xs) (sym none) tt
-refusal_quiet digests es (inr (text, asked, e)) = subst (λ xs. Each Quiet xs) (sym e) (tt, tt)
+refusal_quiet digests es (inr (digest, name, asked, e)) = subst (λ xs. Each Quiet xs) (sym e) (tt, tt)
 
 pub refusal_still : (digests : Bool) (es : List Event) → TellsRefusal digests es → Each Still es
 refusal_still digests es (inl none) = subst (λ xs. Each Still xs) (sym none) tt
-refusal_still digests es (inr (text, asked, e)) = subst (λ xs. Each Still xs) (sym e) (tt, tt)
+refusal_still digests es (inr (digest, name, asked, e)) = subst (λ xs. Each Still xs) (sym e) (tt, tt)
 
 -- ---- a line that isn't printed
 

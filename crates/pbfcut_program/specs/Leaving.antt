@@ -40,7 +40,8 @@ pub record IsWorked (m : Manner) (task : Task) (events : List Event) : Type 0 wh
 -- OUT isn't kept, and took a prefix of the answer, if IN has the same bytes for each pass, and raw blobs are written; or it took all of it
 abbrev pub Leaves : Manner → Task → (has : List (Option (List ℕ))) → List Event → Type 0
 Leaves m task has events =
-    (KeepsNone task events × UnlessPacked (output_form m.packs m.program) ((bytes : List ℕ) → AllSupply bytes has → Each (TookFront (answer_of task (of_input m bytes))) events)) ⊎ IsWorked m task events
+    (KeepsNone task events × UnlessPacked (output_form m.packs m.program) ((bytes : List ℕ) → AllSupply bytes has → Each (TookFront (answer_of task (of_input m bytes))) events))
+    ⊎ IsWorked m task events
 
 -- IN has this for the passes, and by that the command leaves such an OUT
 pub record LeavesFor (m : Manner) (task : Task) (events : List Event) : Type 0 where

@@ -1,5 +1,6 @@
 -- What a command says: on a screen, on standard error, or on a terminal.
 use Rattle.std.specs.Prelude.{◌≡◌, ◌⊎◌, ℕ, List, [], ◌∷◌, ◌++◌, Bool, true, Option, None, Some, Result, Ok, Err}
+use Rattle.osm_text.specs.Digests.{digest_line}
 use Rattle.pbf_frame.specs.declared.stop.Stop.TheVariants as stop
 use Rattle.pbfcut_cli.specs.declared.endings.Ending.{Ending}
 use Rattle.pbfcut_cli.specs.declared.endings.Ending.TheVariants as ending
@@ -18,9 +19,9 @@ Silent (told text) = ⊥
 Silent advised = ⊥
 Silent _ = Unit {0}
 
--- nothing is told; or, with `--digests`, one line: how much was read of an IN that is refused
+-- no line goes to standard error; or, with `--digests`, one of a digest: that of what was read of an IN that is refused
 abbrev pub TellsRefusal : (digests : Bool) → List Event → Type 0
-TellsRefusal digests events = (events ≡ []) ⊎ ((text : List ℕ) × (digests ≡ true) × (events ≡ told text ∷ []))
+TellsRefusal digests events = (events ≡ []) ⊎ ((digest name : List ℕ) × (digests ≡ true) × (events ≡ told (digest_line digest name) ∷ []))
 
 -- that comes last, and no more is said
 pub record SaysLittle (digests : Bool) (events : List Event) : Type 0 where

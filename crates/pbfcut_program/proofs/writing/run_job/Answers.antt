@@ -1,4 +1,4 @@
-use Rattle.std.proofs.Common.{◌≡◌, ◌∙◌, ◌<◌, ◌++◌, ◌∷◌, [], List, ℕ, Option, inl, inr, map, refl, false, true, ap, subst, sym, append_assoc, string_bytes}
+use Rattle.std.proofs.Common.{◌∙◌, ◌<◌, ◌++◌, ◌∷◌, [], List, ℕ, inr, map, refl, false, true, ap, subst, sym, append_assoc, string_bytes}
 use Rattle.std.proofs.lemmas.Result.{IfErr-weaker, IfOk-weaker}
 use Rattle.std.specs.Option.{is_some, option_map}
 use Rattle.pbfcut_program.specs.Devices.{MeansBy, TakenBy}

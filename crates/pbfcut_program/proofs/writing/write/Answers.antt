@@ -1,13 +1,12 @@
-use Rattle.std.proofs.Common.{◌≡◌, ◌∙◌, [], ◌∷◌, ◌++◌, List, append_assoc, inl, inr, map, refl, ap, subst, sym}
+use Rattle.std.proofs.Common.{◌≡◌, ◌∙◌, [], ◌∷◌, ◌++◌, List, append_assoc, inl, inr, map, ap, subst, sym}
 use Rattle.std.proofs.lemmas.Result.{err_from_is_err_and}
 use Rattle.pbfcut_program.specs.declared.host.Screen.{Screen}
 use Rattle.pbfcut_program.specs.Events.{Event, read, wrote, then_all}
 use Rattle.pbfcut_program.specs.Fails.{Fails, judging}
-use Rattle.pbfcut_program.specs.Files.{IsMade}
 use Rattle.pbfcut_program.specs.Jobs.{feeds_of, plan_of, task_of}
 use Rattle.pbfcut_program.specs.Leaving.{Leaves}
 use Rattle.pbfcut_program.specs.Program.{Writes, begun, counts_text, done_lines, is_screen, prints, screen_of}
-use Rattle.pbfcut_program.specs.Manner.{check_in, check_of, manner_of}
+use Rattle.pbfcut_program.specs.Manner.{check_of, manner_of}
 use Rattle.pbfcut_program.specs.Readings.{IsWork}
 use Rattle.pbfcut_program.specs.Tasks.{judge_of}
 use Rattle.pbfcut_program.proofs.Beginning.{length_has, opens_begun, quiet_begun, quiet_makes, silent_begun, silent_makes}
