@@ -7,10 +7,12 @@ use Rattle.pbfcut_cli.specs.declared.words.Files.{Files}
 use Rattle.pbfcut_cli.specs.declared.words.Region.{Region}
 use Rattle.pbfcut_program.specs.Events.{Event, advised, made, opened, seeded, then_all}
 use Rattle.pbfcut_program.specs.Fails.{Calm, Each, Opens, Quiet}
-use Rattle.pbfcut_program.specs.Files.{IsMade, Misses}
+use Rattle.pbfcut_program.specs.Files.{IsMade, Misses, Still}
 use Rattle.pbfcut_program.specs.Program.{MeansArea, advice, begun, draws, is_empty, looks, openings}
 use Rattle.pbfcut_program.proofs.EventLemmas.{each_both, quiet_of}
 use Rattle.pbfcut_program.proofs.FailLemmas.{opens_after, opens_before}
+use Rattle.pbfcut_program.proofs.SayingLemmas.{silent_of}
+use Rattle.pbfcut_program.specs.Telling.{Silent}
 
 pub calm_looks : (is : Bool) (files : Files) → Each Calm (looks is files)
 calm_looks is files = grind arith
@@ -26,6 +28,11 @@ pub quiet_makes : (program : Program) (is : Bool) (output : List ℕ) (name : Op
 quiet_makes program true output name events m = subst (λ es. Each Quiet es) (sym m.1) (tt, tt)
 quiet_makes program false output None events m = absurd m
 quiet_makes program false output (Some name) events m = subst (λ es. Each Quiet es) (sym m.3) (each_both Quiet m.0 (made name ∷ []) (quiet_of m.0 (misses_calm m.0 m.1)) (tt, tt))
+
+pub silent_makes : (program : Program) (is : Bool) (output : List ℕ) (name : Option (List ℕ)) (events : List Event) → IsMade program is output name events → Each Silent events
+silent_makes program true output name events m = subst (λ es. Each Silent es) (sym m.1) (tt, tt)
+silent_makes program false output None events m = absurd m
+silent_makes program false output (Some name) events m = subst (λ es. Each Silent es) (sym m.3) (each_both Silent m.0 (made name ∷ []) (silent_of m.0 (misses_calm m.0 m.1)) (tt, tt))
 
 pub calm_openings : (input : List ℕ) (pass : ℕ) (has : List (Option (List ℕ))) → Each Calm (openings input pass has)
 calm_openings input pass [] = tt
@@ -48,6 +55,11 @@ opens_openings : (input : List ℕ) (pass : ℕ) (has : List (Option (List ℕ))
 opens_openings input pass [] = tt
 opens_openings input pass (h ∷ has) = (inl (refl, refl), opens_after (pass + 1) has (opened input pass h ∷ []) (openings input (pass + 1) has) (opens_openings input (pass + 1) has))
 
+pub silent_begun : (is : Bool) (files : Files) (has : List (Option (List ℕ))) (key : ℕ) (makes : List Event) → Each Silent makes → Each Silent (begun is files has key makes)
+silent_begun is files has key makes s =
+    let opens = openings files.input.now 1 has in
+    each_both Silent (looks is files ++ opens) (seeded (Some key) ∷ makes) (silent_of (looks is files ++ opens) (each_both Calm (looks is files) opens (calm_looks is files) (calm_openings files.input.now 1 has))) (tt, s)
+
 pub opens_begun : (is : Bool) (files : Files) (has : List (Option (List ℕ))) (key : ℕ) (makes : List Event) → Opens 1 has (begun is files has key makes)
 opens_begun is files has key makes =
     let opens = openings files.input.now 1 has in
@@ -67,8 +79,8 @@ advice_some counts e = rw e refl
 pub advice_none : (counts : Counts) → is_empty counts ≡ false → advice counts ≡ []
 advice_none counts e = rw e refl
 
-pub calm_advice : (counts : Counts) → Each Calm (advice counts)
-calm_advice counts = grind arith
+pub still_advice : (counts : Counts) → Each Still (advice counts)
+still_advice counts = grind arith
 
 -- what is prepared, by a log
 abbrev pub Prepares : {H : Type 0} → (log : H → Option (List Event)) → (old new : H) → Program → (is : Bool) → Files → (has : List (Option (List ℕ))) → (key : ℕ) → (name : Option (List ℕ)) → Type 0

@@ -1,5 +1,5 @@
 -- What a call of the engine did, as events, once its devices are returned.
-use Rattle.std.proofs.Common.{◌≡◌, ◌⊎◌, inl, inr, ℕ, zero, suc, ◌+◌, ◌-◌, ◌<◌, List, [], ◌∷◌, ◌++◌, length, map, Bool, false, Option, None, Some, Result, Ok, Err, IfErr, OnOk, refl, ap, sym, subst, ◌∙◌, arith}
+use Rattle.std.proofs.Common.{◌≡◌, ◌⊎◌, inl, inr, ℕ, zero, suc, ◌+◌, ◌-◌, ◌<◌, List, [], ◌∷◌, ◌++◌, length, map, Bool, false, true, Option, None, Some, Result, Ok, Err, IfErr, OnOk, is_ok, refl, ap, sym, subst, ◌∙◌, arith}
 use Rattle.std.proofs.lemmas.List.{append-nil}
 use Rattle.std.specs.Option.{is_some}
 use Rattle.std.specs.Prelude.{IfSome}
@@ -21,16 +21,17 @@ use Rattle.pbfcut_program.specs.declared.host.FinishFault.{FinishFault}
 use Rattle.pbfcut.specs.Calls.{AllSupply, AnyFailed}
 use Rattle.pbfcut_program.specs.Devices.{AreFresh, ChangeIn, CloseAll, Closes, Finishes, Fronts, GiveAll, GiveLater, GivesOrNot, GivesOtherAt, IsAsked, IsFresh, IsFreshOut, StopsFor, Works, used}
 use Rattle.pbfcut_program.specs.Events.{Event, Reading, Writing, read, wrote, then_all, then_one}
-use Rattle.pbfcut_program.specs.Fails.{Each, Fails, FailsToFinish, FailsToRead, FailsToWrite, Has, Judging, Stops, TookNothing, UnlessPacked, judging, readings}
+use Rattle.pbfcut_program.specs.Fails.{Each, Fails, FailsToFinish, FailsToRead, FailsToWrite, Has, Stops, TookNothing, UnlessPacked, judging, readings}
 use Rattle.pbfcut_program.specs.Manner.{AreDigests, Manner, input_form, manner, of_input, output_form}
 use Rattle.pbfcut_program.specs.Outcomes.{EndsAs}
 use Rattle.pbfcut_program.specs.Program.{digest_if_asked}
 use Rattle.pbfcut_program.specs.Readings.{IsOther, IsWholeOrSpared, IsWork, ReadAll, ReadLater}
-use Rattle.pbfcut_program.specs.Leaving.{Leaves, TookFront}
+use Rattle.pbfcut_program.specs.Leaving.{IsUnkept, Leaves, TookFront}
 use Rattle.pbfcut_program.specs.Tasks.{Task, answer_of, judge_of, spares}
+use Rattle.pbfcut_program.specs.Telling.{Silent}
 use Rattle.pbfcut_program.proofs.EventLemmas.{each_both, has_after, has_before, nothing_read, readings_both, readings_of}
 use Rattle.pbfcut_program.proofs.FailLemmas.{stop_fails, text_stops, unless_packed}
-use Rattle.pbfcut_program.proofs.LeavingLemmas.{TakenFront, front_nothing, front_read, front_taken, taken_front}
+use Rattle.pbfcut_program.proofs.LeavingLemmas.{IsReturn, IsReturned, TakenFront, keeps_none, reads_return, returned_front, returned_silent, returned_unkept, taken_front}
 use Rattle.pbfcut_program.proofs.Logging.{and_then, then_none}
 
 -- what a feed gave
@@ -114,16 +115,20 @@ module _ {F : Type 0} (f : feed.Ghosts F) where
 -- ---- what comes after the feeds
 
 -- OUT, or nothing, is returned: whatever it took, and if it took nothing
-abbrev pub Ends : (took : List ℕ → Type 0) → (failed : Type 0) → (front : List ℕ → Type 0) → Option (List Event) → Option (List Event) → Type 0
-Ends took failed front m n =
-    ((es : List Event) × (n ≡ then_all m es) × (readings es ≡ []) × (failed → Has FailsToWrite es) × ((answer : List ℕ) → front answer → Each (TookFront answer) es))
-    × (took [] → (es : List Event) × (n ≡ then_all m es) × (readings es ≡ []) × Each TookNothing es)
+abbrev pub Ends : (took : List ℕ → Type 0) → (failed : Type 0) → (is : Writing → Type 0) → Option (List Event) → Option (List Event) → Type 0
+Ends took failed is m n =
+    ((es : List Event) × (n ≡ then_all m es) × (readings es ≡ []) × (failed → Has FailsToWrite es) × Each (IsReturn is) es)
+    × (took [] → (es : List Event) × (n ≡ then_all m es) × (readings es ≡ []) × Each TookNothing es × Each (IsReturn is) es)
 
-pub ends_with_none : (m : Option (List Event)) (took : List ℕ → Type 0) → Ends took ⊥ (λ answer. ⊥) m m
-ends_with_none m took = (([], then_none m, refl, (λ x. absurd x), λ answer x. tt), λ t. ([], then_none m, refl, tt))
+pub ends_with_none : (m : Option (List Event)) (took : List ℕ → Type 0) → Ends took ⊥ (λ w. ⊥) m m
+ends_with_none m took = (([], then_none m, refl, (λ x. absurd x), tt), λ t. ([], then_none m, refl, tt, tt))
 
-pub ends_with_out : {D : Type 0} (d : drain.Ghosts D) (out : D) (name : Option (List ℕ)) (kept : Bool) (fault : Option FinishFault) (took : List ℕ → Type 0) (failed : Type 0) (m n : Option (List Event)) → ((w : List ℕ) → took w → d.has_taken out 0 w) → (failed → 0 < d.failures out) → Finishes d out name kept fault m n → Ends took failed (TakenFront (d.taken out)) m n
-ends_with_out d out name kept fault took failed m n taken risen fin = grind (arith, front_taken, d.taken out, fin.1 [], taken [])
+pub ends_with_out : {D : Type 0} (d : drain.Ghosts D) (out : D) (name : Option (List ℕ)) (kept : Bool) (fault : Option FinishFault) (took : List ℕ → Type 0) (failed : Type 0) (m n : Option (List Event)) → ((w : List ℕ) → took w → d.has_taken out 0 w) → (failed → 0 < d.failures out) → Finishes d out name kept fault m n
+    → Ends took failed (IsReturned (d.taken out) kept) m n
+ends_with_out d out name kept fault took failed m n taken risen fin = (
+  (wrote (record { name = name; bytes = fin.0.0; reports = is_some (d.taken out); failures = d.failures out; kept = kept; fault = fault }) ∷ [], fin.0.2, refl, (λ x. inl (inl (risen x))), ((inr fin.0.1, refl, refl), tt)),
+  λ none. (wrote (record { name = name; bytes = []; reports = is_some (d.taken out); failures = d.failures out; kept = kept; fault = fault }) ∷ [], fin.1 [] (taken [] none), refl, (refl, tt), ((inl refl, refl, refl), tt)),
+)
 
 -- ---- why it fails
 
@@ -134,20 +139,17 @@ none_left : (rs : List Reading) (n at : ℕ) → n ≡ at + 1 → n ≡ length r
 none_left [] n at e h = refl
 none_left (r ∷ rs) n at e h = grind arith
 
-module _ {F : Type 0} (f : feed.Ghosts F) (packs digests : Bool) (judge : Option (List ℕ) → Option Verdict) (took : List ℕ → Type 0) (failed : Type 0) (front : List ℕ → Type 0) (l m n : Option (List Event)) (tail : Ends took failed front m n) where
-  -- what OUT took
-  abbrev FrontIn : List Event → Type 0
-  FrontIn events = (answer : List ℕ) → front answer → Each (TookFront answer) events
+module _ {F : Type 0} (f : feed.Ghosts F) (packs digests : Bool) (judge : Option (List ℕ) → Option Verdict) (took : List ℕ → Type 0) (failed : Type 0) (is : Writing → Type 0) (l m n : Option (List Event)) (tail : Ends took failed is m n) where
+  -- only that is returned
+  abbrev Returned : List Event → Type 0
+  Returned events = Each (IsReturn is) events
 
   -- what is said, as events, of how a call of a program stopped, by what its feeds had
   abbrev StopFails : Program → Stop → List F → Type 0
-  StopFails program s olds = (events : List Event) × (n ≡ then_all l events) × Stops (manner program packs digests) (judging judge) (map f.remaining olds) events s × FrontIn events
+  StopFails program s olds = (events : List Event) × (n ≡ then_all l events) × Stops (manner program packs digests) (judging judge) (map f.remaining olds) events s × Returned events
 
-  front_after : (rs : List Reading) (es : List Event) → FrontIn es → FrontIn (reads rs ++ es)
-  front_after rs es fronts answer x = each_both (TookFront answer) (reads rs) es (front_read answer rs) (fronts answer x)
-
-  nothing_after : (rs : List Reading) (es : List Event) → Each TookNothing es → FrontIn (reads rs ++ es)
-  nothing_after rs es nothing = front_after rs es (λ answer x. front_nothing answer es nothing)
+  returned_after : (rs : List Reading) (es : List Event) → Returned es → Returned (reads rs ++ es)
+  returned_after rs es x = each_both (IsReturn is) (reads rs) es (reads_return is rs) x
 
   -- whatever happened
   abbrev some : (news : List F) → CloseAll f news l m → List Event
@@ -156,8 +158,8 @@ module _ {F : Type 0} (f : feed.Ghosts F) (packs digests : Bool) (judge : Option
   some_log : (news : List F) (c : CloseAll f news l m) → n ≡ then_all l (some news c)
   some_log news c = and_then l m n (reads (close_rest f news l m c).0) tail.0.0 (close_rest f news l m c).1 tail.0.1
 
-  some_front : (news : List F) (c : CloseAll f news l m) → FrontIn (some news c)
-  some_front news c = front_after (close_rest f news l m c).0 tail.0.0 tail.0.4
+  some_returned : (news : List F) (c : CloseAll f news l m) → Returned (some news c)
+  some_returned news c = returned_after (close_rest f news l m c).0 tail.0.0 tail.0.4
 
   -- the first feed gave other bytes than a later one
   change_fails : (pass : ℕ) (old now : F) (olds news : List F) → AreFresh f (old ∷ olds) → CloseAll f (now ∷ news) l m → ChangeIn f (took []) pass now olds news → StopFails Pbfcut (stop.Changed pass) (old ∷ olds)
@@ -168,7 +170,7 @@ module _ {F : Type 0} (f : feed.Ghosts F) (packs digests : Bool) (judge : Option
     rest : (rs : List Reading) × (m ≡ then_all c.0 (reads rs)) × ReadOther f stops.file stops.at (length news) rs
     rest = close_other f stops.file stops.at olds news c.0 m fresh.1 c.2 stops.other
 
-    told : (es : List Event) → n ≡ then_all m es → readings es ≡ [] → ((rest.2.2 ≡ []) ⊎ Each TookNothing (reads (one ∷ rest.0) ++ es)) → FrontIn (reads (one ∷ rest.0) ++ es) → StopFails Pbfcut (stop.Changed pass) (old ∷ olds)
+    told : (es : List Event) → n ≡ then_all m es → readings es ≡ [] → ((rest.2.2 ≡ []) ⊎ Each TookNothing (reads (one ∷ rest.0) ++ es)) → Returned (reads (one ∷ rest.0) ++ es) → StopFails Pbfcut (stop.Changed pass) (old ∷ olds)
     told es log none last fronts = (
       reads (one ∷ rest.0) ++ es,
       and_then l m n (reads (one ∷ rest.0)) es (and_then l c.0 m (read one ∷ []) (reads rest.0) (c.1.1 stops.file stops.first.passed) rest.1) log,
@@ -187,8 +189,8 @@ module _ {F : Type 0} (f : feed.Ghosts F) (packs digests : Bool) (judge : Option
     )
 
     by_last : ((length news ≡ stops.at + 1) ⊎ took []) → StopFails Pbfcut (stop.Changed pass) (old ∷ olds)
-    by_last (inl last) = told tail.0.0 tail.0.1 tail.0.2 (inl (none_left rest.2.2 (length news) stops.at last rest.2.6)) (front_after (one ∷ rest.0) tail.0.0 tail.0.4)
-    by_last (inr nothing) = (let end = tail.1 nothing in told end.0 end.1 end.2 (inr (each_both _ (reads (one ∷ rest.0)) end.0 (nothing_read (one ∷ rest.0)) end.3)) (nothing_after (one ∷ rest.0) end.0 end.3))
+    by_last (inl last) = told tail.0.0 tail.0.1 tail.0.2 (inl (none_left rest.2.2 (length news) stops.at last rest.2.6)) (returned_after (one ∷ rest.0) tail.0.0 tail.0.4)
+    by_last (inr nothing) = (let end = tail.1 nothing in told end.0 end.1 end.2 (inr (each_both _ (reads (one ∷ rest.0)) end.0 (nothing_read (one ∷ rest.0)) end.3)) (returned_after (one ∷ rest.0) end.0 end.4))
 
   pub stop_told : (program : Program) (s : Stop) (olds news : List F) → AreFresh f olds → CloseAll f news l m → StopsFor program f judge olds news (took []) (UnlessPacked (output_form packs program) failed) s → StopFails program s olds
   stop_told Pbfcut (stop.Refused e) (old ∷ olds) (now ∷ news) fresh c stops =
@@ -200,28 +202,28 @@ module _ {F : Type 0} (f : feed.Ghosts F) (packs digests : Bool) (judge : Option
         reads (one ∷ rest.0) ++ end.0,
         and_then l m n (reads (one ∷ rest.0)) end.0 all end.1,
         record { first = one; later = rest.0; are = are_readings (one ∷ rest.0) end.0 end.2; faulty = stops.0.faulty; nothing = each_both _ (reads (one ∷ rest.0)) end.0 (nothing_read (one ∷ rest.0)) end.3 },
-        nothing_after (one ∷ rest.0) end.0 end.3,
+        returned_after (one ∷ rest.0) end.0 end.4,
       )
   stop_told Pbfcut (stop.Refused e) _ _ fresh c stops = absurd stops.0
   stop_told Pbfcutz (stop.Refused e) olds news fresh c stops =
       let rest = close_rest f news l m c in
       let end = tail.1 stops.1 in
-      (reads rest.0 ++ end.0, and_then l m n (reads rest.0) end.0 rest.1 end.1, (stops.0, each_both _ (reads rest.0) end.0 (nothing_read rest.0) end.3), nothing_after rest.0 end.0 end.3)
+      (reads rest.0 ++ end.0, and_then l m n (reads rest.0) end.0 rest.1 end.1, (stops.0, each_both _ (reads rest.0) end.0 (nothing_read rest.0) end.3), returned_after rest.0 end.0 end.4)
   stop_told program stop.Read olds news fresh c stops =
       let rest = close_failed f olds news l m fresh c stops in
-      (reads rest.0 ++ tail.0.0, and_then l m n (reads rest.0) tail.0.0 rest.1 tail.0.1, has_before _ (reads rest.0) tail.0.0 rest.2, front_after rest.0 tail.0.0 tail.0.4)
-  stop_told program stop.Write olds news fresh c stops = grind (arith, some_log news c, unless_packed (output_form packs program) failed, has_after, close_rest f news l m c, some_front news c)
-  stop_told program stop.Memory olds news fresh c stops = (some news c, some_log news c, tt, some_front news c)
+      (reads rest.0 ++ tail.0.0, and_then l m n (reads rest.0) tail.0.0 rest.1 tail.0.1, has_before _ (reads rest.0) tail.0.0 rest.2, returned_after rest.0 tail.0.0 tail.0.4)
+  stop_told program stop.Write olds news fresh c stops = grind (arith, some_log news c, unless_packed (output_form packs program) failed, has_after, close_rest f news l m c, some_returned news c)
+  stop_told program stop.Memory olds news fresh c stops = (some news c, some_log news c, tt, some_returned news c)
   stop_told Pbfcut (stop.Changed pass) (old ∷ olds) (now ∷ news) fresh c stops = change_fails pass old now olds news fresh c stops
   stop_told Pbfcut (stop.Changed pass) _ _ fresh c stops = absurd stops
-  stop_told Pbfcutz (stop.Changed pass) olds news fresh c stops = (some news c, some_log news c, stops, some_front news c)
+  stop_told Pbfcutz (stop.Changed pass) olds news fresh c stops = (some news c, some_log news c, stops, some_returned news c)
 
 -- a call stopped, and all devices were returned
-pub work_fails : (program : Program) (packs digests : Bool) (check : PassCheck) {F : Type 0} (f : feed.Ghosts F) (task : Task) (took : List ℕ → Type 0) (failed : Type 0) (front : List ℕ → Type 0) (l m n : Option (List Event)) (olds news : List F) (halted : Halted)
-    → Ends took failed front m n → AreFresh f olds → CloseAll f news l m → Works (manner program packs digests) check f task olds news took failed (Err halted)
-    → (events : List Event) × (n ≡ then_all l events) × Fails (manner program packs digests) (judging (judge_of task)) (map f.remaining olds) halted.ending events × ((answer : List ℕ) → front answer → Each (TookFront answer) events)
-work_fails program packs digests check f task took failed front l m n olds news halted tail fresh c works =
-    let told = stop_told f packs digests (judge_of task) took failed front l m n tail program works.0 olds news fresh c works.2 in
+pub work_fails : (program : Program) (packs digests : Bool) (check : PassCheck) {F : Type 0} (f : feed.Ghosts F) (task : Task) (took : List ℕ → Type 0) (failed : Type 0) (is : Writing → Type 0) (l m n : Option (List Event)) (olds news : List F) (halted : Halted)
+    → Ends took failed is m n → AreFresh f olds → CloseAll f news l m → Works (manner program packs digests) check f task olds news took failed (Err halted)
+    → (events : List Event) × (n ≡ then_all l events) × Fails (manner program packs digests) (judging (judge_of task)) (map f.remaining olds) halted.ending events × Each (IsReturn is) events
+work_fails program packs digests check f task took failed is l m n olds news halted tail fresh c works =
+    let told = stop_told f packs digests (judge_of task) took failed is l m n tail program works.0 olds news fresh c works.2 in
     (told.0, told.1, stop_fails (manner program packs digests) (judging (judge_of task)) (map f.remaining olds) halted.ending told.0 works.0 works.1 told.2, told.3)
 
 -- ---- what it does
@@ -244,14 +246,14 @@ work_done f d out name kept fault by check task took failed l m n olds news repo
 
 -- a call ended well, but not all went out
 pub finish_fails : {F D : Type 0} (f : feed.Ghosts F) (d : drain.Ghosts D) (out : D) (name : Option (List ℕ)) (kept : Bool) (fault : Option FinishFault) (l m n : Option (List Event)) (news : List F) → CloseAll f news l m → Finishes d out name kept fault m n → (why : FinishFault) → fault ≡ Some why
-    → (events : List Event) × (n ≡ then_all l events) × Has (FailsToFinish why) events × ((answer : List ℕ) → TakenFront (d.taken out) answer → Each (TookFront answer) events)
+    → (events : List Event) × (n ≡ then_all l events) × Has (FailsToFinish why) events × Each (IsReturn (IsReturned (d.taken out) kept)) events
 finish_fails f d out name kept fault l m n news c fin why e =
     let rest = close_rest f news l m c in
     let w : Writing = record { name = name; bytes = fin.0.0; reports = is_some (d.taken out); failures = d.failures out; kept = kept; fault = fault } in (
       reads rest.0 ++ wrote w ∷ [],
       and_then l m n (reads rest.0) (wrote w ∷ []) rest.1 fin.0.2,
       has_after _ (reads rest.0) _ (inl e),
-      λ answer x. each_both _ (reads rest.0) (wrote w ∷ []) (front_read answer rest.0) (front_taken answer fin.0.0 (d.taken out) fin.0.1 x, tt),
+      each_both _ (reads rest.0) (wrote w ∷ []) (reads_return _ rest.0) ((inr fin.0.1, refl, refl), tt),
     )
 
 -- the same of one pass
@@ -268,10 +270,15 @@ if_done f d out name kept fault by check task took failed l m n olds news (Ok re
 if_done f d out name kept fault by check task took failed l m n olds news (Err halted) fresh c fin taken works = tt
 
 -- a call stopped, and it and its devices left this
-pub stops_leaving : (m : Manner) (task : Task) (has : List (Option (List ℕ))) (before after : Option (List ℕ)) (events : List Event) → IfSome before (λ taken. taken ≡ [])
+pub stops_leaving : (m : Manner) (task : Task) (has : List (Option (List ℕ))) (before after : Option (List ℕ)) (events : List Event) → IfSome before (λ taken. taken ≡ []) → Each IsUnkept events
     → ((answer : List ℕ) → TakenFront after answer → Each (TookFront answer) events)
     → UnlessPacked (output_form m.packs m.program) ((bytes : List ℕ) → AllSupply bytes has → IsFront before after (answer_of task (of_input m bytes))) → Leaves m task has events
-stops_leaving m task has before after events fresh fronts given = inl (unless_packed (output_form m.packs m.program) _ _ (λ front bytes all. fronts _ (taken_front before after _ fresh (front bytes all))) given)
+stops_leaving m task has before after events fresh unkept fronts given = inl (keeps_none task events unkept, unless_packed (output_form m.packs m.program) _ _ (λ front bytes all. fronts _ (taken_front before after _ fresh (front bytes all))) given)
+
+-- if no more happened
+pub returns_leaving : (m : Manner) (task : Task) (has : List (Option (List ℕ))) (before after : Option (List ℕ)) (events : List Event) → IfSome before (λ taken. taken ≡ []) → Each (IsReturn (IsReturned after false)) events
+    → UnlessPacked (output_form m.packs m.program) ((bytes : List ℕ) → AllSupply bytes has → IsFront before after (answer_of task (of_input m bytes))) → Leaves m task has events
+returns_leaving m task has before after events fresh returned given = stops_leaving m task has before after events fresh (returned_unkept after events returned) (λ answer x. returned_front after false answer x events returned) given
 
 -- the digest that was wanted
 pub hashed_as : (digests : Bool) (known : Option (List ℕ)) (w : List ℕ) → IfSome known (λ digest. digest ≡ sha256 w) → IsAsked digests known → known ≡ digest_if_asked digests w
@@ -280,33 +287,34 @@ hashed_as digests known w h3 h4 = grind arith
 -- ---- a text
 
 -- a call stopped whose text goes to standard output; or the rest of the text didn't go out
-pub text_fails : {F D A : Type 0} (program : Program) (digests : Bool) (check : PassCheck) (f : feed.Ghosts F) (d : drain.Ghosts D) (task : Task) (before out : D) (name : Option (List ℕ)) (kept : Bool) (fault : Option FinishFault) (l m n : Option (List Event)) (olds news : List F) (outcome : Result Report Halted) (result : Result A Ending)
-    → IsFreshOut d before → AreFresh f olds → CloseAll f news l m → Finishes d out name kept fault m n → Works (manner program false digests) check f task olds news (d.has_taken out 0) (WriteFailed d before out) outcome
+pub text_fails : {F D A : Type 0} (program : Program) (digests : Bool) (check : PassCheck) (f : feed.Ghosts F) (d : drain.Ghosts D) (task : Task) (before out : D) (name : Option (List ℕ)) (fault : Option FinishFault) (l m n : Option (List Event)) (olds news : List F) (outcome : Result Report Halted) (result : Result A Ending)
+    → IsFreshOut d before → AreFresh f olds → CloseAll f news l m → Finishes d out name (is_ok outcome) fault m n → Works (manner program false digests) check f task olds news (d.has_taken out 0) (WriteFailed d before out) outcome
     → Fronts (input_form program) task (map f.remaining olds) (d.taken before) (d.taken out) outcome → EndsAs fault outcome result
-    → IfErr result (λ how. (events : List Event) × (n ≡ then_all l events) × Fails (manner program false digests) (judging (judge_of task)) (map f.remaining olds) how events × Leaves (manner program false digests) task (map f.remaining olds) events)
-text_fails program digests check f d task before out name kept None l m n olds news (Ok report) (Ok a) fresh begun c fin works front ends = tt
-text_fails program digests check f d task before out name kept None l m n olds news (Ok report) (Err how) fresh begun c fin works front ends = absurd ends
-text_fails program digests check f d task before out name kept None l m n olds news (Err halted) (Ok a) fresh begun c fin works front ends = absurd ends
-text_fails program digests check f d task before out name kept None l m n olds news (Err halted) (Err how) fresh begun c fin works front ends =
+    → IfErr result (λ how. (events : List Event) × (n ≡ then_all l events) × Fails (manner program false digests) (judging (judge_of task)) (map f.remaining olds) how events × Leaves (manner program false digests) task (map f.remaining olds) events × Each Silent events)
+text_fails program digests check f d task before out name None l m n olds news (Ok report) (Ok a) fresh begun c fin works front ends = tt
+text_fails program digests check f d task before out name None l m n olds news (Ok report) (Err how) fresh begun c fin works front ends = absurd ends
+text_fails program digests check f d task before out name None l m n olds news (Err halted) (Ok a) fresh begun c fin works front ends = absurd ends
+text_fails program digests check f d task before out name None l m n olds news (Err halted) (Err how) fresh begun c fin works front ends =
     let by = manner program false digests in
     let has = map f.remaining olds in
-    let tail = ends_with_out d out name kept None (d.has_taken out 0) (WriteFailed d before out) m n (λ w t. t) (λ risen. has_failed _ _ fresh.2 risen) fin in
-    let fail = work_fails program false digests check f task (d.has_taken out 0) (WriteFailed d before out) (TakenFront (d.taken out)) l m n olds news halted tail begun c works in
-    (fail.0, fail.1, subst (λ h. Fails by (judging (judge_of task)) has h fail.0) (sym ends) fail.2, stops_leaving by task has (d.taken before) (d.taken out) fail.0 fresh.1 fail.3 front)
-text_fails program digests check f d task before out name kept (Some why) l m n olds news (Ok report) (Ok a) fresh begun c fin works front ends = absurd ends
-text_fails program digests check f d task before out name kept (Some why) l m n olds news (Err halted) (Ok a) fresh begun c fin works front ends = absurd ends
-text_fails program digests check f d task before out name kept (Some why) l m n olds news (Ok report) (Err how) fresh begun c fin works front ends =
+    let tail = ends_with_out d out name false None (d.has_taken out 0) (WriteFailed d before out) m n (λ w t. t) (λ risen. has_failed _ _ fresh.2 risen) fin in
+    let fail = work_fails program false digests check f task (d.has_taken out 0) (WriteFailed d before out) (IsReturned (d.taken out) false) l m n olds news halted tail begun c works in
+    (fail.0, fail.1, subst (λ h. Fails by (judging (judge_of task)) has h fail.0) (sym ends) fail.2, returns_leaving by task has (d.taken before) (d.taken out) fail.0 fresh.1 fail.3 front, returned_silent _ fail.0 fail.3)
+text_fails program digests check f d task before out name (Some why) l m n olds news (Ok report) (Ok a) fresh begun c fin works front ends = absurd ends
+text_fails program digests check f d task before out name (Some why) l m n olds news (Err halted) (Ok a) fresh begun c fin works front ends = absurd ends
+text_fails program digests check f d task before out name (Some why) l m n olds news (Ok report) (Err how) fresh begun c fin works front ends =
     let by = manner program false digests in
     let has = map f.remaining olds in
-    let done = work_done f d out name kept (Some why) by check task (d.has_taken out 0) (WriteFailed d before out) l m n olds news report begun c fin (λ w t. t) works in
+    let done = work_done f d out name true (Some why) by check task (d.has_taken out 0) (WriteFailed d before out) l m n olds news report begun c fin (λ w t. t) works in
     let events : List Event = reads done.0 ++ wrote done.1 ∷ [] in (
       events,
       done.2,
       subst (λ h. Fails by (judging (judge_of task)) has h events) (sym ends) (text_stops by (judging (judge_of task)) has why events (has_after _ (reads done.0) (wrote done.1 ∷ []) (inl done.3))),
       inr (record { before = []; rs = done.0; out = done.1; after = []; happened = refl; by = check; counts = report.counts; digest = report.input; raw = report.raw; work = done.5 }),
+      each_both Silent (reads done.0) (wrote done.1 ∷ []) (returned_silent (λ w. Unit {0}) (reads done.0) (reads_return (λ w. Unit {0}) done.0)) (tt, tt),
     )
-text_fails program digests check f d task before out name kept (Some why) l m n olds news (Err halted) (Err how) fresh begun c fin works front ends =
+text_fails program digests check f d task before out name (Some why) l m n olds news (Err halted) (Err how) fresh begun c fin works front ends =
     let by = manner program false digests in
     let has = map f.remaining olds in
-    let fail = finish_fails f d out name kept (Some why) l m n news c fin why refl in
-    (fail.0, fail.1, subst (λ h. Fails by (judging (judge_of task)) has h fail.0) (sym ends) (text_stops by (judging (judge_of task)) has why fail.0 fail.2), stops_leaving by task has (d.taken before) (d.taken out) fail.0 fresh.1 fail.3 front)
+    let fail = finish_fails f d out name false (Some why) l m n news c fin why refl in
+    (fail.0, fail.1, subst (λ h. Fails by (judging (judge_of task)) has h fail.0) (sym ends) (text_stops by (judging (judge_of task)) has why fail.0 fail.2), returns_leaving by task has (d.taken before) (d.taken out) fail.0 fresh.1 fail.3 front, returned_silent _ fail.0 fail.3)

@@ -22,6 +22,10 @@ pub each_both : (p : Event → Type 0) (xs ys : List Event) → Each p xs → Ea
 each_both p [] ys h k = k
 each_both p (x ∷ xs) ys h k = (h.0, each_both p xs ys h.1 k)
 
+pub each_front : (p : Event → Type 0) (xs ys : List Event) → Each p (xs ++ ys) → Each p xs
+each_front p [] ys h = tt
+each_front p (x ∷ xs) ys h = (h.0, each_front p xs ys h.1)
+
 pub each_quiet : (p : Event → Type 0) → ((e : Event) → Quiet e → p e) → (xs : List Event) → Each Quiet xs → Each p xs
 each_quiet p of [] q = tt
 each_quiet p of (x ∷ xs) q = (of x q.0, each_quiet p of xs q.1)

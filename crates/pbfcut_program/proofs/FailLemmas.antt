@@ -9,15 +9,18 @@ use Rattle.pbfcut_cli.specs.declared.endings.Ending.{Ending}
 use Rattle.pbfcut_cli.specs.declared.endings.Ending.TheVariants as ending
 use Rattle.pbfcut_cli.specs.declared.programs.Program.{Program}
 use Rattle.pbfcut_program.specs.Events.{Event, then_all}
-use Rattle.pbfcut_program.specs.Fails.{Calm, CauseOfOpening, Each, EndsAsStop, Fails, FailsAsClosed, FailsFor, FailsOpening, FailsPrinting, FailsToFinish, FailsToWrite, Has, IsChangedBy, IsRefusedBy, Judging, Opens, Quiet, Stops, TookNothing, UnlessPacked, readings}
+use Rattle.pbfcut_program.specs.Fails.{Calm, CauseOfOpening, Each, EndsAsStop, Fails, FailsAsClosed, FailsFor, FailsOpening, FailsToFinish, FailsToWrite, Has, IsChangedBy, IsRefusedBy, Judging, Opens, Quiet, Stops, TookNothing, UnlessPacked, readings}
 use Rattle.pbfcut_program.specs.Manner.{Form, Manner}
 use Rattle.pbfcut_program.specs.declared.engine.Halted.{Halted}
 use Rattle.pbfcut_program.specs.declared.host.FinishFault.{FinishFault}
 use Rattle.pbfcut_program.specs.declared.host.FinishFault.TheVariants as finishing
+use Rattle.pbfcut_program.specs.declared.host.PrintFault.TheVariants as line
+use Rattle.pbfcut_program.specs.declared.host.Screen.{Screen}
 use Rattle.pbfcut_program.specs.Outcomes.{EndsAs, ending_of_file, ending_of_text}
-use Rattle.pbfcut_program.specs.Telling.{Tells, TellsQuietly}
+use Rattle.pbfcut_program.specs.Telling.{BreaksOff, IsUnprinted, SaysLittle, Silent, Tells, TellsQuietly}
 use Rattle.pbfcut_program.proofs.EventLemmas.{each_both, each_quiet, has_after, has_before, has_weaker, nothing_in, quiet_of, readings_after, readings_before, readings_of_quiet}
 use Rattle.pbfcut_program.proofs.Logging.{and_then}
+use Rattle.pbfcut_program.proofs.SayingLemmas.{lines_before, lines_in, refusal_quiet}
 
 -- ---- before IN is read
 
@@ -136,38 +139,74 @@ failed_after m j how xs ys q f = record { has = f.has; opens = opens_after 1 f.h
 
 -- how it ended is shown, after more was reported quietly
 pub told_fails : (m : Manner) (j : Judging) (has : List (Option (List ℕ))) (how shown : Ending) (k l n : Option (List Event)) (xs : List Event) → l ≡ then_all k xs → Fails m j has how xs
-    → TellsQuietly l n how shown → (events : List Event) × (n ≡ then_all k events) × Fails m j has shown events × ((p : Event → Type 0) → ((e : Event) → Quiet e → p e) → Each p xs → Each p events)
-told_fails m j has how shown k l n xs e f t = (xs ++ t.events, and_then k l n xs t.events e t.log, of t.shows, λ p q each. each_both p xs t.events each (each_quiet p q t.events (quiet_of t.events t.calm))) where
+    → TellsQuietly m.digests l n how shown → (events : List Event) × (n ≡ then_all k events) × Fails m j has shown events × (Each Silent xs → SaysLittle m.digests events) × ((p : Event → Type 0) → ((e : Event) → Quiet e → p e) → Each p xs → Each p events)
+told_fails m j has how shown k l n xs e f t = (
+  xs ++ t.events,
+  and_then k l n xs t.events e t.log,
+  of t.shows,
+  (λ s. record { before = xs; last = t.events; happened = refl; silent = s; tells = t.tells }),
+  λ p q each. each_both p xs t.events each (each_quiet p q t.events quiet),
+) where
+  quiet : Each Quiet t.events
+  quiet = refusal_quiet m.digests t.events t.tells
+
   of : ((shown ≡ how) ⊎ (shown ≡ ending.Stopped stop.Memory)) → Fails m j has shown (xs ++ t.events)
-  of (inl same) = subst (λ h. Fails m j has h (xs ++ t.events)) (sym same) (fails_before m j has how xs t.events (quiet_of t.events t.calm) f)
+  of (inl same) = subst (λ h. Fails m j has h (xs ++ t.events)) (sym same) (fails_before m j has how xs t.events quiet f)
   of (inr none) = subst (λ h. Fails m j has h (xs ++ t.events)) (sym none) (memory_fails m j has (xs ++ t.events))
 
 -- ---- lines
 
-pub printing_after : (how : Ending) (xs ys : List Event) → FailsPrinting how ys → FailsPrinting how (xs ++ ys)
+-- a line couldn't be printed
+abbrev FailsPrinting : Ending → List Event → Type 0
+FailsPrinting how events = ((how ≡ ending.Stopped stop.Write) × Has FailsToWrite events)
+    ⊎ (((how ≡ ending.Closed) × Has FailsAsClosed events) ⊎ (how ≡ ending.Stopped stop.Memory))
+
+printing_after : (how : Ending) (xs ys : List Event) → FailsPrinting how ys → FailsPrinting how (xs ++ ys)
 printing_after how xs ys h3 = grind (arith, has_after)
 
--- one line after others
-pub tells_more : {B : Type 0} (l m n : Option (List Event)) (xs ys : List Event) (r : Result B Ending) → m ≡ then_all l xs → Each Calm xs → Tells m n ys r → Tells l n (xs ++ ys) r
-tells_more l m n xs ys (Ok b) e q t = and_then l m n xs ys e t
-tells_more l m n xs ys (Err how) e q t = (xs ++ t.0, and_then l m n xs t.0 e t.1, printing_after how xs t.0 t.2, each_both Calm xs t.0 q t.3)
+unprinted_fails : (screen : Screen) (text : List ℕ) (how : Ending) (es : List Event) → IsUnprinted screen text how es → FailsPrinting how es
+unprinted_fails screen text how es (inl (line.Failed, e, is)) = subst (λ xs. FailsPrinting how xs) (sym e) (inl (is, inl refl))
+unprinted_fails screen text how es (inl (line.Closed, e, is)) = subst (λ xs. FailsPrinting how xs) (sym e) (inr (inl (is, inl refl)))
+unprinted_fails screen text how es (inr (none, is)) = inr (inr is)
 
-pub printing_more : (how : Ending) (l m n : Option (List Event)) (xs : List Event) → m ≡ then_all l xs → Each Calm xs → ((some : List Event) × (n ≡ then_all m some) × FailsPrinting how some × Each Calm some) → (some : List Event) × (n ≡ then_all l some) × FailsPrinting how some × Each Calm some
-printing_more how l m n xs e q t = (xs ++ t.0, and_then l m n xs t.0 e t.1, printing_after how xs t.0 t.2, each_both Calm xs t.0 q t.3)
+broken_printing : (well : List Event → Type 0) (how : Ending) (es : List Event) → BreaksOff well how es → FailsPrinting how es
+broken_printing well how es b = subst (λ xs. FailsPrinting how xs) (sym b.happened) (printing_after how b.before b.last (unprinted_fails b.screen b.text how b.last b.unprinted))
 
-pub print_stops : (m : Manner) (j : Judging) (how : Ending) (events : List Event) → FailsPrinting how events → Fails m j [] how events
+print_stops : (m : Manner) (j : Judging) (how : Ending) (events : List Event) → FailsPrinting how events → Fails m j [] how events
 print_stops m j how events h4 = grind (arith, write_stops, memory_fails)
 
+pub broken_fails : (m : Manner) (j : Judging) (well : List Event → Type 0) (how : Ending) (es : List Event) → BreaksOff well how es → FailsFor m j how es
+broken_fails m j well how es b = fails_early m j how es (print_stops m j how es (broken_printing well how es b))
+
+-- what `Tells` says if one of these lines isn't printed
+abbrev pub TellsSome : (before after : Option (List Event)) → List Event → Ending → Type 0
+TellsSome before after lines how = (some : List Event) × (after ≡ then_all before some) × BreaksOff (λ all. all ≡ lines) how some
+
+-- one line after others
+pub printing_more : (how : Ending) (l m n : Option (List Event)) (xs ys : List Event) → m ≡ then_all l xs → TellsSome m n ys how → TellsSome l n (xs ++ ys) how
+printing_more how l m n xs ys e t = (xs ++ t.0, and_then l m n xs t.0 e t.1, lines_in (λ all. all ≡ xs ++ ys) xs ys how t.0 refl t.2)
+
+pub tells_more : {B : Type 0} (l m n : Option (List Event)) (xs ys : List Event) (r : Result B Ending) → m ≡ then_all l xs → Tells m n ys r → Tells l n (xs ++ ys) r
+tells_more l m n xs ys (Ok b) e t = and_then l m n xs ys e t
+tells_more l m n xs ys (Err how) e t = printing_more how l m n xs ys e t
+
+-- the first of more
+pub printing_first : (how : Ending) (l m : Option (List Event)) (xs ys : List Event) → TellsSome l m xs how → TellsSome l m (xs ++ ys) how
+printing_first how l m xs ys t = (t.0, t.1, lines_before xs ys how t.0 t.2)
+
 -- lines couldn't be printed after what had happened
-pub print_fails : (m : Manner) (j : Judging) (how : Ending) (k l n : Option (List Event)) (xs : List Event) → l ≡ then_all k xs → ((some : List Event) × (n ≡ then_all l some) × FailsPrinting how some × Each Calm some)
-    → (events : List Event) × (n ≡ then_all k events) × FailsFor m j how events
-print_fails m j how k l n xs e t = (xs ++ t.0, and_then k l n xs t.0 e t.1, fails_early m j how (xs ++ t.0) (print_stops m j how (xs ++ t.0) (printing_after how xs t.0 t.2)))
+pub print_fails : (m : Manner) (j : Judging) (how : Ending) (k l n : Option (List Event)) (well : List Event → Type 0) (xs lines : List Event) → l ≡ then_all k xs → well (xs ++ lines) → TellsSome l n lines how
+    → (events : List Event) × (n ≡ then_all k events) × FailsFor m j how events × BreaksOff well how events
+print_fails m j how k l n well xs lines e ends t =
+    let broken = lines_in well xs lines how t.0 ends t.2 in
+    (xs ++ t.0, and_then k l n xs t.0 e t.1, broken_fails m j well how (xs ++ t.0) broken, broken)
 
 pub tells_ok : {A : Type 0} (l m : Option (List Event)) (xs : List Event) (r : Result A Ending) → Tells l m xs r → OnOk r (m ≡ then_all l xs)
 tells_ok l m xs r h4 = grind arith
 
-pub tells_err : {A : Type 0} (l m : Option (List Event)) (xs : List Event) (r : Result A Ending) → Tells l m xs r → IfErr r (λ how. (some : List Event) × (m ≡ then_all l some) × FailsPrinting how some × Each Calm some)
-tells_err l m xs r h4 = grind arith
+pub tells_err : {A : Type 0} (l m : Option (List Event)) (xs : List Event) (r : Result A Ending) → Tells l m xs r → IfErr r (TellsSome l m xs)
+tells_err l m xs (Ok a) t = tt
+tells_err l m xs (Err how) t = t
 
 -- ---- texts
 

@@ -15,6 +15,8 @@ pub mod Printed
 pub mod PublishedCalls
 pub mod RawCalls
 pub mod RunLemmas
+pub mod SayingLemmas
 pub mod SettlingLemmas
 pub mod TakingLemmas
 pub mod Weaker
+pub mod WritingLemmas

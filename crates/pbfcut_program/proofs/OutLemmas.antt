@@ -9,6 +9,7 @@ use Rattle.pbfcut_program.specs.Fails.{Calm, Each, FailsOpening, FailsToFinish, 
 use Rattle.pbfcut_program.specs.Files.{Drops, EndsOut, IsDropped, IsEnd, IsKept, IsMade, Keeps, Misnames, Names}
 use Rattle.pbfcut_program.proofs.EventLemmas.{each_both, has_after, has_before}
 use Rattle.pbfcut_program.specs.Outcomes.{finish_fault_of, unmade, unmade_part}
+use Rattle.pbfcut_program.specs.Telling.{Silent}
 use Rattle.pbfcut_program.specs.declared.host.CreateFault.{CreateFault}
 use Rattle.pbfcut_program.specs.declared.host.CreateFault.TheVariants as creating
 use Rattle.pbfcut_program.specs.declared.host.FinishFault.{FinishFault}
@@ -115,6 +116,41 @@ pub dropped_quiet : (program : Program) (name : Option (List ℕ)) (events : Lis
 dropped_quiet program None events d = subst (λ es. Each Quiet es) (sym d) tt
 dropped_quiet Pbfcut (Some name) events d = subst (λ es. Each Quiet es) (sym d) tt
 dropped_quiet Pbfcutz (Some name) events d = subst (λ es. Each Quiet es) (sym d.2) (each_both Quiet d.0 (d.1 ∷ []) (misnamed_quiet d.0 d.3) (end_quiet name d.1 d.4, tt))
+
+-- ---- and nothing is said
+
+misname_silent : (e : Event) → Misnames e → Silent e
+misname_silent e h1 = grind arith
+
+misnamed_silent : (tries : List Event) → Each Misnames tries → Each Silent tries
+misnamed_silent [] m = tt
+misnamed_silent (e ∷ es) m = (misname_silent e m.0, misnamed_silent es m.1)
+
+end_silent : (name : List ℕ) (end : Event) → IsEnd name end → Silent end
+end_silent name end (inl e) = subst (λ x. Silent x) (sym e) tt
+end_silent name end (inr e) = subst (λ x. Silent x) (sym e) tt
+
+pub dropped_silent : (program : Program) (name : Option (List ℕ)) (events : List Event) → IsDropped program name events → Each Silent events
+dropped_silent program None events d = subst (λ es. Each Silent es) (sym d) tt
+dropped_silent Pbfcut (Some name) events d = subst (λ es. Each Silent es) (sym d) tt
+dropped_silent Pbfcutz (Some name) events d = subst (λ es. Each Silent es) (sym d.2) (each_both Silent d.0 (d.1 ∷ []) (misnamed_silent d.0 d.3) (end_silent name d.1 d.4, tt))
+
+named_silent : (overwrite : Bool) (output name : List ℕ) (names : List Event) → Names overwrite output name names → Each Silent names
+named_silent overwrite output name names (inl n) = subst (λ es. Each Silent es) (sym n.2) (tt, (end_silent name n.0 n.1, tt))
+named_silent overwrite output name names (inr (inl e)) = subst (λ es. Each Silent es) (sym e) (tt, tt)
+named_silent overwrite output name names (inr (inr n)) = subst (λ es. Each Silent es) (sym n.1) (tt, tt)
+
+kept_silent : (program : Program) (overwrite : Bool) (output : List ℕ) (name : Option (List ℕ)) (events : List Event) → IsKept program overwrite output name events → Each Silent events
+kept_silent program overwrite output None events k = subst (λ es. Each Silent es) (sym k) tt
+kept_silent Pbfcut overwrite output (Some name) events k = subst (λ es. Each Silent es) (sym k) tt
+kept_silent Pbfcutz overwrite output (Some name) events k = subst (λ es. Each Silent es) (sym k.3) (each_both Silent k.0 (k.1 ++ k.2) (misnamed_silent k.0 k.4) (each_both Silent k.1 k.2 (named_silent overwrite output name k.1 k.5) (misnamed_silent k.2 k.6)))
+
+pub ends_silent : {A : Type 0} (program : Program) (overwrite : Bool) (output : List ℕ) (name : Option (List ℕ)) (fault : Option FinishFault) (result : Result A FinishFault) (events : List Event) → EndsOut program overwrite output name fault result events → Each Silent events
+ends_silent program overwrite output name (Some why) (Ok a) events e = absurd e
+ends_silent program overwrite output name (Some why) (Err told) events e = dropped_silent program name events e.1
+ends_silent program overwrite output name None (Ok a) events e = kept_silent program overwrite output name events e
+ends_silent program overwrite output name None (Err told) events (cause, inl dropped) = dropped_silent program name events dropped
+ends_silent program overwrite output name None (Err told) events (cause, inr kept) = kept_silent program overwrite output name events kept
 
 -- the same place, as it is said
 pub ends_at : {A : Type 0} (p program : Program) → p ≡ program → (o overwrite : Bool) → o ≡ overwrite → (path output : List ℕ) → path ≡ output → (name : Option (List ℕ)) (fault : Option FinishFault) (result : Result A FinishFault) (events : List Event) → EndsOut p o path name fault result events → EndsOut program overwrite output name fault result events

@@ -22,6 +22,7 @@ use Rattle.pbfcut_program.proofs.Closing.{close_rest}
 use Rattle.pbfcut_program.proofs.DiskLemmas.{after_still}
 use Rattle.pbfcut_program.proofs.EventLemmas.{each_both}
 use Rattle.pbfcut_program.proofs.Logging.{and_then, then_none}
+use Rattle.pbfcut_program.proofs.SayingLemmas.{broken_still}
 
 calm_still : (e : Event) → Calm e → Still e
 calm_still e h1 = grind arith
@@ -48,9 +49,9 @@ calm_done l m xs is q = (xs, is, still_of xs q)
 pub still_then : (l m n : Option (List Event)) → IsStill l m → IsStill m n → IsStill l n
 still_then l m n a b = (a.0 ++ b.0, and_then l m n a.0 b.0 a.1 b.1, each_both Still a.0 b.0 a.2 b.2)
 
-pub told_still : {A : Type 0} (l m : Option (List Event)) (xs : List Event) (r : Result A Ending) → Tells l m xs r → Each Calm xs → IsStill l m
-told_still l m xs (Ok a) t q = calm_done l m xs t q
-told_still l m xs (Err how) t q = calm_done l m t.0 t.1 t.3
+pub told_still : {A : Type 0} (l m : Option (List Event)) (xs : List Event) (r : Result A Ending) → Tells l m xs r → Each Still xs → IsStill l m
+told_still l m xs (Ok a) t s = (xs, t, s)
+told_still l m xs (Err how) t s = (t.0, t.1, broken_still xs how t.0 s t.2)
 
 pub closed_still : {F : Type 0} (f : feed.Ghosts F) (news : List F) (l m : Option (List Event)) → CloseAll f news l m → IsStill l m
 closed_still f news l m c =

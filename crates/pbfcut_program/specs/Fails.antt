@@ -19,7 +19,7 @@ use Rattle.pbfcut_program.specs.declared.host.FinishFault.TheVariants as finishi
 use Rattle.pbfcut_program.specs.declared.host.NameFault.TheVariants as naming
 use Rattle.pbfcut_program.specs.declared.host.OpenFault.TheVariants as opening
 use Rattle.pbfcut_program.specs.declared.host.PrintFault.TheVariants as line
-use Rattle.pbfcut_program.specs.Events.{Event, Reading, text_read, text_not_read, looked, opened, not_opened, seeded, made, not_made, linked, moved, renamed, removed, stays, not_named, not_synced, read, wrote, printed}
+use Rattle.pbfcut_program.specs.Events.{Event, Reading, text_read, text_not_read, looked, opened, not_opened, seeded, made, not_made, linked, moved, renamed, removed, stays, not_named, not_synced, read, wrote, printed, told, advised}
 use Rattle.pbfcut_program.specs.Manner.{Form, Manner, input_form, meant_known, output_form, packed_file, raw_file}
 use Rattle.pbfcut_program.specs.Readings.{IsFaulty, IsOther}
 
@@ -44,7 +44,7 @@ Quiet (read r) = ⊥
 Quiet (wrote w) = ⊥
 Quiet _ = Unit {0}
 
--- the same, and no file is changed
+-- the same, no file is changed, and nothing is said
 abbrev pub Calm : Event → Type 0
 Calm (read r) = ⊥
 Calm (wrote w) = ⊥
@@ -54,6 +54,9 @@ Calm (moved from to) = ⊥
 Calm (renamed from to) = ⊥
 Calm (removed name) = ⊥
 Calm (stays name) = ⊥
+Calm (printed screen text fault) = ⊥
+Calm (told text) = ⊥
+Calm advised = ⊥
 Calm _ = Unit {0}
 
 abbrev pub FailsToOpen : Event → Type 0
@@ -159,11 +162,6 @@ CauseOfOpening _ events = ⊥
 
 abbrev pub FailsOpening : Ending → List Event → Type 0
 FailsOpening how events = Each Calm events × CauseOfOpening how events
-
--- a line couldn't be printed
-abbrev pub FailsPrinting : Ending → List Event → Type 0
-FailsPrinting how events = ((how ≡ ending.Stopped stop.Write) × Has FailsToWrite events)
-    ⊎ (((how ≡ ending.Closed) × Has FailsAsClosed events) ⊎ (how ≡ ending.Stopped stop.Memory))
 
 -- a drain that packs fails at bytes that are no raw file, too: so why it failed isn't said
 abbrev pub UnlessPacked : Form → Type 0 → Type 0

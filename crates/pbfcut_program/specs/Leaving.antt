@@ -1,5 +1,5 @@
 -- What a command that writes leaves in OUT if it fails.
-use Rattle.std.specs.Prelude.{◌≡◌, ◌⊎◌, ℕ, List, ◌∷◌, ◌++◌, map, take, true, Option}
+use Rattle.std.specs.Prelude.{◌≡◌, ◌⊎◌, ℕ, List, ◌∷◌, ◌++◌, map, take, false, true, Option}
 use Rattle.pbf_block.specs.declared.counts.Counts.{Counts}
 use Rattle.pbf_pass.specs.declared.hashing.PassCheck.{PassCheck}
 use Rattle.pbfcut_program.specs.Events.{Event, Reading, Writing, read, wrote}
@@ -7,12 +7,22 @@ use Rattle.pbfcut_program.specs.Fails.{Each, Opens, UnlessPacked}
 use Rattle.pbfcut_program.specs.Manner.{Manner, of_input, output_form}
 use Rattle.pbfcut.specs.Calls.{AllSupply}
 use Rattle.pbfcut_program.specs.Readings.{IsWork}
-use Rattle.pbfcut_program.specs.Tasks.{Task, answer_of}
+use Rattle.pbfcut_program.specs.Tasks.{Task, answer_of, listing_frames}
 
 -- OUT took a prefix of the answer, if it reports what it took
 abbrev pub TookFront : (answer : List ℕ) → Event → Type 0
 TookFront answer (wrote w) = w.reports ≡ true → (count : ℕ) × (w.bytes ≡ take count answer)
 TookFront answer _ = Unit {0}
+
+-- OUT isn't to be kept
+abbrev pub IsUnkept : Event → Type 0
+IsUnkept (wrote w) = w.kept ≡ false
+IsUnkept _ = Unit {0}
+
+-- the same, unless it has lines of frames, which go out as they are read
+abbrev pub KeepsNone : Task → List Event → Type 0
+KeepsNone listing_frames events = Unit {0}
+KeepsNone task events = Each IsUnkept events
 
 -- the work was done, and OUT took all of it; what comes after it failed: a rest that didn't go out, OUT's name, or a line
 pub record IsWorked (m : Manner) (task : Task) (has : List (Option (List ℕ))) (events : List Event) : Type 0 where
@@ -27,10 +37,11 @@ pub record IsWorked (m : Manner) (task : Task) (has : List (Option (List ℕ))) 
   pub raw : Option (List ℕ)
   pub work : IsWork m by task has rs out.bytes counts digest raw
 
--- OUT took a prefix of the answer, if IN has the same bytes for each pass, and raw blobs are written; or all of it
+-- OUT isn't kept, and took a prefix of the answer, if IN has the same bytes for each pass, and raw blobs are written; or it took all of it
 abbrev pub Leaves : Manner → Task → (has : List (Option (List ℕ))) → List Event → Type 0
 Leaves m task has events =
-    UnlessPacked (output_form m.packs m.program) ((bytes : List ℕ) → AllSupply bytes has → Each (TookFront (answer_of task (of_input m bytes))) events) ⊎ IsWorked m task has events
+    (KeepsNone task events × UnlessPacked (output_form m.packs m.program) ((bytes : List ℕ) → AllSupply bytes has → Each (TookFront (answer_of task (of_input m bytes))) events))
+    ⊎ IsWorked m task has events
 
 -- IN has this for the passes, and by that the command leaves such an OUT
 pub record LeavesFor (m : Manner) (task : Task) (events : List Event) : Type 0 where

@@ -46,6 +46,7 @@ use Rattle.pbfcut_program.specs.Leaving.{LeavesFor}
 use Rattle.pbfcut_program.specs.Manner.{Manner, check_of, hashes_meaning, input_form, manner, meant_known, of_output, once_check, output_form, to_raw}
 use Rattle.pbfcut_program.specs.Readings.{IsWork}
 use Rattle.pbfcut_program.specs.Tasks.{Task, checking, listing_frames, showing, converting, copying, extracting, passes_of}
+use Rattle.pbfcut_program.specs.Telling.{IsSaid}
 
 -- ---- lines
 
@@ -270,7 +271,7 @@ LeavesIn m (Extract region by files) events = Each Quiet events ⊎ LeavesCut m 
 LeavesIn m _ events = Unit {0}
 
 abbrev pub FailsIn : Manner → Command → Ending → List Event → Type 0
-FailsIn m command how events = FailsFor (reading_of m command) (judging_of command) how events × LeavesIn m command events
+FailsIn m command how events = FailsFor (reading_of m command) (judging_of command) how events × LeavesIn m command events × IsSaid m.digests (Does m command) how events
 
 -- ---- the whole run
 
@@ -283,13 +284,13 @@ IsMeant program words command = (IsHelp command × (takes (program_app program) 
 abbrev pub IsDone : Program → List Text → List Event → Type 0
 IsDone program words events = (command : Command) × IsMeant program words command × Does (manner_in program command) command events
 
--- it failed: for wrong words nothing had happened; and if memory was refused, nothing, or OUT took what it may have after any failure
+-- it failed: for wrong words nothing had happened; and if memory was refused, nothing, or a command failed, for this or another cause
 abbrev pub IsWhy : Program → List Text → Ending → List Event → Type 0
 IsWhy program words (ending.Words text) events = (takes (program_app program) (normalized words) ≡ true → ⊥) × (events ≡ [])
 IsWhy program words (ending.Box f) events = FitsFault (subcommand_of (program_app program) (normalized words)) (fault.Box f) × (events ≡ [])
 IsWhy program words (ending.Choice f) events = FitsFault (subcommand_of (program_app program) (normalized words)) (fault.Choice f) × (events ≡ [])
 IsWhy program words (ending.Stopped stop.Memory) events = (events ≡ [])
-    ⊎ ((command : Command) × IsMeant program words command × LeavesIn (manner_in program command) command events)
+    ⊎ ((command : Command) × IsMeant program words command × (cause : Ending) × FailsIn (manner_in program command) command cause events)
 IsWhy program words how events = (command : Command) × IsMeant program words command × FailsIn (manner_in program command) command how events
 
 -- it failed, and its line was written: the exit status and the line are those of one ending

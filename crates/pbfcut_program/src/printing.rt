@@ -1,6 +1,6 @@
 //! What is printed beside listings and texts: counts, digests and help.
 
-ghost use Rattle.std.specs.Prelude.{◌≡◌, ◌∷◌, [], List, IfOk, None, string_bytes};
+ghost use Rattle.std.specs.Prelude.{◌≡◌, ◌∷◌, [], ℕ, List, IfOk, None, string_bytes};
 ghost use Rattle.osm_text.specs.Digests.{digest_line};
 ghost use Rattle.pbfcut_program.specs.Program.{check_lines, counts_text, done_lines, file_lines, prints, unpacked_text};
 ghost use Rattle.pbfcut_program.specs.declared.host.Screen.TheVariants as screen;
@@ -144,7 +144,10 @@ fn refusal_line(
     program: Program,
     refusal: &Refusal,
     input: &str,
-) -> Result<Vec<u8>, AllocError> {
+) -> Result<Vec<u8>, AllocError>
+    ensures { IfOk result (λ line. (name : List ℕ)
+        × (line.items ≡ digest_line refusal.now.input name)) }
+{
     let (read, unit) = (refusal.read, unit_of(program));
     let name = format!(in alloc; "first {read} {unit} of {input}")?;
     digest_text(alloc, refusal.input, name.as_str().as_bytes())
@@ -157,10 +160,13 @@ pub(crate) fn tell_refusal<H: Host>(
     halted: Halted,
     input: &str,
 ) -> Ending
-    ensures { TellsQuietly (H.log host.old) (H.log host.new) halted.ending result }
+    ensures { TellsQuietly engine.digests (H.log host.old) (H.log host.new) halted.ending result }
 {
     let Halted { ending, refusal } = halted;
-    let Some(refusal) = refusal.filter(|_| engine.digests) else {
+    if !engine.digests {
+        return ending;
+    }
+    let Some(refusal) = refusal else {
         return ending;
     };
     match refusal_line(engine.alloc, engine.program, &refusal, input) {

@@ -9,6 +9,7 @@ ghost use Rattle.pbfcut_program.specs.Leaving.{LeavesFor};
 ghost use Rattle.pbfcut_program.specs.Manner.{manner_of};
 ghost use Rattle.pbfcut_program.specs.Settling.{RunSettles, Settles, SettlesIn};
 ghost use Rattle.pbfcut_program.specs.Tasks.{judge_of};
+ghost use Rattle.pbfcut_program.specs.Telling.{IsSaid};
 ghost use Rattle.pbfcut_program.specs.Program.{Does, FailsIn, IsRun, IsWhy, Writes, digests_of, packs_of};
 
 use crate::ending::{report, report_command};
@@ -71,7 +72,8 @@ fn run_writing<H: Host>(
     ensures err { IfErr result (λ how. (events : List Event)
         × (H.log host.new ≡ then_all (H.log host.old) events)
         × FailsFor (manner_of engine) (judging (judge_of (plan_of plan))) how events
-        × LeavesFor (manner_of engine) (plan_of plan) events) }
+        × LeavesFor (manner_of engine) (plan_of plan) events
+        × IsSaid engine.digests (Writes (manner_of engine) (plan_of plan) files.now) how events) }
     ensures files { Settles engine.program files.now (H.log host.old) (H.log host.new) }
 {
     let progress = shows_writing(&*host, engine.program, files);

@@ -7,7 +7,7 @@ ghost use Rattle.pbfcut.specs.Summary.{judged_headings};
 ghost use Rattle.pbfcut_cli.specs.declared.programs.Program.TheVariants as program;
 ghost use Rattle.pbfcut_program.specs.Devices.{Finishes};
 ghost use Rattle.pbfcut_program.specs.Events.{Event, Reading, opened, read, then_all};
-ghost use Rattle.pbfcut_program.specs.Fails.{FailsFor, judging, listing};
+ghost use Rattle.pbfcut_program.specs.Fails.{Each, FailsFor, judging, listing};
 ghost use Rattle.pbfcut_program.specs.Leaving.{LeavesFor};
 ghost use Rattle.pbfcut_program.specs.Manner.{manner, manner_of, once_check, to_raw};
 ghost use Rattle.pbfcut_program.specs.Outcomes.{EndsAs, ending_of_text};
@@ -15,6 +15,7 @@ ghost use Rattle.pbfcut_program.specs.Program.{Checks, IsListing, Lists, Shows};
 ghost use Rattle.pbfcut_program.specs.Readings.{IsWork};
 ghost use Rattle.pbfcut_program.specs.Settling.{IsStill};
 ghost use Rattle.pbfcut_program.specs.Tasks.{checking, listing_frames, showing};
+ghost use Rattle.pbfcut_program.specs.Telling.{IsSaid, SaysLittle, Silent};
 
 use crate::engine::{Engine, Halted, Report, ShowOptions, check, list_blobs, show, show_info};
 use crate::host::{FinishFault, Host};
@@ -38,7 +39,8 @@ fn read_once<H: Host>(
         report.counts report.input report.raw) }
     ensures err { IfErr result (λ how. (events : List Event)
         × (H.log host.new ≡ then_all (H.log host.old) events)
-        × FailsFor (manner_of engine) (judging judged_file) how events) }
+        × FailsFor (manner_of engine) (judging judged_file) how events
+        × SaysLittle engine.digests events) }
     ensures files { IsStill (H.log host.old) (H.log host.new) }
 {
     let input = Input {
@@ -67,7 +69,8 @@ pub(crate) fn run_check<H: Host>(
         × Checks (manner_of engine) path.now events) }
     ensures err { IfErr result (λ how. (events : List Event)
         × (H.log host.new ≡ then_all (H.log host.old) events)
-        × FailsFor (manner_of engine) (judging judged_file) how events) }
+        × FailsFor (manner_of engine) (judging judged_file) how events
+        × IsSaid engine.digests (Checks (manner_of engine) path.now) how events) }
     ensures files { IsStill (H.log host.old) (H.log host.new) }
 {
     let report = read_once(engine, host, path, progress)?;
@@ -119,7 +122,7 @@ pub(crate) fn run_show<H: Host>(
     ensures err { IfErr result (λ how. (events : List Event)
         × (H.log host.new ≡ then_all (H.log host.old) events)
         × FailsFor (to_raw (manner_of engine)) (judging judged_file) how events
-        × LeavesFor (to_raw (manner_of engine)) (showing dates) events) }
+        × LeavesFor (to_raw (manner_of engine)) (showing dates) events × Each Silent events) }
     ensures files { IsStill (H.log host.old) (H.log host.new) }
 {
     let mut passes = open_two(host, input)?;
@@ -142,7 +145,7 @@ pub(crate) fn run_blobs<H: Host>(
     ensures err { IfErr result (λ how. (events : List Event)
         × (H.log host.new ≡ then_all (H.log host.old) events)
         × FailsFor (manner_of engine) listing how events
-        × LeavesFor (to_raw (manner_of engine)) listing_frames events) }
+        × LeavesFor (to_raw (manner_of engine)) listing_frames events × Each Silent events) }
     ensures files { IsStill (H.log host.old) (H.log host.new) }
 {
     let mut pass = open_pass(host, input, 1)?;
@@ -166,7 +169,7 @@ pub(crate) fn run_info<H: Host>(
     ensures err { IfErr result (λ how. (events : List Event)
         × (H.log host.new ≡ then_all (H.log host.old) events)
         × FailsFor (manner program.Pbfcutz false engine.digests)
-        (judging judged_headings) how events) }
+        (judging judged_headings) how events × Each Silent events) }
     ensures files { IsStill (H.log host.old) (H.log host.new) }
 {
     let mut pass = open_pass(host, input, 1)?;

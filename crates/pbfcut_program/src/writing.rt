@@ -16,11 +16,12 @@ ghost use Rattle.pbfcut_program.specs.Fails.{Each, Fails, FailsFor, FailsOpening
 ghost use Rattle.pbfcut_program.specs.Jobs.{area_of, feeds_of, plan_of, task_of};
 ghost use Rattle.pbfcut_program.specs.Leaving.{Leaves, LeavesFor};
 ghost use Rattle.pbfcut_program.specs.Outcomes.{ending_of_file};
-ghost use Rattle.pbfcut_program.specs.Program.{Extracts, LeavesCut, WritesCounts, advice, begun, is_empty, is_screen, looks, screen_of, strategy_of};
+ghost use Rattle.pbfcut_program.specs.Program.{Extracts, LeavesCut, Writes, WritesCounts, advice, begun, is_empty, is_screen, looks, screen_of, strategy_of};
 ghost use Rattle.pbfcut_program.specs.Manner.{check_in, hashes_meaning, input_form, manner_of, output_form, packed_file, to_raw};
 ghost use Rattle.pbfcut_program.specs.Settling.{Returns, Settles};
 ghost use Rattle.pbfcut_program.specs.Worked.{Worked};
 ghost use Rattle.pbfcut_program.specs.Tasks.{extracting, judge_of, passes_of};
+ghost use Rattle.pbfcut_program.specs.Telling.{IsSaid, SaysLittle};
 
 use crate::engine::{Engine, Halted, Report};
 use crate::host::{FinishFault, Host, Screen, Seed};
@@ -400,7 +401,8 @@ fn run_job<H: Host>(
         × Fails (manner_of engine) (judging (judge_of (task_of ready.job)))
         (map H.In.remaining (feeds_of ready.job)) how events
         × Leaves (manner_of engine) (task_of ready.job)
-        (map H.In.remaining (feeds_of ready.job)) events) }
+        (map H.In.remaining (feeds_of ready.job)) events
+        × SaysLittle engine.digests events) }
     ensures files { Returns engine.program files.now (option_map string_bytes ready.out.name)
         (H.log host.old) (H.log host.new) }
 {
@@ -445,7 +447,8 @@ pub(crate) fn write<H: Host>(
     ensures err { IfErr result (λ how. (events : List Event)
         × (H.log host.new ≡ then_all (H.log host.old) events)
         × FailsFor (manner_of engine) (judging (judge_of (plan_of plan))) how events
-        × LeavesFor (manner_of engine) (plan_of plan) events) }
+        × LeavesFor (manner_of engine) (plan_of plan) events
+        × IsSaid engine.digests (Writes (manner_of engine) (plan_of plan) files.now) how events) }
     ensures files { Settles engine.program files.now (H.log host.old) (H.log host.new) }
 {
     let ready = prepare(engine, host, files, plan, progress)?;
@@ -500,7 +503,9 @@ pub(crate) fn run_extract<H: Host>(
     ensures err { IfErr result (λ how. (events : List Event)
         × (H.log host.new ≡ then_all (H.log host.old) events)
         × FailsFor (manner_of engine) (judging (judge_by (strategy_of strategy.entry))) how events
-        × (Each Quiet events ⊎ LeavesCut (manner_of engine) region.now strategy.entry events)) }
+        × (Each Quiet events ⊎ LeavesCut (manner_of engine) region.now strategy.entry events)
+        × IsSaid engine.digests
+        (Extracts (manner_of engine) region.now strategy.entry files.now) how events) }
     ensures files { Settles engine.program files.now (H.log host.old) (H.log host.new) }
 {
     let cut = read_region(engine.alloc, host, region)?;

@@ -1,11 +1,12 @@
-use Rattle.std.proofs.Common.{◌≡◌, [], ◌∷◌, inr, refl, rules, subst}
+use Rattle.std.proofs.Common.{◌≡◌, [], ◌∷◌, rules, subst}
 use Rattle.pbfcut_program.specs.Program.{counts_text, prints}
 use Rattle.pbfcut_program.specs.Telling.{Tells}
 use Rattle.pbfcut_program.proofs.Logging.{then_none}
+use Rattle.pbfcut_program.proofs.SayingLemmas.{line_without_memory}
 use Rattle.pbfcut_program.proofs.printing.print_counts.Goals as goal
 
 pub returns-in-Err : goal.returns-in-Err
-returns-in-Err g c = ([], then_none _, inr (inr refl), tt)
+returns-in-Err g c = ([], then_none _, line_without_memory c.args.screen (counts_text c.args.counts))
 
 pub returns-in-Ok : goal.returns-in-Ok
 returns-in-Ok g c =

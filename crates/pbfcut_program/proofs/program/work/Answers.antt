@@ -4,7 +4,7 @@ use Rattle.pbfcut_cli.specs.Joined.{normalized}
 use Rattle.pbfcut_cli.specs.Words.{word_texts}
 use Rattle.pbfcut_program.proofs.Logging.{and_then}
 use Rattle.pbfcut_program.proofs.Meaning.{cli_why, fails_why, is_meant, why_shown}
-use Rattle.pbfcut_program.proofs.SettlingLemmas.{calm_done, nothing_done, run_settles_before}
+use Rattle.pbfcut_program.proofs.SettlingLemmas.{nothing_done, run_settles_before}
 use Rattle.pbfcut_program.proofs.program.work.Goals as goal
 
 pub returns-in_err-command-clause-err : goal.returns-in_err-command-clause-err
@@ -54,4 +54,4 @@ returns-clause-files g c =
     let words = map string_bytes c.args.words.now in
     let is : word_texts c.as_slice.result.now ≡ normalized words = ap word_texts c.as_slice.ensures.value ∙ c.in_ok-texts.ensures ∙ ap (map string_bytes) c.deref.ensures.value ∙ c.in_ok-normalized.ensures in
     let meant = is_meant c.args.program words (word_texts c.as_slice.result.now) c.in_ok-command.command is c.in_ok-command.ensures.read c.in_ok-command.ensures.taken in
-    run_settles_before c.args.program words _ _ _ (inr (c.in_ok-command.command, meant, c.in-Err.ensures.files)) (calm_done _ _ _ c.report_command.ensures.1 (tt, (tt, tt)))
+    run_settles_before c.args.program words _ _ _ (inr (c.in_ok-command.command, meant, c.in-Err.ensures.files)) (_, c.report_command.ensures.1, (tt, (tt, tt)))

@@ -10,6 +10,7 @@ use Rattle.pbfcut_program.specs.Fails.{Each, Opens, Quiet, judging}
 use Rattle.pbfcut_program.specs.Manner.{check_in, manner_of, to_raw}
 use Rattle.pbfcut_program.specs.Readings.{IsWork}
 use Rattle.pbfcut_program.specs.Tasks.{showing}
+use Rattle.pbfcut_program.specs.Telling.{Silent}
 use Rattle.pbfcut_program.specs.Program.{draws}
 use Rattle.pbfcut_program.proofs.Beginning.{calm_draws, shown_events}
 use Rattle.pbfcut_program.proofs.Closing.{if_done, text_fails}
@@ -17,6 +18,7 @@ use Rattle.pbfcut_program.proofs.EventLemmas.{each_both, quiet_of}
 use Rattle.pbfcut_program.proofs.FailLemmas.{opened_fails, opening_after, opening_fails, opens_before, text_ok}
 use Rattle.pbfcut_program.proofs.LeavingLemmas.{leaves_after, opening_leaves}
 use Rattle.pbfcut_program.proofs.Logging.{and_then}
+use Rattle.pbfcut_program.proofs.SayingLemmas.{silent_of}
 use Rattle.pbfcut_program.proofs.SettlingLemmas.{calm_done, closed_still, one_still, screen_still, still_then}
 use Rattle.pbfcut_program.proofs.reading.run_show.Goals as goal
 
@@ -26,7 +28,7 @@ returns-in_err-passes-clause-err g c =
     let f = c.in_err-passes.ensures.failed in
     let m = to_raw (manner_of c.args.engine) in
     let how = c.in_err-passes.field-0.0 in
-    rw (p.1, p.2) (f.0, f.1, opening_fails m (judging judged_file) how f.0 f.2, opening_leaves m (showing c.args.dates) how f.0 f.2)
+    rw (p.1, p.2) (f.0, f.1, opening_fails m (judging judged_file) how f.0 f.2, opening_leaves m (showing c.args.dates) how f.0 f.2, silent_of f.0 f.2.0)
 
 pub returns-in_err-key-clause-err : goal.returns-in_err-key-clause-err
 returns-in_err-key-clause-err g c =
@@ -38,7 +40,7 @@ returns-in_err-key-clause-err g c =
     let how = c.in_err-key.field-0.0 in
     let m = to_raw (manner_of c.args.engine) in
     let fails = opening_after how first f.0 (tt, (tt, tt)) f.2 in
-    rw (p.1, p.2) (first ++ f.0, and_then (g.H.Host.log c.args.host.now) _ _ first f.0 c.in_ok-passes.ensures.opened f.1, opening_fails m (judging judged_file) how (first ++ f.0) fails, opening_leaves m (showing c.args.dates) how (first ++ f.0) fails)
+    rw (p.1, p.2) (first ++ f.0, and_then (g.H.Host.log c.args.host.now) _ _ first f.0 c.in_ok-passes.ensures.opened f.1, opening_fails m (judging judged_file) how (first ++ f.0) fails, opening_leaves m (showing c.args.dates) how (first ++ f.0) fails, silent_of (first ++ f.0) fails.0)
 
 pub returns-in_err-out-clause-err : goal.returns-in_err-out-clause-err
 returns-in_err-out-clause-err g c =
@@ -53,7 +55,7 @@ returns-in_err-out-clause-err g c =
     let before = and_then (g.H.Host.log c.args.host.now) _ _ first drawn c.in_ok-passes.ensures.opened c.in_ok-key.ensures.ok in
     let begun = first ++ drawn in
     let fails = opening_after how begun f.0 (tt, (tt, calm_draws c.args.engine.program c.in_ok-key.key)) f.2 in
-    rw (p.1, p.2) (begun ++ f.0, and_then (g.H.Host.log c.args.host.now) _ _ begun f.0 before f.1, opening_fails m (judging judged_file) how (begun ++ f.0) fails, opening_leaves m (showing c.args.dates) how (begun ++ f.0) fails)
+    rw (p.1, p.2) (begun ++ f.0, and_then (g.H.Host.log c.args.host.now) _ _ begun f.0 before f.1, opening_fails m (judging judged_file) how (begun ++ f.0) fails, opening_leaves m (showing c.args.dates) how (begun ++ f.0) fails, silent_of (begun ++ f.0) fails.0)
 
 pub returns-clause-ok : goal.returns-clause-ok
 returns-clause-ok g c =
@@ -107,6 +109,7 @@ returns-clause-err g c =
     let m = to_raw (manner_of c.args.engine) in
     let hs = has ps.one ∷ has ps.two ∷ [] in
     let quiet : Each Quiet first = (tt, (tt, each_both Quiet drawn (screened true ∷ []) (quiet_of drawn (calm_draws c.args.engine.program c.in_ok-key.key)) (tt, tt))) in
+    let silent : Each Silent first = (tt, (tt, each_both Silent drawn (screened true ∷ []) (silent_of drawn (calm_draws c.args.engine.program c.in_ok-key.key)) (tt, tt))) in
     let opens : Opens 1 hs first = (inl (refl, refl), (inr (inl (refl, refl)), tt)) in
     let feeds : AreFresh g.H.In.Feed (ps.one ∷ ps.two ∷ []) = (c.in_ok-passes.ensures.fresh.0, (c.in_ok-passes.ensures.fresh.1, tt)) in
     IfErr-weaker c.ended.result _ _ (λ how f. (
@@ -114,8 +117,9 @@ returns-clause-err g c =
       and_then (log c.args.host.now) _ _ first f.0 begun f.1,
       opened_fails m (judging judged_file) hs how first f.0 quiet opens f.2,
       record { has = hs; opens = opens_before 1 hs first f.0 opens; leaves = leaves_after m (showing c.args.dates) hs first f.0 quiet f.3 },
+      each_both Silent first f.0 silent f.4,
     ))
-    (text_fails c.args.engine.program c.args.engine.digests (check_in c.args.engine c.in_ok-key.key) g.H.In.Feed g.H.Out.Drain (showing c.args.dates) c.in_ok-out.out c.show-outcome.new.drain None (is_ok c.show-outcome.result) e.0 (log c.open_screen.new.host) (log c.close_two.new.host) (log c.ended.new.host) (ps.one ∷ ps.two ∷ []) (now.one ∷ now.two ∷ []) c.show-outcome.result c.ended.result
+    (text_fails c.args.engine.program c.args.engine.digests (check_in c.args.engine c.in_ok-key.key) g.H.In.Feed g.H.Out.Drain (showing c.args.dates) c.in_ok-out.out c.show-outcome.new.drain None e.0 (log c.open_screen.new.host) (log c.close_two.new.host) (log c.ended.new.host) (ps.one ∷ ps.two ∷ []) (now.one ∷ now.two ∷ []) c.show-outcome.result c.ended.result
     fresh feeds c.close_two.ensures e.1 (c.show-outcome.ensures.works feeds 0 fresh.0) c.show-outcome.ensures.front e.2)
 
 pub returns-in_err-passes-clause-files : goal.returns-in_err-passes-clause-files

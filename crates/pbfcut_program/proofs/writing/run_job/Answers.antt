@@ -1,4 +1,4 @@
-use Rattle.std.proofs.Common.{◌≡◌, ◌∙◌, ◌<◌, ◌++◌, ◌∷◌, [], List, ℕ, Option, inl, inr, map, refl, false, true, ap, subst, sym, append_assoc, string_bytes}
+use Rattle.std.proofs.Common.{◌∙◌, ◌<◌, ◌++◌, ◌∷◌, [], List, ℕ, inr, map, refl, false, true, ap, subst, sym, append_assoc, string_bytes}
 use Rattle.std.proofs.lemmas.Result.{IfErr-weaker, IfOk-weaker}
 use Rattle.std.specs.Option.{is_some, option_map}
 use Rattle.pbfcut_program.specs.Devices.{MeansBy, TakenBy}
@@ -6,16 +6,18 @@ use Rattle.pbfcut_program.specs.Events.{Event, Writing, read, then_all, wrote}
 use Rattle.pbfcut_program.specs.Fails.{judging}
 use Rattle.pbfcut_program.specs.Files.{IsKept}
 use Rattle.pbfcut_program.specs.Jobs.{feeds_of, task_of}
-use Rattle.pbfcut_program.specs.Leaving.{TookFront}
+use Rattle.pbfcut_program.specs.Leaving.{IsUnkept, TookFront}
 use Rattle.pbfcut_program.specs.Manner.{check_in, hashes_meaning, manner_of, of_output, output_form}
 use Rattle.pbfcut_program.specs.Tasks.{judge_of}
+use Rattle.pbfcut_program.specs.Telling.{Silent}
 use Rattle.pbfcut_program.proofs.Closing.{close_rest, ends_with_out, hashed_as, stops_leaving, work_done, work_fails}
 use Rattle.pbfcut_program.proofs.EventLemmas.{each_both, each_quiet, has_after}
 use Rattle.pbfcut_program.proofs.FailLemmas.{fails_before, file_stops, told_fails}
-use Rattle.pbfcut_program.proofs.LeavingLemmas.{TakenFront, quiet_front}
+use Rattle.pbfcut_program.proofs.LeavingLemmas.{IsReturned, quiet_front, quiet_unkept, reads_return, returned_front, returned_silent, returned_unkept}
 use Rattle.pbfcut_program.proofs.Logging.{and_then, then_none}
-use Rattle.pbfcut_program.proofs.OutLemmas.{dropped_quiet, ends_at, ends_kept, ends_told}
-use Rattle.pbfcut_program.proofs.SettlingLemmas.{is_ended, still_of}
+use Rattle.pbfcut_program.proofs.OutLemmas.{dropped_quiet, dropped_silent, ends_at, ends_kept, ends_silent, ends_told}
+use Rattle.pbfcut_program.proofs.SayingLemmas.{refusal_still, silent_little}
+use Rattle.pbfcut_program.proofs.SettlingLemmas.{is_ended}
 use Rattle.pbfcut_program.proofs.writing.run_job.Goals as goal
 
 pub returns-in-Ok-clause-ok : goal.returns-in-Ok-clause-ok
@@ -65,6 +67,7 @@ returns-in-Ok-clause-err g c =
       all,
       rw e.2 (file_stops (manner_of engine) (judging (judge_of (task_of job))) (map g.H.In.Feed.remaining (feeds_of job)) e.0 (rs ++ last) (has_after _ rs last lost)),
       inr (record { before = []; rs = done.0; out = done.1; after = k.3; happened = refl; by = check_in engine c.args.ready.seed.key; counts = report.counts; digest = report.input; raw = report.raw; work = done.5 }),
+      silent_little engine.digests (rs ++ last) (each_both Silent rs last (returned_silent (λ w. Unit {0}) rs (reads_return (λ w. Unit {0}) done.0)) (tt, ends_silent engine.program c.args.files.now.overwrite c.args.files.now.output.now name k.0 c.keep_out.result k.3 closes)),
     )) c.kept.ensures.err
 
 pub returns-in-Err-clause-err : goal.returns-in-Err-clause-err
@@ -83,8 +86,9 @@ returns-in-Err-clause-err g c =
     let gone = c.drop_out.ensures in
     let works = rw c.in-Err.is at (c.run_into-result.ensures.works c.requires.fresh.0) in
     let front = rw c.in-Err.is at c.run_into-result.ensures.front in
+    let known = taken ran.out in
     let tail = ends_with_out g.H.Out.Drain ran.out name false gone.0 took failed (log c.close_job.new.host) gone.1 (λ w t. t.0.0) (λ risen. risen) gone.2 in
-    let fail = work_fails engine.program engine.packs engine.digests (check_in engine c.args.ready.seed.key) g.H.In.Feed (task_of job) took failed (TakenFront (taken ran.out))
+    let fail = work_fails engine.program engine.packs engine.digests (check_in engine c.args.ready.seed.key) g.H.In.Feed (task_of job) took failed (IsReturned known false)
     (log c.args.host.now) (log c.close_job.new.host) gone.1 (feeds_of job) (feeds_of c.run_into-result.new.job) c.in-Err.halted tail c.requires.fresh.0 c.close_job.ensures works in
     let quiet = dropped_quiet engine.program name gone.3 gone.5 in
     let dropped = and_then (log c.args.host.now) gone.1 (log c.drop_out.new.host) fail.0 gone.3 fail.1 gone.4 in
@@ -93,8 +97,10 @@ returns-in-Err-clause-err g c =
       told.0,
       told.1,
       told.2,
-      stops_leaving m (task_of job) has (taken c.args.ready.out.drain) (taken ran.out) told.0 c.requires.fresh.1.1
-          (λ answer x. told.3 (TookFront answer) (quiet_front answer) (each_both _ fail.0 gone.3 (fail.3 answer x) (each_quiet _ (quiet_front answer) gone.3 quiet))) front,
+      stops_leaving m (task_of job) has (taken c.args.ready.out.drain) known told.0 c.requires.fresh.1.1
+          (told.4 IsUnkept quiet_unkept (each_both IsUnkept fail.0 gone.3 (returned_unkept known fail.0 fail.3) (each_quiet IsUnkept quiet_unkept gone.3 quiet)))
+          (λ answer x. told.4 (TookFront answer) (quiet_front answer) (each_both _ fail.0 gone.3 (returned_front known false answer x fail.0 fail.3) (each_quiet _ (quiet_front answer) gone.3 quiet))) front,
+      told.3 (each_both Silent fail.0 gone.3 (returned_silent (IsReturned known false) fail.0 fail.3) (dropped_silent engine.program name gone.3 gone.5)),
     )
 
 pub returns-in-Ok-clause-files : goal.returns-in-Ok-clause-files
@@ -126,4 +132,4 @@ returns-in-Err-clause-files g c =
     let w : Writing = record { name = name; bytes = gone.2.0.0; reports = is_some (g.H.Out.Drain.taken out); failures = g.H.Out.Drain.failures out; kept = false; fault = gone.0 } in
     let closed = and_then (log c.args.host.now) (log c.close_job.new.host) gone.1 rs (wrote w ∷ []) rest.1 gone.2.0.2 in
     let ended = and_then (log c.args.host.now) gone.1 (log c.drop_out.new.host) (rs ++ wrote w ∷ []) gone.3 closed gone.4 ∙ ap (λ es. then_all (log c.args.host.now) es) (append_assoc rs (wrote w ∷ []) gone.3) in
-    (rest.0, w, gone.3, told.events, and_then (log c.args.host.now) _ _ (rs ++ wrote w ∷ gone.3) told.events ended told.log, still_of told.events told.calm, refl, inr gone.5)
+    (rest.0, w, gone.3, told.events, and_then (log c.args.host.now) _ _ (rs ++ wrote w ∷ gone.3) told.events ended told.log, refusal_still c.args.engine.digests told.events told.tells, refl, inr gone.5)
