@@ -7,7 +7,7 @@ ghost use Rattle.osm_entity.specs.Sources.{tags_left};
 ghost use Rattle.osm_ways.specs.Selection.{none_whole};
 ghost use Rattle.osm_ways.specs.Whole.{has_type, is_wanted, is_wanted_by, name_of};
 
-use osm_box::number::cut;
+use osm_box::number::cut_at_char;
 use osm_entity::Tags;
 use std::alloc::{AllocError, Global};
 
@@ -60,7 +60,7 @@ fn names_in(alloc: Global, text: &str) -> Result<Vec<Vec<u8>>, AllocError>
 {
     let mut names = Vec::new(alloc);
     let mut rest = text;
-    'names: while let Some((name, more)) = cut(rest, ',') {
+    'names: while let Some((name, more)) = cut_at_char(rest, ',') {
         names.push(name_from(alloc, name)?)?;
         rest = more;
     }
