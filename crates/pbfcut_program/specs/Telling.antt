@@ -23,7 +23,7 @@ Silent _ = Unit {0}
 abbrev pub TellsRefusal : (digests : Bool) → List Event → Type 0
 TellsRefusal digests events = (events ≡ []) ⊎ ((digest name : List ℕ) × (digests ≡ true) × (events ≡ told (digest_line digest name) ∷ []))
 
--- that comes last, and no more is said
+-- that comes last, and nothing else is said
 pub record SaysLittle (digests : Bool) (events : List Event) : Type 0 where
   pub before : List Event
   pub last : List Event
@@ -52,7 +52,7 @@ pub record BreaksOff (well : List Event → Type 0) (how : Ending) (events : Lis
   pub happened : events ≡ before ++ last
   pub unprinted : IsUnprinted screen text how last
 
--- what it says, if such events are those of a command that ends well
+-- what a failed command says, where `well` is what holds of the events of one that ends well
 abbrev pub IsSaid : (digests : Bool) → (well : List Event → Type 0) → Ending → List Event → Type 0
 IsSaid digests well how events = SaysLittle digests events ⊎ BreaksOff well how events
 
