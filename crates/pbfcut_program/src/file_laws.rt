@@ -98,7 +98,8 @@ pub fn run_of_extract()
         × GivesExtract (manner_in program (Extract cut by files)) cut by files file events disk }
 {}
 
-/// What status 0 of `convert` says of them: OUT has bytes that mean a conversion of what those of IN mean. All else is as after `extract`.
+/// What status 0 of `convert` says of them: OUT has bytes that mean a conversion of what those of IN mean. The rest is as after
+/// `extract`.
 pub fn run_of_convert()
     ensures { (program : Program) (words : List Text) (rows : List Row) (events : List Event)
         (disk : Disk) (file : List ℕ) → EndsWell program words (codes "convert") rows events disk file
@@ -106,8 +107,8 @@ pub fn run_of_convert()
         × GivesConversion (manner_in program (Convert files)) files file events disk }
 {}
 
-/// What status 0 of `pack` and of `unpack` says of them: OUT has bytes that mean the same raw file as those of IN. All else is as after
-/// `extract`.
+/// What status 0 of `pack` and of `unpack` says of them: OUT has bytes that mean the same raw file as those of IN. The rest is as
+/// after `extract`.
 pub fn run_of_copy()
     ensures pack { (program : Program) (words : List Text) (rows : List Row) (events : List Event)
         (disk : Disk) (file : List ℕ) → EndsWell program words (codes "pack") rows events disk file
