@@ -26,7 +26,7 @@ use Rattle.pbfcut_program.specs.Manner.{AreDigests, Manner, input_form, manner, 
 use Rattle.pbfcut_program.specs.Outcomes.{EndsAs}
 use Rattle.pbfcut_program.specs.Program.{digest_if_asked}
 use Rattle.pbfcut_program.specs.Readings.{IsOther, IsWholeOrSpared, IsWork, ReadAll, ReadLater}
-use Rattle.pbfcut_program.specs.Leaving.{Leaves, TookFront}
+use Rattle.pbfcut_program.specs.Leaving.{Answer, Leaves, TookFront}
 use Rattle.pbfcut_program.specs.Tasks.{Task, answer_of, judge_of, spares}
 use Rattle.pbfcut_program.proofs.EventLemmas.{each_both, has_after, has_before, nothing_read, readings_both, readings_of}
 use Rattle.pbfcut_program.proofs.FailLemmas.{stop_fails, text_stops, unless_packed}
@@ -114,9 +114,9 @@ module _ {F : Type 0} (f : feed.Ghosts F) where
 -- ---- what comes after the feeds
 
 -- OUT, or nothing, is returned: whatever it took, and if it took nothing
-abbrev pub Ends : (took : List ℕ → Type 0) → (failed : Type 0) → (front : List ℕ → Type 0) → Option (List Event) → Option (List Event) → Type 0
+abbrev pub Ends : (took : List ℕ → Type 0) → (failed : Type 0) → (front : Answer → Type 0) → Option (List Event) → Option (List Event) → Type 0
 Ends took failed front m n =
-    ((es : List Event) × (n ≡ then_all m es) × (readings es ≡ []) × (failed → Has FailsToWrite es) × ((answer : List ℕ) → front answer → Each (TookFront answer) es))
+    ((es : List Event) × (n ≡ then_all m es) × (readings es ≡ []) × (failed → Has FailsToWrite es) × ((answer : Answer) → front answer → Each (TookFront answer) es))
     × (took [] → (es : List Event) × (n ≡ then_all m es) × (readings es ≡ []) × Each TookNothing es)
 
 pub ends_with_none : (m : Option (List Event)) (took : List ℕ → Type 0) → Ends took ⊥ (λ answer. ⊥) m m
@@ -134,10 +134,10 @@ none_left : (rs : List Reading) (n at : ℕ) → n ≡ at + 1 → n ≡ length r
 none_left [] n at e h = refl
 none_left (r ∷ rs) n at e h = grind arith
 
-module _ {F : Type 0} (f : feed.Ghosts F) (packs digests : Bool) (judge : Option (List ℕ) → Option Verdict) (took : List ℕ → Type 0) (failed : Type 0) (front : List ℕ → Type 0) (l m n : Option (List Event)) (tail : Ends took failed front m n) where
+module _ {F : Type 0} (f : feed.Ghosts F) (packs digests : Bool) (judge : Option (List ℕ) → Option Verdict) (took : List ℕ → Type 0) (failed : Type 0) (front : Answer → Type 0) (l m n : Option (List Event)) (tail : Ends took failed front m n) where
   -- what OUT took
   abbrev FrontIn : List Event → Type 0
-  FrontIn events = (answer : List ℕ) → front answer → Each (TookFront answer) events
+  FrontIn events = (answer : Answer) → front answer → Each (TookFront answer) events
 
   -- what is said, as events, of how a call of a program stopped, by what its feeds had
   abbrev StopFails : Program → Stop → List F → Type 0
@@ -217,9 +217,9 @@ module _ {F : Type 0} (f : feed.Ghosts F) (packs digests : Bool) (judge : Option
   stop_told Pbfcutz (stop.Changed pass) olds news fresh c stops = (some news c, some_log news c, stops, some_front news c)
 
 -- a call stopped, and all devices were returned
-pub work_fails : (program : Program) (packs digests : Bool) (check : PassCheck) {F : Type 0} (f : feed.Ghosts F) (task : Task) (took : List ℕ → Type 0) (failed : Type 0) (front : List ℕ → Type 0) (l m n : Option (List Event)) (olds news : List F) (halted : Halted)
+pub work_fails : (program : Program) (packs digests : Bool) (check : PassCheck) {F : Type 0} (f : feed.Ghosts F) (task : Task) (took : List ℕ → Type 0) (failed : Type 0) (front : Answer → Type 0) (l m n : Option (List Event)) (olds news : List F) (halted : Halted)
     → Ends took failed front m n → AreFresh f olds → CloseAll f news l m → Works (manner program packs digests) check f task olds news took failed (Err halted)
-    → (events : List Event) × (n ≡ then_all l events) × Fails (manner program packs digests) (judging (judge_of task)) (map f.remaining olds) halted.ending events × ((answer : List ℕ) → front answer → Each (TookFront answer) events)
+    → (events : List Event) × (n ≡ then_all l events) × Fails (manner program packs digests) (judging (judge_of task)) (map f.remaining olds) halted.ending events × ((answer : Answer) → front answer → Each (TookFront answer) events)
 work_fails program packs digests check f task took failed front l m n olds news halted tail fresh c works =
     let told = stop_told f packs digests (judge_of task) took failed front l m n tail program works.0 olds news fresh c works.2 in
     (told.0, told.1, stop_fails (manner program packs digests) (judging (judge_of task)) (map f.remaining olds) halted.ending told.0 works.0 works.1 told.2, told.3)
@@ -244,7 +244,7 @@ work_done f d out name kept fault by check task took failed l m n olds news repo
 
 -- a call ended well, but not all went out
 pub finish_fails : {F D : Type 0} (f : feed.Ghosts F) (d : drain.Ghosts D) (out : D) (name : Option (List ℕ)) (kept : Bool) (fault : Option FinishFault) (l m n : Option (List Event)) (news : List F) → CloseAll f news l m → Finishes d out name kept fault m n → (why : FinishFault) → fault ≡ Some why
-    → (events : List Event) × (n ≡ then_all l events) × Has (FailsToFinish why) events × ((answer : List ℕ) → TakenFront (d.taken out) answer → Each (TookFront answer) events)
+    → (events : List Event) × (n ≡ then_all l events) × Has (FailsToFinish why) events × ((answer : Answer) → TakenFront (d.taken out) answer → Each (TookFront answer) events)
 finish_fails f d out name kept fault l m n news c fin why e =
     let rest = close_rest f news l m c in
     let w : Writing = record { name = name; bytes = fin.0.0; reports = is_some (d.taken out); failures = d.failures out; kept = kept; fault = fault } in (
@@ -268,10 +268,10 @@ if_done f d out name kept fault by check task took failed l m n olds news (Ok re
 if_done f d out name kept fault by check task took failed l m n olds news (Err halted) fresh c fin taken works = tt
 
 -- a call stopped, and it and its devices left this
-pub stops_leaving : (m : Manner) (task : Task) (has : List (Option (List ℕ))) (before after : Option (List ℕ)) (events : List Event) → IfSome before (λ taken. taken ≡ [])
-    → ((answer : List ℕ) → TakenFront after answer → Each (TookFront answer) events)
-    → UnlessPacked (output_form m.packs m.program) ((bytes : List ℕ) → AllSupply bytes has → IsFront before after (answer_of task (of_input m bytes))) → Leaves m task has events
-stops_leaving m task has before after events fresh fronts given = inl (unless_packed (output_form m.packs m.program) _ _ (λ front bytes all. fronts _ (taken_front before after _ fresh (front bytes all))) given)
+pub stops_leaving : (m : Manner) (task : Task) (has : List (Option (List ℕ))) (after : Option (List ℕ)) (events : List Event)
+    → ((answer : Answer) → TakenFront after answer → Each (TookFront answer) events)
+    → ((bytes : List ℕ) → AllSupply bytes has → TakenFront after (output_form m.packs m.program, answer_of task (of_input m bytes))) → Leaves m task has events
+stops_leaving m task has after events fronts given = inl (λ bytes all. fronts _ (given bytes all))
 
 -- the digest that was wanted
 pub hashed_as : (digests : Bool) (known : Option (List ℕ)) (w : List ℕ) → IfSome known (λ digest. digest ≡ sha256 w) → IsAsked digests known → known ≡ digest_if_asked digests w
@@ -292,7 +292,7 @@ text_fails program digests check f d task before out name kept None l m n olds n
     let has = map f.remaining olds in
     let tail = ends_with_out d out name kept None (d.has_taken out 0) (WriteFailed d before out) m n (λ w t. t) (λ risen. has_failed _ _ fresh.2 risen) fin in
     let fail = work_fails program false digests check f task (d.has_taken out 0) (WriteFailed d before out) (TakenFront (d.taken out)) l m n olds news halted tail begun c works in
-    (fail.0, fail.1, subst (λ h. Fails by (judging (judge_of task)) has h fail.0) (sym ends) fail.2, stops_leaving by task has (d.taken before) (d.taken out) fail.0 fresh.1 fail.3 front)
+    (fail.0, fail.1, subst (λ h. Fails by (judging (judge_of task)) has h fail.0) (sym ends) fail.2, stops_leaving by task has (d.taken out) fail.0 fail.3 (λ bytes all. taken_front (d.taken before) (d.taken out) _ fresh.1 (front bytes all)))
 text_fails program digests check f d task before out name kept (Some why) l m n olds news (Ok report) (Ok a) fresh begun c fin works front ends = absurd ends
 text_fails program digests check f d task before out name kept (Some why) l m n olds news (Err halted) (Ok a) fresh begun c fin works front ends = absurd ends
 text_fails program digests check f d task before out name kept (Some why) l m n olds news (Ok report) (Err how) fresh begun c fin works front ends =
@@ -309,4 +309,4 @@ text_fails program digests check f d task before out name kept (Some why) l m n 
     let by = manner program false digests in
     let has = map f.remaining olds in
     let fail = finish_fails f d out name kept (Some why) l m n news c fin why refl in
-    (fail.0, fail.1, subst (λ h. Fails by (judging (judge_of task)) has h fail.0) (sym ends) (text_stops by (judging (judge_of task)) has why fail.0 fail.2), stops_leaving by task has (d.taken before) (d.taken out) fail.0 fresh.1 fail.3 front)
+    (fail.0, fail.1, subst (λ h. Fails by (judging (judge_of task)) has h fail.0) (sym ends) (text_stops by (judging (judge_of task)) has why fail.0 fail.2), stops_leaving by task has (d.taken out) fail.0 fail.3 (λ bytes all. taken_front (d.taken before) (d.taken out) _ fresh.1 (front bytes all)))

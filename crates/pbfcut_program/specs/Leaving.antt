@@ -2,16 +2,36 @@
 use Rattle.std.specs.Prelude.{◌≡◌, ◌⊎◌, ℕ, List, ◌∷◌, ◌++◌, map, take, true, Option}
 use Rattle.pbf_block.specs.declared.counts.Counts.{Counts}
 use Rattle.pbf_pass.specs.declared.hashing.PassCheck.{PassCheck}
+use Rattle.pbf_unpack.specs.declared.below.Course.{Course}
+use Rattle.pbf_unpack.specs.Course.{HasWhole}
+use Rattle.pbf_unpack.specs.Unpacked.{unpacked}
 use Rattle.pbfcut_program.specs.Events.{Event, Reading, Writing, read, wrote}
-use Rattle.pbfcut_program.specs.Fails.{Each, Opens, UnlessPacked}
-use Rattle.pbfcut_program.specs.Manner.{Manner, of_input, output_form}
+use Rattle.pbfcut_program.specs.Fails.{Each, Opens}
+use Rattle.pbfcut_program.specs.Manner.{Form, Manner, of_input, output_form, packed_file, raw_file}
 use Rattle.pbfcut.specs.Calls.{AllSupply}
 use Rattle.pbfcut_program.specs.Readings.{IsWork}
 use Rattle.pbfcut_program.specs.Tasks.{Task, answer_of}
 
--- OUT took a prefix of the answer, if it reports what it took
-abbrev pub TookFront : (answer : List ℕ) → Event → Type 0
-TookFront answer (wrote w) = w.reports ≡ true → (count : ℕ) × (w.bytes ≡ take count answer)
+-- zlib blobs: whole frames that mean a prefix of the answer, and after them the beginning of one at most
+pub record IsPackedFront (answer bytes : List ℕ) : Type 0 where
+  pub course : Course
+  pub place : ℕ
+  pub whole : HasWhole course place bytes
+  pub count : ℕ
+  pub means : unpacked (take place bytes) ≡ take count answer
+
+-- what OUT is to take: the answer, in raw blobs or in zlib blobs
+abbrev pub Answer : Type 0
+Answer = Form × List ℕ
+
+-- these bytes are the beginning of that
+abbrev pub IsFrontAs : Answer → (bytes : List ℕ) → Type 0
+IsFrontAs (raw_file, answer) bytes = (count : ℕ) × (bytes ≡ take count answer)
+IsFrontAs (packed_file, answer) bytes = IsPackedFront answer bytes
+
+-- OUT took the beginning of the answer, if it reports what it took
+abbrev pub TookFront : Answer → Event → Type 0
+TookFront answer (wrote w) = w.reports ≡ true → IsFrontAs answer w.bytes
 TookFront answer _ = Unit {0}
 
 -- the work was done, and OUT took all of it; what comes after it failed: a rest that didn't go out, OUT's name, or a line
@@ -27,10 +47,10 @@ pub record IsWorked (m : Manner) (task : Task) (events : List Event) : Type 0 wh
   pub raw : Option (List ℕ)
   pub work : IsWork m by task rs out.bytes counts digest raw
 
--- OUT took a prefix of the answer, if IN has the same bytes for each pass, and raw blobs are written; or all of it
+-- OUT took the beginning of the answer, if IN has the same bytes for each pass; or all of it
 abbrev pub Leaves : Manner → Task → (has : List (Option (List ℕ))) → List Event → Type 0
 Leaves m task has events =
-    UnlessPacked (output_form m.packs m.program) ((bytes : List ℕ) → AllSupply bytes has → Each (TookFront (answer_of task (of_input m bytes))) events) ⊎ IsWorked m task events
+    ((bytes : List ℕ) → AllSupply bytes has → Each (TookFront (output_form m.packs m.program, answer_of task (of_input m bytes))) events) ⊎ IsWorked m task events
 
 -- IN has this for the passes, and by that the command leaves such an OUT
 pub record LeavesFor (m : Manner) (task : Task) (events : List Event) : Type 0 where

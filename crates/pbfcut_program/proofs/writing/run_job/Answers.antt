@@ -93,7 +93,7 @@ returns-in-Err-clause-err g c =
       told.0,
       told.1,
       told.2,
-      stops_leaving m (task_of job) has (taken c.args.ready.out.drain) (taken ran.out) told.0 c.requires.fresh.1.1
+      stops_leaving m (task_of job) has (taken ran.out) told.0
           (λ answer x. told.3 (TookFront answer) (quiet_front answer) (each_both _ fail.0 gone.3 (fail.3 answer x) (each_quiet _ (quiet_front answer) gone.3 quiet))) front,
     )
 
