@@ -26,7 +26,7 @@ use Rattle.pbfcut_program.specs.Manner.{AreDigests, Manner, input_form, manner, 
 use Rattle.pbfcut_program.specs.Outcomes.{EndsAs}
 use Rattle.pbfcut_program.specs.Program.{digest_if_asked}
 use Rattle.pbfcut_program.specs.Readings.{IsOther, IsWholeOrSpared, IsWork, ReadAll, ReadLater}
-use Rattle.pbfcut_program.specs.Leaving.{IsUnkept, Leaves, TookFront}
+use Rattle.pbfcut_program.specs.Leaving.{Answer, IsUnkept, Leaves, TookFront}
 use Rattle.pbfcut_program.specs.Tasks.{Task, answer_of, judge_of, spares}
 use Rattle.pbfcut_program.specs.Telling.{Silent}
 use Rattle.pbfcut_program.proofs.EventLemmas.{each_both, has_after, has_before, nothing_read, readings_both, readings_of}
@@ -270,15 +270,15 @@ if_done f d out name kept fault by check task took failed l m n olds news (Ok re
 if_done f d out name kept fault by check task took failed l m n olds news (Err halted) fresh c fin taken works = tt
 
 -- a call stopped, and it and its devices left this
-pub stops_leaving : (m : Manner) (task : Task) (has : List (Option (List ℕ))) (before after : Option (List ℕ)) (events : List Event) → IfSome before (λ taken. taken ≡ []) → Each IsUnkept events
-    → ((answer : List ℕ) → TakenFront after answer → Each (TookFront answer) events)
-    → UnlessPacked (output_form m.packs m.program) ((bytes : List ℕ) → AllSupply bytes has → IsFront before after (answer_of task (of_input m bytes))) → Leaves m task has events
-stops_leaving m task has before after events fresh unkept fronts given = inl (keeps_none task events unkept, unless_packed (output_form m.packs m.program) _ _ (λ front bytes all. fronts _ (taken_front before after _ fresh (front bytes all))) given)
+pub stops_leaving : (m : Manner) (task : Task) (has : List (Option (List ℕ))) (after : Option (List ℕ)) (events : List Event) → Each IsUnkept events
+    → ((answer : Answer) → TakenFront after answer → Each (TookFront answer) events)
+    → ((bytes : List ℕ) → AllSupply bytes has → TakenFront after (output_form m.packs m.program, answer_of task (of_input m bytes))) → Leaves m task has events
+stops_leaving m task has after events unkept fronts given = inl (keeps_none task events unkept, λ bytes all. fronts _ (given bytes all))
 
 -- if no more happened
-pub returns_leaving : (m : Manner) (task : Task) (has : List (Option (List ℕ))) (before after : Option (List ℕ)) (events : List Event) → IfSome before (λ taken. taken ≡ []) → Each (IsReturn (IsReturned after false)) events
-    → UnlessPacked (output_form m.packs m.program) ((bytes : List ℕ) → AllSupply bytes has → IsFront before after (answer_of task (of_input m bytes))) → Leaves m task has events
-returns_leaving m task has before after events fresh returned given = stops_leaving m task has before after events fresh (returned_unkept after events returned) (λ answer x. returned_front after false answer x events returned) given
+pub returns_leaving : (m : Manner) (task : Task) (has : List (Option (List ℕ))) (after : Option (List ℕ)) (events : List Event) → Each (IsReturn (IsReturned after false)) events
+    → ((bytes : List ℕ) → AllSupply bytes has → TakenFront after (output_form m.packs m.program, answer_of task (of_input m bytes))) → Leaves m task has events
+returns_leaving m task has after events returned given = stops_leaving m task has after events (returned_unkept after events returned) (λ answer x. returned_front after false answer x events returned) given
 
 -- the digest that was wanted
 pub hashed_as : (digests : Bool) (known : Option (List ℕ)) (w : List ℕ) → IfSome known (λ digest. digest ≡ sha256 w) → IsAsked digests known → known ≡ digest_if_asked digests w
@@ -299,7 +299,7 @@ text_fails program digests check f d task before out name None l m n olds news (
     let has = map f.remaining olds in
     let tail = ends_with_out d out name false None (d.has_taken out 0) (WriteFailed d before out) m n (λ w t. t) (λ risen. has_failed _ _ fresh.2 risen) fin in
     let fail = work_fails program false digests check f task (d.has_taken out 0) (WriteFailed d before out) (IsReturned (d.taken out) false) l m n olds news halted tail begun c works in
-    (fail.0, fail.1, subst (λ h. Fails by (judging (judge_of task)) has h fail.0) (sym ends) fail.2, returns_leaving by task has (d.taken before) (d.taken out) fail.0 fresh.1 fail.3 front, returned_silent _ fail.0 fail.3)
+    (fail.0, fail.1, subst (λ h. Fails by (judging (judge_of task)) has h fail.0) (sym ends) fail.2, returns_leaving by task has (d.taken out) fail.0 fail.3 (λ bytes all. taken_front (d.taken before) (d.taken out) _ fresh.1 (front bytes all)), returned_silent _ fail.0 fail.3)
 text_fails program digests check f d task before out name (Some why) l m n olds news (Ok report) (Ok a) fresh begun c fin works front ends = absurd ends
 text_fails program digests check f d task before out name (Some why) l m n olds news (Err halted) (Ok a) fresh begun c fin works front ends = absurd ends
 text_fails program digests check f d task before out name (Some why) l m n olds news (Ok report) (Err how) fresh begun c fin works front ends =
@@ -317,4 +317,4 @@ text_fails program digests check f d task before out name (Some why) l m n olds 
     let by = manner program false digests in
     let has = map f.remaining olds in
     let fail = finish_fails f d out name false (Some why) l m n news c fin why refl in
-    (fail.0, fail.1, subst (λ h. Fails by (judging (judge_of task)) has h fail.0) (sym ends) (text_stops by (judging (judge_of task)) has why fail.0 fail.2), returns_leaving by task has (d.taken before) (d.taken out) fail.0 fresh.1 fail.3 front, returned_silent _ fail.0 fail.3)
+    (fail.0, fail.1, subst (λ h. Fails by (judging (judge_of task)) has h fail.0) (sym ends) (text_stops by (judging (judge_of task)) has why fail.0 fail.2), returns_leaving by task has (d.taken out) fail.0 fail.3 (λ bytes all. taken_front (d.taken before) (d.taken out) _ fresh.1 (front bytes all)), returned_silent _ fail.0 fail.3)

@@ -20,7 +20,7 @@ use Rattle.pbfcut_program.specs.Devices.{Closes, EndsFor, Finishes, Fronts, IsFr
 use Rattle.pbfcut_program.specs.Events.{Event, Reading, Writing, opened, screened, read, wrote, then_all}
 use Rattle.pbfcut_program.specs.Fails.{Each, Fails, FailsFor, Judging, judging, listing}
 use Rattle.pbfcut_program.specs.Outcomes.{ListsBy, ending_of_text}
-use Rattle.pbfcut_program.specs.Manner.{Manner, input_form, manner, meant, of_input, to_raw}
+use Rattle.pbfcut_program.specs.Manner.{Manner, input_form, manner, meant, of_input, raw_file, to_raw}
 use Rattle.pbfcut_program.specs.Program.{IsListing}
 use Rattle.pbfcut_program.specs.Leaving.{LeavesFor}
 use Rattle.pbfcut_program.specs.Tasks.{answer_of, listing_frames}
@@ -68,17 +68,17 @@ module _ {F D : Type 0} (f : feed.Ghosts F) (d : drain.Ghosts D) (now : F) (out 
 
   -- a prefix of the lines, if that is what the drain took
   abbrev LeavesLines : Manner → Option (List ℕ) → List Event → Type 0
-  LeavesLines m has events = ((bytes : List ℕ) → has ≡ Some bytes → TakenFront (d.taken out) (answer_of listing_frames (of_input m bytes))) → LeavesFor (to_raw m) listing_frames events
+  LeavesLines m has events = ((bytes : List ℕ) → has ≡ Some bytes → TakenFront (d.taken out) (raw_file, answer_of listing_frames (of_input m bytes))) → LeavesFor (to_raw m) listing_frames events
 
   lines_left : (m : Manner) (input : List ℕ) (has : Option (List ℕ)) → LeavesLines m has (all input has)
-  lines_left m input has front = record { has = has ∷ []; opens = (inl (refl, refl), tt); leaves = inl (tt, λ bytes same. (tt, (tt, (tt, (front_taken _ fin.0.0 (d.taken out) fin.0.1 (front bytes same.0), tt))))) }
+  lines_left m input has front = record { has = has ∷ []; opens = (inl (refl, refl), tt); leaves = inl (tt, λ bytes same. (tt, (tt, (tt, (front_taken (raw_file, answer_of listing_frames (of_input m bytes)) fin.0.0 (d.taken out) fin.0.1 (front bytes same.0), tt))))) }
 
   pub list_front : (program : Program) (old : F) (before : D) (outcome : Result ℕ Halted) → IsFreshOut d before → ListsBy program f d old now before out outcome → Fronts (input_form program) listing_frames (f.remaining old ∷ []) (d.taken before) (d.taken out) outcome
-      → (bytes : List ℕ) → f.remaining old ≡ Some bytes → TakenFront (d.taken out) (answer_of listing_frames (meant (input_form program) bytes))
+      → (bytes : List ℕ) → f.remaining old ≡ Some bytes → TakenFront (d.taken out) (raw_file, answer_of listing_frames (meant (input_form program) bytes))
   list_front program old before (Err halted) fresh lists front bytes is = taken_front (d.taken before) (d.taken out) _ fresh.1 (front bytes (is, tt))
   list_front program old before (Ok count) fresh listed front bytes is =
       let same = subst (λ (k : Option (List ℕ)). Says (judged_known false 0 k) (listed.frames, None)) (meant_is (input_form program) (f.remaining old) bytes is) listed.says in
-      subst (λ (v : Verdict). TakenFront (d.taken out) (lines v.0)) (sym same) (taken_front (d.taken before) (d.taken out) (lines listed.frames) fresh.1 (front_whole _ _ (lines listed.frames) listed.added.told))
+      subst (λ (v : Verdict). TakenFront (d.taken out) (raw_file, lines v.0)) (sym same) (taken_front (d.taken before) (d.taken out) (lines listed.frames) fresh.1 (front_whole _ _ (lines listed.frames) listed.added.told))
 
   -- by what it has
   pub listing_fails : (m : Manner) (j : Judging) (how : Ending) (k : Option (List Event)) (input : List ℕ) (has : Option (List ℕ)) → l ≡ then_all k (opened input 1 has ∷ screened true ∷ []) → Fails m j (has ∷ []) how (all input has)

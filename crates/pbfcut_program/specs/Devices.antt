@@ -1,11 +1,11 @@
 -- What went through the devices of a command, before they are returned to the host.
-use Rattle.std.specs.Prelude.{◌≡◌, ◌⊎◌, ℕ, zero, suc, ◌+◌, ◌-◌, ◌<◌, List, [], ◌∷◌, length, map, Bool, true, false, Option, Some, None, Result, Ok, Err, IfSome, OnErr}
+use Rattle.std.specs.Prelude.{◌≡◌, ◌⊎◌, ℕ, zero, suc, ◌+◌, ◌-◌, ◌<◌, List, [], ◌∷◌, length, map, Bool, true, false, Option, Some, None, Result, Ok, Err, IfSome, OnErr, OnOk}
 use Rattle.std.specs.Option.{is_some}
 use Rattle.pbf_frame.specs.declared.device.Feed as feed
 use Rattle.pbf_frame.specs.declared.device.Drain as drain
 use Rattle.pbf_frame.specs.declared.stop.Stop.{Stop}
 use Rattle.pbf_frame.specs.declared.stop.Stop.TheVariants as stop
-use Rattle.pbf_frame.specs.Devices.{IsAtEnd, IsFront}
+use Rattle.pbf_frame.specs.Devices.{IsAtEnd, IsFront, append}
 use Rattle.pbf_frame.specs.Verdict.{Verdict}
 use Rattle.pbf_pass.specs.Stops.{Caused, WriteFailed}
 use Rattle.pbf_published.specs.Published.{ChangedOf}
@@ -24,7 +24,8 @@ use Rattle.pbfcut_program.specs.declared.engine.Halted.{Halted}
 use Rattle.pbfcut_program.specs.declared.host.FinishFault.{FinishFault}
 use Rattle.pbfcut_program.specs.Events.{Event, read, wrote, then_one}
 use Rattle.pbfcut_program.specs.Fails.{EndsAsStop, FirstFault, UnlessPacked}
-use Rattle.pbfcut_program.specs.Manner.{AreDigests, Form, Manner, meant, of_input, of_output, output_form, packed_file}
+use Rattle.pbfcut_program.specs.Leaving.{IsFrontAs}
+use Rattle.pbfcut_program.specs.Manner.{AreDigests, Form, Manner, meant, of_input, of_output, output_form, packed_file, raw_file}
 use Rattle.pbfcut_program.specs.Readings.{IsFaulty, IsOther}
 use Rattle.pbfcut_program.specs.Tasks.{Task, Holds, answer_of, judge_of, spares}
 
@@ -163,6 +164,15 @@ WorksOn m by f d task olds news old new result = AreFresh f olds → (log : ℕ)
 -- a call stopped: if its feeds had the same bytes, a prefix of what the task makes of the raw file that they mean went out
 abbrev pub Fronts : {A : Type 0} → Form → Task → (has : List (Option (List ℕ))) → (before after : Option (List ℕ)) → Result A Halted → Type 0
 Fronts form task has before after result = OnErr result ((bytes : List ℕ) → AllSupply bytes has → IsFront before after (answer_of task (meant form bytes)))
+
+-- what OUT took when a call stopped: if its feeds had the same bytes, the beginning of what the task makes of the raw file that they mean, in blobs of this form
+abbrev pub Leads : {A : Type 0} → Form → (input : Form) → Task → (has : List (Option (List ℕ))) → (after : Option (List ℕ)) → Result A Halted → Type 0
+Leads form input task has after result = OnErr result ((bytes : List ℕ) → AllSupply bytes has → IfSome after (IsFrontAs (form, answer_of task (meant input bytes))))
+
+-- a call of pbfcutz ended well: if its feeds had the same bytes, what the task makes of the raw file that they mean went out
+abbrev pub Wholes : {A : Type 0} → Form → Task → (has : List (Option (List ℕ))) → (before after : Option (List ℕ)) → Result A Halted → Type 0
+Wholes raw_file task has before after result = Unit {0}
+Wholes packed_file task has before after result = OnOk result ((bytes : List ℕ) → AllSupply bytes has → after ≡ append before (answer_of task (meant packed_file bytes)))
 
 -- ---- drains between a call and OUT
 

@@ -8,11 +8,12 @@ ghost use Rattle.pbf_frame.specs.declared.stop.Stop.TheVariants as stop;
 ghost use Rattle.pbfcut_cli.specs.declared.endings.Ending.TheVariants as ending;
 ghost use Rattle.pbfcut.specs.Receipts.{judge_by};
 ghost use Rattle.pbf_pass.specs.Stops.{WriteFailed};
+ghost use Rattle.pbf_unpack.specs.Packing.{taken_raw};
 ghost use Rattle.pbfcut_cli.specs.declared.programs.Program.TheVariants.{Pbfcutz};
-ghost use Rattle.pbfcut_program.specs.Devices.{AreFresh, FinishesPacked, Fronts, IsAsked, IsFreshOut, MeansBy, TakenBy, Works, WorksOn};
+ghost use Rattle.pbfcut_program.specs.Devices.{AreFresh, FinishesPacked, Fronts, IsAsked, IsFreshOut, Leads, MeansBy, TakenBy, Wholes, Works, WorksOn};
 ghost use Rattle.pbfcut_program.specs.Events.{Event, Reading, Writing, read, wrote, then_all};
 ghost use Rattle.pbfcut_program.specs.Files.{IsKept, IsMade};
-ghost use Rattle.pbfcut_program.specs.Fails.{Each, Fails, FailsFor, FailsOpening, Quiet, UnlessPacked, judging};
+ghost use Rattle.pbfcut_program.specs.Fails.{Each, Fails, FailsFor, FailsOpening, Quiet, judging};
 ghost use Rattle.pbfcut_program.specs.Jobs.{area_of, feeds_of, plan_of, task_of};
 ghost use Rattle.pbfcut_program.specs.Leaving.{Leaves, LeavesFor};
 ghost use Rattle.pbfcut_program.specs.Outcomes.{ending_of_file};
@@ -148,6 +149,8 @@ fn run_raw<F: Feed, D: Drain + Drop, S: BuildHasher + Drop>(
         (feeds_of job.old) (feeds_of job.new) out result.out result.result }
     ensures front { Fronts (input_form engine.program) (task_of job.old)
         (map F.remaining (feeds_of job.old)) (D.taken out) (D.taken result.out) result.result }
+    ensures whole { Wholes (input_form engine.program) (task_of job.old)
+        (map F.remaining (feeds_of job.old)) (D.taken out) (D.taken result.out) result.result }
     ensures unhashed { (result.output ≡ None) × (result.meaning ≡ None) }
 {
     let mut out = out;
@@ -172,6 +175,10 @@ fn run_raw_hashed<F: Feed, D: Drain + Drop, S: BuildHasher + Drop>(
         → Works (to_raw (manner_of engine)) (check_in engine seed.key) F.Feed (task_of job.old)
         (feeds_of job.old) (feeds_of job.new) (TakenBy D.Drain result.out result.output)
         (WriteFailed D.Drain out result.out) result.result }
+    ensures front { Fronts (input_form engine.program) (task_of job.old)
+        (map F.remaining (feeds_of job.old)) (D.taken out) (D.taken result.out) result.result }
+    ensures whole { Wholes (input_form engine.program) (task_of job.old)
+        (map F.remaining (feeds_of job.old)) (D.taken out) (D.taken result.out) result.result }
     ensures hashed { IsAsked true result.output }
 {
     let linked = LinkedDrain::new(HashedDrain::new(out));
@@ -198,6 +205,10 @@ fn run_raw_into<F: Feed, D: Drain + Drop, S: BuildHasher + Drop>(
         → Works (to_raw (manner_of engine)) (check_in engine seed.key) F.Feed (task_of job.old)
         (feeds_of job.old) (feeds_of job.new) (TakenBy D.Drain result.out result.output)
         (WriteFailed D.Drain out result.out) result.result }
+    ensures front { Fronts (input_form engine.program) (task_of job.old)
+        (map F.remaining (feeds_of job.old)) (D.taken out) (D.taken result.out) result.result }
+    ensures whole { Wholes (input_form engine.program) (task_of job.old)
+        (map F.remaining (feeds_of job.old)) (D.taken out) (D.taken result.out) result.result }
     ensures hashed { IsAsked engine.digests result.output }
 {
     if engine.digests {
@@ -233,7 +244,8 @@ fn finish<D: Drain>(
     returned: Result<Report, Halted>,
     drain: &mut PackedDrain<D>,
 ) -> Result<Report, Halted>
-    ensures { FinishesPacked drain.old drain.new returned result }
+    ensures ends { FinishesPacked drain.old drain.new returned result }
+    ensures taken { taken_raw drain.new ≡ taken_raw drain.old }
 {
     let report = match returned {
         Ok(report) => report,
@@ -259,6 +271,8 @@ fn run_packed<F: Feed, D: Drain + Drop, S: BuildHasher + Drop>(
         (feeds_of job.old) (feeds_of job.new)
         (λ w. D.has_taken result.out 0 w × MeansBy packed_file result.meaning w)
         (WriteFailed D.Drain out result.out) result.result }
+    ensures front { Leads packed_file (input_form engine.program) (task_of job.old)
+        (map F.remaining (feeds_of job.old)) (D.taken result.out) result.result }
     ensures hashed { IfOk result.result (λ _. IsAsked engine.digests result.meaning) }
     ensures unhashed { result.output ≡ None }
 {
@@ -296,9 +310,8 @@ fn run_unhashed<F: Feed, D: Drain + Drop, S: BuildHasher + Drop>(
         (λ w. D.has_taken result.out 0 w
         × MeansBy (output_form engine.packs engine.program) result.meaning w)
         (WriteFailed D.Drain out result.out) result.result }
-    ensures front { UnlessPacked (output_form engine.packs engine.program)
-        (Fronts (input_form engine.program) (task_of job.old) (map F.remaining (feeds_of job.old))
-        (D.taken out) (D.taken result.out) result.result) }
+    ensures front { Leads (output_form engine.packs engine.program) (input_form engine.program)
+        (task_of job.old) (map F.remaining (feeds_of job.old)) (D.taken result.out) result.result }
     ensures hashed { IfOk result.result (λ _. IsAsked
         (hashes_meaning (output_form engine.packs engine.program) engine.digests) result.meaning) }
     ensures unhashed { result.output ≡ None }
@@ -323,9 +336,8 @@ fn run_hashed<F: Feed, D: Drain + Drop, S: BuildHasher + Drop>(
         (λ w. TakenBy D.Drain result.out result.output w
         × MeansBy (output_form engine.packs engine.program) result.meaning w)
         (0 < D.failures result.out) result.result }
-    ensures front { UnlessPacked (output_form engine.packs engine.program)
-        (Fronts (input_form engine.program) (task_of job.old) (map F.remaining (feeds_of job.old))
-        (D.taken out) (D.taken result.out) result.result) }
+    ensures front { Leads (output_form engine.packs engine.program) (input_form engine.program)
+        (task_of job.old) (map F.remaining (feeds_of job.old)) (D.taken result.out) result.result }
     ensures hashed { IsAsked true result.output }
     ensures meaning { IfOk result.result (λ _. IsAsked
         (hashes_meaning (output_form engine.packs engine.program) engine.digests) result.meaning) }
@@ -355,9 +367,8 @@ fn run_into<F: Feed, D: Drain + Drop, S: BuildHasher + Drop>(
         (λ w. TakenBy D.Drain result.out result.output w
         × MeansBy (output_form engine.packs engine.program) result.meaning w)
         (0 < D.failures result.out) result.result }
-    ensures front { UnlessPacked (output_form engine.packs engine.program)
-        (Fronts (input_form engine.program) (task_of job.old) (map F.remaining (feeds_of job.old))
-        (D.taken out) (D.taken result.out) result.result) }
+    ensures front { Leads (output_form engine.packs engine.program) (input_form engine.program)
+        (task_of job.old) (map F.remaining (feeds_of job.old)) (D.taken result.out) result.result }
     ensures hashed { IsAsked engine.digests result.output }
     ensures meaning { IfOk result.result (λ _. IsAsked
         (hashes_meaning (output_form engine.packs engine.program) engine.digests) result.meaning) }

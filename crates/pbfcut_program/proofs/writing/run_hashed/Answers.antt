@@ -17,4 +17,4 @@ pub returns-clause-front : goal.returns-clause-front
 returns-clause-front g c =
     let inner = ap (λ h. h.drain) c.into_inner-hashed.ensures in
     let same = c.into_inner.ensures.drain ∙ c.digest-digest.ensures.drain ∙ inner in
-    rw same (rw (c.new-linked.ensures, c.new.ensures.drain) at c.run_unhashed-ran.ensures.front)
+    rw same c.run_unhashed-ran.ensures.front

@@ -97,7 +97,7 @@ returns-in-Err-clause-err g c =
       told.0,
       told.1,
       told.2,
-      stops_leaving m (task_of job) has (taken c.args.ready.out.drain) known told.0 c.requires.fresh.1.1
+      stops_leaving m (task_of job) has known told.0
           (told.4 IsUnkept quiet_unkept (each_both IsUnkept fail.0 gone.3 (returned_unkept known fail.0 fail.3) (each_quiet IsUnkept quiet_unkept gone.3 quiet)))
           (λ answer x. told.4 (TookFront answer) (quiet_front answer) (each_both _ fail.0 gone.3 (returned_front known false answer x fail.0 fail.3) (each_quiet _ (quiet_front answer) gone.3 quiet))) front,
       told.3 (each_both Silent fail.0 gone.3 (returned_silent (IsReturned known false) fail.0 fail.3) (dropped_silent engine.program name gone.3 gone.5)),
