@@ -1,17 +1,14 @@
 -- What a frame's header says, and what its blob holds, doesn't depend on their places.
-use Rattle.std.proofs.Common.{◌≡◌, ℕ, Bool, true, false, List, [], Option, Some, None, Result, Ok, Err, refl, sym, ap, ◌∙◌, arith}
-use Rattle.std.specs.Prelude.{is_none, unwrap_or}
+use Rattle.std.proofs.Common.{◌≡◌, ℕ, false, List, [], Option, Ok, arith}
+use Rattle.std.specs.Prelude.{is_none}
 use Rattle.std.specs.Option.{option_map}
-use Rattle.pbf_wire.specs.declared.fault.Fault.{Fault}
-use Rattle.pbf_wire.specs.Least.{least}
 use Rattle.pbf_wire.specs.Occurrence.{Occurrence, items, found, without_places}
 use Rattle.pbf_wire.specs.Reading.{occurrence_text, last_of}
-use Rattle.pbf_wire.specs.Wire.{wire}
 use Rattle.pbf_wire.proofs.PlaceLemmas.{last_moved, wired_moved}
 use Rattle.pbf_wire.proofs.SoundLemmas.{no_least}
 use Rattle.pbf_frame.specs.declared.header.Head.{Head}
 use Rattle.pbf_frame.specs.declared.header.TheConstants.{DATASIZE, HEADER_KINDS, TYPE}
-use Rattle.pbf_frame.specs.Header.{head_says, header_faults, kind_named, name_of, size_of}
+use Rattle.pbf_frame.specs.Header.{head_says, header_faults, size_of}
 use Rattle.pbf_frame.specs.Steps.{head_of}
 use Rattle.pbf_frame.proofs.FrameLemmas.{head_parts}
 

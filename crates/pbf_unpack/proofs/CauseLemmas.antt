@@ -1,5 +1,5 @@
 -- Why a packing drain takes nothing more.
-use Rattle.std.proofs.Common.{◌≡◌, ℕ, ◌+◌, ◌≤◌, List, ◌++◌, length, take, Option, Some, refl, sym, ap, subst, ◌∙◌, length-append, arith}
+use Rattle.std.proofs.Common.{◌≡◌, ℕ, ◌+◌, ◌≤◌, List, ◌++◌, length, take, Some, refl, subst, length-append, arith}
 use Rattle.pbf_frame.specs.declared.device.Drain as drain
 use Rattle.pbf_frame.specs.declared.header.TheConstants.{HEADER_LIMIT, LARGEST_SIZE}
 use Rattle.pbf_unpack.specs.declared.below.Course.{Course}
@@ -9,7 +9,7 @@ use Rattle.pbf_unpack.specs.declared.frame.Part.{Part}
 use Rattle.pbf_unpack.specs.declared.frame.Part.TheVariants.{Prefix, Header, Blob}
 use Rattle.pbf_unpack.specs.declared.frame.RawFrame.{RawFrame}
 use Rattle.pbf_unpack.specs.Packing.{frame_held, taken_raw, HasCause}
-use Rattle.pbf_unpack.specs.RawFrames.{IsNearLimit, IsRawFile}
+use Rattle.pbf_unpack.specs.RawFrames.{IsRawFile}
 use Rattle.pbf_unpack.specs.Unpacked.{unpacked}
 use Rattle.pbf_unpack.proofs.GoingOn.{no_cut_file, no_raw_file}
 

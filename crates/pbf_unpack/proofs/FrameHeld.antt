@@ -15,7 +15,6 @@ use Rattle.pbf_frame.specs.Blob.{blob_fault}
 use Rattle.pbf_frame.proofs.BlobLemmas.{blob_steps}
 use Rattle.pbf_frame.specs.declared.frame.FrameKind.{FrameKind}
 use Rattle.pbf_frame.specs.declared.header.Head.{Head}
-use Rattle.pbf_frame.specs.declared.header.TheConstants.{HEADER_LIMIT}
 use Rattle.pbf_frame.specs.Frames.{FrameSpec, blob_at, frame_bytes, frame_kind, header_at}
 use Rattle.pbf_frame.specs.Header.{header_faults}
 use Rattle.pbf_frame.specs.Sound.{IsFrame, IsSoundBlob}

@@ -4,7 +4,6 @@ use Rattle.std.proofs.Math.Logic.{∥∥₁_map}
 use Rattle.std.proofs.lemmas.Bool.{cases_lt}
 use Rattle.std.proofs.lemmas.Grind.{not_there}
 use Rattle.std.proofs.lemmas.List.{append-nil, append_cancel_left}
-use Rattle.pbf_wire.specs.declared.fault.Fault.{Fault}
 use Rattle.pbf_wire.proofs.SoundLemmas.{both_nil}
 use Rattle.pbf_frame.specs.declared.frame.TheConstants.{FILE_LIMIT}
 use Rattle.pbf_frame.specs.Frames.{FrameSpec, is_header, frame_bytes, frame_end, frame_kind, next_of}
@@ -58,9 +57,9 @@ held_first held rest some are = by_frames are.had are.place are.frames are.are a
 -- no raw file begins with bytes of which those that are held are none of a frame
 pub no_raw_file : (done held rest : List ℕ) (place : ℕ) → GoesOn done → IsNoRaw place held → IsRawFile ((done ++ held) ++ rest) → FILE_LIMIT < place + length held
 no_raw_file done held rest place has isnt is = elim (cases_lt FILE_LIMIT (place + length held)) [
-    | inl past ↦ past
-    | inr low ↦ absurd (not_there (has (held ++ rest) (ap (λ (l : List ℕ). (judged false 0 l).1) (sym (append_assoc done held rest)) ∙ is)) (λ are. (let first = held_first held rest isnt.some are in omega (arith, low, isnt.none first.0 rest first.1))))
-  ]
+  | inl past ↦ past
+  | inr low ↦ absurd (not_there (has (held ++ rest) (ap (λ (l : List ℕ). (judged false 0 l).1) (sym (append_assoc done held rest)) ∙ is)) (λ are. (let first = held_first held rest isnt.some are in omega (arith, low, isnt.none first.0 rest first.1))))
+]
 
 -- nor is one those bytes
 pub no_cut_file : (done held : List ℕ) → GoesOn done → IsCutRaw held → IsRawFile (done ++ held) → ⊥

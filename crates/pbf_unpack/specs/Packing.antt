@@ -67,7 +67,8 @@ pub record IsEmptied {D : Type 0} {d : drain.Ghosts D} (p : PackedDrain D d) : T
 abbrev pub failures_of_drain : {D : Type 0} {d : drain.Ghosts D} → PackedDrain D d → ℕ
 failures_of_drain {d = d} p = spent_failures p.below.course + d.failures p.below.drain
 
--- why it takes nothing more: the drain below failed; or no raw file begins with what it took, or none is that, unless the packed one is near its limit. Of memory nothing is said
+-- why it takes nothing more: the drain below failed; or no raw file begins with what it took, unless the packed one is near its limit; or no raw file is
+-- that. Of memory nothing is said
 abbrev pub HasCause : {D : Type 0} {d : drain.Ghosts D} → PackedDrain D d → Course → Type 0
 HasCause p Taking = Unit {0}
 HasCause {d = d} p Failed = 0 < d.failures p.below.drain

@@ -107,7 +107,8 @@ impl<D: Drain> PackedDrain<D> {
         Ok(())
     }
 
-    /// Why it takes nothing more: `Write` if a write of the drain below failed, or if the bytes are no raw file; `Memory` if memory was refused.
+    /// Why it takes nothing more: `Write` if a write of the drain below failed, or if the bytes are no raw file; `Memory` if memory was refused. No
+    /// raw file is among them, as far as the drain below reports what it took, unless the packed one is near the limit of a file.
     pub fn stop(&self) -> Option<Stop>
         ensures stop { result ≡ stop_of_course self.now.below.course }
         ensures cause { HasCause self.now self.now.below.course }

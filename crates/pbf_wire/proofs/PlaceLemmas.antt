@@ -1,6 +1,6 @@
 -- What is read of a message doesn't depend on its place.
 use Rattle.std.proofs.Common.{◌≡◌, ℕ, zero, suc, ◌+◌, ◌/◌, ◌%◌, ◌^◌, Bool, cond, eqb, ltb, List, [], ◌∷◌, length, take, drop, map, refl, sym, ap, ◌∙◌, arith}
-use Rattle.std.specs.Prelude.{Option, Some, None, Result, Ok, Err, filter, ◌==◌}
+use Rattle.std.specs.Prelude.{Option, None, Result, Ok, Err, filter, ◌==◌}
 use Rattle.std.specs.List.{flat_map, last_or}
 use Rattle.std.specs.Option.{option_map}
 use Rattle.std.proofs.lemmas.List.Concat.{flat_map_single}
@@ -9,7 +9,7 @@ use Rattle.pbf_wire.specs.declared.fault.Reason.TheVariants.{LengthPast, NumberZ
 use Rattle.pbf_wire.specs.declared.kind.Kind.{Kind}
 use Rattle.pbf_wire.specs.Reading.{last_of}
 use Rattle.pbf_wire.specs.Varint.{varint_at}
-use Rattle.pbf_wire.specs.Wire.{kind_of, reason_in, wire}
+use Rattle.pbf_wire.specs.Wire.{reason_in, wire}
 use Rattle.pbf_wire.specs.Occurrence.{Content, Bytes, Occurrence, Item, ◌>>=◌, body_at, occurrence_at, items_from, items_past, items, found, unplaced, without_places}
 
 abbrev bare_body : Result (Content × ℕ) Reason → Result (Content × ℕ) Reason

@@ -99,7 +99,6 @@ front_returned : (known : Option (List ℕ)) (kept : Bool) (answer : Answer) →
 front_returned known kept answer x w (inl none, reported, unkept) reports = subst (IsFrontAs answer) (sym none) (nothing_is_front answer)
 front_returned known kept answer x w (inr same, reported, unkept) reports = front_taken answer w.bytes known same x (sym reported ∙ reports)
 
-
 -- ---- by events
 
 -- IN is returned; or OUT is, and is this
