@@ -1,5 +1,5 @@
 -- What went out when a call of pbfcutz ended well, if its feeds had the same bytes.
-use Rattle.std.proofs.Common.{◌≡◌, inl, inr, ℕ, List, [], ◌∷◌, Some, Result, Ok, Err, IfOk, refl, sym, subst}
+use Rattle.std.proofs.Common.{◌≡◌, ◌⊎◌, inl, inr, ℕ, List, [], ◌∷◌, Option, Some, Result, Ok, Err, IfOk, refl, sym, subst}
 use Rattle.osm_area.specs.Area.{AreaSpec}
 use Rattle.osm_ways.specs.Selection.{Strategy, all_parents}
 use Rattle.pbf_frame.specs.declared.device.Feed as feed
