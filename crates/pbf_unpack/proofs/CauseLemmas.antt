@@ -3,13 +3,13 @@ use Rattle.std.proofs.Common.{◌≡◌, ℕ, ◌+◌, ◌≤◌, List, ◌++◌
 use Rattle.pbf_frame.specs.declared.device.Drain as drain
 use Rattle.pbf_frame.specs.declared.header.TheConstants.{HEADER_LIMIT, LARGEST_SIZE}
 use Rattle.pbf_unpack.specs.declared.below.Course.{Course}
-use Rattle.pbf_unpack.specs.declared.below.Course.TheVariants.{Taking, Failed, Unfit, Cut, Refused}
+use Rattle.pbf_unpack.specs.declared.below.Course.TheVariants.{Taking, Failed, Unfit, Refused}
 use Rattle.pbf_unpack.specs.declared.drain.PackedDrain.{PackedDrain}
 use Rattle.pbf_unpack.specs.declared.frame.Part.{Part}
 use Rattle.pbf_unpack.specs.declared.frame.Part.TheVariants.{Prefix, Header, Blob}
 use Rattle.pbf_unpack.specs.declared.frame.RawFrame.{RawFrame}
-use Rattle.pbf_unpack.specs.Packing.{frame_held, taken_raw, HasCause}
-use Rattle.pbf_unpack.specs.RawFrames.{IsRawFile}
+use Rattle.pbf_unpack.specs.Packing.{frame_held, taken_raw, HasCause, IsCut}
+use Rattle.pbf_unpack.specs.RawFrames.{IsCutRaw, IsRawFile}
 use Rattle.pbf_unpack.specs.Unpacked.{unpacked}
 use Rattle.pbf_unpack.proofs.GoingOn.{no_cut_file, no_raw_file}
 
@@ -39,7 +39,10 @@ module _ {D : Type 0} {d : drain.Ghosts D} (p : PackedDrain D d) where
       let whole = p.below.whole packed known in
       let past = no_raw_file (unpacked (take p.below.place packed)) (frame_held p.frame) rest p.below.place whole.goes_on (p.unfit is) (subst (λ (l : List ℕ). IsRawFile (l ++ rest)) (taken_is packed raw known taken) file) in
       omega (arith, past, whole.within, held_short p.frame)
-  has_cause Cut is = λ raw taken file.
-      let (packed, known) = known_of raw taken in
-      no_cut_file (unpacked (take p.below.place packed)) (frame_held p.frame) (p.below.whole packed known).goes_on (p.cut is) (subst IsRawFile (taken_is packed raw known taken) file)
   has_cause Refused is = tt
+
+  -- it holds a frame that isn't whole
+  pub is_cut : IsCutRaw (frame_held p.frame) → IsCut p
+  is_cut none = λ raw taken file.
+      let (packed, known) = known_of raw taken in
+      no_cut_file (unpacked (take p.below.place packed)) (frame_held p.frame) (p.below.whole packed known).goes_on none (subst IsRawFile (taken_is packed raw known taken) file)

@@ -4,7 +4,7 @@ use Rattle.pbf_frame.specs.declared.frame.TheConstants.{FILE_LIMIT}
 use Rattle.pbf_frame.specs.declared.stop.Stop.{Stop}
 use Rattle.pbf_frame.specs.declared.stop.Stop.TheVariants as stop
 use Rattle.pbf_unpack.specs.declared.below.Course.{Course}
-use Rattle.pbf_unpack.specs.declared.below.Course.TheVariants.{Taking, Failed, Unfit, Cut, Refused}
+use Rattle.pbf_unpack.specs.declared.below.Course.TheVariants.{Taking, Failed, Unfit, Refused}
 use Rattle.pbf_unpack.specs.RawFrames.{GoesOn}
 use Rattle.pbf_unpack.specs.Unpacked.{then_unpacked, as_they_stand, unpacked_from, unpacked}
 
@@ -42,7 +42,6 @@ abbrev pub spent_failures : Course → ℕ
 spent_failures Taking = 0
 spent_failures Failed = 2 ^ 64 - 1
 spent_failures Unfit = 2 ^ 64 - 1
-spent_failures Cut = 2 ^ 64 - 1
 spent_failures Refused = 2 ^ 64 - 1
 
 -- why it takes nothing more
@@ -50,5 +49,4 @@ abbrev pub stop_of_course : Course → Option Stop
 stop_of_course Taking = None
 stop_of_course Failed = Some stop.Write
 stop_of_course Unfit = Some stop.Write
-stop_of_course Cut = Some stop.Write
 stop_of_course Refused = Some stop.Memory

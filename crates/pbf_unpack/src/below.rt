@@ -19,8 +19,6 @@ pub(crate) enum Course {
     Failed,
     /// The same, since bytes came that are no raw file.
     Unfit,
-    /// The same, since the bytes ended within a frame.
-    Cut,
     /// The same, since memory was refused.
     Refused,
 }

@@ -1,12 +1,12 @@
 //! A raw file, given to another drain as the published one that means it.
 
-ghost use Rattle.std.specs.Prelude.{◌≡◌, ◌+◌, ◌<◌, ◌≤◌, ◌++◌, length, List, ℕ, Some, [], OnOk, OnErr, IfSome, IsSome};
+ghost use Rattle.std.specs.Prelude.{◌≡◌, ◌⊎◌, ◌+◌, ◌<◌, ◌≤◌, ◌++◌, length, List, ℕ, Some, [], OnOk, OnErr, IfSome, IsSome};
 ghost use Rattle.pbf_frame.specs.Keeps.{KeepsDrain};
 ghost use Rattle.pbf_frame.specs.declared.header.TheConstants.{HEADER_LIMIT, LARGEST_SIZE};
 ghost use Rattle.pbf_frame.specs.declared.put.TheConstants.{HEAD_ROOM};
 ghost use Rattle.pbf_unpack.specs.declared.packer.TheConstants.{MOST_ROOM};
 ghost use Rattle.pbf_unpack.specs.Course.{spent_failures, stop_of_course, HasWhole};
-ghost use Rattle.pbf_unpack.specs.RawFrames.{IsCutRaw, IsNoRaw};
+ghost use Rattle.pbf_unpack.specs.RawFrames.{IsNoRaw};
 ghost use Rattle.pbf_unpack.specs.declared.below.Course.TheVariants as courses;
 
 use crate::below::{Below, Course};
@@ -29,11 +29,10 @@ pub struct PackedDrain<D: Drain> {
     packer: Packer,
     ghost unfit: { below.course ≡ courses.Unfit
         → IsNoRaw below.place (frame.front.items ++ frame.blob.items) },
-    ghost cut: { below.course ≡ courses.Cut → IsCutRaw (frame.front.items ++ frame.blob.items) },
 }
 
 impl<D: Drain> PackedDrain<D> {
-    ghost use Rattle.pbf_unpack.specs.Packing.{taken_raw, failures_of_drain, frame_held, GaveAll, HasCause, HasPacked, IsEmptied, TookSame};
+    ghost use Rattle.pbf_unpack.specs.Packing.{taken_raw, failures_of_drain, frame_held, GaveAll, HasCause, HasPacked, IsCut, IsEmptied, TookSame};
 
     /// Over a drain that took nothing. It does not allocate before the first frame.
     pub fn new(alloc: Global, deflater: Deflater, drain: D) -> Self
@@ -56,7 +55,6 @@ impl<D: Drain> PackedDrain<D> {
         requires stops { (course ≡ courses.Taking → ⊥) × (course ≡ courses.Failed → ⊥) }
         requires unfit { course ≡ courses.Unfit
             → IsNoRaw self.old.below.place (frame_held self.old.frame) }
-        requires cut { course ≡ courses.Cut → IsCutRaw (frame_held self.old.frame) }
         ensures course { self.new.below.course ≡ course }
         ensures drain { self.new.below.drain ≡ self.old.below.drain }
         ensures place { self.new.below.place ≡ self.old.below.place }
@@ -87,11 +85,12 @@ impl<D: Drain> PackedDrain<D> {
         Ok(())
     }
 
-    /// Gives the drain below what is held of the file, which has to end here: then that drain took a file that means what this one took.
+    /// Gives the drain below what is held of the file, which has to end here: then that drain took a file that means what this one took. If the
+    /// last frame isn't whole, it fails and changes nothing; then what was taken is no raw file.
     pub fn finish(&mut self) -> Result<(), DrainFault>
         ensures gave { OnOk result (GaveAll self.old self.new) }
         ensures taken { taken_raw self.new ≡ taken_raw self.old }
-        ensures stopped { OnErr result (IsSome (stop_of_course self.new.below.course)) }
+        ensures stopped { OnErr result (IsSome (stop_of_course self.new.below.course) ⊎ IsCut self.new) }
         ensures keeps { KeepsDrain D.Drain self.old.below.drain self.new.below.drain }
     {
         if self.below.course != Course::Taking {
@@ -101,7 +100,7 @@ impl<D: Drain> PackedDrain<D> {
             return Ok(());
         }
         if !self.frame.is_complete() {
-            return Err(self.stop_as(Course::Cut));
+            return Err(DrainFault);
         }
         self.send()?;
         Ok(())
@@ -115,7 +114,7 @@ impl<D: Drain> PackedDrain<D> {
     {
         match self.below.course {
             Course::Taking => None,
-            Course::Failed | Course::Unfit | Course::Cut => Some(Stop::Write),
+            Course::Failed | Course::Unfit => Some(Stop::Write),
             Course::Refused => Some(Stop::Memory),
         }
     }
