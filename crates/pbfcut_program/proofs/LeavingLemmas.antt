@@ -27,7 +27,7 @@ use Rattle.pbfcut_program.proofs.EventLemmas.{each_both, each_quiet, quiet_of}
 
 -- ---- by OUT
 
--- what a drain reports that it took is the beginning of this
+-- what a drain reports that it took is a prefix of this
 abbrev pub TakenFront : Option (List ℕ) → Answer → Type 0
 TakenFront known answer = IfSome known (IsFrontAs answer)
 
@@ -35,9 +35,9 @@ TakenFront known answer = IfSome known (IsFrontAs answer)
 pub taken_front : (before after : Option (List ℕ)) (answer : List ℕ) → IfSome before (λ taken. taken ≡ []) → IsFront before after answer → TakenFront after (raw_file, answer)
 taken_front before after answer h3 h4 = grind arith
 
-pub front_taken : (answer : Answer) (bytes : List ℕ) (known : Option (List ℕ)) → IfSome known (λ taken. bytes ≡ taken) → TakenFront known answer → is_some known ≡ true → IsFrontAs answer bytes
-front_taken answer bytes None same front some = absurd (false≢true some)
-front_taken answer bytes (Some taken) same front some = subst (IsFrontAs answer) (sym same) front
+pub taken_is : (p : List ℕ → Type 0) (bytes : List ℕ) (known : Option (List ℕ)) → IfSome known (λ taken. bytes ≡ taken) → IfSome known p → is_some known ≡ true → p bytes
+taken_is p bytes None same is some = absurd (false≢true some)
+taken_is p bytes (Some taken) same is some = subst p (sym same) is
 
 -- nothing is
 nothing_is_front : (answer : Answer) → IsFrontAs answer []
@@ -66,7 +66,7 @@ module _ {D : Type 0} {d : drain.Ghosts D} (p : PackedDrain D d) (before : Optio
         means = front_of_front done (frame_held p.frame) answer front.count (raw_taken packed is);
       }
 
-  -- what went to OUT is the beginning of the answer, if what the drain took is
+  -- what went to OUT is a prefix of the answer, if what the drain took is
   pub packed_front : TakenFront (d.taken p.below.drain) (packed_file, answer)
   packed_front = packed_known (d.taken p.below.drain) refl
 
@@ -97,7 +97,7 @@ IsReturned known kept w = ((w.bytes ≡ []) ⊎ IfSome known (λ taken. w.bytes 
 
 front_returned : (known : Option (List ℕ)) (kept : Bool) (answer : Answer) → TakenFront known answer → (w : Writing) → IsReturned known kept w → TookFront answer (wrote w)
 front_returned known kept answer x w (inl none, reported, unkept) reports = subst (IsFrontAs answer) (sym none) (nothing_is_front answer)
-front_returned known kept answer x w (inr same, reported, unkept) reports = front_taken answer w.bytes known same x (sym reported ∙ reports)
+front_returned known kept answer x w (inr same, reported, unkept) reports = taken_is (IsFrontAs answer) w.bytes known same x (sym reported ∙ reports)
 
 -- ---- by events
 

@@ -24,12 +24,12 @@ pub record IsPackedFront (answer bytes : List ℕ) : Type 0 where
 abbrev pub Answer : Type 0
 Answer = Form × List ℕ
 
--- these bytes are the beginning of that
+-- these bytes are a prefix of that
 abbrev pub IsFrontAs : Answer → (bytes : List ℕ) → Type 0
 IsFrontAs (raw_file, answer) bytes = (count : ℕ) × (bytes ≡ take count answer)
 IsFrontAs (packed_file, answer) bytes = IsPackedFront answer bytes
 
--- OUT took the beginning of the answer, if it reports what it took
+-- OUT took a prefix of the answer, if it reports what it took
 abbrev pub TookFront : Answer → Event → Type 0
 TookFront answer (wrote w) = w.reports ≡ true → IsFrontAs answer w.bytes
 TookFront answer _ = Unit {0}
@@ -57,7 +57,7 @@ pub record IsWorked (m : Manner) (task : Task) (has : List (Option (List ℕ))) 
   pub raw : Option (List ℕ)
   pub work : IsWork m by task has rs out.bytes counts digest raw
 
--- OUT isn't kept, and took the beginning of the answer, if IN has the same bytes for each pass; or it took all of it
+-- OUT isn't kept, and took a prefix of the answer, if IN has the same bytes for each pass; or it took all of it
 abbrev pub Leaves : Manner → Task → (has : List (Option (List ℕ))) → List Event → Type 0
 Leaves m task has events =
     (KeepsNone task events × ((bytes : List ℕ) → AllSupply bytes has → Each (TookFront (output_form m.packs m.program, answer_of task (of_input m bytes))) events))

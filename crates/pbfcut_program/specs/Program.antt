@@ -16,11 +16,8 @@ use Rattle.pbf_block.specs.declared.counts.Counts.{Counts}
 use Rattle.pbf_frame.specs.Frames.{FrameSpec}
 use Rattle.pbf_frame.specs.Verdict.{Says, judged_known}
 use Rattle.pbf_frame.specs.declared.stop.Stop.TheVariants as stop
-use Rattle.pbf_pass.specs.HeaderLimit.{judged_writable}
-use Rattle.pbf_pass.specs.Judged.{judged_file}
 use Rattle.pbf_published.specs.Showing.{TellsInfo}
 use Rattle.pbfcut.specs.Blobs as blobs
-use Rattle.pbfcut.specs.Receipts.{judge_by}
 use Rattle.pbfcut.specs.Summary.{judged_headings}
 use Rattle.pbfcut_cli.specs.Endings.{message_of, ending_status, program_name}
 use Rattle.pbfcut_cli.specs.Joined.{normalized}
@@ -40,7 +37,7 @@ use Rattle.pbfcut_cli.specs.declared.words.Strategy.TheVariants as strategy
 use Rattle.pbfcut_program.specs.declared.host.Screen.{Screen}
 use Rattle.pbfcut_program.specs.declared.host.Screen.TheVariants.{Output, Error}
 use Rattle.pbfcut_program.specs.Events.{Event, text_read, looked, opened, seeded, screened, read, wrote, printed, told, advised, Reading, Writing}
-use Rattle.pbfcut_program.specs.Fails.{Each, FailsFor, Judging, Quiet, judging, listing, printing}
+use Rattle.pbfcut_program.specs.Fails.{Each, FailsFor, Judging, Quiet, judging, judging_cut, judging_for, listing, printing}
 use Rattle.pbfcut_program.specs.Files.{IsKept, IsMade}
 use Rattle.pbfcut_program.specs.Leaving.{LeavesFor}
 use Rattle.pbfcut_program.specs.Manner.{Manner, check_of, hashes_meaning, input_form, manner, meant_known, of_output, once_check, output_form, to_raw}
@@ -238,13 +235,13 @@ Does m (Extract region by files) events = Extracts m region by files events
 abbrev pub judging_of : Command → Judging
 judging_of (Help text) = printing
 judging_of (Blobs input) = listing
-judging_of (Info input json) = judging judged_headings
-judging_of (Show input dates progress) = judging judged_file
-judging_of (Check input progress digests) = judging judged_file
-judging_of (Convert files) = judging judged_writable
-judging_of (Pack files) = judging judged_file
-judging_of (Unpack files) = judging judged_file
-judging_of (Extract region by files) = judging (judge_by (strategy_of by))
+judging_of (Info input json) = judging judged_headings (λ file. ⊥)
+judging_of (Show input dates progress) = judging_for (showing dates)
+judging_of (Check input progress digests) = judging_for checking
+judging_of (Convert files) = judging_for converting
+judging_of (Pack files) = judging_for copying
+judging_of (Unpack files) = judging_for copying
+judging_of (Extract region by files) = judging_cut (strategy_of by)
 
 -- `info` reads as pbfcutz does, and writes a text, as `show` does
 abbrev pub reading_of : Manner → Command → Manner

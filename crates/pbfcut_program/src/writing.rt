@@ -6,14 +6,13 @@ ghost use Rattle.std.specs.Option.{option_map};
 ghost use Rattle.std.specs.Result.{result_err};
 ghost use Rattle.pbf_frame.specs.declared.stop.Stop.TheVariants as stop;
 ghost use Rattle.pbfcut_cli.specs.declared.endings.Ending.TheVariants as ending;
-ghost use Rattle.pbfcut.specs.Receipts.{judge_by};
 ghost use Rattle.pbf_pass.specs.Stops.{WriteFailed};
 ghost use Rattle.pbf_unpack.specs.Packing.{taken_raw};
 ghost use Rattle.pbfcut_cli.specs.declared.programs.Program.TheVariants.{Pbfcutz};
-ghost use Rattle.pbfcut_program.specs.Devices.{AreFresh, FinishesPacked, Fronts, IsAsked, IsFreshOut, Leads, MeansBy, TakenBy, Wholes, Works, WorksOn};
+ghost use Rattle.pbfcut_program.specs.Devices.{AreFresh, DrainFailed, FinishesPacked, Fronts, IsAsked, IsFreshOut, IsNamed, Leads, MeansBy, TakenBy, Wholes, Works, WorksOn};
 ghost use Rattle.pbfcut_program.specs.Events.{Event, Reading, Writing, read, wrote, then_all};
 ghost use Rattle.pbfcut_program.specs.Files.{IsKept, IsMade};
-ghost use Rattle.pbfcut_program.specs.Fails.{Each, Fails, FailsFor, FailsOpening, Quiet, judging};
+ghost use Rattle.pbfcut_program.specs.Fails.{Each, Fails, FailsFor, FailsOpening, Quiet, judging_cut, judging_for};
 ghost use Rattle.pbfcut_program.specs.Jobs.{area_of, feeds_of, plan_of, task_of};
 ghost use Rattle.pbfcut_program.specs.Leaving.{Leaves, LeavesFor};
 ghost use Rattle.pbfcut_program.specs.Outcomes.{ending_of_file};
@@ -21,7 +20,7 @@ ghost use Rattle.pbfcut_program.specs.Program.{Extracts, LeavesCut, Writes, Writ
 ghost use Rattle.pbfcut_program.specs.Manner.{check_in, hashes_meaning, input_form, manner_of, output_form, packed_file, to_raw};
 ghost use Rattle.pbfcut_program.specs.Settling.{Returns, Settles};
 ghost use Rattle.pbfcut_program.specs.Worked.{Worked};
-ghost use Rattle.pbfcut_program.specs.Tasks.{extracting, judge_of, passes_of};
+ghost use Rattle.pbfcut_program.specs.Tasks.{extracting, passes_of};
 ghost use Rattle.pbfcut_program.specs.Telling.{IsSaid, SaysLittle};
 
 use crate::engine::{Engine, Halted, Report};
@@ -220,23 +219,13 @@ fn run_raw_into<F: Feed, D: Drain + Drop, S: BuildHasher + Drop>(
 
 /// How a call halted whose drain packs; or, if it failed to write for want of memory, that.
 fn named(halted: Halted, of_drain: Option<Stop>) -> Halted
-    ensures { (result.ending ≡ halted.ending) ⊎ (result.ending ≡ ending.Stopped stop.Memory) }
+    ensures { IsNamed of_drain halted.ending result.ending }
 {
     let is_write = matches!(&halted.ending, Ending::Stopped(Stop::Write));
     if is_write && of_drain == Some(Stop::Memory) {
         return Halted::from(Stop::Memory);
     }
     halted
-}
-
-/// How a call ends whose drain couldn't give OUT the rest.
-fn lost(of_drain: Option<Stop>) -> Halted
-    ensures { (result.ending ≡ ending.Stopped stop.Write) ⊎ (result.ending ≡ ending.Stopped stop.Memory) }
-{
-    match of_drain {
-        Some(Stop::Memory) => Halted::from(Stop::Memory),
-        _ => Halted::from(Stop::Write),
-    }
 }
 
 /// Gives OUT the rest of what a drain packs, once a call has ended.
@@ -252,7 +241,7 @@ fn finish<D: Drain>(
         Err(halted) => return Err(named(halted, drain.stop())),
     };
     if drain.finish().is_err() {
-        return Err(lost(drain.stop()));
+        return Err(named(Halted::from(Stop::Write), drain.stop()));
     }
     Ok(report)
 }
@@ -270,7 +259,8 @@ fn run_packed<F: Feed, D: Drain + Drop, S: BuildHasher + Drop>(
         → Works (manner_of engine) (check_in engine seed.key) F.Feed (task_of job.old)
         (feeds_of job.old) (feeds_of job.new)
         (λ w. D.has_taken result.out 0 w × MeansBy packed_file result.meaning w)
-        (WriteFailed D.Drain out result.out) result.result }
+        (DrainFailed D.Drain packed_file (task_of job.old)
+        (map F.remaining (feeds_of job.old)) result.out) result.result }
     ensures front { Leads packed_file (input_form engine.program) (task_of job.old)
         (map F.remaining (feeds_of job.old)) (D.taken result.out) result.result }
     ensures hashed { IfOk result.result (λ _. IsAsked engine.digests result.meaning) }
@@ -309,7 +299,8 @@ fn run_unhashed<F: Feed, D: Drain + Drop, S: BuildHasher + Drop>(
         (feeds_of job.old) (feeds_of job.new)
         (λ w. D.has_taken result.out 0 w
         × MeansBy (output_form engine.packs engine.program) result.meaning w)
-        (WriteFailed D.Drain out result.out) result.result }
+        (DrainFailed D.Drain (output_form engine.packs engine.program) (task_of job.old)
+        (map F.remaining (feeds_of job.old)) result.out) result.result }
     ensures front { Leads (output_form engine.packs engine.program) (input_form engine.program)
         (task_of job.old) (map F.remaining (feeds_of job.old)) (D.taken result.out) result.result }
     ensures hashed { IfOk result.result (λ _. IsAsked
@@ -335,7 +326,8 @@ fn run_hashed<F: Feed, D: Drain + Drop, S: BuildHasher + Drop>(
         → Works (manner_of engine) (check_in engine seed.key) F.Feed (task_of job.old) (feeds_of job.old) (feeds_of job.new)
         (λ w. TakenBy D.Drain result.out result.output w
         × MeansBy (output_form engine.packs engine.program) result.meaning w)
-        (0 < D.failures result.out) result.result }
+        (DrainFailed D.Drain (output_form engine.packs engine.program) (task_of job.old)
+        (map F.remaining (feeds_of job.old)) result.out) result.result }
     ensures front { Leads (output_form engine.packs engine.program) (input_form engine.program)
         (task_of job.old) (map F.remaining (feeds_of job.old)) (D.taken result.out) result.result }
     ensures hashed { IsAsked true result.output }
@@ -366,7 +358,8 @@ fn run_into<F: Feed, D: Drain + Drop, S: BuildHasher + Drop>(
         → Works (manner_of engine) (check_in engine seed.key) F.Feed (task_of job.old) (feeds_of job.old) (feeds_of job.new)
         (λ w. TakenBy D.Drain result.out result.output w
         × MeansBy (output_form engine.packs engine.program) result.meaning w)
-        (0 < D.failures result.out) result.result }
+        (DrainFailed D.Drain (output_form engine.packs engine.program) (task_of job.old)
+        (map F.remaining (feeds_of job.old)) result.out) result.result }
     ensures front { Leads (output_form engine.packs engine.program) (input_form engine.program)
         (task_of job.old) (map F.remaining (feeds_of job.old)) (D.taken result.out) result.result }
     ensures hashed { IsAsked engine.digests result.output }
@@ -409,7 +402,7 @@ fn run_job<H: Host>(
         × IsKept engine.program files.now.overwrite files.now.output.now out.name keeps) }
     ensures err { IfErr result (λ how. (events : List Event)
         × (H.log host.new ≡ then_all (H.log host.old) events)
-        × Fails (manner_of engine) (judging (judge_of (task_of ready.job)))
+        × Fails (manner_of engine) (judging_for (task_of ready.job))
         (map H.In.remaining (feeds_of ready.job)) how events
         × Leaves (manner_of engine) (task_of ready.job)
         (map H.In.remaining (feeds_of ready.job)) events
@@ -457,7 +450,7 @@ pub(crate) fn write<H: Host>(
         × WritesCounts (manner_of engine) (plan_of plan) files.now counts events) }
     ensures err { IfErr result (λ how. (events : List Event)
         × (H.log host.new ≡ then_all (H.log host.old) events)
-        × FailsFor (manner_of engine) (judging (judge_of (plan_of plan))) how events
+        × FailsFor (manner_of engine) (judging_for (plan_of plan)) how events
         × LeavesFor (manner_of engine) (plan_of plan) events
         × IsSaid engine.digests (Writes (manner_of engine) (plan_of plan) files.now) how events) }
     ensures files { Settles engine.program files.now (H.log host.old) (H.log host.new) }
@@ -513,7 +506,7 @@ pub(crate) fn run_extract<H: Host>(
         × Extracts (manner_of engine) region.now strategy.entry files.now events) }
     ensures err { IfErr result (λ how. (events : List Event)
         × (H.log host.new ≡ then_all (H.log host.old) events)
-        × FailsFor (manner_of engine) (judging (judge_by (strategy_of strategy.entry))) how events
+        × FailsFor (manner_of engine) (judging_cut (strategy_of strategy.entry)) how events
         × (Each Quiet events ⊎ LeavesCut (manner_of engine) region.now strategy.entry events)
         × IsSaid engine.digests
         (Extracts (manner_of engine) region.now strategy.entry files.now) how events) }
