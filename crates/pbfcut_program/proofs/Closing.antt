@@ -8,7 +8,7 @@ use Rattle.pbf_frame.specs.declared.device.Feed as feed
 use Rattle.pbf_frame.specs.declared.device.Drain as drain
 use Rattle.pbf_frame.specs.declared.stop.Stop.{Stop}
 use Rattle.pbf_frame.specs.declared.stop.Stop.TheVariants as stop
-use Rattle.pbf_frame.specs.Devices.{HasRisen, IsFront}
+use Rattle.pbf_frame.specs.Devices.{IsFront}
 use Rattle.pbf_frame.specs.Verdict.{Verdict}
 use Rattle.pbf_pass.specs.Stops.{WriteFailed}
 use Rattle.pbf_pass.specs.declared.hashing.PassCheck.{PassCheck}
@@ -76,14 +76,14 @@ module _ {F : Type 0} (f : feed.Ghosts F) where
   close_given known may _ _ _ l m fresh c g = absurd g
 
   -- one of them failed
-  close_failed : (olds news : List F) (l m : Option (List Event)) → AreFresh f olds → CloseAll f news l m → AnyFailed (used f olds news) → (rs : List Reading) × (m ≡ then_all l (reads rs)) × Has FailsToRead (reads rs)
-  close_failed (old ∷ olds) (now ∷ news) l m fresh c (inl risen) =
+  close_failed : (olds news : List F) (l m : Option (List Event)) → CloseAll f news l m → AnyFailed (used f olds news) → (rs : List Reading) × (m ≡ then_all l (reads rs)) × Has FailsToRead (reads rs)
+  close_failed (old ∷ olds) (now ∷ news) l m c (inl risen) =
       let rest = close_rest news c.0 m c.2 in
       (reading f now c.1.0.0 ∷ rest.0, and_then l c.0 m (read (reading f now c.1.0.0) ∷ []) (reads rest.0) c.1.0.1 rest.1, inl (has_risen _ _ risen))
-  close_failed (old ∷ olds) (now ∷ news) l m fresh c (inr later) =
-      let rest = close_failed olds news c.0 m fresh.1 c.2 later in
+  close_failed (old ∷ olds) (now ∷ news) l m c (inr later) =
+      let rest = close_failed olds news c.0 m c.2 later in
       (reading f now c.1.0.0 ∷ rest.0, and_then l c.0 m (read (reading f now c.1.0.0) ∷ []) (reads rest.0) c.1.0.1 rest.1, inr rest.2)
-  close_failed _ _ l m fresh c g = absurd g
+  close_failed _ _ l m c g = absurd g
 
   -- one of them gave other bytes than a file: what was read before it, of it, and after it
   abbrev ReadOther : List ℕ → ℕ → ℕ → List Reading → Type 0
@@ -207,7 +207,7 @@ module _ {F : Type 0} (f : feed.Ghosts F) (packs digests : Bool) (judge : Option
       let end = tail.1 stops.1 in
       (reads rest.0 ++ end.0, and_then l m n (reads rest.0) end.0 rest.1 end.1, (stops.0, each_both _ (reads rest.0) end.0 (nothing_read rest.0) end.3), returned_after rest.0 end.0 end.4)
   stop_told program stop.Read olds news fresh c stops =
-      let rest = close_failed f olds news l m fresh c stops in
+      let rest = close_failed f olds news l m c stops in
       (reads rest.0 ++ tail.0.0, and_then l m n (reads rest.0) tail.0.0 rest.1 tail.0.1, has_before _ (reads rest.0) tail.0.0 rest.2, returned_after rest.0 tail.0.0 tail.0.4)
   stop_told program stop.Write olds news fresh c stops =
       let rs = reads (close_rest f news l m c).0 in

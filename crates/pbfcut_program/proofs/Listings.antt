@@ -90,12 +90,12 @@ module _ {F D : Type 0} (f : feed.Ghosts F) (d : drain.Ghosts D) (now : F) (out 
       → (events : List Event) × (n ≡ then_all k events) × FailsFor m j (ending_of_text why) events × LeavesLines m has events × Each Silent events
   listing_lost m j k input has e why gone = listing_fails m j (ending_of_text why) k input has e (text_stops m j (has ∷ []) why (all input has) (inr (inr (inr (inl gone)))))
 
-  pub list_fails : (m : Manner) (old : F) (before : D) (outcome : Result ℕ Halted) (k : Option (List Event)) (input : List ℕ) → IsFresh f old → IsFreshOut d before → l ≡ then_all k (opened input 1 (f.remaining old) ∷ screened true ∷ []) → ListsBy m.program f d old now before out outcome
+  pub list_fails : (m : Manner) (old : F) (before : D) (outcome : Result ℕ Halted) (k : Option (List Event)) (input : List ℕ) → l ≡ then_all k (opened input 1 (f.remaining old) ∷ screened true ∷ []) → ListsBy m.program f d old now before out outcome
       → IfErr outcome (λ halted. (events : List Event) × (n ≡ then_all k events) × FailsFor m listing halted.ending events × LeavesLines m (f.remaining old) events × Each Silent events)
-  list_fails m old before (Err halted) k input fresh start e ends =
+  list_fails m old before (Err halted) k input e ends =
       listing_fails m listing halted.ending k input (f.remaining old) e (stop_fails m listing (f.remaining old ∷ []) halted.ending (all input (f.remaining old)) ends.0 ends.1
       (caused_weaker _ _ _ _ _ _ _ _ ends.0 (λ x fault. fault) (λ risen. inr (inr (inl (has_risen _ _ risen)))) (λ risen. inr (inr (inr (inl (inl (has_risen _ _ risen)))))) (λ p c. c) ends.2))
-  list_fails m old before (Ok count) k input fresh start e ends = tt
+  list_fails m old before (Ok count) k input e ends = tt
 
   pub info_fails : {T : Type 0} (digests : Bool) (old : F) (before : D) (outcome : Result T Halted) (k : Option (List Event)) (input : List ℕ) → IsFresh f old → IsFreshOut d before → l ≡ then_all k (opened input 1 (f.remaining old) ∷ screened true ∷ [])
       → IfErr outcome (λ halted. EndsFor Pbfcutz f judged_headings (old ∷ []) (now ∷ []) (Added d before [] out) (WriteFailed d before out) halted.ending)

@@ -32,7 +32,7 @@ use Rattle.pbfcut_program.specs.declared.engine.Report.{Report}
 use Rattle.pbfcut_program.specs.declared.engine.Halted.{Halted}
 use Rattle.pbfcut_program.specs.Devices.{GiveAll, AreFresh, EndsFor, StopsFor, Gives, GivesIts, GivesFaulty, GivesOrNot, GivesOther, GivesOtherAt, Works, used}
 use Rattle.pbfcut_program.specs.Fails.{EndsAsStop}
-use Rattle.pbfcut_program.specs.Manner.{AreDigests, manner, output_form}
+use Rattle.pbfcut_program.specs.Manner.{AreDigests, manner}
 use Rattle.pbfcut_program.specs.Outcomes.{ReportsRaw}
 use Rattle.pbfcut_program.specs.Tasks.{Holds, Task, checking, showing, converting, copying, extracting, judge_of, spares_by}
 

@@ -1,9 +1,7 @@
 -- Why a command fails, by what happened.
 use Rattle.std.specs.Prelude.{◌≡◌, ◌⊎◌, ℕ, ◌+◌, ◌<◌, List, [], ◌∷◌, ◌++◌, length, true, false, Option, None, Some, Err}
 use Rattle.osm_polygon.specs.declared.fault.PolyFault.{PolyFault}
-use Rattle.osm_area.specs.Area.{AreaSpec}
 use Rattle.osm_polygon.specs.Texts.{polygons_of_text}
-use Rattle.osm_ways.specs.Selection.{Strategy}
 use Rattle.pbf_wire.specs.declared.fault.Fault.{Fault}
 use Rattle.pbf_frame.specs.Devices.{IsAtEnd}
 use Rattle.pbf_frame.specs.Verdict.{Verdict, judged_known}
@@ -14,7 +12,6 @@ use Rattle.pbf_published.specs.Published.{ChangedOf}
 use Rattle.pbf_unpack.specs.RawFrames.{IsNearLimit}
 use Rattle.pbf_unpack.specs.Unpacked.{unpacked}
 use Rattle.pbfcut.specs.Calls.{AllSupply}
-use Rattle.pbfcut.specs.Receipts.{judge_by}
 use Rattle.pbfcut_cli.specs.declared.endings.Ending.{Ending}
 use Rattle.pbfcut_cli.specs.declared.endings.Ending.TheVariants as ending
 use Rattle.pbfcut_cli.specs.declared.programs.Program.{Program}
@@ -28,7 +25,7 @@ use Rattle.pbfcut_program.specs.declared.host.PrintFault.TheVariants as line
 use Rattle.pbfcut_program.specs.Events.{Event, Reading, text_read, text_not_read, looked, opened, not_opened, seeded, made, not_made, linked, moved, renamed, removed, stays, not_named, not_synced, read, wrote, printed, told, advised}
 use Rattle.pbfcut_program.specs.Manner.{Form, Manner, input_form, meant_known, output_form, packed_file, raw_file}
 use Rattle.pbfcut_program.specs.Readings.{IsFaulty, IsOther}
-use Rattle.pbfcut_program.specs.Tasks.{GivesRaw, Task, extracting, judge_of}
+use Rattle.pbfcut_program.specs.Tasks.{GivesRaw, Task, judge_of}
 
 -- ---- events
 
@@ -193,10 +190,6 @@ pub data Judging : Type 1 where
 -- what a task does
 abbrev pub judging_for : Task → Judging
 judging_for task = judging (judge_of task) (GivesRaw task)
-
--- an extract of whatever area
-abbrev pub judging_cut : Strategy → Judging
-judging_cut by = judging (judge_by by) (λ file. (area : AreaSpec) → GivesRaw (extracting by area) file)
 
 -- each stop has its cause
 abbrev pub Stops : Manner → Judging → (has : List (Option (List ℕ))) → List Event → Stop → Type 0

@@ -12,11 +12,11 @@ ghost use Rattle.pbfcut_cli.specs.declared.programs.Program.TheVariants.{Pbfcutz
 ghost use Rattle.pbfcut_program.specs.Devices.{AreFresh, DrainFailed, FinishesPacked, Fronts, IsAsked, IsFreshOut, IsNamed, Leads, MeansBy, TakenBy, Wholes, Works, WorksOn};
 ghost use Rattle.pbfcut_program.specs.Events.{Event, Reading, Writing, read, wrote, then_all};
 ghost use Rattle.pbfcut_program.specs.Files.{IsKept, IsMade};
-ghost use Rattle.pbfcut_program.specs.Fails.{Each, Fails, FailsFor, FailsOpening, Quiet, judging_cut, judging_for};
+ghost use Rattle.pbfcut_program.specs.Fails.{Each, Fails, FailsFor, FailsOpening, Quiet, judging_for};
 ghost use Rattle.pbfcut_program.specs.Jobs.{area_of, feeds_of, plan_of, task_of};
 ghost use Rattle.pbfcut_program.specs.Leaving.{Leaves, LeavesFor};
 ghost use Rattle.pbfcut_program.specs.Outcomes.{ending_of_file};
-ghost use Rattle.pbfcut_program.specs.Program.{Extracts, LeavesCut, Writes, WritesCounts, advice, begun, is_empty, is_screen, looks, screen_of, strategy_of};
+ghost use Rattle.pbfcut_program.specs.Program.{Extracts, LeavesCut, Writes, WritesCounts, advice, begun, is_empty, is_screen, judging_cut, looks, screen_of, strategy_of};
 ghost use Rattle.pbfcut_program.specs.Manner.{check_in, hashes_meaning, input_form, manner_of, output_form, packed_file, to_raw};
 ghost use Rattle.pbfcut_program.specs.Settling.{Returns, Settles};
 ghost use Rattle.pbfcut_program.specs.Worked.{Worked};
@@ -506,7 +506,7 @@ pub(crate) fn run_extract<H: Host>(
         × Extracts (manner_of engine) region.now strategy.entry files.now events) }
     ensures err { IfErr result (λ how. (events : List Event)
         × (H.log host.new ≡ then_all (H.log host.old) events)
-        × FailsFor (manner_of engine) (judging_cut (strategy_of strategy.entry)) how events
+        × FailsFor (manner_of engine) (judging_cut region.now strategy.entry events) how events
         × (Each Quiet events ⊎ LeavesCut (manner_of engine) region.now strategy.entry events)
         × IsSaid engine.digests
         (Extracts (manner_of engine) region.now strategy.entry files.now) how events) }

@@ -1,4 +1,4 @@
-use Rattle.std.proofs.Common.{[], ◌∷◌, ◌++◌, ◌≡◌, List, inl, refl}
+use Rattle.std.proofs.Common.{[], ◌∷◌, ◌++◌, ◌≡◌, Err, List, inl, refl}
 use Rattle.std.proofs.lemmas.Result.{err_from_is_err_and}
 use Rattle.pbfcut_program.specs.Events.{Event, opened, read}
 use Rattle.pbfcut_program.specs.Fails.{CauseOfWrite, judging_for}
@@ -27,7 +27,7 @@ returns-in-Err-clause-err g c =
     let has = g.H.In.Feed.remaining one in
     let engine = c.args.engine in
     let unwritten : Type 0 = CauseOfWrite (output_form engine.packs engine.program) (GivesRaw checking) (has ∷ []) ⊥ ⊥ in
-    let works = works_weaker engine.program engine.packs engine.digests _ g.H.In.Feed checking (one ∷ []) (now ∷ []) (λ took. took ≡ []) (λ took. took ≡ []) ⊥ unwritten _ (λ w t. t) (λ none. absurd none) (c.in-Err.ensures (c.in_ok-pass.ensures.fresh, tt)) in
+    let works = works_weaker engine.program engine.packs engine.digests (once_check engine.digests) g.H.In.Feed checking (one ∷ []) (now ∷ []) (λ took. took ≡ []) (λ took. took ≡ []) ⊥ unwritten (Err c.in-Err.halted) (λ w t. t) (λ none. absurd none) (c.in-Err.ensures (c.in_ok-pass.ensures.fresh, tt)) in
     let fail = work_fails c.args.engine.program c.args.engine.packs c.args.engine.digests (once_check c.args.engine.digests) g.H.In.Feed checking (λ took. took ≡ []) ⊥ ⊥ (λ w. ⊥) (log c.open_pass.new.host) (log c.close.new.self) (log c.close.new.self)
     (one ∷ []) (now ∷ []) c.in-Err.halted (ends_with_none (log c.close.new.self) (λ took. took ≡ [])) (c.in_ok-pass.ensures.fresh, tt) (log c.close.new.self, (c.close.ensures.some, c.close.ensures.logged), refl) works in
     let m = manner_of c.args.engine in
