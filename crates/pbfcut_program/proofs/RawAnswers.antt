@@ -17,11 +17,11 @@ limited_sound : (v : Verdict) → (limited v).1 ≡ None → v.1 ≡ None
 limited_sound (frames, None) sound = refl
 limited_sound (frames, Some fault) sound = sound
 
-pub copy_raw : (file : List ℕ) → IsWritable file → GivesRaw copying file
-copy_raw file sound = (let v = judged false 0 file in ends_well v.0 v.1 (limited_sound (fully v) sound))
+pub copy_raw : (file : List ℕ) → (fully (judged false 0 file)).1 ≡ None → GivesRaw copying file
+copy_raw file sound = (let v = judged false 0 file in ends_well v.0 v.1 sound)
 
 raw_within : (bytes : List ℕ) → length bytes ≤ FILE_LIMIT → (verdict_within None bytes).1 ≡ None → IsRawFile bytes
-raw_within bytes low sound = copy_raw bytes (ap (λ (v : Verdict). v.1) (same_as_a_file bytes low sound) ∙ sound)
+raw_within bytes low sound = copy_raw bytes (limited_sound (fully (judged false 0 bytes)) (ap (λ (v : Verdict). v.1) (same_as_a_file bytes low sound) ∙ sound))
 
 pub conversion_raw : (file : List ℕ) → IsWritable file → length (conversion_of file) ≤ FILE_LIMIT → GivesRaw converting file
 conversion_raw file sound low = raw_within (conversion_of file) low (conversion_kept file sound).conversion.sound

@@ -1,12 +1,14 @@
 //! The laws of runs. Each is the contract of a function that does nothing: a proof that needs the law calls it, or takes the lemma of
 //! that name from this crate's `proofs/`.
 
-ghost use Rattle.std.specs.Prelude.{◌≡◌, ◌≤◌, ℕ, true, List, Some, codes, length};
+ghost use Rattle.std.specs.Prelude.{◌≡◌, ◌≤◌, ℕ, true, false, List, None, Some, codes, length};
 ghost use Rattle.clap.specs.Words.{Row, Text, subcommand_of, takes};
 ghost use Rattle.osm_area.specs.Area.{AreaSpec, IsAreaWithin};
 ghost use Rattle.osm_ways.specs.Selection.{IsWider};
 ghost use Rattle.pbf_frame.specs.declared.frame.TheConstants.{FILE_LIMIT};
+ghost use Rattle.pbf_frame.specs.Verdict.{judged};
 ghost use Rattle.pbf_header.specs.WrittenHeader.{EdgesTyped, edges_of};
+ghost use Rattle.pbf_pass.specs.Judged.{fully};
 ghost use Rattle.pbfcut.specs.Kept.{IsWritable, conversion_of, extract_of};
 ghost use Rattle.pbfcut_cli.specs.Joined.{normalized};
 ghost use Rattle.pbfcut_cli.specs.Words.{ReadsAs, program_app};
@@ -48,12 +50,12 @@ pub fn run_takes_extract()
         × TookExtract (manner_in program (Extract cut by files)) cut by file events }
 {}
 
-/// What `convert`, `pack`, `unpack` and `extract` write for a file that can be written is a raw file, unless it is longer than one may be. So
-/// that is known where it is said why a write of zlib blobs failed.
+/// What `convert` and `extract` write for a file that can be written is a raw file, unless it is longer than one may be; and so is a file
+/// without a fault, which `pack` and `unpack` copy.
 pub fn answers_are_raw_files()
     ensures convert { (file : List ℕ) → IsWritable file → length (conversion_of file) ≤ FILE_LIMIT
         → GivesRaw converting file }
-    ensures copy { (file : List ℕ) → IsWritable file → GivesRaw copying file }
+    ensures copy { (file : List ℕ) → (fully (judged false 0 file)).1 ≡ None → GivesRaw copying file }
     ensures extract { (by : Strategy) (area : AreaSpec) (file : List ℕ)
         → EdgesTyped (edges_of area.bounds) → IsWritable file
         → length (extract_of (strategy_of by) area file) ≤ FILE_LIMIT
