@@ -180,14 +180,14 @@ CauseOfWrite packed_file sound has failed near = (bytes : List ℕ) → AllSuppl
 
 -- what a command does with IN until it is refused
 pub data Judging : Type 1 where
-  -- it judges it so before anything is written; and for such files a raw file is to be written
+  -- it judges it so before anything is written; and for these files a raw file is to be written
   judging : (judge : Option (List ℕ) → Option Verdict) → (sound : List ℕ → Type 0) → Judging
   -- it writes the lines of frames until one has a fault
   listing : Judging
   -- `help`: it prints a text
   printing : Judging
 
--- what a task does
+-- by what its task does
 abbrev pub judging_for : Task → Judging
 judging_for task = judging (judge_of task) (GivesRaw task)
 

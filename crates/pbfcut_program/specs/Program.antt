@@ -238,6 +238,7 @@ abbrev pub CutsRaw : Region → Strategy → List Event → List ℕ → Type 0
 CutsRaw cut by events file = (area : AreaSpec) (before after : List Event)
     → events ≡ before ++ after → MeansArea cut before area → GivesRaw (extracting (strategy_of by) area) file
 
+-- how an extract of this is judged
 abbrev pub judging_cut : Region → Strategy → List Event → Judging
 judging_cut cut by events = judging (judge_by (strategy_of by)) (CutsRaw cut by events)
 
