@@ -164,14 +164,25 @@ def written_failures(folder: str):
     require(done.returncode == 0 and done.stdout.splitlines()[1].split()[1] == "2", f"--set all: {done.stdout}")
 
 
+def read_all(terminal: int) -> bytes:
+    """What a terminal has, which may come in pieces, and at the end of which it fails."""
+    said = b""
+    try:
+        while piece := os.read(terminal, 4096):
+            said += piece
+    except OSError:
+        pass
+    os.close(terminal)
+    return said
+
+
 def progress(folder: str):
     """A terminal shows how many cases are done; a pipe gets nothing."""
     command = [*RUN, "reader", *FEW, *reader_script(folder, ONCE, "entity['id'] += 1")]
     ours, theirs = pty.openpty()
     done = subprocess.run(command, stdout=subprocess.DEVNULL, stderr=theirs, check=False)
     os.close(theirs)
-    said = os.read(ours, 4096)
-    os.close(ours)
+    said = read_all(ours)
     require(done.returncode == 1 and b"\r2 of 2 cases, 1 failed" in said, f"the line on a terminal: {said}")
     require(run(*command[len(RUN):]).stderr == "", "a line of progress on a pipe")
 
