@@ -17,4 +17,5 @@ pub mod KeptLaw
 pub mod NodeLemmas
 pub mod ManyLemmas
 pub mod CopyingLemmas
+pub mod SeveralLemmas
 pub mod SmartLemmas

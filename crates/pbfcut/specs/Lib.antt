@@ -4,6 +4,7 @@ pub mod FileFaults
 pub mod Pick
 pub mod Many
 pub mod Write
+pub mod Several
 pub mod Repeat
 pub mod Showing
 pub mod Summary

@@ -2,6 +2,7 @@
 #![tactic(auto)]
 
 mod blobs;
+mod carrying;
 mod converting;
 mod copying;
 mod extracting;
@@ -14,8 +15,10 @@ mod smart;
 mod sorted;
 mod summary;
 mod write;
+mod writing_each;
 
 pub use blobs::list_blobs;
+pub use carrying::AreaOutput;
 pub use converting::{convert, convert_with_receipt};
 pub use copying::copy_with_receipt;
 pub use extracting::{
