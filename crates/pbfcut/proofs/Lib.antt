@@ -7,6 +7,8 @@ pub mod FileLaw
 pub mod PickingLemmas
 pub mod PackingLemmas
 pub mod WritingLemmas
+pub mod SeveralLemmas
+pub mod WritingEachLemmas
 pub mod StayLemmas
 pub mod ConvertingLemmas
 pub mod ChangedLemmas
@@ -17,5 +19,4 @@ pub mod KeptLaw
 pub mod NodeLemmas
 pub mod ManyLemmas
 pub mod CopyingLemmas
-pub mod SeveralLemmas
 pub mod SmartLemmas

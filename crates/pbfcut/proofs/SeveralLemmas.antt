@@ -1,7 +1,18 @@
 -- Lists that go together, place by place.
-use Rattle.std.proofs.Common.{◌≡◌, ◌⊎◌, inl, inr, ℕ, ◌+◌, List, [], ◌∷◌, ◌++◌, length, take, refl, sym, ap, subst, ◌∙◌, arith}
+use Rattle.std.proofs.Common.{◌≡◌, ◌⊎◌, inl, inr, ℕ, ◌+◌, List, [], ◌∷◌, ◌++◌, length, length-append, append-nil, take, drop, refl, sym, ap, subst, ◌∙◌, arith}
+use Rattle.std.specs.Prelude.{Result, if◌then◌else◌, is_ok}
+use Rattle.std.specs.Result.{IsOk}
 use Rattle.std.specs.List.{AllByRecursion, AllZip}
+use Rattle.pbf_pass.proofs.EachLemmas as each
 use Rattle.pbfcut.specs.Several.{AllThree, AnyZip, OneStopped}
+
+-- a list that is written back whole
+pub all_back : {T : Type 0} (n : ℕ) (olds news : List T) → n ≡ length olds → length news ≡ length olds → take n (news ++ drop (length news) olds) ≡ news
+all_back n olds news is same = each.all_back n olds news is same
+
+-- what a push with room leaves
+pub pushed : {T E X : Type 0} (r : Result T E) (more same : List X) → IsOk r → (if is_ok r then more else same) ≡ more
+pushed r more same ok = grind arith
 
 -- ---- two lists
 
@@ -17,7 +28,7 @@ zip_more R (a ∷ xs) [] x y all one = absurd all
 
 pub zip_length : {X Y : Type 0} (R : X → Y → Type 0) (xs : List X) (ys : List Y) → AllZip R xs ys → length ys ≡ length xs
 zip_length R [] [] all = refl
-zip_length R (x ∷ xs) (y ∷ ys) all = ap (λ (n : ℕ). n + 1) (zip_length R xs ys all.1)
+zip_length R (x ∷ xs) (y ∷ ys) all = omega (arith, zip_length R xs ys all.1)
 zip_length R [] (y ∷ ys) all = absurd all
 zip_length R (x ∷ xs) [] all = absurd all
 
@@ -75,11 +86,29 @@ three_more R (a ∷ xs) (b ∷ ys) [] x y z all one = absurd all
 
 pub three_length : {X Y Z : Type 0} (R : X → Y → Z → Type 0) (xs : List X) (ys : List Y) (zs : List Z) → AllThree R xs ys zs → length zs ≡ length ys
 three_length R [] [] [] all = refl
-three_length R (x ∷ xs) (y ∷ ys) (z ∷ zs) all = ap (λ (n : ℕ). n + 1) (three_length R xs ys zs all.1)
+three_length R (x ∷ xs) (y ∷ ys) (z ∷ zs) all = omega (arith, three_length R xs ys zs all.1)
 three_length R [] [] (z ∷ zs) all = absurd all
 three_length R [] (y ∷ ys) zs all = absurd all
 three_length R (x ∷ xs) [] zs all = absurd all
 three_length R (x ∷ xs) (y ∷ ys) [] all = absurd all
+
+pub three_length_first : {X Y Z : Type 0} (R : X → Y → Z → Type 0) (xs : List X) (ys : List Y) (zs : List Z) → AllThree R xs ys zs → length xs ≡ length ys
+three_length_first R [] [] [] all = refl
+three_length_first R (x ∷ xs) (y ∷ ys) (z ∷ zs) all = omega (arith, three_length_first R xs ys zs all.1)
+three_length_first R [] [] (z ∷ zs) all = absurd all
+three_length_first R [] (y ∷ ys) zs all = absurd all
+three_length_first R (x ∷ xs) [] zs all = absurd all
+three_length_first R (x ∷ xs) (y ∷ ys) [] all = absurd all
+
+none_left : {X : Type 0} (xs rest all : List X) → xs ++ rest ≡ all → length all ≡ length xs → xs ≡ all
+none_left xs [] all is same = sym (append-nil xs) ∙ is
+none_left xs (x ∷ rest) all is same = (let bad : ⊥ = omega (arith, ap length is, same, length-append xs (x ∷ rest)) in absurd bad)
+
+-- at the end of a loop over the second list nothing is left of the first
+pub all_done : {X Y Z : Type 0} (R : X → Y → Z → Type 0) (xs rest all : List X) (ys yall : List Y) (zs : List Z) → ys ≡ yall → xs ++ rest ≡ all → length all ≡ length yall → AllThree R xs ys zs → AllThree R all yall zs
+all_done R xs rest all ys yall zs ended is same so_far =
+    let first : xs ≡ all = none_left xs rest all is (omega (arith, same, ap length ended, three_length_first R xs ys zs so_far)) in
+    subst (λ l. AllThree R l yall zs) first (subst (λ l. AllThree R xs l zs) ended so_far)
 
 pub three_then : {X Y Z W : Type 0} (R : X → Y → Z → Type 0) (Q : Z → W → Type 0) (P : X → Y → W → Type 0) → ((x : X) (y : Y) (z : Z) (w : W) → R x y z → Q z w → P x y w) → (xs : List X) (ys : List Y) (zs : List Z) (ws : List W) → AllThree R xs ys zs → AllZip Q zs ws → AllThree P xs ys ws
 three_then R Q P h [] [] [] [] all more = tt

@@ -20,6 +20,7 @@ use Rattle.pbf_pass.specs.Hashing.{mark_by}
 use Rattle.pbf_pass.specs.Judged.{judged_file}
 use Rattle.pbf_pass.specs.Stops.{WriteFailed}
 use Rattle.pbf_pass.specs.Unjudged.{ReadsFaulty, StopsUnjudged}
+use Rattle.pbf_pass.specs.Visit.{Fails, Takes}
 use Rattle.pbfcut.specs.declared.carrying.AreaChoice.{AreaChoice}
 use Rattle.pbfcut.specs.declared.carrying.AreaOutput.{AreaOutput}
 use Rattle.pbfcut.specs.declared.repeat.LaterPass.{LaterPass}
@@ -27,7 +28,7 @@ use Rattle.pbfcut.specs.declared.writing_each.AreaWriter.{AreaWriter}
 use Rattle.pbfcut.specs.Calls.{FailedFeed, FeedUse, GaveBy, KeepsFed, supply_of}
 use Rattle.pbfcut.specs.Pick.{IsFreshPacker, IsReadyToPack, picks_of, taken_by}
 use Rattle.pbfcut.specs.Repeat.{StopsLater, digest_of}
-use Rattle.pbfcut.specs.Write.{Packed, PacksFront}
+use Rattle.pbfcut.specs.Write.{FailsAtNext, Packed, PacksFront, PacksNext}
 
 -- ---- lists that go together
 
@@ -77,6 +78,12 @@ IsOutputOf writer output = output ≡ record { area = writer.area; drain = write
 abbrev pub CanBegin : {A D S H : Type 0} → AreaWriter A D S H → Type 0
 CanBegin writer = IsFreshPacker writer.packer × HasShortTexts (header_of writer.choice.now.header)
 
+-- nothing was counted yet, in the pass of this number
+pub record IsFreshWriter {A D S H : Type 0} (number : ℕ) (writer : AreaWriter A D S H) : Type 0 where
+  pub begins : CanBegin writer
+  pub number_is : writer.entities.number ≡ number
+  pub counts : writer.entities.counts ≡ counts_of []
+
 -- it put the header
 pub record PutsHeader {A D S H : Type 0} (d : drain.Ghosts D) (old new : AreaWriter A D S H) : Type 0 where
   pub written : Added d old.packer.drain (header_frame (header_of old.choice.now.header)) new.packer.drain
@@ -90,6 +97,14 @@ pub record StopsAtHeader {A D S H : Type 0} (d : drain.Ghosts D) (stop : Stop) (
   pub front : IsFront (d.taken old.packer.drain) (d.taken new.packer.drain) (header_frame (header_of old.choice.now.header))
   pub cause : IsPackStop (d.failures old.packer.drain) (d.failures new.packer.drain) stop
   pub keeps : KeepsWriter d old new
+
+-- it took a frame, and counted what it packed of it
+abbrev pub WriterTakes : {A D S H : Type 0} → drain.Ghosts D → Takes (AreaWriter A D S H)
+WriterTakes d old f new = PacksNext d (picks_of old.entities.picker) old.packer new.packer old.entities.counts new.entities.counts f × (new.entities.picker ≡ old.entities.picker) × (new.entities.number ≡ old.entities.number) × (new.area ≡ old.area) × (new.choice.now ≡ old.choice.now)
+
+-- it stopped at a frame
+abbrev pub WriterFails : {A D S H : Type 0} → drain.Ghosts D → Fails (AreaWriter A D S H)
+WriterFails d old f new stop = FailsAtNext d old.entities.number (picks_of old.entities.picker) old.packer new.packer f stop × (new.area ≡ old.area) × (new.choice.now ≡ old.choice.now)
 
 -- it wrote what waited
 pub record WritesLast {A D S H : Type 0} (d : drain.Ghosts D) (old new : AreaWriter A D S H) : Type 0 where

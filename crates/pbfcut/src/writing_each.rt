@@ -4,9 +4,11 @@ ghost use Rattle.std.specs.Prelude.{◌≡◌, ◌≤◌, [], OnOk, IfErr, lengt
 ghost use Rattle.std.specs.List.{AllByRecursion, AllZip};
 ghost use Rattle.std.specs.Vec.{vec_capacity};
 ghost use Rattle.pbf_frame.specs.declared.stop.Stop.{Stop};
-ghost use Rattle.pbfcut.specs.Pick.{picks_of, IsFreshPacker, IsReadyToPack};
-ghost use Rattle.pbfcut.specs.Several.{AllThree, CanBegin, IsOutputOf, IsWriterOf, OneStopped, PutsHeader, StopsAtHeader, StopsAtLast, WritesEach, WritesEachUnjudged, WritesLast};
-ghost use Rattle.pbfcut.specs.Write.{PacksNext, FailsAtNext};
+ghost use Rattle.pbf_header.specs.Header.{header_of};
+ghost use Rattle.pbf_pass.specs.HeaderLimit.{HasShortTexts};
+ghost use Rattle.pbfcut.specs.Calls.{fed};
+ghost use Rattle.pbfcut.specs.Pick.{IsReadyToPack};
+ghost use Rattle.pbfcut.specs.Several.{AllThree, CanBegin, IsOutputOf, IsWriterOf, OneStopped, PutsHeader, StopsAtHeader, StopsAtLast, WriterFails, WriterTakes, WritesEach, WritesEachUnjudged, WritesLast, IsFreshWriter};
 
 use crate::carrying::{AreaChoice, AreaOutput};
 use crate::pick::{EntityPacker, Picker};
@@ -29,15 +31,9 @@ struct AreaWriter<'a, A, D: Drain, S: BuildHasher> {
 }
 
 impl<A, D: Drain, S: BuildHasher> Visit for AreaWriter<'_, A, D, S> {
-    ghost took = { λ old f new. PacksNext D.Drain (picks_of old.entities.picker)
-        old.packer new.packer old.entities.counts new.entities.counts f
-        × (new.entities.picker ≡ old.entities.picker)
-        × (new.entities.number ≡ old.entities.number)
-        × (new.area ≡ old.area) × (new.choice.now ≡ old.choice.now) };
+    ghost took = { WriterTakes D.Drain };
 
-    ghost failed = { λ old f new stop. FailsAtNext D.Drain old.entities.number
-        (picks_of old.entities.picker) old.packer new.packer f stop
-        × (new.area ≡ old.area) × (new.choice.now ≡ old.choice.now) };
+    ghost failed = { WriterFails D.Drain };
 
     ghost ready = { λ v. IsReadyToPack v.packer };
 
@@ -145,13 +141,17 @@ fn load<'a, A: Drop, D: Drain + Drop, S: BuildHasher + Copy>(
     writers: Vec<AreaWriter<'a, A, D, S>>,
 ) -> Vec<AreaWriter<'a, A, D, S>>
     requires same { length choices.now ≡ length outputs.items }
-    requires room { length outputs.items ≤ vec_capacity writers.entry }
-    requires none { writers.entry.items ≡ [] }
+    requires room { length outputs.items ≤ vec_capacity writers }
+    requires none { writers.items ≡ [] }
     ensures { AllThree (IsWriterOf pass.number) choices.now outputs.items result.items }
 {
     let mut writers = writers;
+    let mut rest = choices;
     'outputs: for output in outputs {
-        let choice = &choices[writers.len()];
+        let Some((choice, later)) = rest.split_first() else {
+            unreachable!()
+        };
+        rest = later;
         writers.push(AreaWriter::new(pass, choice, output, hasher)).unwrap();
     }
     writers
@@ -163,7 +163,7 @@ fn unload<A: Drop, D: Drain + Drop, S: BuildHasher + Drop>(
     writers: Vec<AreaWriter<'_, A, D, S>>,
     outputs: Vec<AreaOutput<A, D>>,
 ) -> Vec<AreaOutput<A, D>>
-    requires room { length writers.entry.items ≤ vec_capacity outputs }
+    requires room { length writers.items ≤ vec_capacity outputs }
     requires none { outputs.items ≡ [] }
     ensures { AllZip IsOutputOf writers.entry.items result.items }
 {
@@ -200,4 +200,62 @@ fn end_all<W: Ends>(writers: &mut [W]) -> Result<(), Stop>
     };
     first.end()?;
     end_all(later)
+}
+
+/// Puts the headers, what is picked of a whole file, and the last blocks through the writers.
+#[tactic(auto, using(crate::proofs::SeveralLemmas::all_back))]
+fn pack_each<'a, A, F: Feed, D: Drain, S: BuildHasher>(
+    pass: LaterPass,
+    feed: &mut F,
+    writers: Vec<AreaWriter<'a, A, D, S>>,
+) -> (Vec<AreaWriter<'a, A, D, S>>, Result<[u8; 32], Stop>)
+    requires { AllByRecursion (IsFreshWriter pass.number) writers.items }
+    ensures { WritesEachUnjudged (fed F.Feed feed.old feed.new) D.Drain pass
+        writers.entry.items result.0.items result.1 }
+{
+    let mut writers = writers;
+    if let Err(stop) = begin_all(&mut writers) {
+        return (writers, Err(stop));
+    }
+    let mut each = Each::new(writers);
+    let outcome = pass_over(pass.passes, feed, &mut each);
+    let mut writers = each.into_members();
+    let read = match outcome {
+        Ok(read) => read,
+        Err(halt) => return (writers, Err(halt.into())),
+    };
+    if let Err(stop) = end_all(&mut writers) {
+        return (writers, Err(stop));
+    }
+    (writers, Ok(read.digest))
+}
+
+/// Writes the extracts of these outputs, for what was chosen for each of them, in a pass over a whole file, which has to be the one that
+/// was judged. The outputs come back in the same order.
+pub(crate) fn write_each<
+    A: Drop,
+    F: Feed,
+    D: Drain + Drop,
+    S: BuildHasher + Copy + Drop,
+>(
+    pass: LaterPass,
+    choices: &[AreaChoice],
+    outputs: Vec<AreaOutput<A, D>>,
+    feed: &mut F,
+    hasher: S,
+) -> (Vec<AreaOutput<A, D>>, Result<(), Stop>)
+    requires same { length choices.now ≡ length outputs.items }
+    requires short { AllByRecursion (λ choice. HasShortTexts (header_of choice.header)) choices.now }
+    ensures { WritesEach (fed F.Feed feed.old feed.new) D.Drain pass choices.now
+        outputs.items result.0.items result.1 }
+{
+    let alloc = pass.passes.alloc;
+    let (Ok(writers), Ok(back)) = (
+        Vec::with_capacity(alloc, outputs.len()),
+        Vec::with_capacity(alloc, outputs.len()),
+    ) else {
+        return (outputs, Err(Stop::Memory));
+    };
+    let (writers, outcome) = pack_each(pass, feed, load(pass, choices, outputs, hasher, writers));
+    (unload(writers, back), pass.conclude(outcome))
 }
