@@ -14,6 +14,10 @@ all_back n olds news is same = each.all_back n olds news is same
 pub pushed : {T E X : Type 0} (r : Result T E) (more same : List X) → IsOk r → (if is_ok r then more else same) ≡ more
 pushed r more same ok = grind arith
 
+pub all_less : {X : Type 0} (P Q : X → Type 0) → ((x : X) → P x → Q x) → (xs : List X) → AllByRecursion P xs → AllByRecursion Q xs
+all_less P Q h [] all = tt
+all_less P Q h (x ∷ xs) all = (h x all.0, all_less P Q h xs all.1)
+
 -- ---- two lists
 
 pub zip_same : {X : Type 0} (R : X → X → Type 0) → ((x : X) → R x x) → (xs : List X) → AllZip R xs xs
