@@ -9,6 +9,7 @@ pub mod PackingLemmas
 pub mod WritingLemmas
 pub mod SeveralLemmas
 pub mod WritingEachLemmas
+pub mod OutputLemmas
 pub mod StayLemmas
 pub mod ConvertingLemmas
 pub mod ChangedLemmas

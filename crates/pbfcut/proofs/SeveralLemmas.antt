@@ -124,6 +124,20 @@ three_then R Q P h [] (y ∷ ys) zs ws all more = absurd all
 three_then R Q P h (x ∷ xs) [] zs ws all more = absurd all
 three_then R Q P h (x ∷ xs) (y ∷ ys) [] ws all more = absurd all
 
+pub three_weaker : {X Y Z : Type 0} (R Q : X → Y → Z → Type 0) → ((x : X) (y : Y) (z : Z) → R x y z → Q x y z) → (xs : List X) (ys : List Y) (zs : List Z) → AllThree R xs ys zs → AllThree Q xs ys zs
+three_weaker R Q h [] [] [] all = tt
+three_weaker R Q h (x ∷ xs) (y ∷ ys) (z ∷ zs) all = (h x y z all.0, three_weaker R Q h xs ys zs all.1)
+three_weaker R Q h [] [] (z ∷ zs) all = absurd all
+three_weaker R Q h [] (y ∷ ys) zs all = absurd all
+three_weaker R Q h (x ∷ xs) [] zs all = absurd all
+three_weaker R Q h (x ∷ xs) (y ∷ ys) [] all = absurd all
+
+pub three_same : {X Y : Type 0} (R : X → Y → Y → Type 0) → ((x : X) (y : Y) → R x y y) → (xs : List X) (ys : List Y) → length xs ≡ length ys → AllThree R xs ys ys
+three_same R h [] [] same = tt
+three_same R h (x ∷ xs) (y ∷ ys) same = (h x y, three_same R h xs ys (omega (arith, same)))
+three_same R h [] (y ∷ ys) same = (let bad : ⊥ = omega (arith, same) in absurd bad)
+three_same R h (x ∷ xs) [] same = (let bad : ⊥ = omega (arith, same) in absurd bad)
+
 -- the last two of them
 pub three_zip : {X Y Z : Type 0} (R : X → Y → Z → Type 0) (Q : Y → Z → Type 0) → ((x : X) (y : Y) (z : Z) → R x y z → Q y z) → (xs : List X) (ys : List Y) (zs : List Z) → AllThree R xs ys zs → AllZip Q ys zs
 three_zip R Q h [] [] [] all = tt

@@ -162,7 +162,7 @@ stops_more number wrote more f why.Write h failing = h failing
 stops_more number wrote more f why.Memory h failing = failing
 stops_more number wrote more f (why.Changed n) h failing = failing
 
-unjudged_more : (number : ℕ) (known : Option Verdict) (read wrote more : Type 0) (s : Stop) → (wrote → more) → StopsUnjudged number known read wrote s → StopsUnjudged number known read more s
+pub unjudged_more : (number : ℕ) (known : Option Verdict) (read wrote more : Type 0) (s : Stop) → (wrote → more) → StopsUnjudged number known read wrote s → StopsUnjudged number known read more s
 unjudged_more number known read wrote more (why.Refused e) h failing = failing
 unjudged_more number known read wrote more why.Read h failing = failing
 unjudged_more number known read wrote more why.Write h failing = h failing
