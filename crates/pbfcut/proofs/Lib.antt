@@ -10,6 +10,7 @@ pub mod WritingLemmas
 pub mod SeveralLemmas
 pub mod WritingEachLemmas
 pub mod OutputLemmas
+pub mod AreaPhaseLemmas
 pub mod StayLemmas
 pub mod ConvertingLemmas
 pub mod ChangedLemmas

@@ -5,6 +5,8 @@ pub mod Pick
 pub mod Many
 pub mod Write
 pub mod Several
+pub mod AreaPhases
+pub mod ChoosingEach
 pub mod Repeat
 pub mod Showing
 pub mod Summary

@@ -1,8 +1,10 @@
 //! The engine: what pbfcut does with a whole file.
 #![tactic(auto)]
 
+mod area_phase;
 mod blobs;
 mod carrying;
+mod choosing_each;
 mod converting;
 mod copying;
 mod extracting;
