@@ -24,7 +24,7 @@ all_same : {X : Type 0} (R : X → X → Type 0) → ((x : X) → R x x) → (xs
 all_same R h [] = tt
 all_same R h (x ∷ xs) = (h x, all_same R h xs)
 
-all_mapped : {X : Type 0} (f : X → X) (xs : List X) → AllZip (λ x y. y ≡ f x) xs (map f xs)
+pub all_mapped : {X : Type 0} (f : X → X) (xs : List X) → AllZip (λ x y. y ≡ f x) xs (map f xs)
 all_mapped f [] = tt
 all_mapped f (x ∷ xs) = (refl, all_mapped f xs)
 

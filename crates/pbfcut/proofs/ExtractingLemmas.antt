@@ -265,6 +265,11 @@ module _ {S : Type 0} (start : S) (step : S → Seen → S) (has_ways : S → Bo
     chooses true all rest = (rest.0, chosen b (all_ways all rest.1))
     chooses false all rest = gave_file_less second.ghosts second.old second.new digest (λ file. GathersFile with_way (judged_file (Some file)) started ways) _ (λ c more. chosen c (more_ways all c more)) rest
 
+    -- of one of several areas, for which the second file was read though the first pass had all ways, or since it hadn't
+    pub chooses_of : (is_done : Bool) → is_done ≡ has_ways phase → (c : List ℕ) → c ≡ b → (is_done ≡ true → ways ≡ started) → (is_done ≡ false → GathersFile with_way (judged_file (Some c)) started ways) → IsChoice area b c sets h
+    chooses_of true all c same rest more = subst (λ (l : List ℕ). IsChoice area b l sets h) (sym same) (chosen b (all_ways all (rest refl)))
+    chooses_of false all c same rest more = chosen c (more_ways all c (more refl))
+
     -- and a third one, for relations
     module _ (found_of : S → Found) (takes_all : TakesAll start step has_ways ended found_of) (third : FeedUse) (found : Found) (founds : found ≡ found_of phase) (begun_relations relations : RelationSets) (begins_with : begun_relations ≡ relations_from sets.ways found)
         (last now : KeptSets) (keeps : last.ways ≡ relations.ways) (least : IsLeast (set.contains relations.links) relations.start last.relation_ids) (none : last.added ≡ nothing_added) (handed : now ≡ last) where

@@ -11,6 +11,8 @@ pub mod SeveralLemmas
 pub mod WritingEachLemmas
 pub mod OutputLemmas
 pub mod AreaPhaseLemmas
+pub mod ChoosingEachLemmas
+pub mod EachReceiptLemmas
 pub mod StayLemmas
 pub mod ConvertingLemmas
 pub mod ChangedLemmas

@@ -18,6 +18,10 @@ pub all_less : {X : Type 0} (P Q : X → Type 0) → ((x : X) → P x → Q x) �
 all_less P Q h [] all = tt
 all_less P Q h (x ∷ xs) all = (h x all.0, all_less P Q h xs all.1)
 
+pub all_units : {X : Type 0} (xs : List X) → AllByRecursion (λ x. Unit {0}) xs
+all_units [] = tt
+all_units (x ∷ xs) = (tt, all_units xs)
+
 -- ---- two lists
 
 pub zip_same : {X : Type 0} (R : X → X → Type 0) → ((x : X) → R x x) → (xs : List X) → AllZip R xs xs

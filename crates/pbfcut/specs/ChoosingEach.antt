@@ -17,6 +17,12 @@ use Rattle.pbfcut.specs.declared.carrying.AreaChoice.{AreaChoice}
 use Rattle.pbfcut.specs.declared.carrying.AreaOutput.{AreaOutput}
 use Rattle.pbfcut.specs.Extracting.{Begins, IsChoice}
 
+-- the file has no fault, and its header can be written
+pub record IsSoundFile (file : List ℕ) : Type 0 where
+  pub frames : List FrameSpec
+  pub judged : Says (judged_file (Some file)) (frames, None)
+  pub within : header_limit (file_header frames) ≡ None
+
 -- ---- one area
 
 -- a first phase of the area of an output, with no entities yet
@@ -50,9 +56,7 @@ pub record IsWaysChoice {R : Type 0} (phase : AreaPhase WaySets R) (choice : Are
 
 -- the first file has no fault, and its header can be written; and if the second is the same, this was chosen
 pub record Chose (Chooses : List ℕ → List ℕ → HeaderSpec → Type 0) (first second : List ℕ) (h : HeaderSpec) : Type 0 where
-  pub frames : List FrameSpec
-  pub judged : Says (judged_file (Some first)) (frames, None)
-  pub within : header_limit (file_header frames) ≡ None
+  pub sound : IsSoundFile first
   pub short : HasShortTexts h
   pub chosen : second ≡ first → Chooses first second h
 

@@ -7,6 +7,7 @@ pub mod Write
 pub mod Several
 pub mod AreaPhases
 pub mod ChoosingEach
+pub mod EachReceipts
 pub mod Repeat
 pub mod Showing
 pub mod Summary

@@ -31,6 +31,15 @@ impl<A, D> AreaOutput<A, D> {
     }
 }
 
+/// What a call reports that writes several extracts: the numbers of the entities are in the outputs.
+#[derive(Clone, Copy, Debug)]
+pub struct EachReceipt {
+    /// The digest of the bytes that each feed gave that was read. It says nothing if the check is [`PassCheck::None`](pbf_pass::PassCheck::None).
+    pub input: [u8; 32],
+    /// Whether nothing was read of the feeds between the first and the last, since the first pass was enough for all areas.
+    pub spared: bool,
+}
+
 /// What the passes before the one that writes report of one area.
 #[derive(Drop)]
 pub(crate) struct AreaChoice {

@@ -10,7 +10,7 @@ ghost use Rattle.pbf_pass.specs.Hashing.{mark_by};
 ghost use Rattle.pbf_pass.specs.HeaderLimit.{HasShortTexts, judged_writable};
 ghost use Rattle.pbfcut.specs.Calls.{fed, GaveBy, GaveOrNot, KeepsAll};
 ghost use Rattle.pbfcut.specs.Choosing.{StopsChoosing};
-ghost use Rattle.pbfcut.specs.ChoosingEach.{BeginsArea, ChoseWays, EndsTaking, IsFreshTaking, IsWaysChoice};
+ghost use Rattle.pbfcut.specs.ChoosingEach.{BeginsArea, ChoseWays, EndsTaking, IsFreshTaking, IsSoundFile, IsWaysChoice};
 ghost use Rattle.pbfcut.specs.Repeat.{IsPass};
 
 use crate::area_phase::{AreaPhase, are_done};
@@ -121,7 +121,7 @@ fn begin_each<A: Area + Copy, P: NodeTaker + Drop, F: Feed, D>(
     feed: &mut F,
 ) -> Result<BegunEach, Halt>
     ensures begun { IfOk result (λ begun. GaveFile F.Feed feed.old feed.new
-        (mark_by passes.check begun.digest) (λ b. AllZip
+        (mark_by passes.check begun.digest) (λ b. IsSoundFile b × AllZip
         (BeginsArea A.area P.start P.step P.has_ways P.ended b) outputs.now begun.phases.items)) }
     ensures halts { IfErr result
         (StopsChoosing judged_writable (fed F.Feed feed.old feed.new) [] passes.check) }

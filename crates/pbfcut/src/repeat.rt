@@ -83,8 +83,8 @@ impl LaterPass {
             (λ first. stop ≡ as_change self.number first)) }
     {
         match outcome {
-            Ok(digest) => self.compare(digest),
-            Err(stop) => Err(self.changed(stop)),
+            Ok(input) => self.compare(input),
+            Err(first) => Err(self.changed(first)),
         }
     }
 }
