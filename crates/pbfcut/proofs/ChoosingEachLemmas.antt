@@ -44,14 +44,14 @@ area_stays area step of (e ∷ es) = area_stays area step (with_seen_in area ste
 pub sound_file : {S : Type 0} (gathered : S → EntitySpec → S) (file : List ℕ) (before now : S) (pass : Pass) → TakesFile gathered (judged_file (Some file)) before now pass → header_limit (held_header pass) ≡ None → IsSoundFile file
 sound_file gathered file before now pass p within = record { frames = p.frames; judged = p.says; within = ap header_limit (sym (held_is (file_header p.frames) pass p.header)) ∙ within }
 
-module _ {A D S R : Type 0} (area : A → AreaSpec) (start : S) (step : S → Seen → S) (has_ways : S → Bool) (ended : S → WaySets) (file : List ℕ) (pass : Pass) (header : HeaderSpec) (held : held_header pass ≡ Some (pass.header_at, header)) (within : header_limit (held_header pass) ≡ None) (short : HasShortTexts header) where
+module _ {A D S : Type 0} (area : A → AreaSpec) (start : S) (step : S → Seen → S) (has_ways : S → Bool) (ended : S → WaySets) (file : List ℕ) (pass : Pass) (header : HeaderSpec) (held : held_header pass ≡ Some (pass.header_at, header)) (within : header_limit (held_header pass) ≡ None) (short : HasShortTexts header) where
   -- a phase that took the file, before which it was fresh
   record TookFresh (output : AreaOutput A D) (now : InArea A S) : Type 0 where
     before : InArea A S
     fresh : IsFreshTaking start step has_ways ended output before
     took : TakesFile (with_seen_in area step) (judged_file (Some file)) before now pass
 
-  begins_area : (output : AreaOutput A D) (now : InArea A S) (phase : AreaPhase WaySets R) → TookFresh output now → EndsTaking area has_ways ended header now phase → BeginsArea area start step has_ways ended file output phase
+  begins_area : {R : Type 0} (output : AreaOutput A D) (now : InArea A S) (phase : AreaPhase WaySets R) → TookFresh output now → EndsTaking area has_ways ended header now phase → BeginsArea area start step has_ways ended file output phase
   begins_area output now phase t ends =
       let before = t.before in
       let stays : now.area ≡ before.area = ap (λ (of : InArea A S). of.area) t.took.gathered_all ∙ area_stays area step before (stored_entities t.took.frames) in
@@ -68,7 +68,7 @@ module _ {A D S R : Type 0} (area : A → AreaSpec) (start : S) (step : S → Se
         takes = t.fresh.takes;
       }
 
-  pub all_begin : (outputs : List (AreaOutput A D)) (takings nows : List (InArea A S)) (phases : List (AreaPhase WaySets R)) → AllZip (IsFreshTaking start step has_ways ended) outputs takings → TakesFile (each_gathered (with_seen_in area step)) (judged_file (Some file)) takings nows pass
+  pub all_begin : {R : Type 0} (outputs : List (AreaOutput A D)) (takings nows : List (InArea A S)) (phases : List (AreaPhase WaySets R)) → AllZip (IsFreshTaking start step has_ways ended) outputs takings → TakesFile (each_gathered (with_seen_in area step)) (judged_file (Some file)) takings nows pass
       → AllZip (EndsTaking area has_ways ended header) nows phases → AllZip (BeginsArea area start step has_ways ended file) outputs phases
   all_begin outputs takings nows phases fresh took ends = zip_then TookFresh (EndsTaking area has_ways ended header) _ begins_area outputs nows phases
       (zip_then (IsFreshTaking start step has_ways ended) (λ before now. TakesFile (with_seen_in area step) (judged_file (Some file)) before now pass) TookFresh (λ output before now f t. record { before = before; fresh = f; took = t }) outputs takings nows fresh (each_takes_file (with_seen_in area step) (judged_file (Some file)) takings nows pass took)) ends

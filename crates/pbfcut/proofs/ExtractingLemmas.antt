@@ -226,7 +226,7 @@ same_frames : (b : List ℕ) (one two : List FrameSpec) → judged_file (Some b)
 same_frames b one two e f = grind arith
 
 -- by the types and the area of the call
-begun_by : {S : Type 0} {step : S → Seen → S} {b : List ℕ} {begun phase : S} {h : HeaderSpec} (wanted whole : List TagSpec → Bool) → wanted ≡ whole → (taken_in area : AreaSpec) → taken_in ≡ area → Begins wanted taken_in step b begun phase h → Begins whole area step b begun phase h
+pub begun_by : {S : Type 0} {step : S → Seen → S} {b : List ℕ} {begun phase : S} {h : HeaderSpec} (wanted whole : List TagSpec → Bool) → wanted ≡ whole → (taken_in area : AreaSpec) → taken_in ≡ area → Begins wanted taken_in step b begun phase h → Begins whole area step b begun phase h
 begun_by {S} {step} {b} {begun} {phase} {h} wanted whole is taken_in area same begins =
     subst (λ (a : AreaSpec). Begins whole a step b begun phase h) same (subst (λ (w : List TagSpec → Bool). Begins w taken_in step b begun phase h) is begins)
 

@@ -36,7 +36,7 @@ pub(crate) struct ChoiceEach {
 
 /// The first phases of these areas, with no entities yet.
 #[tactic(auto, using(crate::proofs::SeveralLemmas::zip_more))]
-fn begin_all<A: Area + Copy, P: NodeTaker + Drop, D>(
+fn begin_phases<A: Area + Copy, P: NodeTaker + Drop, D>(
     alloc: Global,
     outputs: &[AreaOutput<A, D>],
 ) -> Result<Vec<InArea<A, P>>, AllocError>
@@ -127,7 +127,7 @@ fn begin_each<A: Area + Copy, P: NodeTaker + Drop, F: Feed, D>(
         (StopsChoosing judged_writable (fed F.Feed feed.old feed.new) [] passes.check) }
     ensures keeps { KeepsFeed F.Feed feed.old feed.new }
 {
-    let mut each = Each::new(begin_all::<A, P, D>(passes.alloc, outputs)?);
+    let mut each = Each::new(begin_phases::<A, P, D>(passes.alloc, outputs)?);
     let judged = judge(passes, feed, &mut each)?;
     let header = writable_header(&judged)?;
     let phases = end_takings(passes.alloc, header, each.into_members())?;

@@ -21,16 +21,16 @@ returns-in_err-judged-clause-halts g c =
     let p = err_from_is_err_and c.from_residual-in_err-judged.result c.from_residual-in_err-judged.ensures.1 in
     rw (p.1, p.2) (record { refused = halts_writing g.F.Feed _ _ _ _ c.in_err-judged.ensures.ends.refused; stops = search rules; changed = never_changed _ _ _ _ (stop_of c.in_err-judged.field-0.0) c.in_err-judged.ensures.ends.stops })
 
-pub returns-in_err-writable_header-clause-halts : goal.returns-in_err-writable_header-clause-halts
-returns-in_err-writable_header-clause-halts g c =
-    let p = err_from_is_err_and c.from_residual-in_err-writable_header.result c.from_residual-in_err-writable_header.ensures.1 in
+pub returns-in_err-header-clause-halts : goal.returns-in_err-header-clause-halts
+returns-in_err-header-clause-halts g c =
+    let p = err_from_is_err_and c.from_residual-in_err-header.result c.from_residual-in_err-header.ensures.1 in
     let one = c.in_ok-judged.ensures.judged in
     let gathers = each_gathered (with_seen_in g.A.Area.area g.P.NodeTaker.step) in
     rw (p.1, p.2) (record {
-      refused = limit_halts g.F.Feed _ _ _ gathers _ _ c.in_ok-judged.judged _ c.in_ok-judged.ensures.judged c.in_err-writable_header.ensures.refused;
+      refused = limit_halts g.F.Feed _ _ _ gathers _ _ c.in_ok-judged.judged _ c.in_ok-judged.ensures.judged c.in_err-header.ensures.refused;
       stops = stops_earlier (Only (header_limit (held_header c.in_ok-judged.judged.pass))) (FaultOf (judged_writable (g.F.Feed.remaining c.args.feed.now))) ⊥ _ ⊥ unchanged unchanged _
-          (λ e limit. limit_refused gathers _ _ _ _ e (takes_told gathers _ one.file _ _ _ (tells_file g.F.Feed _ _ _ _ one) one.holding.1) limit) (λ r. absurd r) (λ pass h. absurd h) (limit_caused c.in_ok-judged.judged _ c.in_err-writable_header.ensures.refused);
-      changed = never_changed (Only (header_limit (held_header c.in_ok-judged.judged.pass))) ⊥ ⊥ _ _ (limit_caused c.in_ok-judged.judged _ c.in_err-writable_header.ensures.refused);
+          (λ e limit. limit_refused gathers _ _ _ _ e (takes_told gathers _ one.file _ _ _ (tells_file g.F.Feed _ _ _ _ one) one.holding.1) limit) (λ r. absurd r) (λ pass h. absurd h) (limit_caused c.in_ok-judged.judged _ c.in_err-header.ensures.refused);
+      changed = never_changed (Only (header_limit (held_header c.in_ok-judged.judged.pass))) ⊥ ⊥ _ _ (limit_caused c.in_ok-judged.judged _ c.in_err-header.ensures.refused);
     })
 
 pub returns-clause-begun : goal.returns-clause-begun
@@ -41,14 +41,14 @@ returns-clause-begun g c =
     let outputs = c.args.outputs.now in
     let befores = c.new-each.result in
     let nows = c.judge.new.gathering in
-    let fresh = subst (λ l. AllZip (IsFreshTaking P.start P.step P.has_ways P.ended) outputs l) (sym c.new-each.ensures) c.in_ok-begin_all.ensures in
-    let ends = subst (λ l. AllZip (EndsTaking area P.has_ways P.ended (header_of c.in_ok-writable_header.field-0.now)) l c.in_ok-phases.phases.items) c.into_members.ensures c.in_ok-phases.ensures in
+    let fresh = subst (λ l. AllZip (IsFreshTaking P.start P.step P.has_ways P.ended) outputs l) (sym c.new-each.ensures) c.in_ok-begin_phases.ensures in
+    let ends = subst (λ l. AllZip (EndsTaking area P.has_ways P.ended (header_of c.in_ok-header.field-0.now)) l c.in_ok-phases.phases.items) c.into_members.ensures c.in_ok-phases.ensures in
     record {
       file = one.file;
       supplied = one.supplied;
       digest_is = one.digest_is;
       holding = (
-        sound_file _ one.file befores nows c.in_ok-judged.judged.pass one.holding.1 c.in_ok-writable_header.ensures.within,
-        all_begin area P.start P.step P.has_ways P.ended one.file c.in_ok-judged.judged.pass (header_of c.in_ok-writable_header.field-0.now) c.in_ok-writable_header.ensures.header c.in_ok-writable_header.ensures.within c.in_ok-writable_header.ensures.short outputs befores nows c.in_ok-phases.phases.items fresh one.holding.1 ends,
+        sound_file _ one.file befores nows c.in_ok-judged.judged.pass one.holding.1 c.in_ok-header.ensures.within,
+        all_begin area P.start P.step P.has_ways P.ended one.file c.in_ok-judged.judged.pass (header_of c.in_ok-header.field-0.now) c.in_ok-header.ensures.header c.in_ok-header.ensures.within c.in_ok-header.ensures.short outputs befores nows c.in_ok-phases.phases.items fresh one.holding.1 ends,
       );
     }

@@ -45,5 +45,5 @@ returns-clause-chosen g c =
       supplied = one.supplied;
       digest_is = one.digest_is;
       holding = each_chose area P.start P.step P.has_ways P.ended (fed g.G.Feed c.args.second.now c.gather_rest.new.feed) _ one.file outputs befores nows choices c.are_done-spared.result (subst (λ l. AllZip (BeginsArea area P.start P.step P.has_ways P.ended one.file) outputs l) (sym same) one.holding.1) c.in_ok-gather_rest.ensures.gathered c.in_ok-gather_rest.ensures.some
-          (λ done. subst (λ l. AllByRecursion (λ phase. phase.is_done ≡ true) l) (sym same) (c.are_done-spared.ensures done)) (subst (λ l. AllZip IsWaysChoice l choices) c.into_members.ensures c.in_ok-choices.ensures);
+          (λ done. subst (λ l. AllByRecursion (λ phase. phase.is_done ≡ true) l) (c.deref.ensures.value ∙ sym same) (c.are_done-spared.ensures done)) (subst (λ l. AllZip IsWaysChoice l choices) c.into_members.ensures c.in_ok-choices.ensures);
     }
