@@ -151,7 +151,7 @@ halts_each by area first spare last d check outputs h stops keeps r is = rw is (
     feeds = keeps;
   })
 
--- ---- what the pass that writes asks for
+-- ---- what the pass that writes requires
 
 pub same_length : {X Y : Type 0} (first second : FeedUse) (spared : Bool) (digest : Mark) (R : List ℕ → List ℕ → X → Y → Type 0) (xs : List X) (ys : List Y) → GaveBy first digest (λ b. GaveOrNot second spared digest b (λ c. AllZip (R b c) xs ys)) → length ys ≡ length xs
 same_length first second spared digest R xs ys given = zip_length _ xs ys (gave_each first second spared digest R xs ys given)

@@ -1,4 +1,4 @@
--- What a call says that writes several extracts of one file: of each area and its drain what a call for this area alone says.
+-- What a call says that writes several extracts of one file: of each area and its drain what a call for only this area says.
 use Rattle.std.specs.Prelude.{◌≡◌, ℕ, List, ◌∷◌, ◌++◌, map, Result, Ok, Err, IfOk, IfErr}
 use Rattle.std.specs.List.{AllZip}
 use Rattle.osm_area.specs.Area.{AreaSpec}
@@ -30,14 +30,14 @@ stop_result (Err h) = Err (stop_of h)
 
 -- one output of a call that halted
 pub record HaltsOutput {D : Type 0} (by : Strategy) (area : AreaSpec) (first : FeedUse) (spare later : List FeedUse) (out : DrainUse D) (check : PassCheck) (h : Halt) : Type 0 where
-  -- what a call for its area alone says that halts so; if a write failed, it is said of the outputs whose drain failed
+  -- what a call for only its area says that halts so; if a write failed, it is said of the outputs whose drain failed
   pub alone : (stop_of h ≡ Write → FailedDrain out) → Extracts by area first spare later out check (Err h)
   -- whichever drain failed: if all feeds supply these bytes, a prefix of its extract went out
   pub beginning : (b : List ℕ) → AllSupply b (map supply_of (first ∷ spare ++ later)) → IsFront (taken_before out) (taken_after out) (extract_of by area b)
 
 -- all of them
 pub record ExtractsEach {A D : Type 0} (by : Strategy) (area : A → AreaSpec) (first : FeedUse) (spare later : List FeedUse) (d : drain.Ghosts D) (check : PassCheck) (olds news : List (AreaOutput A D)) (result : Result EachReceipt Halt) : Type 0 where
-  -- each drain took exactly the extract of its area, and has its counts: what a call for this area alone says
+  -- each drain took exactly the extract of its area, and has its counts: what a call for only this area says
   pub each : IfOk result (λ receipt. AllZip (λ old new. Extracts by (area old.area) first spare later (drained d old.drain new.drain) check (Ok (receipt_of receipt new.counts))) olds news)
   -- if it halts, each has what was its own by then
   pub halted : IfErr result (λ h. AllZip (λ old new. HaltsOutput by (area old.area) first spare later (drained d old.drain new.drain) check h) olds news)

@@ -49,7 +49,7 @@ fn write_chosen<A: Drop, F: Feed, D: Drain + Drop, S: BuildHasher + Copy + Drop>
 }
 
 /// Writes the complete-ways extract of each of these areas into its drain, byte for byte what
-/// [`extract_sorted_with_receipt`](crate::extract_sorted_with_receipt) would write for this area alone. The outputs come back in the same order.
+/// [`extract_sorted_with_receipt`](crate::extract_sorted_with_receipt) would write for only this area. The outputs come back in the same order.
 ///
 /// The file is judged once, and read once more to write all extracts. There is a pass between, over the second feed, if the first has not all
 /// ways for one of the areas: so it is if a node of the file comes after a way. If the call halts, it halts for all areas: each drain has
@@ -71,7 +71,7 @@ pub fn extract_each<
     outputs: Vec<AreaOutput<A, D>>,
     hasher: S,
 ) -> (Vec<AreaOutput<A, D>>, Result<EachReceipt, Halt>)
-    // Each area and its drain: what a call for this area alone says. If the call halts, each drain has a prefix of its extract, whichever failed.
+    // Each area and its drain: what a call for only this area says. If the call halts, each drain has a prefix of its extract, whichever failed.
     ensures { ExtractsEach complete_ways A.area (fed F.Feed first.old first.new)
         (fed G.Feed second.old second.new ∷ []) (fed H.Feed third.old third.new ∷ []) D.Drain
         passes.check outputs.items result.0.items result.1 }

@@ -25,7 +25,7 @@ fn hasher() -> BuildHasherDefault<FoldHasher> {
     BuildHasherDefault::new()
 }
 
-/// Whether a drain has the bytes that a call for its area alone writes, all of them if that call succeeds.
+/// Whether a drain has the bytes that a call for only its area writes, all of them if that call succeeds.
 fn is_as_alone(
     alloc: Global,
     bytes: &[u8],
@@ -65,7 +65,7 @@ fn outputs(
     Ok(outputs)
 }
 
-/// Whether a call for so many areas succeeds, and each drain has what a call for its area alone writes.
+/// Whether a call for so many areas succeeds, and each drain has what a call for only its area writes.
 fn are_as_alone(alloc: Global, bytes: &[u8], count: usize) -> Result<bool, AllocError> {
     let mut first = Pieces::new(bytes, &[], None);
     let mut second = Pieces::new(bytes, &[], None);

@@ -42,13 +42,13 @@ returns-clause-begun g c =
     let befores = c.new-each.result in
     let nows = c.judge.new.gathering in
     let fresh = subst (λ l. AllZip (IsFreshTaking P.start P.step P.has_ways P.ended) outputs l) (sym c.new-each.ensures) c.in_ok-begin_phases.ensures in
-    let ends = subst (λ l. AllZip (EndsTaking area P.has_ways P.ended (header_of c.in_ok-header.field-0.now)) l c.in_ok-phases.phases.items) c.into_members.ensures c.in_ok-phases.ensures in
+    let ends = subst (λ l. AllZip (EndsTaking area P.has_ways P.ended (header_of c.in_ok-header.header.now)) l c.in_ok-phases.phases.items) c.into_members.ensures c.in_ok-phases.ensures in
     record {
       file = one.file;
       supplied = one.supplied;
       digest_is = one.digest_is;
       holding = (
         sound_file _ one.file befores nows c.in_ok-judged.judged.pass one.holding.1 c.in_ok-header.ensures.within,
-        all_begin area P.start P.step P.has_ways P.ended one.file c.in_ok-judged.judged.pass (header_of c.in_ok-header.field-0.now) c.in_ok-header.ensures.header c.in_ok-header.ensures.within c.in_ok-header.ensures.short outputs befores nows c.in_ok-phases.phases.items fresh one.holding.1 ends,
+        all_begin area P.start P.step P.has_ways P.ended one.file c.in_ok-judged.judged.pass (header_of c.in_ok-header.header.now) c.in_ok-header.ensures.header c.in_ok-header.ensures.within c.in_ok-header.ensures.short outputs befores nows c.in_ok-phases.phases.items fresh one.holding.1 ends,
       );
     }
