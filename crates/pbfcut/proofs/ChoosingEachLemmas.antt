@@ -123,10 +123,13 @@ module _ {A D S : Type 0} (area : A → AreaSpec) (start : S) (step : S → Seen
 
   pub each_chose : (outputs : List (AreaOutput A D)) (befores nows : List (AreaPhase WaySets (Unit {0}))) (choices : List AreaChoice) (spared : Bool) → AllZip BeginsWays outputs befores → GathersRest second.ghosts (each_gathered (with_more with_way)) spared second.old second.new digest befores nows → GathersSome (each_gathered (with_more with_way)) befores nows
       → (IsTrue spared → AllByRecursion (λ phase. phase.is_done ≡ true) befores) → AllZip IsWaysChoice nows choices → GaveOrNot second spared digest b (λ c. AllZip (ChoseWays area b c) outputs choices)
-  each_chose outputs befores nows choices true begun rest some done chose = (rest.0, zip_then (λ output now. (before : AreaPhase WaySets (Unit {0})) × BeginsWays output before × (before.is_done ≡ true) × (now ≡ before)) IsWaysChoice (ChoseWays area b b)
-      (λ output now choice p is. chose_area b output p.0 now choice p.1 (ap (λ a. a.header) p.3) (λ _. ap (λ a. a.gathering) p.3) (λ left. absurd (true≢false (sym p.2 ∙ left))) is) outputs nows choices
-      (zip_then BeginsWays (λ before now. (before.is_done ≡ true) × (now ≡ before)) _ (λ output before now begins p. (before, begins, p.0, p.1)) outputs befores nows begun
-      (zip_with (λ before. before.is_done ≡ true) (λ before now. now ≡ before) (λ before now. (before.is_done ≡ true) × (now ≡ before)) (λ before now d is. (d, is)) befores nows (done refl) (subst (λ l. AllZip (λ before now. now ≡ before) befores l) (sym rest.1) (zip_same (λ before now. now ≡ before) (λ a. refl) befores)))) chose)
+  each_chose outputs befores nows choices true begun rest some done chose = (
+    rest.0,
+    zip_then (λ output now. (before : AreaPhase WaySets (Unit {0})) × BeginsWays output before × (before.is_done ≡ true) × (now ≡ before)) IsWaysChoice (ChoseWays area b b)
+        (λ output now choice p is. chose_area b output p.0 now choice p.1 (ap (λ a. a.header) p.3) (λ _. ap (λ a. a.gathering) p.3) (λ left. absurd (true≢false (sym p.2 ∙ left))) is) outputs nows choices
+        (zip_then BeginsWays (λ before now. (before.is_done ≡ true) × (now ≡ before)) _ (λ output before now begins p. (before, begins, p.0, p.1)) outputs befores nows begun
+        (zip_with (λ before. before.is_done ≡ true) (λ before now. now ≡ before) (λ before now. (before.is_done ≡ true) × (now ≡ before)) (λ before now d is. (d, is)) befores nows (done refl) (subst (λ l. AllZip (λ before now. now ≡ before) befores l) (sym rest.1) (zip_same (λ before now. now ≡ before) (λ a. refl) befores)))) chose,
+  )
   each_chose outputs befores nows choices false begun rest some done chose = gave_file_less second.ghosts second.old second.new digest (λ file. GathersFile (each_gathered (with_more with_way)) (judged_file (Some file)) befores nows) _ (λ c all.
       zip_then (λ output now. (before : AreaPhase WaySets (Unit {0})) × BeginsWays output before × GathersOne (with_more with_way) (judged_file (Some c)) before now) IsWaysChoice (ChoseWays area b c)
       (λ output now choice p is. chose_area c output p.0 now choice p.1 (phase_header with_way p.0 now p.2.some) (λ d. ap (λ a. a.gathering) (phase_same with_way (judged_file (Some c)) p.0 now p.2 d)) (phase_more with_way (judged_file (Some c)) p.0 now p.2) is) outputs nows choices

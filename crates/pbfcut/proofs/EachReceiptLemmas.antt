@@ -141,15 +141,15 @@ never_wrote refused read changed s caused is = subst (λ (t : Stop). Caused refu
 pub halts_each : {A D : Type 0} (by : Strategy) (area : A → AreaSpec) (first : FeedUse) (spare : List FeedUse) (last : FeedUse) (d : drain.Ghosts D) (check : PassCheck) (outputs : List (AreaOutput A D)) (h : Halt) → StopsChoosing (judge_by by) first spare check h → KeepsAll (first ∷ spare ++ last ∷ []) → (r : Result EachReceipt Halt) → r ≡ Err h
     → ExtractsEach by area first spare (last ∷ []) d check outputs outputs r
 halts_each by area first spare last d check outputs h stops keeps r is = rw is (record {
-    each = tt;
-    halted = zip_same (λ old new. HaltsOutput by (area old.area) first spare (last ∷ []) (drained d old.drain new.drain) check h) (λ o. record {
-      alone = λ own. record { receipt = tt; ends = choosing_ends (judge_by by) first spare last check h stops d o.drain (Err h) refl keeps (record { counts = omega arith; lender = refl }); beginning = λ b supply. nothing_out _ _ };
-      beginning = λ b supply. nothing_out _ _;
-    }) outputs;
-    wrote = λ write. absurd (never_wrote _ _ _ (stop_of h) stops.stops write);
-    outs = zip_same (KeepsOutput d) (λ o. record { area = refl; drain = record { counts = omega arith; lender = refl } }) outputs;
-    feeds = keeps;
-  })
+  each = tt;
+  halted = zip_same (λ old new. HaltsOutput by (area old.area) first spare (last ∷ []) (drained d old.drain new.drain) check h) (λ o. record {
+    alone = λ own. record { receipt = tt; ends = choosing_ends (judge_by by) first spare last check h stops d o.drain (Err h) refl keeps (record { counts = omega arith; lender = refl }); beginning = λ b supply. nothing_out _ _ };
+    beginning = λ b supply. nothing_out _ _;
+  }) outputs;
+  wrote = λ write. absurd (never_wrote _ _ _ (stop_of h) stops.stops write);
+  outs = zip_same (KeepsOutput d) (λ o. record { area = refl; drain = record { counts = omega arith; lender = refl } }) outputs;
+  feeds = keeps;
+})
 
 -- ---- what the pass that writes requires
 

@@ -35,10 +35,10 @@ HasShort choice = HasShortTexts (header_of choice.header)
 -- the writers that were made can begin
 pub all_fresh : {A D S H : Type 0} (number : ℕ) (choices : List AreaChoice) (olds : List (AreaOutput A D)) (writers : List (AreaWriter A D S H)) → AllByRecursion HasShort choices → AllThree (IsWriterOf number) choices olds writers → AllByRecursion (IsFreshWriter number) writers
 all_fresh number choices olds writers short loads = three_right HasShort (IsWriterOf number) (IsFreshWriter number) (λ choice old w h of. record {
-    begins = (of.fresh, subst (λ (c : AreaChoice). HasShort c) (sym of.chosen) h);
-    number_is = of.number_is;
-    counts = of.counts;
-  }) choices olds writers short loads
+  begins = (of.fresh, subst (λ (c : AreaChoice). HasShort c) (sym of.chosen) h);
+  number_is = of.number_is;
+  counts = of.counts;
+}) choices olds writers short loads
 
 module _ {A D S H : Type 0} (d : drain.Ghosts D) (number : ℕ) (choices : List AreaChoice) (olds : List (AreaOutput A D)) (writers ends : List (AreaWriter A D S H)) (news : List (AreaOutput A D)) (loads : AllThree (IsWriterOf number) choices olds writers) (unloads : AllZip IsOutputOf ends news) where
   -- what a writer did was done for its choice, to the drain of its output
@@ -109,9 +109,9 @@ module _ {A D S H X : Type 0} (source : FeedUse) (d : drain.Ghosts D) (pass : La
 -- memory was refused before any of it was done
 pub none_written : {A D X : Type 0} (source : FeedUse) (d : drain.Ghosts D) (pass : LaterPass) (choices : List AreaChoice) (olds : List (AreaOutput A D)) → length choices ≡ length olds → source.new ≡ source.old → (result : Result X Stop) → result ≡ Err Memory → WritesEach source d pass choices olds olds result
 none_written source d pass choices olds same still result is = rw is (record {
-    packed = tt;
-    beginning = three_same (λ choice old new. OutputBegan d (judged_file (supply_of source)) choice old new) (λ choice old frames is. nothing_out _ _) choices olds same;
-    stops = tt;
-    keeps = record { counts = omega (arith, ap source.ghosts.failures still); lender = ap source.ghosts.lender still };
-    outs = zip_same (KeepsOutput d) (λ o. record { area = refl; drain = record { counts = omega arith; lender = refl } }) olds;
-  })
+  packed = tt;
+  beginning = three_same (λ choice old new. OutputBegan d (judged_file (supply_of source)) choice old new) (λ choice old frames is. nothing_out _ _) choices olds same;
+  stops = tt;
+  keeps = record { counts = omega (arith, ap source.ghosts.failures still); lender = ap source.ghosts.lender still };
+  outs = zip_same (KeepsOutput d) (λ o. record { area = refl; drain = record { counts = omega arith; lender = refl } }) olds;
+})

@@ -26,7 +26,7 @@ pub(crate) struct AreaPhase<G, R> {
 
 impl<G: Gather, R> Gather for AreaPhase<G, R> {
     ghost gathered = { λ a e. record a {
-      gathering = gathered_unless a.is_done G.gathered a.gathering e
+      gathering = gathered_unless a.is_done G.gathered a.gathering e;
     } };
 
     #[tactic(auto, using(crate::proofs::AreaPhaseLemmas::none_gathered))]

@@ -97,7 +97,9 @@ fn choices_of(
     let mut choices = Vec::new(alloc);
     'phases: for phase in phases {
         let AreaPhase {
-            gathering, header, ..
+            gathering,
+            header,
+            ..
         } = phase;
         let chosen = gathering.end_ways()?;
         choices.push(AreaChoice { chosen, header })?;

@@ -152,7 +152,9 @@ fn load<'a, A: Drop, D: Drain + Drop, S: BuildHasher + Copy>(
             unreachable!()
         };
         rest = later;
-        writers.push(AreaWriter::new(pass, choice, output, hasher)).unwrap();
+        writers
+            .push(AreaWriter::new(pass, choice, output, hasher))
+            .unwrap();
     }
     writers
 }
@@ -232,12 +234,7 @@ fn pack_each<'a, A, F: Feed, D: Drain, S: BuildHasher>(
 
 /// Writes the extracts of these outputs, for what was chosen for each of them, in a pass over a whole file, which has to be the one that
 /// was judged. The outputs come back in the same order.
-pub(crate) fn write_each<
-    A: Drop,
-    F: Feed,
-    D: Drain + Drop,
-    S: BuildHasher + Copy + Drop,
->(
+pub(crate) fn write_each<A: Drop, F: Feed, D: Drain + Drop, S: BuildHasher + Copy + Drop>(
     pass: LaterPass,
     choices: &[AreaChoice],
     outputs: Vec<AreaOutput<A, D>>,

@@ -88,7 +88,10 @@ fn are_as_alone(alloc: Global, bytes: &[u8], count: usize) -> Result<bool, Alloc
 #[test]
 fn several_extracts_are_those_of_calls_alone(rt: HostRuntime) -> Result<(), Fail> {
     for count in 0..4 {
-        assert!(rt; are_as_alone(rt.alloc(), &THREE_DENSE_NODES, count)?, "{count}");
+        assert!(rt;
+            are_as_alone(rt.alloc(), &THREE_DENSE_NODES, count)?,
+            "{count}"
+        );
         assert!(rt; are_as_alone(rt.alloc(), &SMALL, count)?, "{count}");
     }
     Ok(())
@@ -122,7 +125,10 @@ fn keeps_fronts(alloc: Global, bytes: &[u8], full: usize) -> Result<bool, AllocE
 #[test]
 fn one_full_drain_loses_no_other(rt: HostRuntime) -> Result<(), Fail> {
     for full in 0..3 {
-        assert!(rt; keeps_fronts(rt.alloc(), &THREE_DENSE_NODES, full)?, "{full}");
+        assert!(rt;
+            keeps_fronts(rt.alloc(), &THREE_DENSE_NODES, full)?,
+            "{full}"
+        );
     }
     Ok(())
 }
