@@ -36,7 +36,7 @@ use Rattle.pbfcut.proofs.SeveralLemmas.{zip_both, zip_same, zip_then, zip_weaker
 
 -- ---- the first pass
 
-area_stays : {A S : Type 0} (area : A → AreaSpec) (step : S → Seen → S) (of : InArea A S) (es : List EntitySpec) → (fold (with_seen_in area step) of es).area ≡ of.area
+pub area_stays : {A S : Type 0} (area : A → AreaSpec) (step : S → Seen → S) (of : InArea A S) (es : List EntitySpec) → (fold (with_seen_in area step) of es).area ≡ of.area
 area_stays area step of [] = refl
 area_stays area step of (e ∷ es) = area_stays area step (with_seen_in area step of e) es
 
@@ -46,12 +46,12 @@ sound_file gathered file before now pass p within = record { frames = p.frames; 
 
 module _ {A D S : Type 0} (area : A → AreaSpec) (start : S) (step : S → Seen → S) (has_ways : S → Bool) (ended : S → WaySets) (file : List ℕ) (pass : Pass) (header : HeaderSpec) (held : held_header pass ≡ Some (pass.header_at, header)) (within : header_limit (held_header pass) ≡ None) (short : HasShortTexts header) where
   -- a phase that took the file, before which it was fresh
-  record TookFresh (output : AreaOutput A D) (now : InArea A S) : Type 0 where
-    before : InArea A S
-    fresh : IsFreshTaking start step has_ways ended output before
-    took : TakesFile (with_seen_in area step) (judged_file (Some file)) before now pass
+  pub record TookFresh (output : AreaOutput A D) (now : InArea A S) : Type 0 where
+    pub before : InArea A S
+    pub fresh : IsFreshTaking start step has_ways ended output before
+    pub took : TakesFile (with_seen_in area step) (judged_file (Some file)) before now pass
 
-  begins_area : {R : Type 0} (output : AreaOutput A D) (now : InArea A S) (phase : AreaPhase WaySets R) → TookFresh output now → EndsTaking area has_ways ended header now phase → BeginsArea area start step has_ways ended file output phase
+  unfoldable pub begins_area : {R : Type 0} (output : AreaOutput A D) (now : InArea A S) (phase : AreaPhase WaySets R) → TookFresh output now → EndsTaking area has_ways ended header now phase → BeginsArea area start step has_ways ended file output phase
   begins_area output now phase t ends =
       let before = t.before in
       let stays : now.area ≡ before.area = ap (λ (of : InArea A S). of.area) t.took.gathered_all ∙ area_stays area step before (stored_entities t.took.frames) in
@@ -92,16 +92,22 @@ each_gathers {S} gathered known befores nows some all = zip_both (λ before now.
   alls = zip_when (λ (frames : List FrameSpec). known ≡ Some (frames, None)) (λ before now. GathersSome gathered before now) (λ frames before now. now ≡ fold gathered before (stored_entities frames)) befores nows somes (λ frames is. folded (stored_entities frames) (all frames is))
 
 -- what a phase gathers that isn't done, or is
-phase_more : {S R : Type 0} (with_one : S → EntitySpec → S) (known : Option Verdict) (before now : AreaPhase S R) → GathersOne (with_more with_one) known before now → before.is_done ≡ false → GathersFile with_one known before.gathering now.gathering
+pub phase_more : {S R : Type 0} (with_one : S → EntitySpec → S) (known : Option Verdict) (before now : AreaPhase S R) → GathersOne (with_more with_one) known before now → before.is_done ≡ false → GathersFile with_one known before.gathering now.gathering
 phase_more with_one known before now g left frames is = ap (λ a. a.gathering) (g.all frames is ∙ gathered_all with_one before (stored_entities frames) left)
 
-phase_same : {S R : Type 0} (with_one : S → EntitySpec → S) (known : Option Verdict) (before now : AreaPhase S R) → GathersOne (with_more with_one) known before now → before.is_done ≡ true → now ≡ before
+pub phase_same : {S R : Type 0} (with_one : S → EntitySpec → S) (known : Option Verdict) (before now : AreaPhase S R) → GathersOne (with_more with_one) known before now → before.is_done ≡ true → now ≡ before
 phase_same with_one known before now g done = g.some.1 ∙ gathered_none with_one before g.some.0 done
 
-phase_header : {S R : Type 0} (with_one : S → EntitySpec → S) (before now : AreaPhase S R) → GathersSome (with_more with_one) before now → now.header ≡ before.header
+pub phase_header : {S R : Type 0} (with_one : S → EntitySpec → S) (before now : AreaPhase S R) → GathersSome (with_more with_one) before now → now.header ≡ before.header
 phase_header {S} {R} with_one before now some = ap (λ a. a.header) some.1 ∙ stays before some.0 where
   stays : (a : AreaPhase S R) (es : List EntitySpec) → (fold (with_more with_one) a es).header ≡ a.header
   stays a [] = refl
+  stays a (e ∷ es) = stays (with_more with_one a e) es
+
+pub phase_rest : {S R : Type 0} (with_one : S → EntitySpec → S) (before now : AreaPhase S R) → GathersSome (with_more with_one) before now → (now.is_done ≡ before.is_done) × (now.found ≡ before.found)
+phase_rest {S} {R} with_one before now some = (ap (λ a. a.is_done) some.1 ∙ (stays before some.0).0, ap (λ a. a.found) some.1 ∙ (stays before some.0).1) where
+  stays : (a : AreaPhase S R) (es : List EntitySpec) → ((fold (with_more with_one) a es).is_done ≡ a.is_done) × ((fold (with_more with_one) a es).found ≡ a.found)
+  stays a [] = (refl, refl)
   stays a (e ∷ es) = stays (with_more with_one a e) es
 
 -- ---- what was chosen

@@ -314,6 +314,12 @@ module _ {S : Type 0} (start : S) (step : S → Seen → S) (has_ways : S → Bo
           gave_file_less second.ghosts second.old second.new digest (λ file. GathersFile with_way (judged_file (Some file)) started ways) _ (λ c ways.
           gave_file_less third.ghosts third.old third.new digest (λ file. GathersFile with_relation (judged_file (Some file)) begun_relations relations) _ (λ e more. with_parents c e (more_ways all c ways) (more_relations all e more)) three) two
 
+      -- of one of several areas
+      pub chooses_parents_of : (is_done : Bool) → is_done ≡ has_ways phase → (c e : List ℕ) → c ≡ b → e ≡ b → (is_done ≡ true → ways ≡ started) → (is_done ≡ false → GathersFile with_way (judged_file (Some c)) started ways)
+          → (is_done ≡ true → relations ≡ begun_relations) → (is_done ≡ false → GathersFile with_relation (judged_file (Some e)) begun_relations relations) → IsChoiceWithParents area b c e now h
+      chooses_parents_of true all c e same too rest more kept_all gathers = subst (λ (l : List ℕ). IsChoiceWithParents area b c l now h) (sym too) (subst (λ (l : List ℕ). IsChoiceWithParents area b l b now h) (sym same) (with_parents b b (all_ways all (rest refl)) (all_relations all (rest refl) (kept_all refl))))
+      chooses_parents_of false all c e same too rest more kept_all gathers = with_parents c e (more_ways all c (more refl)) (more_relations all e (gathers refl))
+
 -- ---- with the members of relations that are wanted whole
 
 members_folded : (whole : List TagSpec → Bool) (area : AreaSpec) (sets : KeptSets) (es : List EntitySpec) → fold with_added_way sets es ≡ fold member_step sets (map (seen_entity whole area) es)

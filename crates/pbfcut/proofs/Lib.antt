@@ -12,6 +12,7 @@ pub mod WritingEachLemmas
 pub mod OutputLemmas
 pub mod AreaPhaseLemmas
 pub mod ChoosingEachLemmas
+pub mod ChoosingParentsLemmas
 pub mod EachReceiptLemmas
 pub mod StayLemmas
 pub mod ConvertingLemmas

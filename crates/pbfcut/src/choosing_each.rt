@@ -1,13 +1,12 @@
 //! The passes before the one that writes, for several areas at once: what is kept of each, and its header.
 
-ghost use Rattle.std.specs.Prelude.{◌≡◌, [], ◌∷◌, false, IfErr, IfOk, OnOk, take};
+ghost use Rattle.std.specs.Prelude.{[], ◌∷◌, IfErr, IfOk};
 ghost use Rattle.std.specs.List.{AllZip};
-ghost use Rattle.osm_ways.specs.Phases.{without_parents};
 ghost use Rattle.pbf_frame.specs.Keeps.{KeepsFeed};
 ghost use Rattle.pbf_header.specs.Header.{header_of};
 ghost use Rattle.pbf_pass.specs.Given.{GaveFile};
 ghost use Rattle.pbf_pass.specs.Hashing.{mark_by};
-ghost use Rattle.pbf_pass.specs.HeaderLimit.{HasShortTexts, judged_writable};
+ghost use Rattle.pbf_pass.specs.HeaderLimit.{judged_writable};
 ghost use Rattle.pbfcut.specs.Calls.{fed, GaveBy, GaveOrNot, KeepsAll};
 ghost use Rattle.pbfcut.specs.Choosing.{StopsChoosing};
 ghost use Rattle.pbfcut.specs.ChoosingEach.{BeginsArea, ChoseWays, EndsTaking, IsFreshTaking, IsSoundFile, IsWaysChoice};
@@ -36,7 +35,7 @@ pub(crate) struct ChoiceEach {
 
 /// The first phases of these areas, with no entities yet.
 #[tactic(auto, using(crate::proofs::SeveralLemmas::zip_more))]
-fn begin_phases<A: Area + Copy, P: NodeTaker + Drop, D>(
+pub(crate) fn begin_phases<A: Area + Copy, P: NodeTaker + Drop, D>(
     alloc: Global,
     outputs: &[AreaOutput<A, D>],
 ) -> Result<Vec<InArea<A, P>>, AllocError>

@@ -2,7 +2,7 @@
 
 ghost use Rattle.std.specs.Prelude.{◌≡◌, [], ◌∷◌, IfOk, length};
 ghost use Rattle.std.specs.List.{AllByRecursion};
-ghost use Rattle.osm_ways.specs.Selection.{complete_ways};
+ghost use Rattle.osm_ways.specs.Selection.{all_parents, complete_ways};
 ghost use Rattle.pbf_header.specs.Header.{header_of};
 ghost use Rattle.pbf_pass.specs.HeaderLimit.{HasShortTexts};
 ghost use Rattle.pbfcut.specs.Calls.{fed};
@@ -11,9 +11,10 @@ ghost use Rattle.pbfcut.specs.Several.{WritesEach};
 
 use crate::carrying::{AreaOutput, EachReceipt};
 use crate::choosing_each::{ChoiceEach, choose_each};
+use crate::choosing_parents_each::choose_parents_each;
 use crate::writing_each::write_each;
 use osm_area::Area;
-use osm_ways::FirstPhase;
+use osm_ways::{FirstPhase, SortedPhase};
 use pbf_frame::{Drain, Feed};
 use pbf_pass::{Halt, Passes};
 use std::hash::BuildHasher;
@@ -81,4 +82,40 @@ pub fn extract_each<
         Err(halt) => return (outputs, Err(halt)),
     };
     write_chosen(choice, outputs, third, hasher)
+}
+
+/// The same with all parents, byte for byte what
+/// [`extract_parents_sorted_with_receipt`](crate::extract_parents_sorted_with_receipt) would write for only this area.
+///
+/// There are two passes between, over the second feed and the third, if the first has not all ways and all relations for one of the areas.
+pub fn extract_parents_each<
+    A: Area + Copy,
+    F: Feed,
+    G: Feed,
+    H: Feed,
+    I: Feed,
+    D: Drain + Drop,
+    S: BuildHasher + Copy + Drop,
+>(
+    passes: Passes,
+    first: &mut F,
+    second: &mut G,
+    third: &mut H,
+    fourth: &mut I,
+    outputs: Vec<AreaOutput<A, D>>,
+    hasher: S,
+) -> (Vec<AreaOutput<A, D>>, Result<EachReceipt, Halt>)
+    // Each area and its drain: what a call for only this area says. If the call halts, each drain has a prefix of its extract, whichever failed.
+    ensures { ExtractsEach all_parents A.area (fed F.Feed first.old first.new)
+        (fed G.Feed second.old second.new ∷ fed H.Feed third.old third.new ∷ [])
+        (fed I.Feed fourth.old fourth.new ∷ []) D.Drain
+        passes.check outputs.items result.0.items result.1 }
+{
+    let choice = match choose_parents_each::<A, SortedPhase, F, G, H, D>(
+        passes, &outputs, first, second, third,
+    ) {
+        Ok(choice) => choice,
+        Err(halt) => return (outputs, Err(halt)),
+    };
+    write_chosen(choice, outputs, fourth, hasher)
 }

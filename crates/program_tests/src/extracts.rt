@@ -5,8 +5,11 @@ use crate::several::{EAST, SOUTH};
 use crate::steps::{AREA, SMALL};
 use osm_entity::BoundingBox;
 use pbf_frame::{Pieces, Sink};
-use pbf_pass::{PassCheck, Passes};
-use pbfcut::{AreaOutput, extract_each, extract_sorted_with_receipt};
+use pbf_pass::{Halt, InputReceipt, PassCheck, Passes};
+use pbfcut::{
+    AreaOutput, extract_each, extract_parents_each, extract_parents_sorted_with_receipt,
+    extract_sorted_with_receipt,
+};
 use std::alloc::{AllocError, Global};
 use std::hash::{BuildHasherDefault, FoldHasher};
 use std::test::Fail;
@@ -44,10 +47,43 @@ fn is_as_alone(
         &mut sink,
         hasher(),
     );
-    Ok(match ended {
+    Ok(is_same(output, ended, &sink))
+}
+
+/// The same with all parents.
+fn is_as_alone_with_parents(
+    alloc: Global,
+    bytes: &[u8],
+    output: &AreaOutput<BoundingBox, Sink>,
+) -> Result<bool, AllocError> {
+    let mut first = Pieces::new(bytes, &[], None);
+    let mut second = Pieces::new(bytes, &[], None);
+    let mut third = Pieces::new(bytes, &[], None);
+    let mut fourth = Pieces::new(bytes, &[], None);
+    let mut sink = Sink::new(alloc, 4_096, 0)?;
+    let ended = extract_parents_sorted_with_receipt(
+        passes(alloc),
+        &mut first,
+        &mut second,
+        &mut third,
+        &mut fourth,
+        output.area,
+        &mut sink,
+        hasher(),
+    );
+    Ok(is_same(output, ended, &sink))
+}
+
+/// Whether an output has the counts of a call that succeeded, and its bytes.
+fn is_same(
+    output: &AreaOutput<BoundingBox, Sink>,
+    ended: Result<InputReceipt, Halt>,
+    sink: &Sink,
+) -> bool {
+    match ended {
         Ok(receipt) => receipt.counts == output.counts && sink.bytes() == output.drain.bytes(),
         Err(_) => false,
-    })
+    }
 }
 
 /// The outputs of the first few areas, with so much room in each drain.
@@ -83,6 +119,48 @@ fn are_as_alone(alloc: Global, bytes: &[u8], count: usize) -> Result<bool, Alloc
         alike = alike && output.area == AREAS[at] && is_as_alone(alloc, bytes, output)?;
     }
     Ok(alike)
+}
+
+/// The same with all parents.
+fn are_as_alone_with_parents(
+    alloc: Global,
+    bytes: &[u8],
+    count: usize,
+) -> Result<bool, AllocError> {
+    let mut first = Pieces::new(bytes, &[], None);
+    let mut second = Pieces::new(bytes, &[], None);
+    let mut third = Pieces::new(bytes, &[], None);
+    let mut fourth = Pieces::new(bytes, &[], None);
+    let (ended, outcome) = extract_parents_each(
+        passes(alloc),
+        &mut first,
+        &mut second,
+        &mut third,
+        &mut fourth,
+        outputs(alloc, count, [4_096; 3])?,
+        hasher(),
+    );
+    let mut alike = outcome.is_ok() && ended.len() == count;
+    for (at, output) in ended.iter().enumerate() {
+        let is_alike = is_as_alone_with_parents(alloc, bytes, output)?;
+        alike = alike && output.area == AREAS[at] && is_alike;
+    }
+    Ok(alike)
+}
+
+#[test]
+fn several_extracts_with_parents_are_those_of_calls_alone(rt: HostRuntime) -> Result<(), Fail> {
+    for count in 0..4 {
+        assert!(rt;
+            are_as_alone_with_parents(rt.alloc(), &THREE_DENSE_NODES, count)?,
+            "{count}"
+        );
+        assert!(rt;
+            are_as_alone_with_parents(rt.alloc(), &SMALL, count)?,
+            "{count}"
+        );
+    }
+    Ok(())
 }
 
 #[test]

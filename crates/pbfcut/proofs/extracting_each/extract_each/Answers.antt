@@ -4,7 +4,7 @@ use Rattle.osm_ways.specs.Selection.{complete_ways}
 use Rattle.pbf_pass.specs.Hashing.{mark_by}
 use Rattle.pbfcut.specs.Calls.{GaveBy, GaveOrNot, fed}
 use Rattle.pbfcut.specs.ChoosingEach.{ChoseWays}
-use Rattle.pbfcut.proofs.EachReceiptLemmas.{all_short, extracts_each, gave_each, halts_each, same_length}
+use Rattle.pbfcut.proofs.EachReceiptLemmas.{all_short, extract_one, extracts_each, gave_each, halts_each, same_length}
 use Rattle.pbfcut.proofs.LaterLemmas.{keeps_more}
 use Rattle.pbfcut.proofs.extracting_each.extract_each.Goals as goal
 
@@ -42,4 +42,4 @@ returns g c =
     let area = g.A.Area.area in
     let olds = c.args.outputs.items in
     let chosen = subst (λ l. GaveBy first digest (λ b. GaveOrNot second choice.spared digest b (λ e. AllZip (ChoseWays area b e) l choice.choices.items))) c.deref.ensures.value c.in-Ok.ensures.chosen in
-    extracts_each area first second third g.D.Drain c.args.passes choice.next next.1 next.0 choice.spared c.choose_each.ensures.feeds choice.choices.items olds c.write_chosen.result.0.items (gave_each first second choice.spared digest (ChoseWays area) olds choice.choices.items chosen) c.write_chosen.result.1 c.write_chosen.ensures.receipt c.write_chosen.ensures.writes
+    extracts_each complete_ways area first (second ∷ []) third g.D.Drain c.args.passes.check choice.next choice.spared c.choose_each.ensures.feeds _ (extract_one area first second third g.D.Drain c.args.passes choice.next next.1 next.0 choice.spared c.choose_each.ensures.feeds) choice.choices.items olds c.write_chosen.result.0.items (gave_each first second choice.spared digest (ChoseWays area) olds choice.choices.items chosen) c.write_chosen.result.1 c.write_chosen.ensures.receipt c.write_chosen.ensures.writes
