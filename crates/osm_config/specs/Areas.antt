@@ -1,9 +1,9 @@
 -- The area of an extract.
 use Rattle.std.specs.Prelude.{ℕ, Bool, true, ◌||◌, List, [], ◌∷◌, ◌++◌, codes, if◌then◌else◌}
-use Rattle.std.specs.Prelude.{Option, Some, None, Result, Ok, Err}
+use Rattle.std.specs.Prelude.{Option, Some, None, is_some, Result, Ok, Err}
 use Rattle.std.specs.Str.{bytes_eq}
-use Rattle.json.specs.Json.{Json, null, boolean, number, string, array, object, Items, no_items, item}
-use Rattle.json.specs.Find.{get, as_number}
+use Rattle.json.specs.Json.{Json, null, boolean, number, string, array, object}
+use Rattle.json.specs.Find.{at, get, as_number}
 use Rattle.osm_box.specs.declared.bounding_box.BoundingBox.{BoundingBox}
 use Rattle.osm_box.specs.declared.bounding_box.BoxFault.{BoxFault}
 use Rattle.osm_box.specs.Degrees.{Parts, box_of_text}
@@ -28,12 +28,19 @@ pub data AreaSpec : Type 0 where
 abbrev pub edge_in : (extract : ℕ) → Json → OrFault (List ℕ)
 edge_in extract value = or_fault extract (codes "bbox") reason.Shape (as_number value)
 
-abbrev pub edges_of_items : (extract : ℕ) → Items → OrFault Parts
-edges_of_items extract (item left (item bottom (item right (item top no_items)))) =
-    and_then (edge_in extract left) (λ l. and_then (edge_in extract bottom) (λ b.
-    and_then (edge_in extract right) (λ r. and_then (edge_in extract top) (λ t.
+abbrev pub edge_at : (extract index : ℕ) → Json → OrFault (List ℕ)
+edge_at extract index value =
+    and_then (or_fault extract (codes "bbox") reason.Shape (at index value)) (edge_in extract)
+
+-- there are four, and so no fifth
+abbrev pub edges_of_items : (extract : ℕ) → Json → OrFault Parts
+edges_of_items extract value =
+    if is_some (at 4 value) then fault extract (codes "bbox") reason.Shape
+    else and_then (edge_at extract 0 value) (λ l.
+    and_then (edge_at extract 1 value) (λ b.
+    and_then (edge_at extract 2 value) (λ r.
+    and_then (edge_at extract 3 value) (λ t.
     Ok (record { left = l; bottom = b; right = r; top = t })))))
-edges_of_items extract _ = fault extract (codes "bbox") reason.Shape
 
 abbrev pub edge_named : (extract : ℕ) → (name : List ℕ) → Json → OrFault (List ℕ)
 edge_named extract name value = and_then (required extract name value) (edge_in extract)
@@ -48,7 +55,7 @@ edges_of_members extract value =
     Ok (record { left = l; bottom = b; right = r; top = t }))))))
 
 abbrev pub edges_in : (extract : ℕ) → Json → OrFault Parts
-edges_in extract (array items) = edges_of_items extract items
+edges_in extract (array items) = edges_of_items extract (array items)
 edges_in extract value = edges_of_members extract value
 
 abbrev pub with_commas : Parts → List ℕ

@@ -3,8 +3,8 @@
 ghost use Rattle.std.specs.Prelude.{◌≡◌, IfOk, map, option_map};
 ghost use Rattle.std.specs.Result.{result_map_both};
 ghost use Rattle.std.specs.String.{string_bytes};
-ghost use Rattle.json.specs.Value.{items_view, value_view};
-ghost use Rattle.osm_config.specs.Areas.{area_by, area_in, box_in, edge_in, edge_named, edges_in, edges_of_items, edges_of_members};
+ghost use Rattle.json.specs.Value.{value_view};
+ghost use Rattle.osm_config.specs.Areas.{area_by, area_in, box_in, edge_at, edge_in, edge_named, edges_in, edges_of_items, edges_of_members};
 ghost use Rattle.osm_config.specs.Areas.{file_in, is_polygon_type, multi_polygon_in, or_box_fault, or_polygon_fault, polygon_in, with_commas};
 ghost use Rattle.osm_config.specs.Readings.{Reads, area_of};
 ghost use Rattle.osm_config.specs.Edges.{edges_of};
@@ -38,21 +38,36 @@ fn edge_in<'v, 'a>(extract: usize, value: &'v Value<'a>) -> Result<&'v str, Conf
     }
 }
 
+/// The text of the number at this index of a list.
+fn edge_at<'v, 'a>(
+    extract: usize,
+    index: usize,
+    value: &'v Value<'a>,
+) -> Result<&'v str, ConfigStop<'v>>
+    ensures { Reads (edge_at extract index (value_view value.now))
+        (result_map_both (λ s. s.now) (λ e. e) result) }
+{
+    match value.at(index) {
+        Some(edge) => edge_in(extract, edge),
+        None => Err(ConfigStop::Refused(extract, "bbox", ConfigReason::Shape)),
+    }
+}
+
 /// The edges in a list, which has four.
 fn edges_of_items<'v, 'a>(
     extract: usize,
-    items: &'v [Value<'a>],
+    value: &'v Value<'a>,
 ) -> Result<EdgeTexts<'v>, ConfigStop<'v>>
-    ensures { Reads (edges_of_items extract (items_view items.now))
+    ensures { Reads (edges_of_items extract (value_view value.now))
         (result_map_both edges_of (λ e. e) result) }
 {
-    let [left, bottom, right, top] = items else {
+    let None = value.at(4) else {
         return Err(ConfigStop::Refused(extract, "bbox", ConfigReason::Shape));
     };
-    let left = edge_in(extract, left)?;
-    let bottom = edge_in(extract, bottom)?;
-    let right = edge_in(extract, right)?;
-    let top = edge_in(extract, top)?;
+    let left = edge_at(extract, 0, value)?;
+    let bottom = edge_at(extract, 1, value)?;
+    let right = edge_at(extract, 2, value)?;
+    let top = edge_at(extract, 3, value)?;
     Ok(EdgeTexts {
         left,
         bottom,
@@ -96,12 +111,16 @@ fn edges_of_members<'v, 'a>(
 }
 
 /// The edges in `bbox`.
-fn edges_in<'v, 'a>(extract: usize, value: &'v Value<'a>) -> Result<EdgeTexts<'v>, ConfigStop<'v>>
+fn edges_in<'v, 'a>(
+    alloc: Global,
+    extract: usize,
+    value: &'v Value<'a>,
+) -> Result<EdgeTexts<'v>, ConfigStop<'v>>
     ensures { Reads (edges_in extract (value_view value.now))
         (result_map_both edges_of (λ e. e) result) }
 {
     match value {
-        Value::Array(items) => edges_of_items(extract, items.as_slice()),
+        Value::Array(_) => edges_of_items(extract, value),
         _ => edges_of_members(alloc, extract, value),
     }
 }
@@ -121,7 +140,7 @@ fn with_commas(alloc: Global, edges: &EdgeTexts<'_>) -> Result<String, AllocErro
 }
 
 /// The box in `bbox`.
-fn box_in<'v, 'a>(
+fn bounds_in<'v, 'a>(
     alloc: Global,
     extract: usize,
     value: &'v Value<'a>,
@@ -139,7 +158,7 @@ fn box_in<'v, 'a>(
 
 /// Whether a file of this type can be read. Without a type the text says which it is.
 fn is_polygon_type(name: Option<&str>) -> bool
-    ensures { result ≡ is_polygon_type (option_map (λ s. s.now) name) }
+    ensures { result ≡ is_polygon_type (option_map (λ s. s.now) name.entry) }
 {
     match name {
         Some(name) => name == "poly" || name == "geojson",
@@ -227,7 +246,7 @@ pub(crate) fn area_in<'v, 'a>(
         value.get("polygon"),
         value.get("multipolygon"),
     ) {
-        (Some(value), None, None) => box_in(alloc, extract, value),
+        (Some(value), None, None) => bounds_in(alloc, extract, value),
         (None, Some(value), None) => polygon_in(alloc, extract, value),
         (None, None, Some(value)) => multi_polygon_in(alloc, extract, value),
         _ => Err(ConfigStop::Refused(extract, "", ConfigReason::Area)),

@@ -16,7 +16,7 @@ use std::alloc::Global;
 
 /// Whether a file of this format can be written. Without a format it is `pbf`.
 fn is_pbf(format: Option<&str>) -> bool
-    ensures { result ≡ is_pbf (option_map (λ s. s.now) format) }
+    ensures { result ≡ is_pbf (option_map (λ s. s.now) format.entry) }
 {
     match format {
         Some(format) => format == "pbf",

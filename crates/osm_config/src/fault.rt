@@ -83,7 +83,7 @@ impl<'v, T: Drop> From<AllocFailed<T>> for ConfigStop<'v> {
 }
 
 /// The error of a stop, with a copy of the member's name.
-pub(crate) fn error_of(alloc: Global, stop: &ConfigStop<'_>) -> ConfigError
+pub(crate) fn config_error(alloc: Global, stop: &ConfigStop<'_>) -> ConfigError
     ensures { IsNamed stop.now result }
 {
     let ConfigStop::Refused(extract, name, reason) = stop else {

@@ -12,7 +12,7 @@ use crate::fault::{ConfigReason, ConfigStop};
 use json::Value;
 use std::alloc::Global;
 
-/// Where an object is in a configuration.
+/// Which object of a configuration it is.
 #[derive(Clone, Copy, Debug, PartialEq, Eq)]
 pub(crate) enum ConfigObject {
     Whole,
@@ -63,7 +63,7 @@ fn is_known(object: ConfigObject, name: &str) -> bool
 }
 
 /// Whether one of these names is this one.
-fn has_name(names: &[&str], name: &str) -> bool
+fn is_among(names: &[&str], name: &str) -> bool
     ensures { result ≡ list_any (λ n. bytes_eq n name.now) (map (λ n. n.now) names.now) }
 {
     names.contains(&name)
@@ -82,7 +82,7 @@ fn with_name<'v>(
     if !is_known(object, name) {
         return Err(ConfigStop::Refused(extract, name, ConfigReason::Unknown));
     }
-    if has_name(seen.as_slice(), name) {
+    if is_among(seen.as_slice(), name) {
         return Err(ConfigStop::Refused(extract, name, ConfigReason::Repeated));
     }
     seen.push(name)?;

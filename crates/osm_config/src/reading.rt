@@ -10,7 +10,7 @@ ghost use Rattle.osm_config.specs.Readings.{Reads, ReadsConfig, config_of, extra
 
 use crate::config::{Config, ConfiguredExtract};
 use crate::extract::extracts_of;
-use crate::fault::{ConfigError, ConfigReason, ConfigStop, error_of};
+use crate::fault::{ConfigError, ConfigReason, ConfigStop, config_error};
 use crate::member::{list_in, optional_string, required};
 use crate::names::{ConfigObject, judge_object};
 use crate::outputs::first_repeated;
@@ -52,7 +52,7 @@ fn extracts_in<'v, 'a>(
 /// A copy of a string, if there is one.
 fn copy_of(alloc: Global, string: Option<&str>) -> Result<Option<String>, AllocError>
     ensures { IfOk result (λ copy. option_map string_bytes copy
-        ≡ option_map (λ s. s.now) string) }
+        ≡ option_map (λ s. s.now) string.entry) }
 {
     match string {
         Some(string) => Ok(Some(String::from_str(alloc, string)?)),
@@ -89,12 +89,12 @@ pub fn read_config(alloc: Global, text: &str) -> Result<Config, ConfigError>
     match Value::parse(alloc, without_mark(text), &mut scratch) {
         Ok(value) => match config_in(alloc, &value) {
             Ok(config) => Ok(config),
-            Err(stop) => Err(error_of(alloc, &stop)),
+            Err(stop) => Err(config_error(alloc, &stop)),
         },
         Err(Error::OutOfMemory) => Err(ConfigError::Memory),
         Err(_) => {
             let stop = ConfigStop::Refused(0, "", ConfigReason::Json);
-            Err(error_of(alloc, &stop))
+            Err(config_error(alloc, &stop))
         }
     }
 }
