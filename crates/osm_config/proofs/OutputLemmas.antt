@@ -1,5 +1,5 @@
 -- Outputs that were seen, in a sorted set.
-use Rattle.std.proofs.Common.{◌≡◌, ◌∙◌, ℕ, ◌+◌, Bool, true, false, List, [], ◌∷◌, ◌++◌, length, Some, refl, sym, ap, rules, Bor}
+use Rattle.std.proofs.Common.{◌≡◌, ◌∙◌, ℕ, ◌+◌, Bool, true, false, List, [], ◌∷◌, ◌++◌, length, length-append, Some, refl, sym, ap, Bor}
 use Rattle.std.specs.Prelude.{not, cond}
 use Rattle.std.specs.BTreeMap.{is_at}
 use Rattle.std.specs.Cmp.Lexicographic.{slice_cmp}
@@ -47,7 +47,7 @@ module _ (keys : List (Bor (List ℕ))) (count : ℕ) (name : Bor (List ℕ)) (m
   seen_more new h with_name =
       let known : list_any (bytes_eq name.now) s.before ≡ false = sym (s.same name) ∙ h in
       let here : repeated_after s.before (name.now ∷ more) ≡ repeated_after (s.before ++ name.now ∷ []) more = rw known refl in
-      let longer : length (s.before ++ name.now ∷ []) ≡ length s.before + 1 = search rules in
+      let longer : length (s.before ++ name.now ∷ []) ≡ length s.before + 1 = length-append s.before (name.now ∷ []) in
       record {
         before = s.before ++ name.now ∷ [];
         counted = longer ∙ ap (λ n. n + 1) s.counted;
