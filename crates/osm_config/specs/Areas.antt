@@ -2,7 +2,7 @@
 use Rattle.std.specs.Prelude.{ℕ, Bool, true, ◌||◌, List, [], ◌∷◌, ◌++◌, codes, if◌then◌else◌}
 use Rattle.std.specs.Prelude.{Option, Some, None, is_some, Result, Ok, Err}
 use Rattle.std.specs.Str.{bytes_eq}
-use Rattle.json.specs.Json.{Json, null, boolean, number, string, array, object}
+use Rattle.json.specs.Json.{Json, array}
 use Rattle.json.specs.Find.{at, get, as_number}
 use Rattle.osm_box.specs.declared.bounding_box.BoundingBox.{BoundingBox}
 use Rattle.osm_box.specs.declared.bounding_box.BoxFault.{BoxFault}
@@ -11,7 +11,6 @@ use Rattle.osm_config.specs.declared.fault.ConfigReason.TheVariants as reason
 use Rattle.osm_config.specs.declared.names.ConfigObject.TheVariants as kind
 use Rattle.osm_config.specs.Faults.{OrFault, fault, and_then, or_fault}
 use Rattle.osm_config.specs.Members.{file_name_in, judge_object, optional_string, required}
-use Rattle.osm_polygon.specs.declared.fault.PolyFault.{PolyFault}
 use Rattle.osm_polygon.specs.GeoJson.{polygon_coordinates, multi_polygon_coordinates}
 use Rattle.osm_polygon.specs.PolyFile.{PolygonsOrFault}
 use Rattle.osm_polygon.specs.Polygon.{Rings}

@@ -1,5 +1,5 @@
 -- A reading, as the text's definition sees it.
-use Rattle.std.specs.Prelude.{◌≡◌, ℕ, map, option_map, Result, Ok, Err}
+use Rattle.std.specs.Prelude.{◌≡◌, map, option_map, Result, Ok, Err}
 use Rattle.std.specs.String.{string_bytes}
 use Rattle.osm_config.specs.declared.config.Config.{Config}
 use Rattle.osm_config.specs.declared.config.ConfiguredArea.{ConfiguredArea}

@@ -5,6 +5,7 @@ mod area;
 mod config;
 mod extract;
 mod fault;
+pub mod laws;
 mod member;
 mod names;
 mod outputs;
