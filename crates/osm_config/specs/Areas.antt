@@ -1,5 +1,5 @@
 -- The area of an extract.
-use Rattle.std.specs.Prelude.{ℕ, Bool, true, ◌||◌, List, [], ◌∷◌, ◌++◌, codes, if◌then◌else◌}
+use Rattle.std.specs.Prelude.{ℕ, Bool, true, ◌||◌, List, [], ◌++◌, codes, if◌then◌else◌}
 use Rattle.std.specs.Prelude.{Option, Some, None, is_some, Result, Ok, Err}
 use Rattle.std.specs.Str.{bytes_eq}
 use Rattle.json.specs.Json.{Json, array}
@@ -58,7 +58,8 @@ edges_in extract (array items) = edges_of_items extract (array items)
 edges_in extract value = edges_of_members extract value
 
 abbrev pub with_commas : Parts → List ℕ
-with_commas edges = edges.left ++ 44 ∷ edges.bottom ++ 44 ∷ edges.right ++ 44 ∷ edges.top
+with_commas edges =
+    edges.left ++ codes "," ++ edges.bottom ++ codes "," ++ edges.right ++ codes "," ++ edges.top
 
 abbrev pub or_box_fault : (extract : ℕ) → Result BoundingBox BoxFault → OrFault AreaSpec
 or_box_fault extract (Ok bounds) = Ok (in_box bounds)
