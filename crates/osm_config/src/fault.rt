@@ -7,35 +7,49 @@ ghost use Rattle.osm_config.specs.Readings.{IsNamed};
 use osm_box::BoxFault;
 use osm_polygon::PolyFault;
 use std::alloc::{AllocError, AllocFailed, Global};
+use thiserror::Error;
 
-/// What is wrong with a configuration.
-#[derive(Clone, Copy, Debug, PartialEq, Eq)]
+/// What is wrong with a configuration. Each is printed by its name.
+#[derive(Clone, Copy, Debug, PartialEq, Eq, Error)]
 pub enum ConfigReason {
     /// 1: the text isn't JSON.
+    #[error("Json")]
     Json,
     /// 2: the file or an extract isn't an object, or a member isn't what it has to be: a string, a list, four numbers.
+    #[error("Shape")]
     Shape,
     /// 3: there is no such member.
+    #[error("Unknown")]
     Unknown,
     /// 4: a member comes twice in its object.
+    #[error("Repeated")]
     Repeated,
     /// 5: a member is missing.
+    #[error("Missing")]
     Missing,
     /// 6: `extracts` has no extract.
+    #[error("Empty")]
     Empty,
     /// 7: a file name is empty or `-`.
+    #[error("FileName")]
     FileName,
     /// 8: `output_format` isn't `pbf`.
+    #[error("Format")]
     Format,
     /// 9: `file_type` is neither `poly` nor `geojson`.
+    #[error("FileType")]
     FileType,
     /// 10: an extract hasn't exactly one of `bbox`, `polygon` and `multipolygon`.
+    #[error("Area")]
     Area,
     /// 11: this is wrong with the box.
+    #[error("BadBox")]
     BadBox(BoxFault),
     /// 12: this is wrong with the polygons.
+    #[error("BadPolygon")]
     BadPolygon(PolyFault),
     /// 13: an earlier extract has the same `output`.
+    #[error("SameOutput")]
     SameOutput,
 }
 
