@@ -4,6 +4,7 @@
 pub mod any_area;
 pub mod area;
 pub mod block;
+pub mod config;
 pub mod dense;
 pub mod engine;
 pub mod entity;
