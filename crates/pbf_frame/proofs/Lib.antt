@@ -17,4 +17,3 @@ pub mod Refusing
 pub mod Staying
 pub mod Putting
 pub mod ReadBack
-pub mod HeadPlaces

@@ -11,4 +11,3 @@ pub mod Course
 pub mod Packing
 pub mod Packs
 pub mod Streams
-pub mod RawFrames

@@ -7,13 +7,6 @@ pub mod FileLaw
 pub mod PickingLemmas
 pub mod PackingLemmas
 pub mod WritingLemmas
-pub mod SeveralLemmas
-pub mod WritingEachLemmas
-pub mod OutputLemmas
-pub mod AreaPhaseLemmas
-pub mod ChoosingEachLemmas
-pub mod ChoosingParentsLemmas
-pub mod EachReceiptLemmas
 pub mod StayLemmas
 pub mod ConvertingLemmas
 pub mod ChangedLemmas

@@ -4,10 +4,6 @@ pub mod FileFaults
 pub mod Pick
 pub mod Many
 pub mod Write
-pub mod Several
-pub mod AreaPhases
-pub mod ChoosingEach
-pub mod EachReceipts
 pub mod Repeat
 pub mod Showing
 pub mod Summary

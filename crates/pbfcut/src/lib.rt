@@ -1,15 +1,10 @@
 //! The engine: what pbfcut does with a whole file.
 #![tactic(auto)]
 
-mod area_phase;
 mod blobs;
-mod carrying;
-mod choosing_each;
-mod choosing_parents_each;
 mod converting;
 mod copying;
 mod extracting;
-mod extracting_each;
 mod extraction;
 pub mod laws;
 mod pick;
@@ -19,16 +14,13 @@ mod smart;
 mod sorted;
 mod summary;
 mod write;
-mod writing_each;
 
 pub use blobs::list_blobs;
-pub use carrying::{AreaOutput, EachReceipt};
 pub use converting::{convert, convert_with_receipt};
 pub use copying::copy_with_receipt;
 pub use extracting::{
     extract, extract_parents, extract_parents_with_receipt, extract_with_receipt,
 };
-pub use extracting_each::{extract_each, extract_parents_each};
 pub use extraction::{CompleteWays, Extraction, Smart};
 pub use pbf_pass::{
     Counts, Gather, Halt, InputReceipt, Nothing, Pass, Refusal, check, check_with_receipt,

@@ -13,8 +13,6 @@ pub mod OutLemmas
 pub mod Meaning
 pub mod Printed
 pub mod PublishedCalls
-pub mod WholeAnswers
-pub mod RawAnswers
 pub mod RawCalls
 pub mod RunLemmas
 pub mod SayingLemmas

@@ -31,8 +31,8 @@ use Rattle.pbfcut_cli.specs.declared.programs.Program.TheVariants.{Pbfcut}
 use Rattle.pbfcut_program.specs.declared.engine.Report.{Report}
 use Rattle.pbfcut_program.specs.declared.engine.Halted.{Halted}
 use Rattle.pbfcut_program.specs.Devices.{GiveAll, AreFresh, EndsFor, StopsFor, Gives, GivesIts, GivesFaulty, GivesOrNot, GivesOther, GivesOtherAt, Works, used}
-use Rattle.pbfcut_program.specs.Fails.{EndsAsStop}
-use Rattle.pbfcut_program.specs.Manner.{AreDigests, manner}
+use Rattle.pbfcut_program.specs.Fails.{EndsAsStop, UnlessPacked}
+use Rattle.pbfcut_program.specs.Manner.{AreDigests, manner, output_form}
 use Rattle.pbfcut_program.specs.Outcomes.{ReportsRaw}
 use Rattle.pbfcut_program.specs.Tasks.{Holds, Task, checking, showing, converting, copying, extracting, judge_of, spares_by}
 
@@ -89,7 +89,7 @@ module _ {F : Type 0} (f : feed.Ghosts F) (packs digests : Bool) (by : PassCheck
         took_them = refl;
         holds = given.holding;
       }
-  check_works (Err h) (Err halted) given ends r = reported_ends f judged_file (one ∷ []) (one_now ∷ []) (◌≡◌ {A = List ℕ} [] []) ⊥ h halted r (check_ends _ h ends)
+  check_works (Err h) (Err halted) given ends r = reported_ends f judged_file (one ∷ []) (one_now ∷ []) (◌≡◌ {A = List ℕ} [] []) (UnlessPacked (output_form packs Pbfcut) ⊥) h halted r (check_ends _ h ends)
   check_works _ _ given ends r = absurd r
 
 -- ---- more passes

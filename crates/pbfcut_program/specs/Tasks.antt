@@ -7,7 +7,6 @@ use Rattle.pbf_frame.specs.Verdict.{Verdict, judged, judged_known}
 use Rattle.pbf_pass.specs.HeaderLimit.{judged_writable}
 use Rattle.pbf_pass.specs.Judged.{fully, judged_file}
 use Rattle.pbf_pass.specs.Pass.{CountsFile}
-use Rattle.pbf_unpack.specs.RawFrames.{IsRawFile}
 use Rattle.pbfcut.specs.Blobs.{lines}
 use Rattle.pbfcut.specs.Kept.{IsWritable, conversion_of, extract_of}
 use Rattle.pbfcut.specs.Receipts.{judge_by}
@@ -72,7 +71,3 @@ answer_of (showing dates) file = answer_text dates (fully (judged false 0 file))
 answer_of converting file = conversion_of file
 answer_of copying file = file
 answer_of (extracting by area) file = extract_of by area file
-
--- that is a raw file
-abbrev pub GivesRaw : Task → List ℕ → Type 0
-GivesRaw task file = IsRawFile (answer_of task file)

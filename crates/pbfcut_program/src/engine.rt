@@ -8,7 +8,7 @@ ghost use Rattle.pbf_published.specs.Showing.{TellsInfo};
 ghost use Rattle.pbfcut.specs.Summary.{judged_headings};
 ghost use Rattle.pbfcut_cli.specs.declared.endings.Ending.TheVariants as ending;
 ghost use Rattle.pbfcut_cli.specs.declared.programs.Program.TheVariants.{Pbfcutz};
-ghost use Rattle.pbfcut_program.specs.Devices.{AreFresh, EndsFor, Fronts, Wholes, Works, WorksOn};
+ghost use Rattle.pbfcut_program.specs.Devices.{AreFresh, EndsFor, Fronts, Works, WorksOn};
 ghost use Rattle.pbfcut_program.specs.Fails.{EndsAsStop};
 ghost use Rattle.pbfcut_program.specs.Manner.{check_in, input_form, manner_of, once_check, output_form, raw_file, to_raw};
 ghost use Rattle.pbfcut_program.specs.Outcomes.{ListsBy, ReportsPublished, ReportsRaw};
@@ -242,9 +242,6 @@ pub(crate) fn convert<F: Feed, D: Drain, S: BuildHasher + Drop>(
     ensures front { Fronts (input_form engine.program) converting
         (F.remaining passes.old.one ∷ F.remaining passes.old.two ∷ [])
         (D.taken drain.old) (D.taken drain.new) result }
-    ensures whole { Wholes (input_form engine.program) converting
-        (F.remaining passes.old.one ∷ F.remaining passes.old.two ∷ [])
-        (D.taken drain.old) (D.taken drain.new) result }
 {
     let TwoPasses { one, two } = passes;
     let Seed { hasher, key } = seed;
@@ -270,9 +267,6 @@ pub(crate) fn copy<F: Feed, D: Drain>(
         (passes.old.one ∷ passes.old.two ∷ []) (passes.new.one ∷ passes.new.two ∷ [])
         drain.old drain.new result }
     ensures front { Fronts (input_form engine.program) copying
-        (F.remaining passes.old.one ∷ F.remaining passes.old.two ∷ [])
-        (D.taken drain.old) (D.taken drain.new) result }
-    ensures whole { Wholes (input_form engine.program) copying
         (F.remaining passes.old.one ∷ F.remaining passes.old.two ∷ [])
         (D.taken drain.old) (D.taken drain.new) result }
 {
@@ -303,10 +297,6 @@ pub(crate) fn extract<E: Extraction + Drop, F: Feed, D: Drain, S: BuildHasher + 
         (extracting (E.strategy extraction) (E.area extraction))
         (F.remaining passes.old.one ∷ F.remaining passes.old.two ∷ F.remaining passes.old.three ∷ [])
         (D.taken drain.old) (D.taken drain.new) result }
-    ensures whole { Wholes (input_form engine.program)
-        (extracting (E.strategy extraction) (E.area extraction))
-        (F.remaining passes.old.one ∷ F.remaining passes.old.two ∷ F.remaining passes.old.three ∷ [])
-        (D.taken drain.old) (D.taken drain.new) result }
 {
     let ThreePasses { one, two, three } = passes;
     let Seed { hasher, key } = seed;
@@ -334,9 +324,6 @@ pub(crate) fn extract_parents<A: Area + Copy, F: Feed, D: Drain, S: BuildHasher 
         (passes.new.one ∷ passes.new.two ∷ passes.new.three ∷ passes.new.four ∷ [])
         drain.old drain.new result }
     ensures front { Fronts (input_form engine.program) (extracting all_parents (A.area area))
-        (F.remaining passes.old.one ∷ F.remaining passes.old.two ∷ F.remaining passes.old.three
-        ∷ F.remaining passes.old.four ∷ []) (D.taken drain.old) (D.taken drain.new) result }
-    ensures whole { Wholes (input_form engine.program) (extracting all_parents (A.area area))
         (F.remaining passes.old.one ∷ F.remaining passes.old.two ∷ F.remaining passes.old.three
         ∷ F.remaining passes.old.four ∷ []) (D.taken drain.old) (D.taken drain.new) result }
 {

@@ -7,7 +7,7 @@ ghost use Rattle.osm_polygon.specs.Polygons.{polygons_area, polygons_of};
 ghost use Rattle.osm_polygon.specs.Texts.{polygons_of_text};
 ghost use Rattle.osm_ways.specs.Selection.{all_parents, complete_ways, smart};
 ghost use Rattle.osm_ways.specs.Whole.{is_wanted};
-ghost use Rattle.pbfcut_program.specs.Devices.{AreFresh, CloseAll, Fronts, Wholes, WorksOn};
+ghost use Rattle.pbfcut_program.specs.Devices.{AreFresh, CloseAll, Fronts, WorksOn};
 ghost use Rattle.pbfcut_program.specs.Events.{Event, text_read, then_all};
 ghost use Rattle.pbfcut_program.specs.Fails.{FailsOpening};
 ghost use Rattle.pbfcut_program.specs.Jobs.{area_of, feeds_of, plan_of, task_of};
@@ -169,10 +169,6 @@ fn cut_out<F: Feed, D: Drain, S: BuildHasher + Drop>(
         Fronts (input_form engine.program) (extracting complete_ways (area_of cutting.old.cut))
         (F.remaining old.one ∷ F.remaining old.two ∷ F.remaining old.three ∷ [])
         (D.taken drain.old) (D.taken drain.new) result }
-    ensures whole { let old = cutting.old.passes in
-        Wholes (input_form engine.program) (extracting complete_ways (area_of cutting.old.cut))
-        (F.remaining old.one ∷ F.remaining old.two ∷ F.remaining old.three ∷ [])
-        (D.taken drain.old) (D.taken drain.new) result }
 {
     let Cutting { passes, cut } = cutting;
     match &*cut {
@@ -196,11 +192,6 @@ fn cut_out_smart<F: Feed, D: Drain, S: BuildHasher + Drop>(
         drain.old drain.new result }
     ensures front { let old = cutting.old.passes in
         Fronts (input_form engine.program)
-        (extracting (smart (is_wanted cutting.old.types)) (area_of cutting.old.cut))
-        (F.remaining old.one ∷ F.remaining old.two ∷ F.remaining old.three ∷ [])
-        (D.taken drain.old) (D.taken drain.new) result }
-    ensures whole { let old = cutting.old.passes in
-        Wholes (input_form engine.program)
         (extracting (smart (is_wanted cutting.old.types)) (area_of cutting.old.cut))
         (F.remaining old.one ∷ F.remaining old.two ∷ F.remaining old.three ∷ [])
         (D.taken drain.old) (D.taken drain.new) result }
@@ -231,10 +222,6 @@ fn cut_out_parents<F: Feed, D: Drain, S: BuildHasher + Drop>(
         Fronts (input_form engine.program) (extracting all_parents (area_of cutting.old.cut))
         (F.remaining old.one ∷ F.remaining old.two ∷ F.remaining old.three ∷ F.remaining old.four ∷ [])
         (D.taken drain.old) (D.taken drain.new) result }
-    ensures whole { let old = cutting.old.passes in
-        Wholes (input_form engine.program) (extracting all_parents (area_of cutting.old.cut))
-        (F.remaining old.one ∷ F.remaining old.two ∷ F.remaining old.three ∷ F.remaining old.four ∷ [])
-        (D.taken drain.old) (D.taken drain.new) result }
 {
     let Cutting { passes, cut } = cutting;
     match &*cut {
@@ -255,8 +242,6 @@ pub(crate) fn do_job<F: Feed, D: Drain, S: BuildHasher + Drop>(
         F.Feed D.Drain (task_of job.old)
         (feeds_of job.old) (feeds_of job.new) drain.old drain.new result }
     ensures front { Fronts (input_form engine.program) (task_of job.old)
-        (map F.remaining (feeds_of job.old)) (D.taken drain.old) (D.taken drain.new) result }
-    ensures whole { Wholes (input_form engine.program) (task_of job.old)
         (map F.remaining (feeds_of job.old)) (D.taken drain.old) (D.taken drain.new) result }
 {
     match job {

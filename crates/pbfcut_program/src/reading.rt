@@ -1,12 +1,13 @@
 //! The commands that write no file: `blobs`, `info`, `show` and `check`.
 
 ghost use Rattle.std.specs.Prelude.{◌≡◌, ◌∷◌, [], ℕ, false, List, Option, IfErr, IfOk, OnOk, is_ok, None};
+ghost use Rattle.pbf_pass.specs.Judged.{judged_file};
 ghost use Rattle.pbf_published.specs.Showing.{TellsInfo};
 ghost use Rattle.pbfcut.specs.Summary.{judged_headings};
 ghost use Rattle.pbfcut_cli.specs.declared.programs.Program.TheVariants as program;
 ghost use Rattle.pbfcut_program.specs.Devices.{Finishes};
 ghost use Rattle.pbfcut_program.specs.Events.{Event, Reading, opened, read, then_all};
-ghost use Rattle.pbfcut_program.specs.Fails.{Each, FailsFor, judging, judging_for, listing};
+ghost use Rattle.pbfcut_program.specs.Fails.{Each, FailsFor, judging, listing};
 ghost use Rattle.pbfcut_program.specs.Leaving.{LeavesFor};
 ghost use Rattle.pbfcut_program.specs.Manner.{manner, manner_of, once_check, to_raw};
 ghost use Rattle.pbfcut_program.specs.Outcomes.{EndsAs, ending_of_text};
@@ -38,7 +39,7 @@ fn read_once<H: Host>(
         report.counts report.input report.raw) }
     ensures err { IfErr result (λ how. (events : List Event)
         × (H.log host.new ≡ then_all (H.log host.old) events)
-        × FailsFor (manner_of engine) (judging_for checking) how events
+        × FailsFor (manner_of engine) (judging judged_file) how events
         × SaysLittle engine.digests events) }
     ensures files { IsStill (H.log host.old) (H.log host.new) }
 {
@@ -68,7 +69,7 @@ pub(crate) fn run_check<H: Host>(
         × Checks (manner_of engine) path.now events) }
     ensures err { IfErr result (λ how. (events : List Event)
         × (H.log host.new ≡ then_all (H.log host.old) events)
-        × FailsFor (manner_of engine) (judging_for checking) how events
+        × FailsFor (manner_of engine) (judging judged_file) how events
         × IsSaid engine.digests (Checks (manner_of engine) path.now) how events) }
     ensures files { IsStill (H.log host.old) (H.log host.new) }
 {
@@ -120,7 +121,7 @@ pub(crate) fn run_show<H: Host>(
         × Shows (manner_of engine) dates input.now.path.now events) }
     ensures err { IfErr result (λ how. (events : List Event)
         × (H.log host.new ≡ then_all (H.log host.old) events)
-        × FailsFor (to_raw (manner_of engine)) (judging_for (showing dates)) how events
+        × FailsFor (to_raw (manner_of engine)) (judging judged_file) how events
         × LeavesFor (to_raw (manner_of engine)) (showing dates) events × Each Silent events) }
     ensures files { IsStill (H.log host.old) (H.log host.new) }
 {
@@ -168,7 +169,7 @@ pub(crate) fn run_info<H: Host>(
     ensures err { IfErr result (λ how. (events : List Event)
         × (H.log host.new ≡ then_all (H.log host.old) events)
         × FailsFor (manner program.Pbfcutz false engine.digests)
-        (judging judged_headings (λ file. ⊥)) how events × Each Silent events) }
+        (judging judged_headings) how events × Each Silent events) }
     ensures files { IsStill (H.log host.old) (H.log host.new) }
 {
     let mut pass = open_pass(host, input, 1)?;

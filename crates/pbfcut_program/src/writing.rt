@@ -6,21 +6,21 @@ ghost use Rattle.std.specs.Option.{option_map};
 ghost use Rattle.std.specs.Result.{result_err};
 ghost use Rattle.pbf_frame.specs.declared.stop.Stop.TheVariants as stop;
 ghost use Rattle.pbfcut_cli.specs.declared.endings.Ending.TheVariants as ending;
+ghost use Rattle.pbfcut.specs.Receipts.{judge_by};
 ghost use Rattle.pbf_pass.specs.Stops.{WriteFailed};
-ghost use Rattle.pbf_unpack.specs.Packing.{taken_raw};
 ghost use Rattle.pbfcut_cli.specs.declared.programs.Program.TheVariants.{Pbfcutz};
-ghost use Rattle.pbfcut_program.specs.Devices.{AreFresh, DrainFailed, FinishesPacked, Fronts, IsAsked, IsFreshOut, IsNamed, Leads, MeansBy, TakenBy, Wholes, Works, WorksOn};
+ghost use Rattle.pbfcut_program.specs.Devices.{AreFresh, FinishesPacked, Fronts, IsAsked, IsFreshOut, MeansBy, TakenBy, Works, WorksOn};
 ghost use Rattle.pbfcut_program.specs.Events.{Event, Reading, Writing, read, wrote, then_all};
 ghost use Rattle.pbfcut_program.specs.Files.{IsKept, IsMade};
-ghost use Rattle.pbfcut_program.specs.Fails.{Each, Fails, FailsFor, FailsOpening, Quiet, judging_for};
+ghost use Rattle.pbfcut_program.specs.Fails.{Each, Fails, FailsFor, FailsOpening, Quiet, UnlessPacked, judging};
 ghost use Rattle.pbfcut_program.specs.Jobs.{area_of, feeds_of, plan_of, task_of};
 ghost use Rattle.pbfcut_program.specs.Leaving.{Leaves, LeavesFor};
 ghost use Rattle.pbfcut_program.specs.Outcomes.{ending_of_file};
-ghost use Rattle.pbfcut_program.specs.Program.{Extracts, LeavesCut, Writes, WritesCounts, advice, begun, is_empty, is_screen, judging_cut, looks, screen_of, strategy_of};
+ghost use Rattle.pbfcut_program.specs.Program.{Extracts, LeavesCut, Writes, WritesCounts, advice, begun, is_empty, is_screen, looks, screen_of, strategy_of};
 ghost use Rattle.pbfcut_program.specs.Manner.{check_in, hashes_meaning, input_form, manner_of, output_form, packed_file, to_raw};
 ghost use Rattle.pbfcut_program.specs.Settling.{Returns, Settles};
 ghost use Rattle.pbfcut_program.specs.Worked.{Worked};
-ghost use Rattle.pbfcut_program.specs.Tasks.{extracting, passes_of};
+ghost use Rattle.pbfcut_program.specs.Tasks.{extracting, judge_of, passes_of};
 ghost use Rattle.pbfcut_program.specs.Telling.{IsSaid, SaysLittle};
 
 use crate::engine::{Engine, Halted, Report};
@@ -148,8 +148,6 @@ fn run_raw<F: Feed, D: Drain + Drop, S: BuildHasher + Drop>(
         (feeds_of job.old) (feeds_of job.new) out result.out result.result }
     ensures front { Fronts (input_form engine.program) (task_of job.old)
         (map F.remaining (feeds_of job.old)) (D.taken out) (D.taken result.out) result.result }
-    ensures whole { Wholes (input_form engine.program) (task_of job.old)
-        (map F.remaining (feeds_of job.old)) (D.taken out) (D.taken result.out) result.result }
     ensures unhashed { (result.output ≡ None) × (result.meaning ≡ None) }
 {
     let mut out = out;
@@ -174,10 +172,6 @@ fn run_raw_hashed<F: Feed, D: Drain + Drop, S: BuildHasher + Drop>(
         → Works (to_raw (manner_of engine)) (check_in engine seed.key) F.Feed (task_of job.old)
         (feeds_of job.old) (feeds_of job.new) (TakenBy D.Drain result.out result.output)
         (WriteFailed D.Drain out result.out) result.result }
-    ensures front { Fronts (input_form engine.program) (task_of job.old)
-        (map F.remaining (feeds_of job.old)) (D.taken out) (D.taken result.out) result.result }
-    ensures whole { Wholes (input_form engine.program) (task_of job.old)
-        (map F.remaining (feeds_of job.old)) (D.taken out) (D.taken result.out) result.result }
     ensures hashed { IsAsked true result.output }
 {
     let linked = LinkedDrain::new(HashedDrain::new(out));
@@ -204,10 +198,6 @@ fn run_raw_into<F: Feed, D: Drain + Drop, S: BuildHasher + Drop>(
         → Works (to_raw (manner_of engine)) (check_in engine seed.key) F.Feed (task_of job.old)
         (feeds_of job.old) (feeds_of job.new) (TakenBy D.Drain result.out result.output)
         (WriteFailed D.Drain out result.out) result.result }
-    ensures front { Fronts (input_form engine.program) (task_of job.old)
-        (map F.remaining (feeds_of job.old)) (D.taken out) (D.taken result.out) result.result }
-    ensures whole { Wholes (input_form engine.program) (task_of job.old)
-        (map F.remaining (feeds_of job.old)) (D.taken out) (D.taken result.out) result.result }
     ensures hashed { IsAsked engine.digests result.output }
 {
     if engine.digests {
@@ -219,7 +209,7 @@ fn run_raw_into<F: Feed, D: Drain + Drop, S: BuildHasher + Drop>(
 
 /// How a call halted whose drain packs; or, if it failed to write for want of memory, that.
 fn named(halted: Halted, of_drain: Option<Stop>) -> Halted
-    ensures { IsNamed of_drain halted.ending result.ending }
+    ensures { (result.ending ≡ halted.ending) ⊎ (result.ending ≡ ending.Stopped stop.Memory) }
 {
     let is_write = matches!(&halted.ending, Ending::Stopped(Stop::Write));
     if is_write && of_drain == Some(Stop::Memory) {
@@ -228,20 +218,29 @@ fn named(halted: Halted, of_drain: Option<Stop>) -> Halted
     halted
 }
 
+/// How a call ends whose drain couldn't give OUT the rest.
+fn lost(of_drain: Option<Stop>) -> Halted
+    ensures { (result.ending ≡ ending.Stopped stop.Write) ⊎ (result.ending ≡ ending.Stopped stop.Memory) }
+{
+    match of_drain {
+        Some(Stop::Memory) => Halted::from(Stop::Memory),
+        _ => Halted::from(Stop::Write),
+    }
+}
+
 /// Gives OUT the rest of what a drain packs, once a call has ended.
 fn finish<D: Drain>(
     returned: Result<Report, Halted>,
     drain: &mut PackedDrain<D>,
 ) -> Result<Report, Halted>
-    ensures ends { FinishesPacked drain.old drain.new returned result }
-    ensures taken { taken_raw drain.new ≡ taken_raw drain.old }
+    ensures { FinishesPacked drain.old drain.new returned result }
 {
     let report = match returned {
         Ok(report) => report,
         Err(halted) => return Err(named(halted, drain.stop())),
     };
     if drain.finish().is_err() {
-        return Err(named(Halted::from(Stop::Write), drain.stop()));
+        return Err(lost(drain.stop()));
     }
     Ok(report)
 }
@@ -259,10 +258,7 @@ fn run_packed<F: Feed, D: Drain + Drop, S: BuildHasher + Drop>(
         → Works (manner_of engine) (check_in engine seed.key) F.Feed (task_of job.old)
         (feeds_of job.old) (feeds_of job.new)
         (λ w. D.has_taken result.out 0 w × MeansBy packed_file result.meaning w)
-        (DrainFailed D.Drain packed_file (task_of job.old)
-        (map F.remaining (feeds_of job.old)) result.out) result.result }
-    ensures front { Leads packed_file (input_form engine.program) (task_of job.old)
-        (map F.remaining (feeds_of job.old)) (D.taken result.out) result.result }
+        (WriteFailed D.Drain out result.out) result.result }
     ensures hashed { IfOk result.result (λ _. IsAsked engine.digests result.meaning) }
     ensures unhashed { result.output ≡ None }
 {
@@ -299,10 +295,10 @@ fn run_unhashed<F: Feed, D: Drain + Drop, S: BuildHasher + Drop>(
         (feeds_of job.old) (feeds_of job.new)
         (λ w. D.has_taken result.out 0 w
         × MeansBy (output_form engine.packs engine.program) result.meaning w)
-        (DrainFailed D.Drain (output_form engine.packs engine.program) (task_of job.old)
-        (map F.remaining (feeds_of job.old)) result.out) result.result }
-    ensures front { Leads (output_form engine.packs engine.program) (input_form engine.program)
-        (task_of job.old) (map F.remaining (feeds_of job.old)) (D.taken result.out) result.result }
+        (WriteFailed D.Drain out result.out) result.result }
+    ensures front { UnlessPacked (output_form engine.packs engine.program)
+        (Fronts (input_form engine.program) (task_of job.old) (map F.remaining (feeds_of job.old))
+        (D.taken out) (D.taken result.out) result.result) }
     ensures hashed { IfOk result.result (λ _. IsAsked
         (hashes_meaning (output_form engine.packs engine.program) engine.digests) result.meaning) }
     ensures unhashed { result.output ≡ None }
@@ -326,10 +322,10 @@ fn run_hashed<F: Feed, D: Drain + Drop, S: BuildHasher + Drop>(
         → Works (manner_of engine) (check_in engine seed.key) F.Feed (task_of job.old) (feeds_of job.old) (feeds_of job.new)
         (λ w. TakenBy D.Drain result.out result.output w
         × MeansBy (output_form engine.packs engine.program) result.meaning w)
-        (DrainFailed D.Drain (output_form engine.packs engine.program) (task_of job.old)
-        (map F.remaining (feeds_of job.old)) result.out) result.result }
-    ensures front { Leads (output_form engine.packs engine.program) (input_form engine.program)
-        (task_of job.old) (map F.remaining (feeds_of job.old)) (D.taken result.out) result.result }
+        (0 < D.failures result.out) result.result }
+    ensures front { UnlessPacked (output_form engine.packs engine.program)
+        (Fronts (input_form engine.program) (task_of job.old) (map F.remaining (feeds_of job.old))
+        (D.taken out) (D.taken result.out) result.result) }
     ensures hashed { IsAsked true result.output }
     ensures meaning { IfOk result.result (λ _. IsAsked
         (hashes_meaning (output_form engine.packs engine.program) engine.digests) result.meaning) }
@@ -358,10 +354,10 @@ fn run_into<F: Feed, D: Drain + Drop, S: BuildHasher + Drop>(
         → Works (manner_of engine) (check_in engine seed.key) F.Feed (task_of job.old) (feeds_of job.old) (feeds_of job.new)
         (λ w. TakenBy D.Drain result.out result.output w
         × MeansBy (output_form engine.packs engine.program) result.meaning w)
-        (DrainFailed D.Drain (output_form engine.packs engine.program) (task_of job.old)
-        (map F.remaining (feeds_of job.old)) result.out) result.result }
-    ensures front { Leads (output_form engine.packs engine.program) (input_form engine.program)
-        (task_of job.old) (map F.remaining (feeds_of job.old)) (D.taken result.out) result.result }
+        (0 < D.failures result.out) result.result }
+    ensures front { UnlessPacked (output_form engine.packs engine.program)
+        (Fronts (input_form engine.program) (task_of job.old) (map F.remaining (feeds_of job.old))
+        (D.taken out) (D.taken result.out) result.result) }
     ensures hashed { IsAsked engine.digests result.output }
     ensures meaning { IfOk result.result (λ _. IsAsked
         (hashes_meaning (output_form engine.packs engine.program) engine.digests) result.meaning) }
@@ -402,7 +398,7 @@ fn run_job<H: Host>(
         × IsKept engine.program files.now.overwrite files.now.output.now out.name keeps) }
     ensures err { IfErr result (λ how. (events : List Event)
         × (H.log host.new ≡ then_all (H.log host.old) events)
-        × Fails (manner_of engine) (judging_for (task_of ready.job))
+        × Fails (manner_of engine) (judging (judge_of (task_of ready.job)))
         (map H.In.remaining (feeds_of ready.job)) how events
         × Leaves (manner_of engine) (task_of ready.job)
         (map H.In.remaining (feeds_of ready.job)) events
@@ -450,7 +446,7 @@ pub(crate) fn write<H: Host>(
         × WritesCounts (manner_of engine) (plan_of plan) files.now counts events) }
     ensures err { IfErr result (λ how. (events : List Event)
         × (H.log host.new ≡ then_all (H.log host.old) events)
-        × FailsFor (manner_of engine) (judging_for (plan_of plan)) how events
+        × FailsFor (manner_of engine) (judging (judge_of (plan_of plan))) how events
         × LeavesFor (manner_of engine) (plan_of plan) events
         × IsSaid engine.digests (Writes (manner_of engine) (plan_of plan) files.now) how events) }
     ensures files { Settles engine.program files.now (H.log host.old) (H.log host.new) }
@@ -506,7 +502,7 @@ pub(crate) fn run_extract<H: Host>(
         × Extracts (manner_of engine) region.now strategy.entry files.now events) }
     ensures err { IfErr result (λ how. (events : List Event)
         × (H.log host.new ≡ then_all (H.log host.old) events)
-        × FailsFor (manner_of engine) (judging_cut region.now strategy.entry events) how events
+        × FailsFor (manner_of engine) (judging (judge_by (strategy_of strategy.entry))) how events
         × (Each Quiet events ⊎ LeavesCut (manner_of engine) region.now strategy.entry events)
         × IsSaid engine.digests
         (Extracts (manner_of engine) region.now strategy.entry files.now) how events) }

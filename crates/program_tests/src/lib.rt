@@ -7,8 +7,6 @@ mod blobs;
 mod check;
 #[cfg(test)]
 mod disk;
-#[cfg(test)]
-mod extracts;
 mod happened;
 #[cfg(test)]
 mod later_pass;

@@ -4,7 +4,6 @@
 pub mod any_area;
 pub mod area;
 pub mod block;
-pub mod config;
 pub mod dense;
 pub mod engine;
 pub mod entity;

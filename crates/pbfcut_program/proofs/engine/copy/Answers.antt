@@ -4,7 +4,6 @@ use Rattle.pbfcut_program.specs.Tasks.{copying}
 use Rattle.pbfcut_program.proofs.FrontLemmas.{published_front, raw_front}
 use Rattle.pbfcut_program.proofs.PublishedCalls.{copy_published}
 use Rattle.pbfcut_program.proofs.RawCalls.{copy_works}
-use Rattle.pbfcut_program.proofs.WholeAnswers.{copy_whole}
 use Rattle.pbfcut_program.proofs.engine.copy.Goals as goal
 
 pub returns-in-Pbfcut-clause-works : goal.returns-in-Pbfcut-clause-works
@@ -27,6 +26,3 @@ returns-in-Pbfcut-clause-front g c = rw c.in-Pbfcut.is (raw_front copying (g.F.F
 
 pub returns-in-Pbfcutz-clause-front : goal.returns-in-Pbfcutz-clause-front
 returns-in-Pbfcutz-clause-front g c = rw c.in-Pbfcutz.is (published_front copying (g.F.Feed.remaining c.args.passes.now.one ∷ g.F.Feed.remaining c.args.passes.now.two ∷ []) _ _ c.published.result c.copy_with_receipt-in-Pbfcutz.result c.published.ensures _ _ _ c.copy_with_receipt-in-Pbfcutz.ensures.beginning c.copy_with_receipt-in-Pbfcutz.ensures.stops)
-
-pub returns-in-Pbfcutz-clause-whole : goal.returns-in-Pbfcutz-clause-whole
-returns-in-Pbfcutz-clause-whole g c = rw c.in-Pbfcutz.is (copy_whole g.F.Feed g.D.Drain c.args.drain.now c.copy_with_receipt-in-Pbfcutz.new.drain _ c.args.passes.now.one c.copy_with_receipt-in-Pbfcutz.new.first c.args.passes.now.two c.copy_with_receipt-in-Pbfcutz.new.second c.copy_with_receipt-in-Pbfcutz.result c.published.result c.copy_with_receipt-in-Pbfcutz.ensures.receipt c.published.ensures)

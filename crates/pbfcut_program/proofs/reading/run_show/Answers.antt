@@ -1,11 +1,12 @@
 use Rattle.std.proofs.Common.{◌≡◌, [], ◌∷◌, ◌++◌, List, OnOk, map, None, Option, true, inl, inr, is_ok, refl, ap, subst}
 use Rattle.std.proofs.lemmas.Result.{err_from_is_err_and, IfErr-weaker, on_ok_weaker}
+use Rattle.pbf_pass.specs.Judged.{judged_file}
 use Rattle.pbf_pass.specs.Stops.{WriteFailed}
 use Rattle.pbfcut_program.specs.declared.engine.Report.{Report}
 use Rattle.pbfcut_program.specs.declared.host.FinishFault.{FinishFault}
 use Rattle.pbfcut_program.specs.Devices.{AreFresh}
 use Rattle.pbfcut_program.specs.Events.{Event, Reading, Writing, opened, read, screened, wrote, then_all}
-use Rattle.pbfcut_program.specs.Fails.{Each, Opens, Quiet, judging_for}
+use Rattle.pbfcut_program.specs.Fails.{Each, Opens, Quiet, judging}
 use Rattle.pbfcut_program.specs.Manner.{check_in, manner_of, to_raw}
 use Rattle.pbfcut_program.specs.Readings.{IsWork}
 use Rattle.pbfcut_program.specs.Tasks.{showing}
@@ -27,7 +28,7 @@ returns-in_err-passes-clause-err g c =
     let f = c.in_err-passes.ensures.failed in
     let m = to_raw (manner_of c.args.engine) in
     let how = c.in_err-passes.field-0.0 in
-    rw (p.1, p.2) (f.0, f.1, opening_fails m (judging_for (showing c.args.dates)) how f.0 f.2, opening_leaves m (showing c.args.dates) how f.0 f.2, silent_of f.0 f.2.0)
+    rw (p.1, p.2) (f.0, f.1, opening_fails m (judging judged_file) how f.0 f.2, opening_leaves m (showing c.args.dates) how f.0 f.2, silent_of f.0 f.2.0)
 
 pub returns-in_err-key-clause-err : goal.returns-in_err-key-clause-err
 returns-in_err-key-clause-err g c =
@@ -39,7 +40,7 @@ returns-in_err-key-clause-err g c =
     let how = c.in_err-key.field-0.0 in
     let m = to_raw (manner_of c.args.engine) in
     let fails = opening_after how first f.0 (tt, (tt, tt)) f.2 in
-    rw (p.1, p.2) (first ++ f.0, and_then (g.H.Host.log c.args.host.now) _ _ first f.0 c.in_ok-passes.ensures.opened f.1, opening_fails m (judging_for (showing c.args.dates)) how (first ++ f.0) fails, opening_leaves m (showing c.args.dates) how (first ++ f.0) fails, silent_of (first ++ f.0) fails.0)
+    rw (p.1, p.2) (first ++ f.0, and_then (g.H.Host.log c.args.host.now) _ _ first f.0 c.in_ok-passes.ensures.opened f.1, opening_fails m (judging judged_file) how (first ++ f.0) fails, opening_leaves m (showing c.args.dates) how (first ++ f.0) fails, silent_of (first ++ f.0) fails.0)
 
 pub returns-in_err-out-clause-err : goal.returns-in_err-out-clause-err
 returns-in_err-out-clause-err g c =
@@ -54,7 +55,7 @@ returns-in_err-out-clause-err g c =
     let before = and_then (g.H.Host.log c.args.host.now) _ _ first drawn c.in_ok-passes.ensures.opened c.in_ok-key.ensures.ok in
     let begun = first ++ drawn in
     let fails = opening_after how begun f.0 (tt, (tt, calm_draws c.args.engine.program c.in_ok-key.key)) f.2 in
-    rw (p.1, p.2) (begun ++ f.0, and_then (g.H.Host.log c.args.host.now) _ _ begun f.0 before f.1, opening_fails m (judging_for (showing c.args.dates)) how (begun ++ f.0) fails, opening_leaves m (showing c.args.dates) how (begun ++ f.0) fails, silent_of (begun ++ f.0) fails.0)
+    rw (p.1, p.2) (begun ++ f.0, and_then (g.H.Host.log c.args.host.now) _ _ begun f.0 before f.1, opening_fails m (judging judged_file) how (begun ++ f.0) fails, opening_leaves m (showing c.args.dates) how (begun ++ f.0) fails, silent_of (begun ++ f.0) fails.0)
 
 pub returns-clause-ok : goal.returns-clause-ok
 returns-clause-ok g c =
@@ -114,7 +115,7 @@ returns-clause-err g c =
     IfErr-weaker c.ended.result _ _ (λ how f. (
       _,
       and_then (log c.args.host.now) _ _ first f.0 begun f.1,
-      opened_fails m (judging_for (showing c.args.dates)) hs how first f.0 quiet opens f.2,
+      opened_fails m (judging judged_file) hs how first f.0 quiet opens f.2,
       record { has = hs; opens = opens_before 1 hs first f.0 opens; leaves = leaves_after m (showing c.args.dates) hs first f.0 quiet f.3 },
       each_both Silent first f.0 silent f.4,
     ))

@@ -1,4 +1,0 @@
-pub mod NameLemmas
-pub mod OutputLemmas
-pub mod ConfigLemmas
-pub mod DistinctOutputs

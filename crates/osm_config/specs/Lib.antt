@@ -1,6 +1,0 @@
-pub mod Faults
-pub mod Members
-pub mod Edges
-pub mod Areas
-pub mod Configs
-pub mod Readings
