@@ -10,9 +10,8 @@ returns-clause-opened g c =
     let check = c.args.check in
     let hashed = hashed_from (g.F.Feed.has_passed fresh.feed) fresh.hasher fresh.count check c.new.ensures.check c.new.ensures.hasher in
     record {
+      remaining = search rules;
+      failures = search rules;
       hashed = c.new-2.ensures.supplied _ (rw (sym c.new.ensures.feed) (traced_from _ fresh (hash_log check) (hash_log check) hashed hashed));
       logged = λ log start. c.new-2.ensures.supplied _ (rw (sym c.new.ensures.feed) (traced_from _ fresh (hash_log check) (below_log log) hashed (below_from (g.F.Feed.has_passed fresh.feed) fresh.hasher fresh.count log [] (rw c.new.ensures.feed start))));
     }
-
-pub returns-clause-below : goal.returns-clause-below
-returns-clause-below g c = rw c.new-2.ensures.feed c.new.ensures.feed
