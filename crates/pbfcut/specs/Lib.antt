@@ -20,4 +20,7 @@ pub mod Changes
 pub mod Choosing
 pub mod Ends
 pub mod Receipts
+pub mod Tasks
+pub mod PlainTasks
+pub mod TaskCalls
 pub mod Copying

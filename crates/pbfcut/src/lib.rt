@@ -18,6 +18,7 @@ mod showing;
 mod smart;
 mod sorted;
 mod summary;
+mod task;
 mod write;
 mod writing_each;
 
@@ -41,3 +42,4 @@ pub use sorted::{
     extract_parents_sorted_with_receipt, extract_sorted, extract_sorted_with_receipt,
 };
 pub use summary::{Summary, put_counts, put_counts_object, read_summary};
+pub use task::{AllParents, FileTask, PlainTask};
