@@ -4,16 +4,20 @@ use Rattle.pbf_wire.specs.declared.fault.Fault.{Fault}
 use Rattle.pbf_frame.specs.declared.device.Feed as feed
 use Rattle.pbf_frame.specs.declared.stop.Stop.{Stop}
 use Rattle.pbf_frame.specs.declared.stop.Stop.TheVariants as stop
-use Rattle.pbf_pass.specs.Hashing.{Mark, mark_by, raw_check}
+use Rattle.pbf_pass.specs.Hashing.{HasCounted, Mark, mark_by, raw_check}
+use Rattle.pbf_pass.specs.declared.hashed.PassFeed.{PassFeed}
 use Rattle.pbf_pass.specs.declared.hashing.PassCheck.{PassCheck}
 use Rattle.pbf_pass.specs.declared.receipt.Halt.{Halt}
 use Rattle.pbf_pass.specs.declared.receipt.InputReceipt.{InputReceipt}
+use Rattle.pbf_unpack.specs.declared.feed.UnpackedFeed.{UnpackedFeed}
+use Rattle.pbf_unpack.specs.Supplying.{HasSupplied, refusals, remaining_in}
 use Rattle.pbfcut.specs.Calls.{AllSupply, AnyFailed, ChangedIn, ChangedLater, DrainUse, FeedUse, GaveEach, GaveEachOrNot, TookBy, fed, supply_of, used}
 use Rattle.pbfcut.specs.TaskCalls.{DoesTask, GaveFiles}
 use Rattle.pbfcut.specs.Tasks.{Holds, Task, answer_of, judge_of, passes_of, spares}
 use Rattle.pbf_published.specs.declared.input.PublishedHalt.{PublishedHalt}
 use Rattle.pbf_published.specs.declared.input.PublishedInput.{PublishedInput}
-use Rattle.pbf_published.specs.Published.{ChangedFrom, GaveEachOrNone, GavePublishedEach, HasDigest, IsOpened, ReportsOutcome, raw_of}
+use Rattle.pbf_published.specs.declared.traced.TracedFeed.{TracedFeed}
+use Rattle.pbf_published.specs.Published.{ChangedFrom, GaveEachOrNone, GavePublishedEach, HasDigest, HasTraced, IsOpened, ReportsOutcome, raw_of}
 use Rattle.pbf_published.specs.PublishedTasks.{AreOpened, DigestsDiffer, DoesPublished, FailBelow, GavePublishedFiles, HaveDigest, OtherDigest, ShareDigest, skipped_of}
 use Rattle.pbf_published.proofs.PublishedLemmas.{DigestIsOf, changed_any, changed_stop, digest_told, fault_as, first_unknown, later_differ, outcome_beginning, outcome_receipt, outcome_stops, packed_differ, published_of, read_below, with_nothing}
 
@@ -153,6 +157,19 @@ module _ {F U : Type 0} (f : feed.Ghosts F) (u : feed.Ghosts U) (below : U → F
           stops = changed_stop _ _ _ _ _ _ changed.0 stops changed.1 changed.2;
           beginning = changed_any _ h.stop s changed.0 stops changed.1;
         })
+
+-- ---- feeds that are opened one after another
+
+-- what is said of a published feed
+abbrev pub published : {F : Type 0} → feed.Ghosts F → feed.Ghosts (UnpackedFeed (TracedFeed (PassFeed F)))
+published f =
+    let hashed : feed.Ghosts (PassFeed _) = record { remaining = λ h. f.remaining h.feed; failures = λ h. f.failures h.feed; lender = λ h. f.lender h.feed; has_passed = λ h log b. HasCounted (f.has_passed h.feed) h.hasher h.count log b } in
+    let traced : feed.Ghosts (TracedFeed (PassFeed _)) = record { remaining = λ t. hashed.remaining t.feed; failures = λ t. hashed.failures t.feed; lender = λ t. hashed.lender t.feed; has_passed = λ t log b. HasTraced hashed t.feed log b } in
+    record { remaining = λ u. remaining_in traced.remaining u; failures = λ u. refusals u.state + traced.failures u.feed; lender = λ u. traced.lender u.feed; has_passed = λ u log b. HasSupplied traced.remaining traced.has_passed u log b }
+
+pub opened_more : {F U : Type 0} (f : feed.Ghosts F) (u : feed.Ghosts U) (below : U → F) (check : PassCheck) (opened : List U) (one : U) → AreOpened f u below check opened → IsOpened f u check (below one) one → AreOpened f u below check (opened ++ one ∷ [])
+opened_more f u below check [] one are is = (is, tt)
+opened_more f u below check (first ∷ opened) one are is = (are.0, opened_more f u below check opened one are.1 is)
 
 -- ---- how many passes
 

@@ -7,12 +7,31 @@ ghost use Rattle.pbf_published.specs.PublishedTasks.{AreOpened, DigestsDiffer, D
 
 use crate::input::{
     PublishedFeed, PublishedHalt, PublishedInput, compare, digest_of, first_digest, lacks_memory,
-    published_outcome,
+    open, published_outcome,
 };
 use pbf_frame::{Drain, Feed, Stop};
-use pbf_pass::Passes;
+use pbf_pass::{PassCheck, Passes};
 use pbfcut::FileTask;
+use std::alloc::{AllocError, Global};
 use std::hash::BuildHasher;
+
+/// Opens each of these files, which a call is to hash by this check. `Err` says that memory was refused.
+#[tactic(auto, using(crate::proofs::TaskLemmas::opened_more))]
+pub fn open_all<F: Feed + Drop>(
+    alloc: Global,
+    feeds: Vec<F>,
+    check: PassCheck,
+) -> Result<Vec<PublishedFeed<F>>, AllocError>
+    ensures opened { IfOk result (λ opened. AreOpened F.Feed ⟦<PublishedFeed<F> as Feed>⟧ below_of
+        check opened.items) }
+    ensures below { IfOk result (λ opened. map below_of opened.items ≡ feeds.items) }
+{
+    let mut opened = Vec::with_capacity(alloc, feeds.len())?;
+    'feeds: for feed in feeds {
+        opened.push(open(alloc, feed, check)?)?;
+    }
+    Ok(opened)
+}
 
 /// Whether one of the feeds was refused memory. If none was, the reads that failed are those of the feeds below.
 fn lacks_any<F: Feed>(feeds: &[PublishedFeed<F>]) -> bool

@@ -20,7 +20,7 @@ use Rattle.pbfcut_program.specs.declared.engine.Halted.{Halted}
 use Rattle.pbfcut_program.specs.Devices.{Fronts}
 use Rattle.pbfcut_program.specs.Manner.{Form, meant, meant_known, packed_file, raw_file}
 use Rattle.pbfcut_program.specs.Outcomes.{ReportsPublished, ReportsRaw}
-use Rattle.pbfcut_program.specs.Tasks.{Task, answer_of, showing}
+use Rattle.pbfcut.specs.Tasks.{Task, answer_of, showing}
 
 -- what is known of a stopped call over raw files holds of what is reported of it
 raw_stopped : {X Y : Type 0} (outcome : Result InputReceipt Halt) (result : Result Report Halted) → (X → Y) → OnErr outcome X → ReportsRaw outcome result → OnErr result Y

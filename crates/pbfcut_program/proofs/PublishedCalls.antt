@@ -26,7 +26,7 @@ use Rattle.pbfcut_program.specs.declared.engine.Halted.{Halted}
 use Rattle.pbfcut_program.specs.Devices.{GiveAll, AreFresh, GivesIts, GivesOrNot, Works}
 use Rattle.pbfcut_program.specs.Manner.{AreDigests, manner}
 use Rattle.pbfcut_program.specs.Outcomes.{ReportsPublished}
-use Rattle.pbfcut_program.specs.Tasks.{Holds, Task, checking, judge_of, showing, converting, copying, extracting, spares_by}
+use Rattle.pbfcut.specs.Tasks.{Holds, Task, checking, judge_of, showing, converting, copying, extracting, spares_by}
 use Rattle.pbfcut_program.proofs.FailLemmas.{caused_weaker}
 
 -- a feed gave packed bytes, and this holds of the raw file that they mean

@@ -34,7 +34,7 @@ use Rattle.pbfcut_program.specs.Devices.{GiveAll, AreFresh, EndsFor, StopsFor, G
 use Rattle.pbfcut_program.specs.Fails.{EndsAsStop}
 use Rattle.pbfcut_program.specs.Manner.{AreDigests, manner}
 use Rattle.pbfcut_program.specs.Outcomes.{ReportsRaw}
-use Rattle.pbfcut_program.specs.Tasks.{Holds, Task, checking, showing, converting, copying, extracting, judge_of, spares_by}
+use Rattle.pbfcut.specs.Tasks.{Holds, Task, checking, showing, converting, copying, extracting, judge_of, spares_by}
 
 -- a call that halted
 abbrev Stopped : (X : Type 0) → Halt → Result X Halt

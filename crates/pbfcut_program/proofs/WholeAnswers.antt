@@ -23,7 +23,7 @@ use Rattle.pbfcut_program.specs.declared.engine.Halted.{Halted}
 use Rattle.pbfcut_program.specs.Devices.{Wholes}
 use Rattle.pbfcut_program.specs.Manner.{packed_file}
 use Rattle.pbfcut_program.specs.Outcomes.{ReportsPublished}
-use Rattle.pbfcut_program.specs.Tasks.{Task, answer_of, converting, copying, extracting}
+use Rattle.pbfcut.specs.Tasks.{Task, answer_of, converting, copying, extracting}
 
 module _ {F : Type 0} (f : feed.Ghosts F) (digest raw_digest : Mark) where
   -- what holds of the raw file that a feed gave holds of what its bytes mean

@@ -14,7 +14,7 @@ use Rattle.pbf_unpack.specs.Packing.{GaveAll, failures_of_drain, taken_raw}
 use Rattle.pbf_unpack.specs.RawFrames.{IsNearLimit, IsRawFile}
 use Rattle.pbf_wire.specs.declared.fault.Fault.{Fault}
 use Rattle.pbf_pass.specs.declared.hashing.PassCheck.{PassCheck}
-use Rattle.pbfcut.specs.Calls.{AllSupply, AnyFailed, FeedUse, fed}
+use Rattle.pbfcut.specs.Calls.{AllSupply, AnyFailed, used}
 use Rattle.sha2.specs.Sha256.{sha256}
 use Rattle.pbfcut_cli.specs.declared.endings.Ending.{Ending}
 use Rattle.pbfcut_cli.specs.declared.endings.Ending.TheVariants as ending
@@ -28,7 +28,8 @@ use Rattle.pbfcut_program.specs.Fails.{CauseOfWrite, EndsAsStop, FirstFault}
 use Rattle.pbfcut_program.specs.Leaving.{IsFrontAs}
 use Rattle.pbfcut_program.specs.Manner.{AreDigests, Form, Manner, meant, of_input, of_output, packed_file, raw_file}
 use Rattle.pbfcut_program.specs.Readings.{IsFaulty, IsOther}
-use Rattle.pbfcut_program.specs.Tasks.{GivesRaw, Task, Holds, answer_of, judge_of, spares}
+use Rattle.pbfcut.specs.Tasks.{Task, Holds, answer_of, judge_of, spares}
+use Rattle.pbfcut_program.specs.Tasks.{GivesRaw}
 
 -- ---- devices of which nothing was read, and that took nothing
 
@@ -86,11 +87,6 @@ GiveAll f known may (old ∷ olds) (now ∷ news) (b ∷ bs) = GivesIts f known 
 GiveAll f known may _ _ _ = ⊥
 
 -- ---- why a call stops
-
--- feeds as a call finds them, and as it leaves them
-abbrev pub used : {F : Type 0} → feed.Ghosts F → (olds news : List F) → List FeedUse
-used f (old ∷ olds) (now ∷ news) = fed f old now ∷ used f olds news
-used f _ _ = []
 
 -- a feed gave faulty bytes
 pub record GivesFaulty {F : Type 0} (f : feed.Ghosts F) (judge : Option (List ℕ) → Option Verdict) (fault : Fault) (now : F) : Type 0 where

@@ -12,7 +12,7 @@ ghost use Rattle.pbfcut_program.specs.Devices.{AreFresh, EndsFor, Fronts, Wholes
 ghost use Rattle.pbfcut_program.specs.Fails.{EndsAsStop};
 ghost use Rattle.pbfcut_program.specs.Manner.{check_in, input_form, manner_of, once_check, output_form, raw_file, to_raw};
 ghost use Rattle.pbfcut_program.specs.Outcomes.{ListsBy, ReportsPublished, ReportsRaw};
-ghost use Rattle.pbfcut_program.specs.Tasks.{checking, listing_frames, showing, converting, copying, extracting, spares_by};
+ghost use Rattle.pbfcut.specs.Tasks.{checking, listing_frames, showing, converting, copying, extracting, spares_by};
 ghost use Rattle.osm_ways.specs.Selection.{all_parents};
 
 use crate::host::Seed;

@@ -13,7 +13,7 @@ ghost use Rattle.pbfcut_program.specs.Fails.{FailsOpening};
 ghost use Rattle.pbfcut_program.specs.Jobs.{area_of, feeds_of, plan_of, task_of};
 ghost use Rattle.pbfcut_program.specs.Manner.{check_in, input_form, manner_of, to_raw};
 ghost use Rattle.pbfcut_program.specs.Program.{MeansArea, openings};
-ghost use Rattle.pbfcut_program.specs.Tasks.{extracting, passes_of};
+ghost use Rattle.pbfcut.specs.Tasks.{extracting, passes_of};
 
 use crate::engine::{Engine, Halted, Report, convert, copy, extract, extract_parents};
 use crate::host::{Host, Seed, TextFault};

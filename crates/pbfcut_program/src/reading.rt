@@ -13,7 +13,7 @@ ghost use Rattle.pbfcut_program.specs.Outcomes.{EndsAs, ending_of_text};
 ghost use Rattle.pbfcut_program.specs.Program.{Checks, IsListing, Lists, Shows};
 ghost use Rattle.pbfcut_program.specs.Readings.{IsWork};
 ghost use Rattle.pbfcut_program.specs.Settling.{IsStill};
-ghost use Rattle.pbfcut_program.specs.Tasks.{checking, listing_frames, showing};
+ghost use Rattle.pbfcut.specs.Tasks.{checking, listing_frames, showing};
 ghost use Rattle.pbfcut_program.specs.Telling.{IsSaid, SaysLittle, Silent};
 
 use crate::engine::{Engine, Halted, Report, ShowOptions, check, list_blobs, show, show_info};

@@ -20,7 +20,7 @@ ghost use Rattle.pbfcut_program.specs.Program.{Extracts, LeavesCut, Writes, Writ
 ghost use Rattle.pbfcut_program.specs.Manner.{check_in, hashes_meaning, input_form, manner_of, output_form, packed_file, to_raw};
 ghost use Rattle.pbfcut_program.specs.Settling.{Returns, Settles};
 ghost use Rattle.pbfcut_program.specs.Worked.{Worked};
-ghost use Rattle.pbfcut_program.specs.Tasks.{extracting, passes_of};
+ghost use Rattle.pbfcut.specs.Tasks.{extracting, passes_of};
 ghost use Rattle.pbfcut_program.specs.Telling.{IsSaid, SaysLittle};
 
 use crate::engine::{Engine, Halted, Report};

@@ -1,6 +1,6 @@
 use Rattle.std.proofs.Common.{[], ◌∷◌, ◌∙◌, ap}
 use Rattle.pbfcut_program.specs.Manner.{check_by}
-use Rattle.pbfcut_program.specs.Tasks.{converting}
+use Rattle.pbfcut.specs.Tasks.{converting}
 use Rattle.pbfcut_program.proofs.FrontLemmas.{published_front, raw_front}
 use Rattle.pbfcut_program.proofs.PublishedCalls.{convert_published}
 use Rattle.pbfcut_program.proofs.RawCalls.{convert_works}

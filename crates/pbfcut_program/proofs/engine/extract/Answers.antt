@@ -1,6 +1,6 @@
 use Rattle.std.proofs.Common.{[], ◌∷◌, ◌∙◌, ap}
 use Rattle.pbfcut_program.specs.Manner.{check_by}
-use Rattle.pbfcut_program.specs.Tasks.{extracting}
+use Rattle.pbfcut.specs.Tasks.{extracting}
 use Rattle.pbfcut_program.proofs.FrontLemmas.{published_front, raw_front}
 use Rattle.pbfcut_program.proofs.PublishedCalls.{extract_published}
 use Rattle.pbfcut_program.proofs.RawCalls.{extract_works}

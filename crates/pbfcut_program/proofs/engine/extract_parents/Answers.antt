@@ -1,7 +1,7 @@
 use Rattle.std.proofs.Common.{[], ◌∷◌, ◌∙◌, ap}
 use Rattle.osm_ways.specs.Selection.{all_parents}
 use Rattle.pbfcut_program.specs.Manner.{check_by}
-use Rattle.pbfcut_program.specs.Tasks.{extracting}
+use Rattle.pbfcut.specs.Tasks.{extracting}
 use Rattle.pbfcut_program.proofs.FrontLemmas.{published_front, raw_front}
 use Rattle.pbfcut_program.proofs.PublishedCalls.{extract_parents_published}
 use Rattle.pbfcut_program.proofs.RawCalls.{extract_parents_works}

@@ -8,7 +8,7 @@ use Rattle.pbfcut_program.specs.Events.{Event, Reading, Writing, opened, read, s
 use Rattle.pbfcut_program.specs.Fails.{Each, Opens, Quiet, judging_for}
 use Rattle.pbfcut_program.specs.Manner.{check_in, manner_of, to_raw}
 use Rattle.pbfcut_program.specs.Readings.{IsWork}
-use Rattle.pbfcut_program.specs.Tasks.{showing}
+use Rattle.pbfcut.specs.Tasks.{showing}
 use Rattle.pbfcut_program.specs.Telling.{Silent}
 use Rattle.pbfcut_program.specs.Program.{draws}
 use Rattle.pbfcut_program.proofs.Beginning.{calm_draws, shown_events}
