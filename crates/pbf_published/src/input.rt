@@ -69,7 +69,7 @@ impl<F: Feed> DigestFeed for TracedFeed<PassFeed<F>> {
 }
 
 /// A published file from its start, which a call is to hash by this check. `Err` says that memory was refused.
-pub fn open<F: Feed>(
+pub fn open<F: Feed + Drop>(
     alloc: Global,
     feed: F,
     check: PassCheck,

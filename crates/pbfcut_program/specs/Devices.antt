@@ -26,7 +26,7 @@ use Rattle.pbfcut_program.specs.declared.host.FinishFault.{FinishFault}
 use Rattle.pbfcut_program.specs.Events.{Event, read, wrote, then_one}
 use Rattle.pbfcut_program.specs.Fails.{CauseOfWrite, EndsAsStop, FirstFault}
 use Rattle.pbfcut_program.specs.Leaving.{IsFrontAs}
-use Rattle.pbfcut_program.specs.Manner.{AreDigests, Form, Manner, meant, of_input, of_output, packed_file, raw_file}
+use Rattle.pbfcut_program.specs.Manner.{AreDigests, Form, Manner, input_form, meant, of_input, of_output, packed_file, raw_file, to_raw}
 use Rattle.pbfcut_program.specs.Readings.{IsFaulty, IsOther}
 use Rattle.pbfcut.specs.Tasks.{Task, Holds, answer_of, judge_of, spares}
 use Rattle.pbfcut_program.specs.Tasks.{GivesRaw}
@@ -170,6 +170,12 @@ Leads form input task has after result = OnErr result ((bytes : List ℕ) → Al
 abbrev pub Wholes : {A : Type 0} → Form → Task → (has : List (Option (List ℕ))) → (before after : Option (List ℕ)) → Result A Halted → Type 0
 Wholes raw_file task has before after result = Unit {0}
 Wholes packed_file task has before after result = OnOk result ((bytes : List ℕ) → AllSupply bytes has → after ≡ append before (answer_of task (meant packed_file bytes)))
+
+-- what a call of the engine says that does a task, in raw blobs: what it reports, or why it stopped; and what went out, if its feeds had the same bytes
+pub record RunsTask {F D : Type 0} (m : Manner) (by : PassCheck) (f : feed.Ghosts F) (d : drain.Ghosts D) (task : Task) (olds news : List F) (old new : D) (result : Result Report Halted) : Type 0 where
+  pub works : WorksOn (to_raw m) by f d task olds news old new result
+  pub front : Fronts (input_form m.program) task (map f.remaining olds) (d.taken old) (d.taken new) result
+  pub whole : Wholes (input_form m.program) task (map f.remaining olds) (d.taken old) (d.taken new) result
 
 -- ---- drains between a call and OUT
 
