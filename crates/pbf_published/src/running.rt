@@ -118,8 +118,10 @@ pub fn run<T: FileTask, F: Feed, D: Drain, S: BuildHasher + Drop>(
         (drained D.Drain drain.old drain.new) passes.check result }
 {
     let outcome = task.run(passes.of_raw(), feeds, drain, hasher);
-    let receipt = published_outcome(outcome, &feeds[0], lacks_any(feeds))?;
-    let input = shared_digest(feeds, skipped_of(receipt.spared, feeds.len()))?;
+    let is_memory = lacks_any(feeds);
+    let receipt = published_outcome(outcome, &feeds[0], is_memory)?;
+    let skipped = skipped_of(receipt.spared, feeds.len());
+    let input = shared_digest(feeds, skipped)?;
     Ok(PublishedInput {
         counts: receipt.counts,
         input,
