@@ -21,6 +21,5 @@ pub mod Choosing
 pub mod Ends
 pub mod Receipts
 pub mod Tasks
-pub mod PlainTasks
 pub mod TaskCalls
 pub mod Copying

@@ -7,6 +7,8 @@ use Rattle.pbf_frame.specs.Verdict.{Verdict, judged, judged_known}
 use Rattle.pbf_pass.specs.HeaderLimit.{judged_writable}
 use Rattle.pbf_pass.specs.Judged.{fully, judged_file}
 use Rattle.pbf_pass.specs.Pass.{CountsFile}
+use Rattle.pbfcut.specs.declared.task.PlainTask.{PlainTask}
+use Rattle.pbfcut.specs.declared.task.PlainTask.TheVariants as plain
 use Rattle.pbfcut.specs.Blobs.{lines}
 use Rattle.pbfcut.specs.Kept.{IsWritable, conversion_of, extract_of}
 use Rattle.pbfcut.specs.Receipts.{judge_by}
@@ -22,6 +24,13 @@ pub data Task : Type 0 where
   -- the same bytes in other blobs
   copying : Task
   extracting : Strategy → AreaSpec → Task
+
+-- those that need no area
+abbrev pub plain_task : PlainTask → Task
+plain_task plain.Check = checking
+plain_task (plain.Show dates) = showing dates
+plain_task plain.Convert = converting
+plain_task plain.Copy = copying
 
 -- how many passes may be left out: two with all parents, otherwise one. With members a file that isn't sorted is refused
 abbrev pub spares_by : Strategy → ℕ

@@ -29,7 +29,7 @@ pub use copying::copy_with_receipt;
 pub use extracting::{
     extract, extract_parents, extract_parents_with_receipt, extract_with_receipt,
 };
-pub use extracting_each::{extract_each, extract_parents_each};
+pub use extracting_each::{EachStrategy, extract_each, extract_parents_each};
 pub use extraction::{CompleteWays, Extraction, Smart};
 pub use pbf_pass::{
     Counts, Gather, Halt, InputReceipt, Nothing, Pass, Refusal, check, check_with_receipt,

@@ -4,9 +4,8 @@ ghost use Rattle.std.specs.Prelude.{◌≡◌, length};
 ghost use Rattle.osm_ways.specs.Selection.{all_parents, complete_ways, smart};
 ghost use Rattle.osm_ways.specs.Whole.{is_wanted};
 ghost use Rattle.pbfcut.specs.Calls.{drained, used};
-ghost use Rattle.pbfcut.specs.PlainTasks.{plain_task};
 ghost use Rattle.pbfcut.specs.TaskCalls.{DoesTask};
-ghost use Rattle.pbfcut.specs.Tasks.{Task, extracting, passes_of};
+ghost use Rattle.pbfcut.specs.Tasks.{Task, extracting, passes_of, plain_task};
 
 use crate::converting::convert_with_receipt;
 use crate::copying::copy_with_receipt;
@@ -21,15 +20,15 @@ use std::hash::BuildHasher;
 
 /// What is done with a file.
 pub trait FileTask {
-    /// What it means.
+    /// What the task means.
     ghost task: { Self → Task };
 
-    /// How many feeds it takes.
+    /// How many feeds the task takes.
     fn pass_count(&self) -> usize
         ensures { result ≡ passes_of (task self.now) };
 
-    /// Does it. The feeds have to supply the same file: each is read in one pass, in their order, but those that the task may spare are
-    /// read only if the first pass was not enough.
+    /// Does the task. All feeds have to supply the same file. Each is read in one pass, in their order; but if the first pass of an extract was
+    /// enough, nothing is read of the feeds between the first and the last.
     fn run<F: Feed, D: Drain, S: BuildHasher + Drop>(
         self,
         passes: Passes,
@@ -38,20 +37,23 @@ pub trait FileTask {
         hasher: S,
     ) -> Result<InputReceipt, Halt>
         requires { length feeds.old ≡ passes_of (task self) }
+        // Each feed gave a file, of the digest `input` by the check, to its end, unless it was spared. What the task means holds of these files,
+        // the counts and the bytes that the drain took. However it ends: what is refused, why it stops, what went out by then, and that the
+        // devices are kept.
         ensures { DoesTask (task self) (used F.Feed feeds.old feeds.new)
             (drained D.Drain drain.old drain.new) passes.check result };
 }
 
-/// A task that needs no area.
+/// A task that needs no area. Each is done by the call that it names.
 #[derive(Clone, Copy, Debug)]
 pub enum PlainTask {
-    /// Judges the file and counts its entities: see [`check`](crate::check).
+    /// [`check_with_receipt`]: one feed, and nothing is written.
     Check,
-    /// Writes a line for each field of the header and for each entity, with `dates` its time as a date: see [`show`](crate::show).
+    /// [`show_with_receipt`]: two feeds.
     Show { dates: bool },
-    /// Writes all entities in canonical form: see [`convert`](crate::convert).
+    /// [`convert_with_receipt`]: two feeds.
     Convert,
-    /// Writes the file's bytes as they are: see [`copy_with_receipt`].
+    /// [`copy_with_receipt`]: two feeds.
     Copy,
 }
 
@@ -102,8 +104,9 @@ impl<A: Area + Copy> FileTask for CompleteWays<A> {
     ) -> Result<InputReceipt, Halt> {
         let (one, later) = feeds.split_at_mut(1);
         let (two, three) = later.split_at_mut(1);
-        let (one, two, three) = (&mut one[0], &mut two[0], &mut three[0]);
-        extract_sorted_with_receipt(passes, one, two, three, self.area, drain, hasher)
+        extract_sorted_with_receipt(
+            passes, &mut one[0], &mut two[0], &mut three[0], self.area, drain, hasher,
+        )
     }
 }
 
@@ -124,8 +127,9 @@ impl<A: Area + Copy> FileTask for Smart<A> {
         let Smart { area, types } = self;
         let (one, later) = feeds.split_at_mut(1);
         let (two, three) = later.split_at_mut(1);
-        let (one, two, three) = (&mut one[0], &mut two[0], &mut three[0]);
-        extract_smart_with_receipt(passes, one, two, three, area, types, drain, hasher)
+        extract_smart_with_receipt(
+            passes, &mut one[0], &mut two[0], &mut three[0], area, types, drain, hasher,
+        )
     }
 }
 
@@ -150,9 +154,10 @@ impl<A: Area + Copy> FileTask for AllParents<A> {
         hasher: S,
     ) -> Result<InputReceipt, Halt> {
         let (one, later) = feeds.split_at_mut(1);
-        let (two, later) = later.split_at_mut(1);
-        let (three, four) = later.split_at_mut(1);
-        let (one, two, three, four) = (&mut one[0], &mut two[0], &mut three[0], &mut four[0]);
-        extract_parents_sorted_with_receipt(passes, one, two, three, four, self.area, drain, hasher)
+        let (two, rest) = later.split_at_mut(1);
+        let (three, four) = rest.split_at_mut(1);
+        extract_parents_sorted_with_receipt(
+            passes, &mut one[0], &mut two[0], &mut three[0], &mut four[0], self.area, drain, hasher,
+        )
     }
 }
