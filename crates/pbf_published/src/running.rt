@@ -120,11 +120,12 @@ pub fn run<T: FileTask, F: Feed, D: Drain, S: BuildHasher + Drop>(
     let outcome = task.run(passes.of_raw(), feeds, drain, hasher);
     let is_memory = lacks_any(feeds);
     let receipt = published_outcome(outcome, &feeds[0], is_memory)?;
+    let raw = receipt.input;
     let skipped = skipped_of(receipt.spared, feeds.len());
     let input = shared_digest(feeds, skipped)?;
     Ok(PublishedInput {
         counts: receipt.counts,
         input,
-        raw: receipt.input,
+        raw,
     })
 }

@@ -9,6 +9,7 @@ pub mod LeavingLemmas
 pub mod Listings
 pub mod Logging
 pub mod MomentLemmas
+pub mod OpeningLemmas
 pub mod OutLemmas
 pub mod Meaning
 pub mod Printed

@@ -1,5 +1,6 @@
 -- What pbfcutz's calls report of what went through their devices.
 use Rattle.std.proofs.Common.{arith, ◌≡◌, inl, ℕ, ◌<◌, zero, suc, List, [], ◌∷◌, ◌++◌, map, take, drop, length, Bool, true, false, Option, Some, Result, Ok, Err, IfOk, IfErr, refl, subst, sym, ap}
+use Rattle.std.proofs.lemmas.List.{map-append}
 use Rattle.pbf_frame.specs.declared.device.Feed as feed
 use Rattle.pbf_frame.specs.declared.device.Drain as drain
 use Rattle.pbf_pass.specs.Hashing.{mark_by, raw_check}
@@ -91,10 +92,6 @@ supplies_are f (old ∷ olds) (now ∷ news) many = ap (λ l. f.remaining old �
 
 -- ---- more passes
 
-map_append : {X Y : Type 0} (g : X → Y) (xs ys : List X) → map g (xs ++ ys) ≡ map g xs ++ map g ys
-map_append g [] ys = refl
-map_append g (x ∷ xs) ys = ap (λ l. g x ∷ l) (map_append g xs ys)
-
 pub published_works : {F D : Type 0} (f : feed.Ghosts F) (d : drain.Ghosts D) (out out_now : D) (digests : Bool) (by : PassCheck) (log : ℕ) → d.has_taken out log [] → (task : Task) (olds news : List F) (outcome : Result PublishedInput PublishedHalt) (result : Result Report Halted) → length news ≡ length olds
     → DoesPublished task (used f olds news) (drained d out out_now) by outcome → ReportsPublished outcome result → AreFresh f olds → Works (manner Pbfcutz false digests) by f task olds news (d.has_taken out_now log) (WriteFailed d out out_now) result
 published_works f d out out_now digests by log start task [] news outcome result many does r fresh = absurd does
@@ -110,7 +107,7 @@ published_works f d out out_now digests by log start task (old ∷ olds) (now �
       written = given.written;
       gave = (first.gives, more.2);
       took_them = given.added.logged log [] start;
-      holds = subst (λ raws. Holds task (unpacked first.file ∷ raws) receipt.counts given.written) (sym (map_append unpacked more.0 more.1)) given.holding;
+      holds = subst (λ raws. Holds task (unpacked first.file ∷ raws) receipt.counts given.written) (sym (map-append unpacked more.0 more.1)) given.holding;
     }
 published_works f d out out_now digests by log start task (old ∷ olds) (now ∷ news) (Err halt) (Err halted) many does r fresh =
     (halt.stop, r, caused_weaker _ _ _ _ _ _ _ _ halt.stop (λ e refused. (refused.0, refused.1.logged log [] start)) (λ failed. failed) (λ failed. failed) (λ p c. subst (λ has. ChangedOf (f.remaining old ∷ has) p) (supplies_are f olds news (omega (arith, many))) c) does.stops)

@@ -1,6 +1,6 @@
 -- What pbfcut's calls report of what went through their devices.
 use Rattle.std.proofs.Common.{◌≡◌, ◌⊎◌, inl, inr, ℕ, ◌<◌, zero, suc, ◌+◌, ◌-◌, arith, map, take, drop, length, List, [], ◌∷◌, ◌++◌, Bool, true, false, Option, Some, None, Result, Ok, Err, IfOk, IfSome, refl, sym, subst, ap, ◌∙◌}
-use Rattle.std.proofs.lemmas.List.{append-nil}
+use Rattle.std.proofs.lemmas.List.{append-nil, map-id}
 use Rattle.pbf_frame.specs.declared.device.Feed as feed
 use Rattle.pbf_frame.specs.declared.device.Drain as drain
 use Rattle.pbf_frame.specs.declared.stop.Stop.TheVariants as stop
@@ -27,7 +27,7 @@ use Rattle.pbfcut_program.specs.declared.engine.Report.{Report}
 use Rattle.pbfcut_program.specs.declared.engine.Halted.{Halted}
 use Rattle.pbfcut_program.specs.Devices.{AreFresh, EndsFor, GiveLater, Gives, GivesFaulty, GivesIts, GivesOther, GivesOtherAt, StopsFor, Works}
 use Rattle.pbfcut_program.specs.Fails.{EndsAsStop}
-use Rattle.pbfcut_program.specs.Manner.{AreDigests, manner, of_input}
+use Rattle.pbfcut_program.specs.Manner.{AreDigests, manner}
 use Rattle.pbfcut_program.specs.Outcomes.{ReportsRaw}
 
 -- a call that halted
@@ -87,13 +87,6 @@ module _ {F : Type 0} (f : feed.Ghosts F) (packs digests : Bool) (by : PassCheck
   check_works _ _ given ends r = absurd r
 
 -- ---- more passes
-
--- what a map that changes nothing makes
-pub map_same : {X : Type 0} (g : X → X) (xs : List X) → ((x : X) → g x ≡ x) → map g xs ≡ xs
-map_same g [] same = refl
-map_same g (x ∷ xs) same = cons_same (same x) (map_same g xs same) where
-  cons_same : {X : Type 0} {a b : X} {as bs : List X} → a ≡ b → as ≡ bs → a ∷ as ≡ b ∷ bs
-  cons_same e f = cc
 
 -- if so many feeds may be spared, one less may be after the next
 pub give_less : {F : Type 0} (f : feed.Ghosts F) (known : List ℕ → Type 0) (may : ℕ) (first : List ℕ) (olds news : List F) (files : List (List ℕ)) → GiveLater f known may first olds news files → GiveLater f known (suc may - 1) first olds news files
@@ -184,7 +177,7 @@ module _ {F D : Type 0} (f : feed.Ghosts F) (d : drain.Ghosts D) (out out_now : 
         written = took.written;
         gave = (gives_its f known is fresh.0.0 given, more.2);
         took_them = took.added.logged log [] start;
-        holds = subst (λ fs. Holds task fs receipt.counts took.written) (sym (map_same (of_input m) files (λ x. refl))) took.holding;
+        holds = subst (λ fs. Holds task fs receipt.counts took.written) (sym (map-id files)) took.holding;
       }
   raw_works task (old ∷ olds) (now ∷ news) (Err h) (Err halted) many does r fresh =
       reported_ends f (judge_of task) (old ∷ olds) (now ∷ news) (d.has_taken out_now log []) (WriteFailed d out out_now) h halted r (call_ends old now fresh.0.0 (judge_of task) olds news h fresh.1 (omega (arith, many)) does.ends)

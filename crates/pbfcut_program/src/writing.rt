@@ -13,7 +13,6 @@ ghost use Rattle.pbfcut_program.specs.Devices.{AreFresh, DrainFailed, FinishesPa
 ghost use Rattle.pbfcut_program.specs.Events.{Event, Reading, Writing, read, wrote, then_all};
 ghost use Rattle.pbfcut_program.specs.Files.{IsKept, IsMade};
 ghost use Rattle.pbfcut_program.specs.Fails.{Each, Fails, FailsFor, FailsOpening, Quiet, judging_for};
-ghost use Rattle.pbfcut_program.specs.Inputs.{AreReady};
 ghost use Rattle.pbfcut_program.specs.Jobs.{IsReadyFor, area_of, feeds_of, plan_of, task_of};
 ghost use Rattle.pbfcut_program.specs.Leaving.{Leaves, LeavesFor};
 ghost use Rattle.pbfcut_program.specs.Outcomes.{ending_of_file};
@@ -111,8 +110,8 @@ fn prepare<H: Host>(
         × IsFreshOut H.Out.Drain r.out.drain) }
     ensures planned { IfOk result (λ r. (task_of r.job ≡ plan_of plan)
         × (length (feeds_of r.job) ≡ passes_of (plan_of plan))) }
-    ensures ready { IfOk result (λ r. AreReady H.In.Feed ⟦<PublishedFeed<H::In> as Feed>⟧
-        engine.program (check_in engine r.seed.key) r.job.inputs) }
+    ensures ready { IfOk result (λ r. IsReadyFor H.In.Feed ⟦<PublishedFeed<H::In> as Feed>⟧
+        engine r.seed.key r.job) }
     ensures err { IfErr result (λ how. (events : List Event)
         × (H.log host.new ≡ then_all (H.log host.old) events) × FailsOpening how events) }
 {
