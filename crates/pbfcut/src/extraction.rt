@@ -79,9 +79,10 @@ impl<A: Area + Copy> FileTask for CompleteWays<A> {
     ) -> Result<InputReceipt, Halt> {
         let (one, later) = feeds.split_at_mut(1);
         let (two, three) = later.split_at_mut(1);
-        extract_sorted_with_receipt(
-            passes, &mut one[0], &mut two[0], &mut three[0], self.area, drain, hasher,
-        )
+        let one = &mut one[0];
+        let two = &mut two[0];
+        let three = &mut three[0];
+        extract_sorted_with_receipt(passes, one, two, three, self.area, drain, hasher)
     }
 }
 
@@ -128,9 +129,10 @@ impl<A: Area + Copy> FileTask for Smart<A> {
         let Smart { area, types } = self;
         let (one, later) = feeds.split_at_mut(1);
         let (two, three) = later.split_at_mut(1);
-        extract_smart_with_receipt(
-            passes, &mut one[0], &mut two[0], &mut three[0], area, types, drain, hasher,
-        )
+        let one = &mut one[0];
+        let two = &mut two[0];
+        let three = &mut three[0];
+        extract_smart_with_receipt(passes, one, two, three, area, types, drain, hasher)
     }
 }
 
@@ -157,8 +159,10 @@ impl<A: Area + Copy> FileTask for AllParents<A> {
         let (one, later) = feeds.split_at_mut(1);
         let (two, rest) = later.split_at_mut(1);
         let (three, four) = rest.split_at_mut(1);
-        extract_parents_sorted_with_receipt(
-            passes, &mut one[0], &mut two[0], &mut three[0], &mut four[0], self.area, drain, hasher,
-        )
+        let one = &mut one[0];
+        let two = &mut two[0];
+        let three = &mut three[0];
+        let four = &mut four[0];
+        extract_parents_sorted_with_receipt(passes, one, two, three, four, self.area, drain, hasher)
     }
 }
