@@ -1,5 +1,5 @@
 -- What each call says, as it is said of its task.
-use Rattle.std.proofs.Common.{◌≡◌, ℕ, List, [], ◌∷◌, ◌++◌, ◌∙◌, length, slice_index_or, slice_set, ap, Bool, Option, Some, Result, Ok, Err, IfOk, OnErr, refl, sym, subst, inl, arith}
+use Rattle.std.proofs.Common.{◌≡◌, ℕ, List, [], ◌∷◌, ◌++◌, ◌∙◌, length, slice_index_or, slice_set, ap, Bool, false, Option, Some, Result, Ok, Err, IfOk, OnErr, refl, sym, subst, inl, arith}
 use Rattle.std.proofs.lemmas.List.{append-nil}
 use Rattle.std.proofs.lemmas.Result.{on_err_weaker}
 use Rattle.osm_area.specs.Area.{AreaSpec}

@@ -157,15 +157,17 @@ impl EachStrategy {
     {
         let (one, later) = feeds.split_at_mut(1);
         let (two, rest) = later.split_at_mut(1);
+        let one = &mut one[0];
+        let two = &mut two[0];
         match self {
             EachStrategy::CompleteWays => {
-                extract_each(passes, &mut one[0], &mut two[0], &mut rest[0], outputs, hasher)
+                extract_each(passes, one, two, &mut rest[0], outputs, hasher)
             }
             EachStrategy::AllParents => {
                 let (three, four) = rest.split_at_mut(1);
-                extract_parents_each(
-                    passes, &mut one[0], &mut two[0], &mut three[0], &mut four[0], outputs, hasher,
-                )
+                let three = &mut three[0];
+                let four = &mut four[0];
+                extract_parents_each(passes, one, two, three, four, outputs, hasher)
             }
         }
     }

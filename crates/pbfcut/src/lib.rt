@@ -30,7 +30,7 @@ pub use extracting::{
     extract, extract_parents, extract_parents_with_receipt, extract_with_receipt,
 };
 pub use extracting_each::{EachStrategy, extract_each, extract_parents_each};
-pub use extraction::{CompleteWays, Extraction, Smart};
+pub use extraction::{AllParents, CompleteWays, Extraction, Smart};
 pub use pbf_pass::{
     Counts, Gather, Halt, InputReceipt, Nothing, Pass, Refusal, check, check_with_receipt,
     gather_unjudged, step_count, step_gather, step_nodes, step_relations, step_unjudged, step_ways,
@@ -42,4 +42,4 @@ pub use sorted::{
     extract_parents_sorted_with_receipt, extract_sorted, extract_sorted_with_receipt,
 };
 pub use summary::{Summary, put_counts, put_counts_object, read_summary};
-pub use task::{AllParents, FileTask, PlainTask};
+pub use task::{FileTask, PlainTask};

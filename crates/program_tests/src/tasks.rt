@@ -40,7 +40,12 @@ fn three_nodes() -> Pieces<'static> {
 #[test]
 fn a_check_takes_one_feed(rt: HostRuntime) -> Result<(), Fail> {
     let mut sink = Sink::new(rt.alloc(), 4_096, 0)?;
-    let ended = outcome_of(rt.alloc(), PlainTask::Check, &mut [three_nodes()], &mut sink);
+    let ended = outcome_of(
+        rt.alloc(),
+        PlainTask::Check,
+        &mut [three_nodes()],
+        &mut sink,
+    );
     assert!(rt; ended == Some(counts(3, 0, 0)));
     assert!(rt; sink.bytes().is_empty());
     Ok(())
@@ -49,14 +54,7 @@ fn a_check_takes_one_feed(rt: HostRuntime) -> Result<(), Fail> {
 #[test]
 fn another_number_of_feeds(rt: HostRuntime) -> Result<(), Fail> {
     let mut sink = Sink::new(rt.alloc(), 4_096, 0)?;
-    assert!(rt;
-        outcome_of(
-            rt.alloc(),
-            PlainTask::Copy,
-            &mut [three_nodes()],
-            &mut sink
-        ) == None
-    );
+    assert!(rt; outcome_of(rt.alloc(), PlainTask::Copy, &mut [three_nodes()], &mut sink) == None);
     Ok(())
 }
 

@@ -13,7 +13,7 @@ returns-in-CompleteWays g c =
     let n : length c.args.feeds.now ≡ 3 = subst (λ s. length c.args.feeds.now ≡ spares_by (each_strategy s) + 2) c.in-CompleteWays.is c.requires in
     let last : length two.result.1.now ≡ 1 = omega (arith, one.ensures.back_len, two.ensures.back_len, n) in
     rw c.in-CompleteWays.is (three_used g.F.Feed (λ feeds. ExtractsAreas complete_ways g.A.Area.area feeds g.D.Drain c.args.passes.check c.args.outputs.items call.result.0.items call.result.1) c.args.feeds.now one.result.0.now one.result.1.now two.result.0.now two.result.1.now
-    c.index-one-0-in-CompleteWays.result c.index-two-0-in-CompleteWays.result c.index-rest-0.result call.new.first call.new.second call.new.third one.ensures.value two.ensures.value one.ensures.front_len two.ensures.front_len last call.ensures)
+    c.index-one-0.result c.index-two-0.result c.index-rest-0.result call.new.first call.new.second call.new.third one.ensures.value two.ensures.value one.ensures.front_len two.ensures.front_len last call.ensures)
 
 pub returns-in-AllParents : goal.returns-in-AllParents
 returns-in-AllParents g c =

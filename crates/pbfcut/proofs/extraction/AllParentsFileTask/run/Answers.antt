@@ -4,7 +4,7 @@ use Rattle.pbfcut.specs.Calls.{drained}
 use Rattle.pbfcut.specs.TaskCalls.{DoesTask}
 use Rattle.pbfcut.specs.Tasks.{extracting}
 use Rattle.pbfcut.proofs.TaskLemmas.{does_four, four_used}
-use Rattle.pbfcut.proofs.task.AllParentsFileTask.run.Goals as goal
+use Rattle.pbfcut.proofs.extraction.AllParentsFileTask.run.Goals as goal
 
 pub returns : goal.returns
 returns g c =
