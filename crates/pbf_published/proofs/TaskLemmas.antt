@@ -171,6 +171,25 @@ pub opened_more : {F U : Type 0} (f : feed.Ghosts F) (u : feed.Ghosts U) (below 
 opened_more f u below check [] one are is = (is, tt)
 opened_more f u below check (first ∷ opened) one are is = (are.0, opened_more f u below check opened one are.1 is)
 
+-- ---- feeds that are compared one after another
+
+module _ {F U : Type 0} (f : feed.Ghosts F) (u : feed.Ghosts U) (below : U → F) (digest : List ℕ) (feeds more : List U) (one : U) (are : feeds ≡ one ∷ more) (o : Option (List ℕ)) (has : HasDigest f u (below one) one o) where
+  module _ (skipped : ℕ) (none : skipped ≡ 0) (number : ℕ) (s : Stop) where
+    pub first_other : s ≡ stop.Changed number → (o ≡ Some digest → ⊥) → OtherDigest f u below skipped digest number feeds s
+    first_other changed other = rw (none, are) (inl (changed, o, has, other))
+
+    pub later_other : OtherDigest f u below 0 digest (number + 1) more s → OtherDigest f u below skipped digest number feeds s
+    later_other other = rw (none, are) (inr other)
+
+  pub first_same : (skipped : ℕ) → skipped ≡ 0 → o ≡ Some digest → HaveDigest f u below 0 digest more → HaveDigest f u below skipped digest feeds
+  first_same skipped none same have = rw (none, are) (subst (λ d. HasDigest f u (below one) one d) same has, have)
+
+  pub all_share : (skipped : ℕ) → o ≡ Some digest → HaveDigest f u below skipped digest more → ShareDigest f u below skipped digest feeds
+  all_share skipped same have = rw are (subst (λ d. HasDigest f u (below one) one d) same has, have)
+
+  pub one_differs : (skipped : ℕ) (s : Stop) → o ≡ Some digest → OtherDigest f u below skipped digest 2 more s → DigestsDiffer f u below skipped feeds s
+  one_differs skipped s same other = rw are (inr (digest, subst (λ d. HasDigest f u (below one) one d) same has, other))
+
 -- ---- how many passes
 
 -- all but the first and the last may be spared

@@ -90,10 +90,11 @@ pub(crate) fn digest_of<F: Feed>(feed: &mut PublishedFeed<F>) -> Option<[u8; 32]
     ensures digest { HasDigest F.Feed ⟦<PublishedFeed<F> as Feed>⟧ (below_of feed.old) feed.old result }
     ensures below { below_of feed.new ≡ below_of feed.old }
 {
-    if !feed.has_given_all() {
-        return None;
+    if feed.has_given_all() {
+        Some(feed.digest())
+    } else {
+        None
     }
-    Some(feed.digest())
 }
 
 /// The feed below, which comes back whatever was read.

@@ -10,6 +10,6 @@ mod traced;
 
 pub use checking::check_with_receipt;
 pub use input::{PublishedFeed, PublishedHalt, PublishedInput, close, open};
-pub use running::{open_all, run};
+pub use running::{open_all, run_published};
 pub use showing::{list_blobs, show_info};
 pub use traced::TracedFeed;

@@ -98,7 +98,7 @@ fn shared_digest<F: Feed>(feeds: &mut [PublishedFeed<F>], skipped: usize) -> Res
 /// then. A refusal has the place of the fault in the published file, and nothing is written then.
 ///
 /// Space: that of the task, and for each feed one packed frame and a raw one.
-pub fn run<T: FileTask, F: Feed, D: Drain, S: BuildHasher + Drop>(
+pub fn run_published<T: FileTask, F: Feed, D: Drain, S: BuildHasher + Drop>(
     passes: Passes,
     task: T,
     feeds: &mut [PublishedFeed<F>],

@@ -194,7 +194,7 @@ pub(crate) fn check<F: Feed>(engine: Engine, pass: &mut F) -> Result<Report, Hal
 }
 
 /// Does a task with IN, which was opened for each of its passes.
-pub(crate) fn run<T: FileTask, F: Feed, D: Drain, S: BuildHasher + Drop>(
+pub(crate) fn run_task<T: FileTask, F: Feed, D: Drain, S: BuildHasher + Drop>(
     engine: Engine,
     task: T,
     inputs: &mut Inputs<F>,
@@ -212,7 +212,7 @@ pub(crate) fn run<T: FileTask, F: Feed, D: Drain, S: BuildHasher + Drop>(
     match inputs {
         Inputs::Raw(feeds) => reported(task.run(how, feeds, drain, hasher)),
         Inputs::Published(feeds) => {
-            published(pbf_published::run(how, task, feeds, drain, hasher))
+            published(pbf_published::run_published(how, task, feeds, drain, hasher))
         }
     }
 }

@@ -15,7 +15,7 @@ ghost use Rattle.pbfcut_program.specs.Jobs.{IsReadyFor, area_of, feeds_of, plan_
 ghost use Rattle.pbfcut_program.specs.Manner.{check_in, manner_of};
 ghost use Rattle.pbfcut_program.specs.Program.{MeansArea, openings};
 
-use crate::engine::{Engine, Halted, Report, run};
+use crate::engine::{Engine, Halted, Report, run_task};
 use crate::host::{Host, Seed, TextFault};
 use crate::opening::{Input, Inputs, open_passes};
 use osm_box::BoundingBox;
@@ -144,8 +144,8 @@ fn cut_out<F: Feed, D: Drain, S: BuildHasher + Drop>(
         (feeds_in inputs.old) (feeds_in inputs.new) drain.old drain.new result }
 {
     match cut {
-        Cut::Box(area) => run(engine, CompleteWays { area }, inputs, drain, seed),
-        Cut::Polygon(area) => run(engine, CompleteWays { area }, inputs, drain, seed),
+        Cut::Box(area) => run_task(engine, CompleteWays { area }, inputs, drain, seed),
+        Cut::Polygon(area) => run_task(engine, CompleteWays { area }, inputs, drain, seed),
     }
 }
 
@@ -165,8 +165,8 @@ fn cut_out_parents<F: Feed, D: Drain, S: BuildHasher + Drop>(
         (feeds_in inputs.old) (feeds_in inputs.new) drain.old drain.new result }
 {
     match cut {
-        Cut::Box(area) => run(engine, AllParents { area }, inputs, drain, seed),
-        Cut::Polygon(area) => run(engine, AllParents { area }, inputs, drain, seed),
+        Cut::Box(area) => run_task(engine, AllParents { area }, inputs, drain, seed),
+        Cut::Polygon(area) => run_task(engine, AllParents { area }, inputs, drain, seed),
     }
 }
 
@@ -183,15 +183,15 @@ pub(crate) fn do_job<F: Feed, D: Drain, S: BuildHasher + Drop>(
 {
     let Job { plan, inputs } = job;
     match plan {
-        Plan::Convert => run(engine, PlainTask::Convert, inputs, drain, seed),
-        Plan::Copy => run(engine, PlainTask::Copy, inputs, drain, seed),
+        Plan::Convert => run_task(engine, PlainTask::Convert, inputs, drain, seed),
+        Plan::Copy => run_task(engine, PlainTask::Copy, inputs, drain, seed),
         Plan::Extract(cut) => cut_out(engine, cut, inputs, drain, seed),
         Plan::ExtractParents(cut) => cut_out_parents(engine, cut, inputs, drain, seed),
         Plan::ExtractSmart(cut, types) => {
             let types = mem::replace(types, WholeTypes::none(engine.alloc));
             match &*cut {
-                Cut::Box(area) => run(engine, Smart { area, types }, inputs, drain, seed),
-                Cut::Polygon(area) => run(engine, Smart { area, types }, inputs, drain, seed),
+                Cut::Box(area) => run_task(engine, Smart { area, types }, inputs, drain, seed),
+                Cut::Polygon(area) => run_task(engine, Smart { area, types }, inputs, drain, seed),
             }
         }
     }

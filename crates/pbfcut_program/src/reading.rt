@@ -16,7 +16,7 @@ ghost use Rattle.pbfcut_program.specs.Settling.{IsStill};
 ghost use Rattle.pbfcut.specs.Tasks.{checking, listing_frames, showing};
 ghost use Rattle.pbfcut_program.specs.Telling.{IsSaid, SaysLittle, Silent};
 
-use crate::engine::{Engine, Halted, Report, check, list_blobs, run, show_info};
+use crate::engine::{Engine, Halted, Report, check, list_blobs, run_task, show_info};
 use crate::host::{FinishFault, Host, Seed};
 use crate::opening::{
     Input, close_inputs, draw_key, open_inputs, open_pass, open_passes, open_screen,
@@ -135,7 +135,7 @@ pub(crate) fn run_show<H: Host>(
     // Nothing is hashed for a text.
     let hasher: BuildHasherDefault<FoldHasher> = BuildHasherDefault::new();
     let seed = Seed { hasher, key };
-    let outcome = run(engine, PlainTask::Show { dates }, &mut inputs, &mut out, seed);
+    let outcome = run_task(engine, PlainTask::Show { dates }, &mut inputs, &mut out, seed);
     close_inputs(host, inputs);
     ended(host, out, outcome)
 }

@@ -2,7 +2,7 @@
 
 use pbf_frame::Stop;
 use pbf_pass::Passes;
-use pbf_published::{open_all, run};
+use pbf_published::{open_all, run_published};
 use pbfcut::PlainTask;
 use std::hash::BuildHasher;
 
@@ -15,7 +15,7 @@ pub fn text_of_published<S: BuildHasher + Drop>(
 ) -> Result<(), Stop> {
     let files = vec![in passes.alloc; file, file]?;
     let mut feeds = open_all(passes.alloc, files, passes.check)?;
-    match run(passes, PlainTask::Show { dates: true }, &mut feeds, text, hasher) {
+    match run_published(passes, PlainTask::Show { dates: true }, &mut feeds, text, hasher) {
         Ok(_receipt) => Ok(()),
         Err(halt) => Err(halt.stop),
     }

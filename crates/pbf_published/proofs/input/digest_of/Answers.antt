@@ -9,13 +9,13 @@ use Rattle.pbf_published.proofs.TracedLemmas.{traced_all, traced_below}
 use Rattle.pbf_published.specs.Published.{log_number}
 use Rattle.pbf_published.proofs.input.digest_of.Goals as goal
 
-pub returns-clause-digest : goal.returns-clause-digest
-returns-clause-digest g c =
+pub returns-then-has_given_all-clause-digest : goal.returns-then-has_given_all-clause-digest
+returns-then-has_given_all-clause-digest g c =
     let hashed = c.args.feed.now.feed.feed in
-    let all = sym c.has_given_all.ensures.value ∙ c.if-has_given_all.false in
+    let all = sym c.has_given_all.ensures.value ∙ c.if-has_given_all.true in
     record {
       means = λ check start raw has.
-          let gave = c.has_given_all.ensures.gave (log_number (hash_log check) (hash_log check) start) raw c.if-has_given_all.false has in
+          let gave = c.has_given_all.ensures.gave (log_number (hash_log check) (hash_log check) start) raw c.if-has_given_all.true has in
           let passed = (traced_below _ _ (hash_log check) (hash_log check) start gave.packed gave.passed).0 in
           record {
             packed = gave.packed;
@@ -25,7 +25,7 @@ returns-clause-digest g c =
             end = λ ended. end_below c.args.feed.now.state _ _ (all_going c.args.feed.now all) gave.end ended;
           };
       logged = λ check log start raw has.
-          let gave = c.has_given_all.ensures.gave (log_number (hash_log check) (below_log log) start) raw c.if-has_given_all.false has in
+          let gave = c.has_given_all.ensures.gave (log_number (hash_log check) (below_log log) start) raw c.if-has_given_all.true has in
           let passed = traced_below _ _ (hash_log check) (below_log log) start gave.packed gave.passed in
           record {
             packed = gave.packed;
@@ -37,9 +37,9 @@ returns-clause-digest g c =
       there = λ ended none. none-some _ (sym none);
     }
 
-pub returns-then-clause-digest : goal.returns-then-clause-digest
-returns-then-clause-digest g c = record {
+pub returns-else-has_given_all-clause-digest : goal.returns-else-has_given_all-clause-digest
+returns-else-has_given_all-clause-digest g c = record {
   means = λ check start raw has. tt;
   logged = λ check log start raw has. tt;
-  there = λ ended none. not_both _ (c.has_given_all.ensures.value ∙ all_supplied (λ t. g.F.Feed.remaining t.feed.feed) c.args.feed.now ended) c.if-has_given_all.true;
+  there = λ ended none. not_both _ (c.has_given_all.ensures.value ∙ all_supplied (λ t. g.F.Feed.remaining t.feed.feed) c.args.feed.now ended) c.if-has_given_all.false;
 }

@@ -1,4 +1,4 @@
-use Rattle.std.proofs.Common.{[], sym}
+use Rattle.std.proofs.Common.{[], rules, sym}
 use Rattle.pbf_pass.specs.Hashing.{below_log, hash_log}
 use Rattle.pbf_pass.proofs.GivenLemmas.{below_from, hashed_from}
 use Rattle.pbf_published.proofs.TracedLemmas.{traced_from}

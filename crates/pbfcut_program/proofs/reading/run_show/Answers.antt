@@ -78,12 +78,12 @@ returns-clause-ok g c =
     let log = g.H.Host.log in
     let input = c.args.input.now.path.now in
     let olds = feeds_in c.in_ok-inputs.inputs in
-    let news = feeds_in c.run-outcome.new.inputs in
+    let news = feeds_in c.run_task-outcome.new.inputs in
     let same = sym c.in_ok-inputs.ensures.feeds in
     let fresh = subst (AreFresh g.H.In.Feed) same c.in_ok-feeds.ensures.fresh in
     let hs = map g.H.In.Feed.remaining olds in
     let old = c.in_ok-out.out in
-    let out = c.run-outcome.new.drain in
+    let out = c.run_task-outcome.new.drain in
     let drawn = draws c.args.engine.program c.in_ok-key.key in
     let last = drawn ++ screened true ∷ [] in
     let first = openings input 1 hs ++ last in
@@ -93,9 +93,9 @@ returns-clause-ok g c =
     let m = to_raw (manner_of c.args.engine) in
     let by = check_in c.args.engine c.in_ok-key.key in
     let done : OnOk c.ended.result ((report : Report) × (rs : List Reading) × (w : Writing) × (log c.ended.new.host ≡ then_all (log c.open_screen.new.host) (map (λ r. read r) rs ++ wrote w ∷ []))
-    × (w.fault ≡ None) × IsWork m by (showing c.args.dates) hs rs w.bytes report.counts report.input report.raw) = text_ok e.0 c.run-outcome.result c.ended.result _ e.2 (λ went. subst (λ (fault : Option FinishFault). OnOk c.run-outcome.result ((report : Report) × (rs : List Reading) × (w : Writing) × (log c.ended.new.host ≡ then_all (log c.open_screen.new.host) (map (λ r. read r) rs ++ wrote w ∷ []))
-    × (w.fault ≡ fault) × IsWork m by (showing c.args.dates) hs rs w.bytes report.counts report.input report.raw)) went (if_done g.H.In.Feed g.H.Out.Drain out None (is_ok c.run-outcome.result) e.0 m by (showing c.args.dates) (g.H.Out.Drain.has_taken out 0) (WriteFailed g.H.Out.Drain old out)
-    (log c.open_screen.new.host) (log c.close_inputs.new.host) (log c.ended.new.host) olds news c.run-outcome.result fresh c.close_inputs.ensures e.1 (λ w t. t) (c.run-outcome.ensures.works fresh 0 c.in_ok-out.ensures.opened.1.0))) in
+    × (w.fault ≡ None) × IsWork m by (showing c.args.dates) hs rs w.bytes report.counts report.input report.raw) = text_ok e.0 c.run_task-outcome.result c.ended.result _ e.2 (λ went. subst (λ (fault : Option FinishFault). OnOk c.run_task-outcome.result ((report : Report) × (rs : List Reading) × (w : Writing) × (log c.ended.new.host ≡ then_all (log c.open_screen.new.host) (map (λ r. read r) rs ++ wrote w ∷ []))
+    × (w.fault ≡ fault) × IsWork m by (showing c.args.dates) hs rs w.bytes report.counts report.input report.raw)) went (if_done g.H.In.Feed g.H.Out.Drain out None (is_ok c.run_task-outcome.result) e.0 m by (showing c.args.dates) (g.H.Out.Drain.has_taken out 0) (WriteFailed g.H.Out.Drain old out)
+    (log c.open_screen.new.host) (log c.close_inputs.new.host) (log c.ended.new.host) olds news c.run_task-outcome.result fresh c.close_inputs.ensures e.1 (λ w t. t) (c.run_task-outcome.ensures.works fresh 0 c.in_ok-out.ensures.opened.1.0))) in
     on_ok_weaker c.ended.result (λ d. (
       _,
       and_then (log c.args.host.now) _ _ first _ begun d.3,
@@ -119,7 +119,7 @@ returns-clause-err g c =
     let log = g.H.Host.log in
     let input = c.args.input.now.path.now in
     let olds = feeds_in c.in_ok-inputs.inputs in
-    let news = feeds_in c.run-outcome.new.inputs in
+    let news = feeds_in c.run_task-outcome.new.inputs in
     let same = sym c.in_ok-inputs.ensures.feeds in
     let feeds = subst (AreFresh g.H.In.Feed) same c.in_ok-feeds.ensures.fresh in
     let hs = map g.H.In.Feed.remaining olds in
@@ -143,8 +143,8 @@ returns-clause-err g c =
       record { has = hs; opens = opens_before 1 hs first f.0 opens; leaves = leaves_after m (showing c.args.dates) hs first f.0 quiet f.3 },
       each_both Silent first f.0 silent f.4,
     ))
-    (text_fails c.args.engine.program c.args.engine.digests (check_in c.args.engine c.in_ok-key.key) g.H.In.Feed g.H.Out.Drain (showing c.args.dates) c.in_ok-out.out c.run-outcome.new.drain None e.0 (log c.open_screen.new.host) (log c.close_inputs.new.host) (log c.ended.new.host) olds news c.run-outcome.result c.ended.result
-    fresh feeds c.close_inputs.ensures e.1 (c.run-outcome.ensures.works feeds 0 fresh.0) c.run-outcome.ensures.front e.2)
+    (text_fails c.args.engine.program c.args.engine.digests (check_in c.args.engine c.in_ok-key.key) g.H.In.Feed g.H.Out.Drain (showing c.args.dates) c.in_ok-out.out c.run_task-outcome.new.drain None e.0 (log c.open_screen.new.host) (log c.close_inputs.new.host) (log c.ended.new.host) olds news c.run_task-outcome.result c.ended.result
+    fresh feeds c.close_inputs.ensures e.1 (c.run_task-outcome.ensures.works feeds 0 fresh.0) c.run_task-outcome.ensures.front e.2)
 
 pub returns-in_err-feeds-clause-files : goal.returns-in_err-feeds-clause-files
 returns-in_err-feeds-clause-files g c =
@@ -176,5 +176,5 @@ returns-clause-files g c =
     let key = c.in_ok-key.key in
     let opened = still_then _ _ _ (calm_done _ _ _ c.in_ok-feeds.ensures.opened (calm_openings c.args.input.now.path.now 1 _)) (calm_done _ _ (draws program key) c.in_ok-key.ensures.ok (calm_draws program key)) in
     let begun = still_then _ _ _ opened (one_still _ _ _ c.in_ok-out.ensures.opened.0 tt) in
-    let closed = still_then _ _ _ begun (closed_still g.H.In.Feed (feeds_in c.run-outcome.new.inputs) _ _ c.close_inputs.ensures) in
-    still_then _ _ _ closed (screen_still g.H.Out.Drain c.run-outcome.new.drain _ _ _ _ c.ended.ensures.1)
+    let closed = still_then _ _ _ begun (closed_still g.H.In.Feed (feeds_in c.run_task-outcome.new.inputs) _ _ c.close_inputs.ensures) in
+    still_then _ _ _ closed (screen_still g.H.Out.Drain c.run_task-outcome.new.drain _ _ _ _ c.ended.ensures.1)

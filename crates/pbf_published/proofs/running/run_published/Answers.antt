@@ -4,7 +4,7 @@ use Rattle.pbfcut.specs.Calls.{drained, used}
 use Rattle.pbfcut.specs.TaskCalls.{DoesTask}
 use Rattle.pbf_published.specs.PublishedTasks.{DigestsDiffer, ShareDigest, below_of, skipped_of}
 use Rattle.pbf_published.proofs.TaskLemmas.{spares_are, task_changed, task_done, task_stopped}
-use Rattle.pbf_published.proofs.running.run.Goals as goal
+use Rattle.pbf_published.proofs.running.run_published.Goals as goal
 
 pub returns : goal.returns
 returns g c =
