@@ -30,7 +30,7 @@ pub use extracting::{
     extract, extract_parents, extract_parents_with_receipt, extract_with_receipt,
 };
 pub use extracting_each::{EachStrategy, extract_each, extract_parents_each};
-pub use extraction::{AllParents, CompleteWays, Extraction, Smart};
+pub use extraction::{AllParents, CompleteWays, Smart};
 pub use pbf_pass::{
     Counts, Gather, Halt, InputReceipt, Nothing, Pass, Refusal, check, check_with_receipt,
     gather_unjudged, step_count, step_gather, step_nodes, step_relations, step_unjudged, step_ways,

@@ -24,5 +24,5 @@ returns-in-AllParents g c =
     let n : length c.args.feeds.now ≡ 4 = subst (λ s. length c.args.feeds.now ≡ spares_by (each_strategy s) + 2) c.in-AllParents.is c.requires in
     let last : length three.result.1.now ≡ 1 = omega (arith, one.ensures.back_len, two.ensures.back_len, three.ensures.back_len, n) in
     rw c.in-AllParents.is (four_used g.F.Feed (λ feeds. ExtractsAreas all_parents g.A.Area.area feeds g.D.Drain c.args.passes.check c.args.outputs.items call.result.0.items call.result.1) c.args.feeds.now one.result.0.now one.result.1.now two.result.0.now two.result.1.now
-    three.result.0.now three.result.1.now c.index-one-0-in-AllParents.result c.index-two-0-in-AllParents.result c.index-three-0.result c.index-four-0.result call.new.first call.new.second call.new.third call.new.fourth
+    three.result.0.now three.result.1.now c.index-one-0.result c.index-two-0.result c.index-three-0.result c.index-four-0.result call.new.first call.new.second call.new.third call.new.fourth
     one.ensures.value two.ensures.value three.ensures.value one.ensures.front_len two.ensures.front_len three.ensures.front_len last call.ensures)
