@@ -21,5 +21,6 @@ pub mod RunLemmas
 pub mod SayingLemmas
 pub mod SettlingLemmas
 pub mod TakingLemmas
+pub mod TaskRuns
 pub mod Weaker
 pub mod WritingLemmas
