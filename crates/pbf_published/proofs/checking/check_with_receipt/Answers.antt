@@ -10,7 +10,7 @@ returns-clause-receipt g c =
     let o = c.in_ok-input.ensures.opened in
     let d = c.digest_of-digest.ensures.digest in
     let read = below_of c.check_with_receipt-outcome.new.feed in
-    let same = sym (ap (λ r. r.now) (c.close-_feed.ensures.below ∙ c.digest_of-digest.ensures.below)) ∙ search rules in
+    let same = sym (ap (λ r. r.now) (c.close-feed.ensures.below ∙ c.digest_of-digest.ensures.below)) ∙ search rules in
     rw (sym c.of_raw.ensures.check) (published_of g.F.Feed c.args.feed.now _ from_first c.args.passes.check _
     (record { remaining = o.remaining; failures = o.failures; hashed = o.hashed; logged = o.logged })
     (digest_at g.F.Feed _ read.now _ _ _ same (record { means = d.means; logged = d.logged; there = d.there }))
