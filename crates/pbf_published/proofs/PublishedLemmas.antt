@@ -63,10 +63,6 @@ module _ {F U : Type 0} (f : feed.Ghosts F) (first last : F) {u : feed.Ghosts U}
   pub digest_told : DigestIsOf check (f.remaining first) o
   digest_told all is = grind arith
 
--- it has the digest of one that a reference goes to
-pub digest_at : {F U : Type 0} (f : feed.Ghosts F) (u : feed.Ghosts U) (mid last : F) (now : U) (o : Option (List ℕ)) → mid ≡ last → HasDigest f u mid now o → HasDigest f u last now o
-digest_at f u mid last now o same has = subst (λ x. HasDigest f u x now o) same has
-
 pub not_both : (b : Bool) → b ≡ true → b ≡ false → ⊥
 not_both b h1 h2 = grind arith
 

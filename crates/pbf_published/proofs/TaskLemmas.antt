@@ -1,5 +1,5 @@
 -- What a call over unpacking feeds says of the published files below them.
-use Rattle.std.proofs.Common.{◌≡◌, ◌⊎◌, inl, inr, ℕ, zero, suc, ◌+◌, ◌<◌, ◌-◌, length, arith, Bool, true, false, List, [], ◌∷◌, ◌++◌, map, take, drop, Option, Some, None, Result, Ok, Err, IfOk, IfErr, OnErr, refl, sym, ap, ◌∙◌, subst}
+use Rattle.std.proofs.Common.{◌≡◌, ◌⊎◌, inl, inr, ℕ, zero, suc, ◌+◌, ◌<◌, ◌-◌, length, arith, MutBor, Bool, true, false, List, [], ◌∷◌, ◌++◌, map, take, drop, Option, Some, None, Result, Ok, Err, IfOk, IfErr, OnErr, refl, sym, ap, ◌∙◌, subst}
 use Rattle.pbf_wire.specs.declared.fault.Fault.{Fault}
 use Rattle.pbf_frame.specs.declared.device.Feed as feed
 use Rattle.pbf_frame.specs.declared.stop.Stop.{Stop}
@@ -157,6 +157,17 @@ module _ {F U : Type 0} (f : feed.Ghosts F) (u : feed.Ghosts U) (below : U → F
           stops = changed_stop _ _ _ _ _ _ changed.0 stops changed.1 changed.2;
           beginning = changed_any _ h.stop s changed.0 stops changed.1;
         })
+
+-- ---- a feed that a reference goes to
+
+abbrev pub behind : {F : Type 0} → feed.Ghosts F → feed.Ghosts (MutBor F)
+behind f = record { remaining = λ r. f.remaining r.now; failures = λ r. f.failures r.now; lender = λ r. r.ghost_name ∷ f.lender r.now; has_passed = λ r log b. f.has_passed r.now log b }
+
+pub opened_behind : {F U : Type 0} (f : feed.Ghosts F) (u : feed.Ghosts U) (check : PassCheck) (r : MutBor F) (now : U) → IsOpened (behind f) u check r now → IsOpened f u check r.now now
+opened_behind f u check r now is = record { remaining = is.remaining; failures = is.failures; hashed = is.hashed; logged = is.logged }
+
+pub digest_behind : {F U : Type 0} (f : feed.Ghosts F) (u : feed.Ghosts U) (r : MutBor F) (last : F) (now : U) (o : Option (List ℕ)) → r.now ≡ last → HasDigest (behind f) u r now o → HasDigest f u last now o
+digest_behind f u r last now o same has = subst (λ x. HasDigest f u x now o) same (record { means = has.means; logged = has.logged; there = has.there })
 
 -- ---- feeds that are opened one after another
 
