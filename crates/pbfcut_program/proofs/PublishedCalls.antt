@@ -22,7 +22,7 @@ use Rattle.pbfcut_program.specs.Devices.{AreFresh, GiveLater, GivesIts, GivesOrN
 use Rattle.pbfcut_program.specs.Manner.{AreDigests, manner}
 use Rattle.pbfcut_program.specs.Outcomes.{ReportsPublished}
 use Rattle.pbfcut_program.proofs.FailLemmas.{caused_weaker}
-use Rattle.pbfcut_program.proofs.RawCalls.{give_less}
+use Rattle.pbfcut_program.proofs.RawCalls.{give_less, none_meant}
 
 -- a feed gave packed bytes, and this holds of the raw file that they mean
 record Gave {F : Type 0} (f : feed.Ghosts F) (known : List ℕ → Type 0) (old now : F) (holds : List ℕ → Type 0) : Type 0 where
@@ -79,7 +79,7 @@ pub check_published : {F : Type 0} (f : feed.Ghosts F) (packs digests : Bool) (b
     → Works (manner Pbfcutz packs digests) by f checking (one ∷ []) (one_now ∷ []) (λ took. took ≡ []) ⊥ result
 check_published f packs digests by one one_now fresh (Ok receipt) (Ok report) given stops r =
     let first = gave f packs digests by receipt.input receipt.raw report.raw r.2 fresh.0.0 given in
-    rw (r.0, r.1) record { files = first.file ∷ []; written = []; gave = (first.gives, tt); took_them = refl; holds = (first.holding, refl) }
+    rw (r.0, r.1) record { files = first.file ∷ []; written = []; gave = (first.gives, tt); took_them = refl; holds = (first.holding, none_meant packs Pbfcutz) }
 check_published f packs digests by one one_now fresh (Err halt) (Err halted) given stops r = (halt.stop, r, caused_weaker _ _ _ _ _ _ _ _ halt.stop (λ e fault. (fault, refl)) (λ failed. inl failed) (λ none. absurd none) (λ p c. c) stops)
 check_published f packs digests by one one_now fresh _ _ given stops r = absurd r
 

@@ -16,18 +16,21 @@ use Rattle.pbf_pass.specs.declared.hashing.PassCheck.{PassCheck}
 use Rattle.pbf_pass.specs.Judged.{judged_file}
 use Rattle.pbf_pass.specs.Pass.{CountsFile}
 use Rattle.pbf_pass.specs.Refused.{EndsJudging, RefusesFile, stop_of}
+use Rattle.pbf_unpack.specs.Unpacked.{Unpacked}
+use Rattle.pbf_unpack.proofs.UnpackedLemmas.{nothing_more}
 use Rattle.pbfcut.specs.Calls.{ChangedLater, GaveEach, GaveEachOrNot, IfMore, TookBy, drained, fed, used}
 use Rattle.pbfcut.specs.TaskCalls.{DoesTask}
 use Rattle.pbfcut.specs.Tasks.{Holds, Task, checking, judge_of, spares}
 use Rattle.pbfcut.specs.Changes.{ChangedAt, GaveOther}
 use Rattle.pbfcut.specs.Ends.{EndsPasses, TookNothing}
 use Rattle.pbfcut_cli.specs.declared.endings.Ending.TheVariants as ending
-use Rattle.pbfcut_cli.specs.declared.programs.Program.TheVariants.{Pbfcut}
+use Rattle.pbfcut_cli.specs.declared.programs.Program.{Program}
+use Rattle.pbfcut_cli.specs.declared.programs.Program.TheVariants.{Pbfcut, Pbfcutz}
 use Rattle.pbfcut_program.specs.declared.engine.Report.{Report}
 use Rattle.pbfcut_program.specs.declared.engine.Halted.{Halted}
 use Rattle.pbfcut_program.specs.Devices.{AreFresh, EndsFor, GiveLater, Gives, GivesFaulty, GivesIts, GivesOther, GivesOtherAt, StopsFor, Works}
 use Rattle.pbfcut_program.specs.Fails.{EndsAsStop}
-use Rattle.pbfcut_program.specs.Manner.{AreDigests, manner}
+use Rattle.pbfcut_program.specs.Manner.{AreDigests, manner, meant, output_form}
 use Rattle.pbfcut_program.specs.Outcomes.{ReportsRaw}
 
 -- a call that halted
@@ -68,6 +71,12 @@ reported_ends f judge olds news nothing failed h halted e stops = (stop_of h, su
 
 -- ---- one pass
 
+-- nothing means nothing
+pub none_meant : (packs : Bool) (program : Program) → meant (output_form packs program) [] ≡ []
+none_meant false program = refl
+none_meant true Pbfcut = refl
+none_meant true Pbfcutz = ap (λ (u : Unpacked). u.0) (nothing_more 0)
+
 module _ {F : Type 0} (f : feed.Ghosts F) (packs digests : Bool) (by : PassCheck) (one one_now : F) (fresh : AreFresh f (one ∷ [])) where
   check_ends : (failed : Type 0) (h : Halt) → EndsJudging f one one_now by (Stopped InputReceipt h) → StopsFor Pbfcut f judged_file (one ∷ []) (one_now ∷ []) (◌≡◌ {A = List ℕ} [] []) failed (stop_of h)
   check_ends failed h h2 = grind (arith, gives_faulty)
@@ -81,7 +90,7 @@ module _ {F : Type 0} (f : feed.Ghosts F) (packs digests : Bool) (by : PassCheck
         written = [];
         gave = (gives_its f (AreDigests (manner Pbfcut packs digests) by receipt.input report.raw) (λ file is. (is, r.2)) fresh.0.0 given, tt);
         took_them = refl;
-        holds = (given.holding, refl);
+        holds = (given.holding, none_meant packs Pbfcut);
       }
   check_works (Err h) (Err halted) given ends r = reported_ends f judged_file (one ∷ []) (one_now ∷ []) (◌≡◌ {A = List ℕ} [] []) ⊥ h halted r (check_ends _ h ends)
   check_works _ _ given ends r = absurd r

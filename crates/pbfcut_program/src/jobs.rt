@@ -7,7 +7,7 @@ ghost use Rattle.osm_polygon.specs.Polygons.{polygons_area, polygons_of};
 ghost use Rattle.osm_polygon.specs.Texts.{polygons_of_text};
 ghost use Rattle.osm_ways.specs.Selection.{all_parents, complete_ways};
 ghost use Rattle.pbfcut.specs.Tasks.{extracting, passes_of};
-ghost use Rattle.pbfcut_program.specs.Devices.{AreFresh, RunsTask};
+ghost use Rattle.pbfcut_program.specs.Devices.{AreFresh, CloseAll, RunsTask};
 ghost use Rattle.pbfcut_program.specs.Events.{Event, text_read, then_all};
 ghost use Rattle.pbfcut_program.specs.Fails.{FailsOpening};
 ghost use Rattle.pbfcut_program.specs.Inputs.{AreReady, feeds_in};
@@ -17,7 +17,7 @@ ghost use Rattle.pbfcut_program.specs.Program.{MeansArea, openings};
 
 use crate::engine::{Engine, Halted, Report, run_task};
 use crate::host::{Host, Seed, TextFault};
-use crate::opening::{Input, Inputs, open_passes};
+use crate::opening::{Input, Inputs, close_inputs, open_passes};
 use osm_box::BoundingBox;
 use osm_polygon::{MultiPolygon, read_polygons};
 use osm_ways::WholeTypes;
@@ -195,4 +195,11 @@ pub(crate) fn do_job<F: Feed, D: Drain, S: BuildHasher + Drop>(
             }
         }
     }
+}
+
+/// Hands all feeds of a job back.
+pub(crate) fn close_job<H: Host>(host: &mut H, job: Job<H::In>)
+    ensures { CloseAll H.In.Feed (feeds_of job) (H.log host.old) (H.log host.new) }
+{
+    close_inputs(host, job.inputs);
 }

@@ -70,9 +70,9 @@ pub(crate) fn open_passes<H: Host>(
     let mut feeds = Vec::with_capacity(alloc, usize::from(input.passes))?;
     'passes: for pass in 0..input.passes {
         let feed = open_pass(host, input, pass + 1)?;
-        if feeds.push(feed).is_err() {
+        let Ok(()) = feeds.push(feed) else {
             return Err(Ending::Stopped(Stop::Memory));
-        }
+        };
     }
     Ok(feeds)
 }

@@ -25,9 +25,9 @@ ghost use Rattle.pbfcut_program.specs.Telling.{IsSaid, SaysLittle};
 
 use crate::engine::{Engine, Halted, Report};
 use crate::host::{FinishFault, Host, Screen, Seed};
-use crate::jobs::{Cut, Job, Plan, do_job, open_plan, read_region};
+use crate::jobs::{Cut, Job, Plan, close_job, do_job, open_plan, read_region};
 use crate::linked::LinkedDrain;
-use crate::opening::{close_inputs, draw_seed, open_inputs};
+use crate::opening::{draw_seed, open_inputs};
 use crate::output::{Output, Place, drop_out, keep_out, make_out};
 use crate::printing::{Done, print_done, tell_refusal};
 use osm_ways::WholeTypes;
@@ -430,7 +430,7 @@ fn run_job<H: Host>(
         output,
         meaning,
     } = run_into(engine, &mut job, drain, seed);
-    close_inputs(host, job.inputs);
+    close_job(host, job);
     let out = Output { drain, name };
     match result {
         Ok(report) => kept(

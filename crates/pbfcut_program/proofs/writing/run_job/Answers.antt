@@ -34,7 +34,7 @@ returns-in-Ok-clause-ok g c =
     let form = output_form engine.packs engine.program in
     let works = rw c.in-Ok.is at (c.run_into-result.ensures.works c.requires.fresh.0) in
     let done = work_done g.H.In.Feed g.H.Out.Drain ran.out name true k.0 (manner_of engine) (check_in engine c.args.ready.seed.key) (task_of job) (λ w. TakenBy g.H.Out.Drain ran.out ran.output w × MeansBy form ran.meaning w) (DrainFailed g.H.Out.Drain form (task_of job) (map g.H.In.Feed.remaining (feeds_of job)) ran.out)
-    (log c.args.host.now) (log c.close_inputs.new.host) k.1 (feeds_of job) (feeds_of c.run_into-result.new.job) c.in-Ok.report c.requires.fresh.0 c.close_inputs.ensures k.2 (λ w t. t.0.0) works in
+    (log c.args.host.now) (log c.close_job.new.host) k.1 (feeds_of job) (feeds_of c.run_into-result.new.job) c.in-Ok.report c.requires.fresh.0 c.close_job.ensures k.2 (λ w t. t.0.0) works in
     let hashed = hashed_as engine.digests ran.output done.1.bytes done.4.0.1 c.run_into-result.ensures.hashed in
     let meaning = hashed_as (hashes_meaning form engine.digests) ran.meaning (of_output (manner_of engine) done.1.bytes) done.4.1 (rw c.in-Ok.is at c.run_into-result.ensures.meaning) in
     let rs : List Event = map (λ r. read r) done.0 in
@@ -58,7 +58,7 @@ returns-in-Ok-clause-err g c =
     let form = output_form engine.packs engine.program in
     let works = rw c.in-Ok.is at (c.run_into-result.ensures.works c.requires.fresh.0) in
     let done = work_done g.H.In.Feed g.H.Out.Drain ran.out name true k.0 (manner_of engine) (check_in engine c.args.ready.seed.key) (task_of job) (λ w. TakenBy g.H.Out.Drain ran.out ran.output w × MeansBy form ran.meaning w) (DrainFailed g.H.Out.Drain form (task_of job) (map g.H.In.Feed.remaining (feeds_of job)) ran.out)
-    (log c.args.host.now) (log c.close_inputs.new.host) k.1 (feeds_of job) (feeds_of c.run_into-result.new.job) report c.requires.fresh.0 c.close_inputs.ensures k.2 (λ w t. t.0.0) works in
+    (log c.args.host.now) (log c.close_job.new.host) k.1 (feeds_of job) (feeds_of c.run_into-result.new.job) report c.requires.fresh.0 c.close_job.ensures k.2 (λ w t. t.0.0) works in
     let rs : List Event = map (λ r. read r) done.0 in
     let all = and_then (log c.args.host.now) k.1 (log c.keep_out.new.host) (rs ++ wrote done.1 ∷ []) k.3 done.2 k.4 ∙ ap (λ es. then_all (log c.args.host.now) es) (append_assoc rs (wrote done.1 ∷ []) k.3) in
     let last : List Event = wrote done.1 ∷ k.3 in
@@ -89,9 +89,9 @@ returns-in-Err-clause-err g c =
     let works = rw c.in-Err.is at (c.run_into-result.ensures.works c.requires.fresh.0) in
     let front = rw c.in-Err.is at c.run_into-result.ensures.front in
     let known = taken ran.out in
-    let tail = ends_with_out g.H.Out.Drain ran.out name false gone.0 took failed near (log c.close_inputs.new.host) gone.1 (λ w t. t.0.0) (λ risen. risen) (λ full. full) gone.2 in
+    let tail = ends_with_out g.H.Out.Drain ran.out name false gone.0 took failed near (log c.close_job.new.host) gone.1 (λ w t. t.0.0) (λ risen. risen) (λ full. full) gone.2 in
     let fail = work_fails engine.program engine.packs engine.digests (check_in engine c.args.ready.seed.key) g.H.In.Feed (task_of job) took failed near (IsReturned known false)
-    (log c.args.host.now) (log c.close_inputs.new.host) gone.1 (feeds_of job) (feeds_of c.run_into-result.new.job) c.in-Err.halted tail c.requires.fresh.0 c.close_inputs.ensures works in
+    (log c.args.host.now) (log c.close_job.new.host) gone.1 (feeds_of job) (feeds_of c.run_into-result.new.job) c.in-Err.halted tail c.requires.fresh.0 c.close_job.ensures works in
     let quiet = dropped_quiet engine.program name gone.3 gone.5 in
     let dropped = and_then (log c.args.host.now) gone.1 (log c.drop_out.new.host) fail.0 gone.3 fail.1 gone.4 in
     let fails = fails_before m (judging_for (task_of job)) has c.in-Err.halted.ending fail.0 gone.3 quiet fail.2 in
@@ -114,10 +114,10 @@ returns-in-Ok-clause-files g c =
     let name = option_map string_bytes c.args.ready.out.name in
     let k = c.keep_out.ensures in
     let at = c.place_of.ensures in
-    let rest = close_rest g.H.In.Feed (feeds_of c.run_into-result.new.job) (log c.args.host.now) (log c.close_inputs.new.host) c.close_inputs.ensures in
+    let rest = close_rest g.H.In.Feed (feeds_of c.run_into-result.new.job) (log c.args.host.now) (log c.close_job.new.host) c.close_job.ensures in
     let rs : List Event = map (λ r. read r) rest.0 in
     let w : Writing = record { name = name; bytes = k.2.0.0; reports = is_some (g.H.Out.Drain.taken out); failures = g.H.Out.Drain.failures out; kept = true; fault = k.0 } in
-    let closed = and_then (log c.args.host.now) (log c.close_inputs.new.host) k.1 rs (wrote w ∷ []) rest.1 k.2.0.2 in
+    let closed = and_then (log c.args.host.now) (log c.close_job.new.host) k.1 rs (wrote w ∷ []) rest.1 k.2.0.2 in
     let ended = and_then (log c.args.host.now) k.1 (log c.keep_out.new.host) (rs ++ wrote w ∷ []) k.3 closed k.4 ∙ ap (λ es. then_all (log c.args.host.now) es) (append_assoc rs (wrote w ∷ []) k.3) in
     let closes = ends_at _ program at.0 _ files.overwrite at.2 _ files.output.now (ap (λ b. b.now) at.1) name k.0 c.keep_out.result k.3 k.5 in
     (rest.0, w, k.3, [], and_then (log c.args.host.now) _ _ (rs ++ wrote w ∷ k.3) [] ended (then_none (log c.keep_out.new.host)), tt, refl, is_ended program files w c.keep_out.result k.3 refl closes)
@@ -129,9 +129,9 @@ returns-in-Err-clause-files g c =
     let name = option_map string_bytes c.args.ready.out.name in
     let gone = c.drop_out.ensures in
     let told = c.tell_refusal.ensures in
-    let rest = close_rest g.H.In.Feed (feeds_of c.run_into-result.new.job) (log c.args.host.now) (log c.close_inputs.new.host) c.close_inputs.ensures in
+    let rest = close_rest g.H.In.Feed (feeds_of c.run_into-result.new.job) (log c.args.host.now) (log c.close_job.new.host) c.close_job.ensures in
     let rs : List Event = map (λ r. read r) rest.0 in
     let w : Writing = record { name = name; bytes = gone.2.0.0; reports = is_some (g.H.Out.Drain.taken out); failures = g.H.Out.Drain.failures out; kept = false; fault = gone.0 } in
-    let closed = and_then (log c.args.host.now) (log c.close_inputs.new.host) gone.1 rs (wrote w ∷ []) rest.1 gone.2.0.2 in
+    let closed = and_then (log c.args.host.now) (log c.close_job.new.host) gone.1 rs (wrote w ∷ []) rest.1 gone.2.0.2 in
     let ended = and_then (log c.args.host.now) gone.1 (log c.drop_out.new.host) (rs ++ wrote w ∷ []) gone.3 closed gone.4 ∙ ap (λ es. then_all (log c.args.host.now) es) (append_assoc rs (wrote w ∷ []) gone.3) in
     (rest.0, w, gone.3, told.events, and_then (log c.args.host.now) _ _ (rs ++ wrote w ∷ gone.3) told.events ended told.log, refusal_still c.args.engine.digests told.events told.tells, refl, inr gone.5)
