@@ -34,4 +34,4 @@ returns-in_default-clause-failed g c =
     let hs = map g.H.In.Feed.remaining c.passes.feeds.items in
     let before = openings path 1 hs in
     let last : List Event = opened path (c.passes.pass + 1) (g.H.In.Feed.remaining c.in_ok-feed.feed) ∷ [] in
-    (before ++ last, and_then _ _ _ before last c.passes.invariant.0 c.in_ok-feed.ensures.opened, each_both Calm before last (calm_openings path 1 hs) (tt, tt), tt)
+    (before ++ last, and_then _ _ _ before last c.passes.invariant.0 c.in_ok-feed.ensures.opened, (each_both Calm before last (calm_openings path 1 hs) (tt, tt), tt))
