@@ -207,8 +207,5 @@ module _ {F U : Type 0} (f : feed.Ghosts F) (u : feed.Ghosts U) (below : U → F
 pub spares_are : (t : Task) (feeds : ℕ) → feeds ≡ passes_of t → feeds - 2 ≡ spares t
 spares_are t feeds is = grind arith
 
-pub some_passes : (t : Task) → 0 < passes_of t
-some_passes t = grind arith
-
 pub few_passes : (t : Task) → passes_of t < 5
 few_passes t = grind arith

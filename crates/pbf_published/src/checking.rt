@@ -8,7 +8,8 @@ ghost use Rattle.pbf_pass.specs.Hashing.{mark_by, raw_check};
 ghost use Rattle.pbf_published.specs.Published.{ChangedOf, GavePublished, raw_of};
 
 use crate::input::{
-    PublishedHalt, PublishedInput, close, digest_of, first_digest, lacks_memory, open, published_outcome,
+    PublishedHalt, PublishedInput, close, digest_of, first_digest, lacks_memory, open,
+    published_outcome,
 };
 use pbf_frame::Feed;
 use pbf_pass::Passes;

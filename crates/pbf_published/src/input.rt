@@ -126,7 +126,11 @@ pub(crate) fn compare(digest: [u8; 32], later: Option<[u8; 32]>, pass: u8) -> Re
 }
 
 /// What a stop of a call over raw files says of published ones: of the first of them, and of a feed that was refused memory.
-pub(crate) fn stopped<F: Feed>(stop: Stop, first: &PublishedFeed<F>, lacks_memory: bool) -> PublishedHalt
+pub(crate) fn stopped<F: Feed>(
+    stop: Stop,
+    first: &PublishedFeed<F>,
+    lacks_memory: bool,
+) -> PublishedHalt
     ensures { result.stop ≡ told_by lacks_memory stop }
 {
     let place = match stop {

@@ -99,7 +99,7 @@ published_works f d out out_now digests by log start task (old ∷ olds) [] outc
 published_works f d out out_now digests by log start task (old ∷ olds) (now ∷ news) (Ok receipt) (Ok report) many does r fresh =
     let took : List (List ℕ) → Type 0 = λ raws. TookBy (drained d out out_now) (λ written. Holds task raws receipt.counts written) in
     let first : Gave f (AreDigests (manner Pbfcutz false digests) by receipt.input report.raw) old now (λ b. GaveEachOrNone (take (spares task) (used f olds news)) (mark_by by receipt.input) (mark_by (raw_check by) receipt.raw) b (λ some. GavePublishedEach (drop (spares task) (used f olds news)) (mark_by by receipt.input) (mark_by (raw_check by) receipt.raw) (λ files. took (b ∷ some ++ files)))) =
-        gave f false digests by receipt.input receipt.raw report.raw r.2 fresh.0.0 does.receipt in
+    gave f false digests by receipt.input receipt.raw report.raw r.2 fresh.0.0 does.receipt in
     let more = some_gave f false digests by receipt.input receipt.raw report.raw r.2 (spares task) first.file olds news (λ some files. took (unpacked first.file ∷ some ++ files)) fresh.1 (omega (arith, many)) first.holding in
     let given = more.3 in
     rw (r.0, r.1) record {

@@ -135,7 +135,13 @@ pub(crate) fn run_show<H: Host>(
     // Nothing is hashed for a text.
     let hasher: BuildHasherDefault<FoldHasher> = BuildHasherDefault::new();
     let seed = Seed { hasher, key };
-    let outcome = run_task(engine, PlainTask::Show { dates }, &mut inputs, &mut out, seed);
+    let outcome = run_task(
+        engine,
+        PlainTask::Show { dates },
+        &mut inputs,
+        &mut out,
+        seed,
+    );
     close_inputs(host, inputs);
     ended(host, out, outcome)
 }

@@ -15,7 +15,13 @@ pub fn text_of_published<S: BuildHasher + Drop>(
 ) -> Result<(), Stop> {
     let files = vec![in passes.alloc; file, file]?;
     let mut feeds = open_all(passes.alloc, files, passes.check)?;
-    match run_published(passes, PlainTask::Show { dates: true }, &mut feeds, text, hasher) {
+    match run_published(
+        passes,
+        PlainTask::Show { dates: true },
+        &mut feeds,
+        text,
+        hasher,
+    ) {
         Ok(_receipt) => Ok(()),
         Err(halt) => Err(halt.stop),
     }
