@@ -12,7 +12,7 @@ use pbf_frame::{Drain, Feed};
 use pbf_pass::{Halt, InputReceipt, Passes, check_with_receipt};
 use std::hash::BuildHasher;
 
-/// What is done with a file.
+/// What is done with a file: a [`PlainTask`], or an extract, as [`CompleteWays`](crate::CompleteWays).
 pub trait FileTask {
     /// What the task means.
     ghost task: { Self → Task };
@@ -23,6 +23,9 @@ pub trait FileTask {
 
     /// Does the task. All feeds have to supply the same file. Each is read in one pass, in their order; but if the first pass of an extract was
     /// enough, nothing is read of the feeds between the first and the last.
+    ///
+    /// The first feed's file is judged as a whole before anything is written: a refusal names its first fault. `Changed(n)` says that the feed
+    /// of pass n gave other bytes than the first. Space: what the call for the task needs.
     fn run<F: Feed, D: Drain, S: BuildHasher + Drop>(
         self,
         passes: Passes,
