@@ -102,7 +102,7 @@ pub record HasTraced {F : Type 0} (f : feed.Ghosts F) (feed : F) (log : ℕ) (by
   pub passed : f.has_passed feed one bytes × f.has_passed feed two bytes
   pub told : start ≡ prepend bytes (f.remaining feed)
 
--- ---- feeds that are opened, and asked for a digest
+-- ---- feeds that are opened, and their digests
 
 -- an unpacking feed over this one supplies the raw file that it has, counts its failures, and has supplied nothing by the logs for the check and for
 -- each log of the feed below
@@ -112,7 +112,7 @@ pub record IsOpened {F U : Type 0} (f : feed.Ghosts F) (u : feed.Ghosts U) (chec
   pub hashed : u.has_passed now (log_number (hash_log check) (hash_log check) (f.remaining below)) []
   pub logged : (log : ℕ) → f.has_passed below log [] → u.has_passed now (log_number (hash_log check) (below_log log) (f.remaining below)) []
 
--- a hashing feed was asked for its digest: that of what its hasher held, if it held this
+-- the digest that a hashing feed returns is that of what its hasher held, and the feed below stays
 pub record Digested {F : Type 0} (old new : PassFeed F) (digest : List ℕ) : Type 0 where
   pub feed : new.feed ≡ old.feed
   pub is : (bytes : List ℕ) → HoldsBytes old.hasher bytes → digest ≡ digest_by old.hasher.check bytes

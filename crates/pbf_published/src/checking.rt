@@ -8,7 +8,7 @@ ghost use Rattle.pbf_pass.specs.Hashing.{mark_by, raw_check};
 ghost use Rattle.pbf_published.specs.Published.{ChangedOf, GavePublished, raw_of};
 
 use crate::input::{
-    PublishedHalt, PublishedInput, close, digest_of, first_digest, lacks_memory, open,
+    PublishedHalt, PublishedInput, close, first_digest, lacks_memory, open, packed_digest,
     published_outcome,
 };
 use pbf_frame::Feed;
@@ -38,7 +38,7 @@ pub fn check_with_receipt<F: Feed>(
     let mut input = open(alloc, &mut *feed, passes.check)?;
     let outcome = pbf_pass::check_with_receipt(passes.of_raw(), &mut input);
     let outcome = published_outcome(outcome, &input, lacks_memory(&input));
-    let digest = digest_of(&mut input);
+    let digest = packed_digest(&mut input);
     let _feed = close(input);
     let receipt = outcome?;
     Ok(PublishedInput {

@@ -86,7 +86,7 @@ pub fn open<F: Feed + Drop>(
 }
 
 /// The digest of the packed bytes that were read, if all that they mean was supplied. Another digest is begun.
-pub(crate) fn digest_of<F: Feed>(feed: &mut PublishedFeed<F>) -> Option<[u8; 32]>
+pub(crate) fn packed_digest<F: Feed>(feed: &mut PublishedFeed<F>) -> Option<[u8; 32]>
     ensures digest { HasDigest F.Feed ⟦<PublishedFeed<F> as Feed>⟧ (below_of feed.old) feed.old result }
     ensures below { below_of feed.new ≡ below_of feed.old }
 {

@@ -6,8 +6,8 @@ ghost use Rattle.pbfcut.specs.Tasks.{passes_of};
 ghost use Rattle.pbf_published.specs.PublishedTasks.{AreOpened, DigestsDiffer, DoesPublished, FailBelow, HaveDigest, OtherDigest, ShareDigest, below_of, skipped_of};
 
 use crate::input::{
-    PublishedFeed, PublishedHalt, PublishedInput, compare, digest_of, first_digest, lacks_memory,
-    open, published_outcome,
+    PublishedFeed, PublishedHalt, PublishedInput, compare, first_digest, lacks_memory, open,
+    packed_digest, published_outcome,
 };
 use pbf_frame::{Drain, Feed, Stop};
 use pbf_pass::{PassCheck, Passes};
@@ -71,7 +71,7 @@ fn compare_later<F: Feed>(
     if skipped > 0 {
         return compare_later(later, digest, skipped - 1, number + 1);
     }
-    compare(digest, digest_of(first), number)?;
+    compare(digest, packed_digest(first), number)?;
     compare_later(later, digest, 0, number + 1)
 }
 
@@ -87,7 +87,7 @@ fn shared_digest<F: Feed>(feeds: &mut [PublishedFeed<F>], skipped: usize) -> Res
     let Some((first, later)) = feeds.split_first_mut() else {
         return Err(Stop::Changed(1));
     };
-    let digest = first_digest(digest_of(first))?;
+    let digest = first_digest(packed_digest(first))?;
     compare_later(later, digest, skipped, 2)?;
     Ok(digest)
 }

@@ -26,7 +26,7 @@ pub enum Place {
 
 /// A feed that has a digest of what it gave.
 pub trait DigestFeed: Feed {
-    /// It was asked for its digest, and is as it is then.
+    /// It returned this digest, and was left so.
     ghost digested: { Self → Self → List ℕ → Type 0 };
 
     /// The digest of what it gave. Another digest is begun.

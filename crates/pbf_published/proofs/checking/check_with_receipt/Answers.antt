@@ -9,8 +9,8 @@ returns-clause-receipt g c =
     let from_first = outcome_receipt _ _ c.check_with_receipt-outcome.ensures.receipt _ _ c.in_ok-receipt.was _ c.published_outcome-outcome.ensures in
     let u = published (behind g.F.Feed) in
     let read = c.check_with_receipt-outcome.new.feed in
-    let same = sym (ap (λ r. r.now) (c.close-feed.ensures.below ∙ c.digest_of-digest.ensures.below)) in
-    rw (sym c.of_raw.ensures.check) (published_of g.F.Feed c.args.feed.now _ from_first c.args.passes.check c.digest_of-digest.result
+    let same = sym (ap (λ r. r.now) (c.close-feed.ensures.below ∙ c.packed_digest-digest.ensures.below)) in
+    rw (sym c.of_raw.ensures.check) (published_of g.F.Feed c.args.feed.now _ from_first c.args.passes.check c.packed_digest-digest.result
     (opened_behind g.F.Feed u c.args.passes.check _ c.in_ok-input.input c.in_ok-input.ensures.opened)
-    (digest_behind g.F.Feed u (below_of read) _ read c.digest_of-digest.result (same ∙ search rules) c.digest_of-digest.ensures.digest)
+    (digest_behind g.F.Feed u (below_of read) _ read c.packed_digest-digest.result (same ∙ search rules) c.packed_digest-digest.ensures.digest)
     c.in_ok-first_digest.field-0 c.in_ok-first_digest.ensures.there _ (λ file holds. holds))

@@ -7,7 +7,7 @@ use Rattle.pbf_pass.proofs.GivenLemmas.{below_to, digest_hashed}
 use Rattle.pbf_published.proofs.PublishedLemmas.{all_going, end_below, not_both}
 use Rattle.pbf_published.proofs.TracedLemmas.{traced_all, traced_below}
 use Rattle.pbf_published.specs.Published.{log_number}
-use Rattle.pbf_published.proofs.input.digest_of.Goals as goal
+use Rattle.pbf_published.proofs.input.packed_digest.Goals as goal
 
 pub returns-then-has_given_all-clause-digest : goal.returns-then-has_given_all-clause-digest
 returns-then-has_given_all-clause-digest g c =
