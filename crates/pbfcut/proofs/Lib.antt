@@ -25,3 +25,4 @@ pub mod NodeLemmas
 pub mod ManyLemmas
 pub mod CopyingLemmas
 pub mod SmartLemmas
+pub mod TaskLemmas

@@ -1,8 +1,8 @@
 -- What a call says that writes several extracts of one file: of each area and its drain what a call for only this area says.
-use Rattle.std.specs.Prelude.{◌≡◌, ℕ, List, ◌∷◌, ◌++◌, map, Result, Ok, Err, IfOk, IfErr}
+use Rattle.std.specs.Prelude.{◌≡◌, ℕ, List, [], ◌∷◌, ◌++◌, drop, map, take, Result, Ok, Err, IfOk, IfErr}
 use Rattle.std.specs.List.{AllZip}
 use Rattle.osm_area.specs.Area.{AreaSpec}
-use Rattle.osm_ways.specs.Selection.{Strategy}
+use Rattle.osm_ways.specs.Selection.{Strategy, all_parents, complete_ways}
 use Rattle.pbf_block.specs.declared.counts.Counts.{Counts}
 use Rattle.pbf_frame.specs.declared.device.Drain as drain
 use Rattle.pbf_frame.specs.declared.stop.Stop.{Stop}
@@ -14,9 +14,12 @@ use Rattle.pbf_pass.specs.declared.receipt.InputReceipt.{InputReceipt}
 use Rattle.pbf_pass.specs.Refused.{stop_of}
 use Rattle.pbfcut.specs.declared.carrying.AreaOutput.{AreaOutput}
 use Rattle.pbfcut.specs.declared.carrying.EachReceipt.{EachReceipt}
+use Rattle.pbfcut.specs.declared.extracting_each.EachStrategy.{EachStrategy}
+use Rattle.pbfcut.specs.declared.extracting_each.EachStrategy.TheVariants as each
 use Rattle.pbfcut.specs.Calls.{AllSupply, DrainUse, FailedDrain, FeedUse, KeepsAll, KeepsDrained, drained, supply_of, taken_after, taken_before}
 use Rattle.pbfcut.specs.Kept.{extract_of}
 use Rattle.pbfcut.specs.Receipts.{Extracts}
+use Rattle.pbfcut.specs.Tasks.{spares_by}
 use Rattle.pbfcut.specs.Several.{AnyZip, KeepsOutput, OutputFailed}
 
 -- the receipt of one of the outputs
@@ -46,3 +49,14 @@ pub record ExtractsEach {A D : Type 0} (by : Strategy) (area : A → AreaSpec) (
   -- they come back in the same order, and keep their drains; and the feeds are kept
   pub outs : AllZip (KeepsOutput d) olds news
   pub feeds : KeepsAll (first ∷ spare ++ later)
+
+-- ---- over a list of feeds, one for each pass
+
+abbrev pub each_strategy : EachStrategy → Strategy
+each_strategy each.CompleteWays = complete_ways
+each_strategy each.AllParents = all_parents
+
+-- the same, where those feeds after the first may be spared that the strategy spares
+abbrev pub ExtractsAreas : {A D : Type 0} → Strategy → (area : A → AreaSpec) → List FeedUse → drain.Ghosts D → PassCheck → (olds news : List (AreaOutput A D)) → Result EachReceipt Halt → Type 0
+ExtractsAreas by area [] d check olds news result = ⊥
+ExtractsAreas by area (first ∷ later) d check olds news result = ExtractsEach by area first (take (spares_by by) later) (drop (spares_by by) later) d check olds news result

@@ -20,4 +20,6 @@ pub mod Changes
 pub mod Choosing
 pub mod Ends
 pub mod Receipts
+pub mod Tasks
+pub mod TaskCalls
 pub mod Copying

@@ -1,13 +1,14 @@
 //! Several extracts of one file: it is judged once, and read once to write all of them.
 
-ghost use Rattle.std.specs.Prelude.{◌≡◌, [], ◌∷◌, IfOk, length};
+ghost use Rattle.std.specs.Prelude.{◌≡◌, ◌+◌, [], ◌∷◌, IfOk, length};
 ghost use Rattle.std.specs.List.{AllByRecursion};
 ghost use Rattle.osm_ways.specs.Selection.{all_parents, complete_ways};
 ghost use Rattle.pbf_header.specs.Header.{header_of};
 ghost use Rattle.pbf_pass.specs.HeaderLimit.{HasShortTexts};
-ghost use Rattle.pbfcut.specs.Calls.{fed};
-ghost use Rattle.pbfcut.specs.EachReceipts.{ExtractsEach, stop_result};
+ghost use Rattle.pbfcut.specs.Calls.{fed, used};
+ghost use Rattle.pbfcut.specs.EachReceipts.{ExtractsAreas, ExtractsEach, each_strategy, stop_result};
 ghost use Rattle.pbfcut.specs.Several.{WritesEach};
+ghost use Rattle.pbfcut.specs.Tasks.{spares_by};
 
 use crate::carrying::{AreaOutput, EachReceipt};
 use crate::choosing_each::{ChoiceEach, choose_each};
@@ -118,4 +119,56 @@ pub fn extract_parents_each<
         Err(halt) => return (outputs, Err(halt)),
     };
     write_chosen(choice, outputs, fourth, hasher)
+}
+
+/// By what strategy several areas can be cut out of a file at once.
+#[derive(Clone, Copy, Debug)]
+pub enum EachStrategy {
+    /// See [`extract_each`].
+    CompleteWays,
+    /// See [`extract_parents_each`].
+    AllParents,
+}
+
+impl EachStrategy {
+    /// How many feeds [`extract`](EachStrategy::extract) takes.
+    pub fn pass_count(self) -> usize
+        ensures { result ≡ spares_by (each_strategy self) + 2 }
+    {
+        match self {
+            EachStrategy::CompleteWays => 3,
+            EachStrategy::AllParents => 4,
+        }
+    }
+
+    /// Writes the extract of each of these areas into its drain. The feeds have to supply the same file: each is read in one pass, in their
+    /// order, but those between the first and the last are read only if the first pass was not enough. The outputs come back in the same order.
+    pub fn extract<A: Area + Copy, F: Feed, D: Drain + Drop, S: BuildHasher + Copy + Drop>(
+        self,
+        passes: Passes,
+        feeds: &mut [F],
+        outputs: Vec<AreaOutput<A, D>>,
+        hasher: S,
+    ) -> (Vec<AreaOutput<A, D>>, Result<EachReceipt, Halt>)
+        requires { length feeds.old ≡ spares_by (each_strategy self) + 2 }
+        // Each area and its drain: what a call for only this area says. If the call halts, each drain has a prefix of its extract, whichever failed.
+        ensures { ExtractsAreas (each_strategy self) A.area (used F.Feed feeds.old feeds.new)
+            D.Drain passes.check outputs.items result.0.items result.1 }
+    {
+        let (one, later) = feeds.split_at_mut(1);
+        let (two, rest) = later.split_at_mut(1);
+        let one = &mut one[0];
+        let two = &mut two[0];
+        match self {
+            EachStrategy::CompleteWays => {
+                extract_each(passes, one, two, &mut rest[0], outputs, hasher)
+            }
+            EachStrategy::AllParents => {
+                let (three, four) = rest.split_at_mut(1);
+                let three = &mut three[0];
+                let four = &mut four[0];
+                extract_parents_each(passes, one, two, three, four, outputs, hasher)
+            }
+        }
+    }
 }

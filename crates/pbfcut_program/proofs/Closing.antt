@@ -19,8 +19,8 @@ use Rattle.pbfcut_cli.specs.declared.programs.Program.TheVariants.{Pbfcut, Pbfcu
 use Rattle.pbfcut_program.specs.declared.engine.Report.{Report}
 use Rattle.pbfcut_program.specs.declared.engine.Halted.{Halted}
 use Rattle.pbfcut_program.specs.declared.host.FinishFault.{FinishFault}
-use Rattle.pbfcut.specs.Calls.{AllSupply, AnyFailed}
-use Rattle.pbfcut_program.specs.Devices.{AreFresh, ChangeIn, CloseAll, Closes, Finishes, Fronts, GiveAll, GiveLater, GivesOrNot, GivesOtherAt, IsAsked, IsFresh, IsFreshOut, StopsFor, Works, used}
+use Rattle.pbfcut.specs.Calls.{AllSupply, AnyFailed, used}
+use Rattle.pbfcut_program.specs.Devices.{AreFresh, ChangeIn, CloseAll, Closes, Finishes, Fronts, GiveAll, GiveLater, GivesOrNot, GivesOtherAt, IsAsked, IsFresh, IsFreshOut, StopsFor, Works}
 use Rattle.pbfcut_program.specs.Events.{Event, Reading, Writing, read, wrote, then_all, then_one}
 use Rattle.pbfcut_program.specs.Fails.{Each, Fails, FailsToFinish, FailsToRead, FailsToWrite, Has, NearsLimit, Stops, TookNothing, CauseOfWrite, judging, judging_for, readings}
 use Rattle.pbfcut_program.specs.Manner.{AreDigests, Manner, input_form, manner, of_input, output_form}
@@ -28,7 +28,8 @@ use Rattle.pbfcut_program.specs.Outcomes.{EndsAs}
 use Rattle.pbfcut_program.specs.Program.{digest_if_asked}
 use Rattle.pbfcut_program.specs.Readings.{IsOther, IsWholeOrSpared, IsWork, ReadAll, ReadLater}
 use Rattle.pbfcut_program.specs.Leaving.{Answer, IsUnkept, Leaves, TookFront}
-use Rattle.pbfcut_program.specs.Tasks.{GivesRaw, Task, answer_of, judge_of, spares}
+use Rattle.pbfcut.specs.Tasks.{Task, answer_of, judge_of, spares}
+use Rattle.pbfcut_program.specs.Tasks.{GivesRaw}
 use Rattle.pbfcut_program.specs.Telling.{Silent}
 use Rattle.pbfcut_program.proofs.EventLemmas.{each_both, has_after, has_before, has_risen, nothing_read, readings_both, readings_of}
 use Rattle.pbfcut_program.proofs.FailLemmas.{stop_fails, text_stops, write_weaker}

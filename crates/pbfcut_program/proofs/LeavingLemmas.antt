@@ -21,7 +21,7 @@ use Rattle.pbfcut_program.specs.Manner.{Form, Manner, meant, packed_file, raw_fi
 use Rattle.pbfcut_program.specs.declared.engine.Report.{Report}
 use Rattle.pbfcut_program.specs.declared.engine.Halted.{Halted}
 use Rattle.pbfcut_program.specs.Devices.{FinishesPacked, Fronts, Leads, Wholes}
-use Rattle.pbfcut_program.specs.Tasks.{Task, answer_of, checking, listing_frames, showing, converting, copying, extracting}
+use Rattle.pbfcut.specs.Tasks.{Task, answer_of, checking, listing_frames, showing, converting, copying, extracting}
 use Rattle.pbfcut_program.specs.Telling.{Silent}
 use Rattle.pbfcut_program.proofs.EventLemmas.{each_both, each_quiet, quiet_of}
 

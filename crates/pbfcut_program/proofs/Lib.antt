@@ -9,6 +9,7 @@ pub mod LeavingLemmas
 pub mod Listings
 pub mod Logging
 pub mod MomentLemmas
+pub mod OpeningLemmas
 pub mod OutLemmas
 pub mod Meaning
 pub mod Printed
@@ -20,5 +21,6 @@ pub mod RunLemmas
 pub mod SayingLemmas
 pub mod SettlingLemmas
 pub mod TakingLemmas
+pub mod TaskRuns
 pub mod Weaker
 pub mod WritingLemmas

@@ -23,7 +23,7 @@ use Rattle.pbfcut_program.specs.Outcomes.{ListsBy, ending_of_text}
 use Rattle.pbfcut_program.specs.Manner.{Manner, input_form, manner, meant, of_input, raw_file, to_raw}
 use Rattle.pbfcut_program.specs.Program.{IsListing}
 use Rattle.pbfcut_program.specs.Leaving.{IsFrontAs, LeavesFor}
-use Rattle.pbfcut_program.specs.Tasks.{answer_of, listing_frames}
+use Rattle.pbfcut.specs.Tasks.{answer_of, listing_frames}
 use Rattle.pbfcut_program.specs.Telling.{Silent}
 use Rattle.pbfcut_program.proofs.Closing.{ends_with_out, reading, stop_told}
 use Rattle.pbfcut_program.proofs.EventLemmas.{has_risen}

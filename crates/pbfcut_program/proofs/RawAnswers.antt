@@ -11,7 +11,8 @@ use Rattle.pbf_pass.proofs.SoundLemmas.{ends_well}
 use Rattle.pbf_unpack.specs.RawFrames.{IsRawFile}
 use Rattle.pbfcut.specs.Kept.{IsWritable, conversion_of, extract_of, verdict_within}
 use Rattle.pbfcut.proofs.KeptLaw.{conversion_kept, extract_kept, same_as_a_file}
-use Rattle.pbfcut_program.specs.Tasks.{GivesRaw, converting, copying, extracting}
+use Rattle.pbfcut.specs.Tasks.{converting, copying, extracting}
+use Rattle.pbfcut_program.specs.Tasks.{GivesRaw}
 
 limited_sound : (v : Verdict) → (limited v).1 ≡ None → v.1 ≡ None
 limited_sound (frames, None) sound = refl

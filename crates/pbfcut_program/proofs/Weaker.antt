@@ -27,7 +27,7 @@ use Rattle.pbfcut_program.specs.declared.engine.Halted.{Halted}
 use Rattle.pbfcut_program.specs.Devices.{ChangesBy, DrainFailed, EndsFor, FinishesPacked, Fronts, MeansBy, PackingFailed, Wholes, Works}
 use Rattle.pbfcut_program.specs.Fails.{EndsAsStop}
 use Rattle.pbfcut_program.specs.Manner.{Form, manner, of_input, output_form, packed_file, raw_file}
-use Rattle.pbfcut_program.specs.Tasks.{Holds, Task, answer_of, judge_of}
+use Rattle.pbfcut.specs.Tasks.{Holds, Task, answer_of, judge_of}
 use Rattle.pbfcut_program.proofs.EventLemmas.{has_risen}
 use Rattle.pbfcut_program.proofs.FailLemmas.{caused_weaker}
 

@@ -14,7 +14,7 @@ use Rattle.pbf_unpack.specs.Packing.{GaveAll, failures_of_drain, taken_raw}
 use Rattle.pbf_unpack.specs.RawFrames.{IsNearLimit, IsRawFile}
 use Rattle.pbf_wire.specs.declared.fault.Fault.{Fault}
 use Rattle.pbf_pass.specs.declared.hashing.PassCheck.{PassCheck}
-use Rattle.pbfcut.specs.Calls.{AllSupply, AnyFailed, FeedUse, fed}
+use Rattle.pbfcut.specs.Calls.{AllSupply, AnyFailed, used}
 use Rattle.sha2.specs.Sha256.{sha256}
 use Rattle.pbfcut_cli.specs.declared.endings.Ending.{Ending}
 use Rattle.pbfcut_cli.specs.declared.endings.Ending.TheVariants as ending
@@ -26,9 +26,10 @@ use Rattle.pbfcut_program.specs.declared.host.FinishFault.{FinishFault}
 use Rattle.pbfcut_program.specs.Events.{Event, read, wrote, then_one}
 use Rattle.pbfcut_program.specs.Fails.{CauseOfWrite, EndsAsStop, FirstFault}
 use Rattle.pbfcut_program.specs.Leaving.{IsFrontAs}
-use Rattle.pbfcut_program.specs.Manner.{AreDigests, Form, Manner, meant, of_input, of_output, packed_file, raw_file}
+use Rattle.pbfcut_program.specs.Manner.{AreDigests, Form, Manner, input_form, meant, of_input, of_output, packed_file, raw_file, to_raw}
 use Rattle.pbfcut_program.specs.Readings.{IsFaulty, IsOther}
-use Rattle.pbfcut_program.specs.Tasks.{GivesRaw, Task, Holds, answer_of, judge_of, spares}
+use Rattle.pbfcut.specs.Tasks.{Task, Holds, answer_of, judge_of, spares}
+use Rattle.pbfcut_program.specs.Tasks.{GivesRaw}
 
 -- ---- devices of which nothing was read, and that took nothing
 
@@ -86,11 +87,6 @@ GiveAll f known may (old ∷ olds) (now ∷ news) (b ∷ bs) = GivesIts f known 
 GiveAll f known may _ _ _ = ⊥
 
 -- ---- why a call stops
-
--- feeds as a call finds them, and as it leaves them
-abbrev pub used : {F : Type 0} → feed.Ghosts F → (olds news : List F) → List FeedUse
-used f (old ∷ olds) (now ∷ news) = fed f old now ∷ used f olds news
-used f _ _ = []
 
 -- a feed gave faulty bytes
 pub record GivesFaulty {F : Type 0} (f : feed.Ghosts F) (judge : Option (List ℕ) → Option Verdict) (fault : Fault) (now : F) : Type 0 where
@@ -174,6 +170,12 @@ Leads form input task has after result = OnErr result ((bytes : List ℕ) → Al
 abbrev pub Wholes : {A : Type 0} → Form → Task → (has : List (Option (List ℕ))) → (before after : Option (List ℕ)) → Result A Halted → Type 0
 Wholes raw_file task has before after result = Unit {0}
 Wholes packed_file task has before after result = OnOk result ((bytes : List ℕ) → AllSupply bytes has → after ≡ append before (answer_of task (meant packed_file bytes)))
+
+-- what a call of the engine says that does a task, in raw blobs: what it reports, or why it stopped; and what went out, if its feeds had the same bytes
+pub record RunsTask {F D : Type 0} (m : Manner) (by : PassCheck) (f : feed.Ghosts F) (d : drain.Ghosts D) (task : Task) (olds news : List F) (old new : D) (result : Result Report Halted) : Type 0 where
+  pub works : WorksOn (to_raw m) by f d task olds news old new result
+  pub front : Fronts (input_form m.program) task (map f.remaining olds) (d.taken old) (d.taken new) result
+  pub whole : Wholes (input_form m.program) task (map f.remaining olds) (d.taken old) (d.taken new) result
 
 -- ---- drains between a call and OUT
 

@@ -25,7 +25,8 @@ use Rattle.pbfcut_program.specs.declared.host.PrintFault.TheVariants as line
 use Rattle.pbfcut_program.specs.Events.{Event, Reading, text_read, text_not_read, looked, opened, not_opened, seeded, made, not_made, linked, moved, renamed, removed, stays, not_named, not_synced, read, wrote, printed, told, advised}
 use Rattle.pbfcut_program.specs.Manner.{Form, Manner, input_form, meant_known, output_form, packed_file, raw_file}
 use Rattle.pbfcut_program.specs.Readings.{IsFaulty, IsOther}
-use Rattle.pbfcut_program.specs.Tasks.{GivesRaw, Task, judge_of}
+use Rattle.pbfcut.specs.Tasks.{Task, judge_of}
+use Rattle.pbfcut_program.specs.Tasks.{GivesRaw}
 
 -- ---- events
 

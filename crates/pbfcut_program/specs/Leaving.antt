@@ -10,7 +10,7 @@ use Rattle.pbfcut_program.specs.Fails.{Each, Opens}
 use Rattle.pbfcut_program.specs.Manner.{Form, Manner, of_input, output_form, packed_file, raw_file}
 use Rattle.pbfcut.specs.Calls.{AllSupply}
 use Rattle.pbfcut_program.specs.Readings.{IsWork}
-use Rattle.pbfcut_program.specs.Tasks.{Task, answer_of, listing_frames}
+use Rattle.pbfcut.specs.Tasks.{Task, answer_of, listing_frames}
 
 -- zlib blobs: whole frames that mean a prefix of the answer, and after them the beginning of one at most
 pub record IsPackedFront (answer bytes : List ℕ) : Type 0 where

@@ -43,7 +43,8 @@ use Rattle.pbfcut_program.specs.Files.{IsKept, IsMade}
 use Rattle.pbfcut_program.specs.Leaving.{LeavesFor}
 use Rattle.pbfcut_program.specs.Manner.{Manner, check_of, hashes_meaning, input_form, manner, meant_known, of_output, once_check, output_form, to_raw}
 use Rattle.pbfcut_program.specs.Readings.{IsWork}
-use Rattle.pbfcut_program.specs.Tasks.{GivesRaw, Task, checking, listing_frames, showing, converting, copying, extracting, passes_of}
+use Rattle.pbfcut.specs.Tasks.{Task, checking, listing_frames, showing, converting, copying, extracting, passes_of}
+use Rattle.pbfcut_program.specs.Tasks.{GivesRaw}
 use Rattle.pbfcut_program.specs.Telling.{IsSaid}
 
 -- ---- lines

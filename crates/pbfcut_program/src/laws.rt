@@ -21,7 +21,8 @@ ghost use Rattle.pbfcut_program.specs.Events.{Event};
 ghost use Rattle.pbfcut_program.specs.Manner.{Manner, of_input, of_output};
 ghost use Rattle.pbfcut_program.specs.Program.{Extracts, IsRun, Writes, manner_in, strategy_of};
 ghost use Rattle.pbfcut_program.specs.Taking.{ReadsOnly, TookConversion, TookCopy, TookExtract};
-ghost use Rattle.pbfcut_program.specs.Tasks.{GivesRaw, converting, copying, extracting};
+ghost use Rattle.pbfcut.specs.Tasks.{converting, copying, extracting};
+ghost use Rattle.pbfcut_program.specs.Tasks.{GivesRaw};
 
 use osm_area::Area;
 use pbfcut::laws::area_extracts_compose;

@@ -13,26 +13,27 @@ ghost use Rattle.pbfcut_program.specs.Devices.{AreFresh, DrainFailed, FinishesPa
 ghost use Rattle.pbfcut_program.specs.Events.{Event, Reading, Writing, read, wrote, then_all};
 ghost use Rattle.pbfcut_program.specs.Files.{IsKept, IsMade};
 ghost use Rattle.pbfcut_program.specs.Fails.{Each, Fails, FailsFor, FailsOpening, Quiet, judging_for};
-ghost use Rattle.pbfcut_program.specs.Jobs.{area_of, feeds_of, plan_of, task_of};
+ghost use Rattle.pbfcut_program.specs.Jobs.{IsReadyFor, area_of, feeds_of, plan_of, task_of};
 ghost use Rattle.pbfcut_program.specs.Leaving.{Leaves, LeavesFor};
 ghost use Rattle.pbfcut_program.specs.Outcomes.{ending_of_file};
 ghost use Rattle.pbfcut_program.specs.Program.{Extracts, LeavesCut, Writes, WritesCounts, advice, begun, is_empty, is_screen, judging_cut, looks, screen_of, strategy_of};
 ghost use Rattle.pbfcut_program.specs.Manner.{check_in, hashes_meaning, input_form, manner_of, output_form, packed_file, to_raw};
 ghost use Rattle.pbfcut_program.specs.Settling.{Returns, Settles};
 ghost use Rattle.pbfcut_program.specs.Worked.{Worked};
-ghost use Rattle.pbfcut_program.specs.Tasks.{extracting, passes_of};
+ghost use Rattle.pbfcut.specs.Tasks.{extracting, passes_of};
 ghost use Rattle.pbfcut_program.specs.Telling.{IsSaid, SaysLittle};
 
 use crate::engine::{Engine, Halted, Report};
 use crate::host::{FinishFault, Host, Screen, Seed};
-use crate::jobs::{Cut, Job, Plan, close_job, do_job, open_job, read_region};
+use crate::jobs::{Cut, Job, Plan, close_job, do_job, open_plan, read_region};
 use crate::linked::LinkedDrain;
-use crate::opening::draw_seed;
+use crate::opening::{draw_seed, open_inputs};
 use crate::output::{Output, Place, drop_out, keep_out, make_out};
 use crate::printing::{Done, print_done, tell_refusal};
 use osm_ways::WholeTypes;
 use pbf_frame::{Drain, Feed, Stop};
 use pbf_pass::{Counts, HashedDrain};
+use pbf_published::PublishedFeed;
 use pbf_unpack::{Deflater, PackedDrain};
 use pbfcut_cli::{Ending, Files, Program, Region, Strategy};
 use std::alloc::{AllocError, Global};
@@ -109,19 +110,23 @@ fn prepare<H: Host>(
         × IsFreshOut H.Out.Drain r.out.drain) }
     ensures planned { IfOk result (λ r. (task_of r.job ≡ plan_of plan)
         × (length (feeds_of r.job) ≡ passes_of (plan_of plan))) }
+    ensures ready { IfOk result (λ r. IsReadyFor H.In.Feed ⟦<PublishedFeed<H::In> as Feed>⟧
+        engine r.seed.key r.job) }
     ensures err { IfErr result (λ how. (events : List Event)
         × (H.log host.new ≡ then_all (H.log host.old) events) × FailsOpening how events) }
 {
     let to_screen = is_screen(engine.program, files.output);
     refuse_existing(host, to_screen, files)?;
-    let job = open_job(host, files.input, progress, plan)?;
+    let feeds = open_plan(engine.alloc, host, files.input, progress, &plan)?;
     let seed = draw_seed(host)?;
+    let inputs = open_inputs(engine, feeds, seed.key)?;
     let out = make_out(
         engine.alloc,
         host,
         to_screen,
         place_of(engine.program, files),
     )?;
+    let job = Job { plan, inputs };
     Ok(Ready { job, out, seed })
 }
 
@@ -142,7 +147,7 @@ fn run_raw<F: Feed, D: Drain + Drop, S: BuildHasher + Drop>(
     out: D,
     seed: Seed<S>,
 ) -> Ran<D>
-    requires { IfSome (D.taken out) (λ taken. taken ≡ []) }
+    requires { IsReadyFor F.Feed ⟦<PublishedFeed<F> as Feed>⟧ engine seed.key job.old }
     ensures works { WorksOn (to_raw (manner_of engine)) (check_in engine seed.key)
         F.Feed D.Drain (task_of job.old)
         (feeds_of job.old) (feeds_of job.new) out result.out result.result }
@@ -169,7 +174,7 @@ fn run_raw_hashed<F: Feed, D: Drain + Drop, S: BuildHasher + Drop>(
     out: D,
     seed: Seed<S>,
 ) -> Ran<D>
-    requires { IfSome (D.taken out) (λ taken. taken ≡ []) }
+    requires { IsReadyFor F.Feed ⟦<PublishedFeed<F> as Feed>⟧ engine seed.key job.old }
     ensures works { AreFresh F.Feed (feeds_of job.old) → D.has_taken out 0 []
         → Works (to_raw (manner_of engine)) (check_in engine seed.key) F.Feed (task_of job.old)
         (feeds_of job.old) (feeds_of job.new) (TakenBy D.Drain result.out result.output)
@@ -199,7 +204,7 @@ fn run_raw_into<F: Feed, D: Drain + Drop, S: BuildHasher + Drop>(
     out: D,
     seed: Seed<S>,
 ) -> Ran<D>
-    requires { IfSome (D.taken out) (λ taken. taken ≡ []) }
+    requires { IsReadyFor F.Feed ⟦<PublishedFeed<F> as Feed>⟧ engine seed.key job.old }
     ensures works { AreFresh F.Feed (feeds_of job.old) → D.has_taken out 0 []
         → Works (to_raw (manner_of engine)) (check_in engine seed.key) F.Feed (task_of job.old)
         (feeds_of job.old) (feeds_of job.new) (TakenBy D.Drain result.out result.output)
@@ -255,6 +260,7 @@ fn run_packed<F: Feed, D: Drain + Drop, S: BuildHasher + Drop>(
 ) -> Ran<D>
     requires fresh { IfSome (D.taken out) (λ taken. taken ≡ []) }
     requires packs { (engine.program ≡ Pbfcutz) × (engine.packs ≡ true) }
+    requires ready { IsReadyFor F.Feed ⟦<PublishedFeed<F> as Feed>⟧ engine seed.key job.old }
     ensures works { AreFresh F.Feed (feeds_of job.old) → D.has_taken out 0 []
         → Works (manner_of engine) (check_in engine seed.key) F.Feed (task_of job.old)
         (feeds_of job.old) (feeds_of job.new)
@@ -293,7 +299,8 @@ fn run_unhashed<F: Feed, D: Drain + Drop, S: BuildHasher + Drop>(
     out: D,
     seed: Seed<S>,
 ) -> Ran<D>
-    requires { IfSome (D.taken out) (λ taken. taken ≡ []) }
+    requires fresh { IfSome (D.taken out) (λ taken. taken ≡ []) }
+    requires ready { IsReadyFor F.Feed ⟦<PublishedFeed<F> as Feed>⟧ engine seed.key job.old }
     ensures works { AreFresh F.Feed (feeds_of job.old) → D.has_taken out 0 []
         → Works (manner_of engine) (check_in engine seed.key) F.Feed (task_of job.old)
         (feeds_of job.old) (feeds_of job.new)
@@ -321,7 +328,8 @@ fn run_hashed<F: Feed, D: Drain + Drop, S: BuildHasher + Drop>(
     out: D,
     seed: Seed<S>,
 ) -> Ran<D>
-    requires { IsFreshOut D.Drain out }
+    requires fresh { IsFreshOut D.Drain out }
+    requires ready { IsReadyFor F.Feed ⟦<PublishedFeed<F> as Feed>⟧ engine seed.key job.old }
     ensures works { AreFresh F.Feed (feeds_of job.old)
         → Works (manner_of engine) (check_in engine seed.key) F.Feed (task_of job.old) (feeds_of job.old) (feeds_of job.new)
         (λ w. TakenBy D.Drain result.out result.output w
@@ -353,7 +361,8 @@ fn run_into<F: Feed, D: Drain + Drop, S: BuildHasher + Drop>(
     out: D,
     seed: Seed<S>,
 ) -> Ran<D>
-    requires { IsFreshOut D.Drain out }
+    requires fresh { IsFreshOut D.Drain out }
+    requires ready { IsReadyFor F.Feed ⟦<PublishedFeed<F> as Feed>⟧ engine seed.key job.old }
     ensures works { AreFresh F.Feed (feeds_of job.old)
         → Works (manner_of engine) (check_in engine seed.key) F.Feed (task_of job.old) (feeds_of job.old) (feeds_of job.new)
         (λ w. TakenBy D.Drain result.out result.output w
@@ -394,6 +403,8 @@ fn run_job<H: Host>(
     files: &Files<'_>,
 ) -> Result<Done, Ending>
     requires fresh { AreFresh H.In.Feed (feeds_of ready.job) × IsFreshOut H.Out.Drain ready.out.drain }
+    requires ready { IsReadyFor H.In.Feed ⟦<PublishedFeed<H::In> as Feed>⟧ engine ready.seed.key
+        ready.job }
     ensures ok { IfOk result (λ done. (rs : List Reading) × (out : Writing) × (keeps : List Event)
         × (H.log host.new ≡ then_all (H.log host.old) (map read rs ++ wrote out ∷ keeps))
         × Worked engine ready.seed.key (task_of ready.job)

@@ -17,14 +17,14 @@ use std::test::Fail;
 /// The areas, of which a test takes the first few.
 const AREAS: [BoundingBox; 3] = [AREA, SOUTH, EAST];
 
-fn passes(alloc: Global) -> Passes {
+pub(crate) fn passes(alloc: Global) -> Passes {
     Passes {
         alloc,
         check: PassCheck::Sha256,
     }
 }
 
-fn hasher() -> BuildHasherDefault<FoldHasher> {
+pub(crate) fn hasher() -> BuildHasherDefault<FoldHasher> {
     BuildHasherDefault::new()
 }
 

@@ -30,6 +30,8 @@ mod sorted;
 mod steps;
 mod tape;
 #[cfg(test)]
+mod tasks;
+#[cfg(test)]
 mod words;
 #[cfg(test)]
 mod writing;

@@ -14,6 +14,7 @@ pub mod ids;
 pub mod pack;
 pub mod pass;
 pub mod polygon;
+pub mod published;
 pub mod strings;
 pub mod text;
 pub mod unpack;

@@ -3,7 +3,8 @@ use Rattle.std.proofs.lemmas.Result.{err_from_is_err_and}
 use Rattle.pbfcut_program.specs.Events.{Event, opened, read}
 use Rattle.pbfcut_program.specs.Fails.{CauseOfWrite, judging_for}
 use Rattle.pbfcut_program.specs.Manner.{manner_of, once_check, output_form}
-use Rattle.pbfcut_program.specs.Tasks.{GivesRaw, checking}
+use Rattle.pbfcut.specs.Tasks.{checking}
+use Rattle.pbfcut_program.specs.Tasks.{GivesRaw}
 use Rattle.pbfcut_program.proofs.Closing.{ends_with_none, work_fails, work_read_once}
 use Rattle.pbfcut_program.proofs.FailLemmas.{opened_fails, opening_fails, told_fails}
 use Rattle.pbfcut_program.proofs.LeavingLemmas.{returned_silent}

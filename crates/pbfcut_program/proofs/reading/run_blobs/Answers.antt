@@ -5,7 +5,7 @@ use Rattle.pbfcut_program.specs.Fails.{Each, FailsFor, listing}
 use Rattle.pbfcut_program.specs.Manner.{manner_of, to_raw}
 use Rattle.pbfcut_program.specs.Leaving.{LeavesFor}
 use Rattle.pbfcut_program.specs.Program.{IsListing}
-use Rattle.pbfcut_program.specs.Tasks.{listing_frames}
+use Rattle.pbfcut.specs.Tasks.{listing_frames}
 use Rattle.pbfcut_program.specs.Telling.{Silent}
 use Rattle.pbfcut_program.proofs.FailLemmas.{opening_after, opening_fails, text_err, text_ok}
 use Rattle.pbfcut_program.proofs.LeavingLemmas.{opening_leaves}

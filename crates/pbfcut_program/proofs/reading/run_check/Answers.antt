@@ -5,7 +5,7 @@ use Rattle.pbfcut_program.specs.Program.{Checks, check_lines, counts_text, print
 use Rattle.pbfcut_program.specs.Events.{Event, opened, read}
 use Rattle.pbfcut_program.specs.Fails.{judging_for}
 use Rattle.pbfcut_program.specs.Manner.{manner_of}
-use Rattle.pbfcut_program.specs.Tasks.{checking}
+use Rattle.pbfcut.specs.Tasks.{checking}
 use Rattle.pbfcut_program.proofs.FailLemmas.{print_fails, tells_err, tells_ok}
 use Rattle.pbfcut_program.proofs.Logging.{and_then}
 use Rattle.pbfcut_program.proofs.Printed.{still_prints}

@@ -6,7 +6,8 @@ use Rattle.pbfcut_program.specs.Jobs.{area_of}
 use Rattle.pbfcut_program.specs.Leaving.{LeavesFor}
 use Rattle.pbfcut_program.specs.Program.{CutsRaw, Extracts, Writes, WritesCounts, advice, judging_cut, strategy_of}
 use Rattle.pbfcut_program.specs.Manner.{manner_of}
-use Rattle.pbfcut_program.specs.Tasks.{GivesRaw, extracting}
+use Rattle.pbfcut.specs.Tasks.{extracting}
+use Rattle.pbfcut_program.specs.Tasks.{GivesRaw}
 use Rattle.pbfcut_program.specs.Telling.{IsSaid}
 use Rattle.pbfcut_program.proofs.Beginning.{calm_region, still_advice}
 use Rattle.pbfcut_program.proofs.EventLemmas.{quiet_of}

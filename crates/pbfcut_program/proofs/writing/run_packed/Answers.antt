@@ -4,7 +4,7 @@ use Rattle.pbf_unpack.specs.Packing.{failures_of_drain, taken_raw}
 use Rattle.pbfcut_cli.specs.declared.programs.Program.TheVariants.{Pbfcutz}
 use Rattle.pbfcut_program.specs.Manner.{check_by, input_form, meant, packed_file}
 use Rattle.pbfcut_program.specs.Jobs.{feeds_of, task_of}
-use Rattle.pbfcut_program.specs.Tasks.{answer_of}
+use Rattle.pbfcut.specs.Tasks.{answer_of}
 use Rattle.pbfcut_program.proofs.EventLemmas.{has_risen}
 use Rattle.pbfcut_program.proofs.LeavingLemmas.{fresh_front, packed_leads}
 use Rattle.pbfcut_program.proofs.Weaker.{works_packed}

@@ -14,4 +14,4 @@ returns-else-gives_packed-clause-works g c = λ fresh start.
 
 pub returns-else-gives_packed-clause-front : goal.returns-else-gives_packed-clause-front
 returns-else-gives_packed-clause-front g c =
-    rw (c.gives_packed.ensures.raw c.if-gives_packed.false) (raw_leads (task_of c.args.job.now) (map g.F.Feed.remaining (feeds_of c.args.job.now)) (input_form c.args.engine.program) (g.D.Drain.taken c.args.out) (g.D.Drain.taken c.run_raw.result.out) c.run_raw.result.result c.requires c.run_raw.ensures.front)
+    rw (c.gives_packed.ensures.raw c.if-gives_packed.false) (raw_leads (task_of c.args.job.now) (map g.F.Feed.remaining (feeds_of c.args.job.now)) (input_form c.args.engine.program) (g.D.Drain.taken c.args.out) (g.D.Drain.taken c.run_raw.result.out) c.run_raw.result.result c.requires.fresh c.run_raw.ensures.front)
