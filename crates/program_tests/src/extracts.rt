@@ -7,11 +7,12 @@ use osm_entity::BoundingBox;
 use pbf_frame::{Pieces, Sink};
 use pbf_pass::{Halt, InputReceipt, PassCheck, Passes};
 use pbfcut::{
-    AreaOutput, extract_each, extract_parents_each, extract_parents_sorted_with_receipt,
+    AreaOutput, EachStrategy, extract_each, extract_parents_sorted_with_receipt,
     extract_sorted_with_receipt,
 };
 use std::alloc::{AllocError, Global};
 use std::hash::{BuildHasherDefault, FoldHasher};
+use std::process::Abort;
 use std::test::Fail;
 
 /// The areas, of which a test takes the first few.
@@ -101,84 +102,72 @@ fn outputs(
     Ok(outputs)
 }
 
+/// Whether the areas of these outputs are the first few.
+fn are_in_order(outputs: &[AreaOutput<BoundingBox, Sink>]) -> bool {
+    let mut alike = true;
+    for (output, area) in outputs.iter().zip(&AREAS) {
+        alike = alike && output.area == *area;
+    }
+    alike
+}
+
 /// Whether a call for so many areas succeeds, and each drain has what a call for only its area writes.
-fn are_as_alone(alloc: Global, bytes: &[u8], count: usize) -> Result<bool, AllocError> {
-    let mut first = Pieces::new(bytes, &[], None);
-    let mut second = Pieces::new(bytes, &[], None);
-    let mut third = Pieces::new(bytes, &[], None);
-    let (ended, outcome) = extract_each(
-        passes(alloc),
-        &mut first,
-        &mut second,
-        &mut third,
-        outputs(alloc, count, [4_096; 3])?,
-        hasher(),
-    );
-    let mut alike = outcome.is_ok() && ended.len() == count;
-    for (at, output) in ended.iter().enumerate() {
-        alike = alike && output.area == AREAS[at] && is_as_alone(alloc, bytes, output)?;
+fn are_as_alone(
+    alloc: Global,
+    strategy: EachStrategy,
+    bytes: &[u8],
+    count: usize,
+) -> Result<bool, AllocError> {
+    let mut feeds = Vec::new(alloc);
+    for _ in 0..strategy.pass_count() {
+        feeds.push(Pieces::new(bytes, &[], None))?;
+    }
+    if feeds.len() != strategy.pass_count() {
+        return Ok(false);
+    }
+    let outputs = outputs(alloc, count, [4_096; 3])?;
+    let (ended, outcome) = strategy.extract(passes(alloc), &mut feeds, outputs, hasher());
+    let mut alike = outcome.is_ok() && ended.len() == count && are_in_order(&ended);
+    for output in &ended {
+        let is_alike = match strategy {
+            EachStrategy::CompleteWays => is_as_alone(alloc, bytes, output)?,
+            EachStrategy::AllParents => is_as_alone_with_parents(alloc, bytes, output)?,
+        };
+        alike = alike && is_alike;
     }
     Ok(alike)
 }
 
-/// The same with all parents.
-fn are_as_alone_with_parents(
-    alloc: Global,
-    bytes: &[u8],
-    count: usize,
-) -> Result<bool, AllocError> {
-    let mut first = Pieces::new(bytes, &[], None);
-    let mut second = Pieces::new(bytes, &[], None);
-    let mut third = Pieces::new(bytes, &[], None);
-    let mut fourth = Pieces::new(bytes, &[], None);
-    let (ended, outcome) = extract_parents_each(
-        passes(alloc),
-        &mut first,
-        &mut second,
-        &mut third,
-        &mut fourth,
-        outputs(alloc, count, [4_096; 3])?,
-        hasher(),
-    );
-    let mut alike = outcome.is_ok() && ended.len() == count;
-    for (at, output) in ended.iter().enumerate() {
-        let is_alike = is_as_alone_with_parents(alloc, bytes, output)?;
-        alike = alike && output.area == AREAS[at] && is_alike;
+fn are_all_as_alone(rt: &(impl Abort + AllocGlobal), strategy: EachStrategy) -> Result<(), Fail> {
+    for count in 0..4 {
+        assert!(rt;
+            are_as_alone(rt.alloc(), strategy, &THREE_DENSE_NODES, count)?,
+            "{count}"
+        );
+        assert!(rt;
+            are_as_alone(rt.alloc(), strategy, &SMALL, count)?,
+            "{count}"
+        );
     }
-    Ok(alike)
+    Ok(())
 }
 
 #[test]
 fn several_extracts_with_parents_are_those_of_calls_alone(rt: HostRuntime) -> Result<(), Fail> {
-    for count in 0..4 {
-        assert!(rt;
-            are_as_alone_with_parents(rt.alloc(), &THREE_DENSE_NODES, count)?,
-            "{count}"
-        );
-        assert!(rt;
-            are_as_alone_with_parents(rt.alloc(), &SMALL, count)?,
-            "{count}"
-        );
-    }
-    Ok(())
+    are_all_as_alone(&rt, EachStrategy::AllParents)
 }
 
 #[test]
 fn several_extracts_are_those_of_calls_alone(rt: HostRuntime) -> Result<(), Fail> {
-    for count in 0..4 {
-        assert!(rt;
-            are_as_alone(rt.alloc(), &THREE_DENSE_NODES, count)?,
-            "{count}"
-        );
-        assert!(rt; are_as_alone(rt.alloc(), &SMALL, count)?, "{count}");
-    }
-    Ok(())
+    are_all_as_alone(&rt, EachStrategy::CompleteWays)
 }
 
 /// Whichever drain has no room, the outputs come back in their order, and those before it have the bytes that they have otherwise, up to a place.
 fn keeps_fronts(alloc: Global, bytes: &[u8], full: usize) -> Result<bool, AllocError> {
     let mut rooms = [4_096; 3];
-    rooms[full] = 60;
+    if let Some(room) = rooms.get_mut(full) {
+        *room = 60;
+    }
     let mut first = Pieces::new(bytes, &[], None);
     let mut second = Pieces::new(bytes, &[], None);
     let mut third = Pieces::new(bytes, &[], None);
@@ -190,12 +179,9 @@ fn keeps_fronts(alloc: Global, bytes: &[u8], full: usize) -> Result<bool, AllocE
         outputs(alloc, 3, rooms)?,
         hasher(),
     );
-    let mut alike = outcome.is_err() && ended.len() == 3;
-    for (at, output) in ended.iter().enumerate() {
-        alike = alike && output.area == AREAS[at];
-        if at == full {
-            alike = alike && output.drain.bytes().len() <= 60;
-        }
+    let mut alike = outcome.is_err() && ended.len() == 3 && are_in_order(&ended);
+    if let Some(output) = ended.get(full) {
+        alike = alike && output.drain.bytes().len() <= 60;
     }
     Ok(alike)
 }
