@@ -232,6 +232,10 @@ pub(crate) const BOX: &str = "Edges of the box, in degrees; also --bbox";
 
 pub(crate) const POLYGON: &str = "Cut out a polygon: a .poly or GeoJSON file";
 
+pub(crate) const CONFIG: &str = "Cut out several areas: a JSON file names them";
+
+pub(crate) const DIRECTORY: &str = "Where the files are that --config names";
+
 pub(crate) const ANY_OUTPUT: &str = "The file to write, or - for standard output";
 
 pub(crate) const OPTION: &str = "The file to write, instead of the last argument";
@@ -322,7 +326,8 @@ pub(crate) const OF_PBFCUTZ: Help = Help {
     input: "The OpenStreetMap PBF file to read; its blobs are raw or zlib",
     digests: "Print the SHA-256 digests of IN and OUT",
     digest_of_input: "Print the SHA-256 digest of IN",
-    usage_of_extract: "pbfcutz extract [OPTIONS] <--box=W,S,E,N|--polygon=FILE> <IN> <OUT>",
+    usage_of_extract: "pbfcutz extract [OPTIONS] <--box=W,S,E,N|--polygon=FILE> <IN> <OUT>\n       \
+        pbfcutz extract [OPTIONS] --config=FILE <IN>",
     after: after_arguments_of_writer!(
         "'pbfcutz help COMMAND' prints what a command does, its units and an example.\n",
         "pbfcutz takes the words of pbfcut. It reads files whose blobs are compressed by\n\
