@@ -5,7 +5,7 @@ use Rattle.osm_config.specs.Areas.{AreaSpec, in_file}
 use Rattle.osm_config.specs.Configs.{ExtractSpec, config_of_text, if_some_and_distinct}
 use Rattle.osm_config.specs.Faults.{OrFault, and_then}
 
--- where a relative output begins: in the folder that is given, or else in the one that the configuration names, or else where the program runs
+-- where a relative output begins: in the folder that is given, otherwise in the one that the configuration names, otherwise where the program runs
 abbrev pub folder_of_outputs : (given named : Option (List ℕ)) → List ℕ
 folder_of_outputs given named = unwrap_or given (unwrap_or named [])
 

@@ -97,7 +97,8 @@ fn distinct(
 ///
 /// # Errors
 ///
-/// As [`read_config`], and `Refused` with `SameOutput` if two extracts have the same output by then.
+/// `Refused` with the first fault of the text, or with `SameOutput` if two extracts have the same output once their folder is known, and `Memory`
+/// if memory is refused.
 #[tactic(auto, unfolding(crate::specs::Paths::extracts_of_text))]
 pub fn read_extracts(
     alloc: Global,

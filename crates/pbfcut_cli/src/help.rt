@@ -326,8 +326,7 @@ pub(crate) const OF_PBFCUTZ: Help = Help {
     input: "The OpenStreetMap PBF file to read; its blobs are raw or zlib",
     digests: "Print the SHA-256 digests of IN and OUT",
     digest_of_input: "Print the SHA-256 digest of IN",
-    usage_of_extract: "pbfcutz extract [OPTIONS] <--box=W,S,E,N|--polygon=FILE> <IN> <OUT>\n       \
-        pbfcutz extract [OPTIONS] --config=FILE <IN>",
+    usage_of_extract: "pbfcutz extract [OPTIONS] <--box=W,S,E,N|--polygon=FILE> <IN> <OUT>",
     after: after_arguments_of_writer!(
         "'pbfcutz help COMMAND' prints what a command does, its units and an example.\n",
         "pbfcutz takes the words of pbfcut. It reads files whose blobs are compressed by\n\
@@ -338,7 +337,13 @@ pub(crate) const OF_PBFCUTZ: Help = Help {
     ),
     extract: after_extract!(
         "IN has zlib or raw blobs, and OUT has zlib blobs; with --raw it has raw ones.\n\
-        If a run stops early there is no OUT.\n",
+        If a run stops early there is no OUT.\n\
+        \n\
+        'pbfcutz extract --config=FILE IN' cuts several areas in one run, each into a\n\
+        file of its own. They are named in a JSON file, as for 'osmium extract -c':\n  \
+          {\"extracts\": [{\"output\": \"a.osm.pbf\", \"bbox\": [-0.5, 51.25, 0.3, 51.7]},\n                \
+                        {\"output\": \"b.osm.pbf\", \"polygon\": {\"file_name\": \"b.poly\"}}]}\n\
+        The outputs are in the folder of -d, or in the \"directory\" that the file names.\n",
         "Example, which cuts London out of a published file of England:\n  \
           pbfcutz extract --box=-0.5,51.25,0.3,51.7 england.osm.pbf london.osm.pbf\n"
     ),

@@ -349,7 +349,7 @@ fn region_in<'a>(matches: &ArgMatches<'a>) -> Result<Region<'a>, CliFault>
 }
 
 /// An extract of one area, without a configuration.
-fn extract_one<'a>(matches: &ArgMatches<'a>) -> Result<Command<'a>, CliFault>
+fn one_area_in<'a>(matches: &ArgMatches<'a>) -> Result<Command<'a>, CliFault>
     requires { is_given (codes "config") (rows_of (found_of matches.now)) ≡ false }
     ensures { MatchResult result (ReadsAs (codes "extract") (rows_of (found_of matches.now)))
         (HasExtractFault (rows_of (found_of matches.now))) }
@@ -398,20 +398,27 @@ fn config_files_in<'a>(
     if !names_pbf(matches) {
         return Err(CliFault::Choice(ChoiceFault::OtherFormat));
     }
+    let input = value(matches, "IN");
+    let directory = value_of(matches, "directory");
+    let overwrite = flag(matches, "overwrite");
+    let raw = flag(matches, "raw");
+    let progress = flag(matches, "progress");
+    let quiet = flag(matches, "no-progress");
+    let digests = flag(matches, "digests");
     Ok(ConfigFiles {
-        input: value(matches, "IN"),
+        input,
         config,
-        directory: value_of(matches, "directory"),
-        overwrite: flag(matches, "overwrite"),
-        raw: flag(matches, "raw"),
-        progress: flag(matches, "progress"),
-        quiet: flag(matches, "no-progress"),
-        digests: flag(matches, "digests"),
+        directory,
+        overwrite,
+        raw,
+        progress,
+        quiet,
+        digests,
     })
 }
 
 /// An extract of each area of this configuration.
-fn extract_each<'a>(matches: &ArgMatches<'a>, config: &'a str) -> Result<Command<'a>, CliFault>
+fn each_area_in<'a>(matches: &ArgMatches<'a>, config: &'a str) -> Result<Command<'a>, CliFault>
     requires { first_of (codes "config") (rows_of (found_of matches.now)) ≡ Some config.now }
     ensures { MatchResult result (ReadsAs (codes "extract") (rows_of (found_of matches.now)))
         (HasExtractFault (rows_of (found_of matches.now))) }
@@ -422,13 +429,13 @@ fn extract_each<'a>(matches: &ArgMatches<'a>, config: &'a str) -> Result<Command
 }
 
 /// The extract that the matches name: of one area, or of each area of a configuration.
-fn extract_in<'a>(matches: &ArgMatches<'a>) -> Result<Command<'a>, CliFault>
+fn extract_command_in<'a>(matches: &ArgMatches<'a>) -> Result<Command<'a>, CliFault>
     ensures { MatchResult result (ReadsAs (codes "extract") (rows_of (found_of matches.now)))
         (HasExtractFault (rows_of (found_of matches.now))) }
 {
     match value_of(matches, "config") {
-        Some(config) => extract_each(matches, config),
-        None => extract_one(matches),
+        Some(config) => each_area_in(matches, config),
+        None => one_area_in(matches),
     }
 }
 
@@ -469,7 +476,7 @@ fn command_in<'a>(matches: &ArgMatches<'a>) -> Result<Command<'a>, CliFault>
         "convert" => Ok(Command::Convert(files_in(inner)?)),
         "pack" => Ok(Command::Pack(files_in(inner)?)),
         "unpack" => Ok(Command::Unpack(files_in(inner)?)),
-        _ => extract_in(inner),
+        _ => extract_command_in(inner),
     }
 }
 

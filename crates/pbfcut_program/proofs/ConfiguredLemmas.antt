@@ -9,7 +9,7 @@ use Rattle.osm_config.specs.Paths.{extracts_of_text}
 use Rattle.osm_config.specs.Readings.{extract_of}
 use Rattle.pbfcut_cli.specs.declared.endings.Ending.{Ending}
 use Rattle.pbfcut_program.specs.declared.configured.OutputCut.{OutputCut}
-use Rattle.pbfcut_program.specs.Configured.{FailsConfig, FailsText, MeansConfigured, MeansEach, OutputArea}
+use Rattle.pbfcut_program.specs.Configured.{FailsConfig, FailsText, MeansConfig, MeansConfigured, MeansEach, OutputArea}
 use Rattle.pbfcut_program.specs.ConfiguredCuts.{output_area_of}
 use Rattle.pbfcut_program.specs.Events.{Event, text_read, then_all}
 use Rattle.pbfcut_program.specs.Fails.{Calm, Each, FailsOpening}
@@ -92,3 +92,6 @@ config_later config folder k l m text extracts how later first are log f = (
   opening_after how (text_read config text ∷ []) later (tt, tt) f,
   inr (text, extracts, later, refl, are, f),
 )
+
+pub config_calm : (config : List ℕ) (folder : Option (List ℕ)) (events : List Event) (outputs : List OutputArea) → MeansConfig config folder events outputs → Each Calm events
+config_calm config folder events outputs m = subst (λ l. Each Calm l) (sym m.happened) (tt, calm_each m.extracts m.later outputs m.each)

@@ -1,5 +1,5 @@
 -- What a configuration has cut out: the areas that it names, each with the path of its OUT.
-use Rattle.std.specs.Prelude.{◌≡◌, ◌⊎◌, ℕ, List, [], ◌∷◌, ◌++◌, Option, Ok, Err}
+use Rattle.std.specs.Prelude.{◌≡◌, ◌⊎◌, ℕ, List, [], ◌∷◌, ◌++◌, Option, option_map, Ok, Err}
 use Rattle.osm_area.specs.Area.{AreaSpec, box_area}
 use Rattle.osm_config.specs.Areas.{AreaSpec as ConfiguredArea, in_box, in_polygons, in_file}
 use Rattle.osm_config.specs.Configs.{ExtractSpec}
@@ -12,6 +12,7 @@ use Rattle.osm_polygon.specs.Texts.{polygons_of_text}
 use Rattle.pbf_frame.specs.declared.stop.Stop.TheVariants as stop
 use Rattle.pbfcut_cli.specs.declared.endings.Ending.{Ending}
 use Rattle.pbfcut_cli.specs.declared.endings.Ending.TheVariants as ending
+use Rattle.pbfcut_cli.specs.declared.words.ConfigFiles.{ConfigFiles}
 use Rattle.pbfcut_program.specs.Events.{Event, text_read, text_not_read}
 use Rattle.pbfcut_program.specs.Fails.{FailsOpening}
 
@@ -61,3 +62,9 @@ FailsLater config folder how events = (text : List ℕ) × (extracts : List Extr
 
 abbrev pub FailsConfig : (config : List ℕ) → (folder : Option (List ℕ)) → Ending → List Event → Type 0
 FailsConfig config folder how events = FailsText config folder how events ⊎ FailsLater config folder how events
+
+-- what it names can't be cut out yet: only texts are read
+abbrev pub FailsEach : ConfigFiles → Ending → List Event → Type 0
+FailsEach files how events = let folder = option_map (λ s. s.now) files.directory in
+    (FailsOpening how events × FailsConfig files.config.now folder how events)
+    ⊎ ((how ≡ ending.ConfigNotYet) × (outputs : List OutputArea) × MeansConfig files.config.now folder events outputs)

@@ -34,7 +34,7 @@ use Rattle.pbfcut_cli.specs.declared.words.Strategy.{Strategy}
 use Rattle.pbfcut_cli.specs.declared.words.Strategy.TheVariants as strategy
 use Rattle.pbfcut_program.specs.declared.host.Screen.{Screen}
 use Rattle.pbfcut_program.specs.declared.host.Screen.TheVariants.{Output, Error}
-use Rattle.pbfcut_program.specs.Configured.{MeansFile}
+use Rattle.pbfcut_program.specs.Configured.{FailsEach, MeansFile}
 use Rattle.pbfcut_program.specs.Events.{Event, looked, opened, seeded, screened, read, wrote, printed, told, advised, Reading, Writing}
 use Rattle.pbfcut_program.specs.Fails.{Each, FailsFor, Judging, Quiet, judging, judging_for, listing, printing}
 use Rattle.pbfcut_program.specs.Files.{IsKept, IsMade}
@@ -204,6 +204,7 @@ digests_of (Convert files) = files.digests
 digests_of (Pack files) = files.digests
 digests_of (Unpack files) = files.digests
 digests_of (Extract region by files) = files.digests
+digests_of (ExtractEach parents files) = files.digests
 digests_of _ = false
 
 -- OUT gets zlib blobs, if it is pbfcutz that writes it
@@ -211,6 +212,7 @@ abbrev pub packs_of : Command → Bool
 packs_of (Convert files) = not files.raw
 packs_of (Pack files) = true
 packs_of (Extract region by files) = not files.raw
+packs_of (ExtractEach parents files) = not files.raw
 packs_of _ = false
 
 abbrev pub manner_in : Program → Command → Manner
@@ -276,9 +278,8 @@ LeavesIn m (Unpack files) events = LeavesFor m copying events
 LeavesIn m (Extract region by files) events = Each Quiet events ⊎ LeavesCut m region by events
 LeavesIn m _ events = Unit {0}
 
--- several extracts in one run can't be made yet: nothing is done
 abbrev pub FailsIn : Manner → Command → Ending → List Event → Type 0
-FailsIn m (ExtractEach parents files) how events = (how ≡ ending.ConfigNotYet) × (events ≡ [])
+FailsIn m (ExtractEach parents files) how events = FailsEach files how events
 FailsIn m command how events = FailsFor (reading_of m command) (judging_in command events) how events × LeavesIn m command events × IsSaid m.digests (Does m command) how events
 
 -- ---- the whole run

@@ -1,20 +1,22 @@
 //! What a configuration has cut out: each area, with the path of its OUT.
 
-ghost use Rattle.std.specs.Prelude.{◌≡◌, ◌∷◌, [], ℕ, List, IfErr, IfOk, Ok, map, option_map};
+ghost use Rattle.std.specs.Prelude.{◌≡◌, ◌∷◌, [], ℕ, List, IfErr, IfOk, Ok, OnOk, map, option_map};
 ghost use Rattle.osm_config.specs.Paths.{extracts_of_text};
 ghost use Rattle.osm_config.specs.Readings as config;
-ghost use Rattle.pbfcut_program.specs.Configured.{FailsConfig, FailsText, MeansConfig, MeansConfigured, MeansEach};
+ghost use Rattle.pbfcut_program.specs.Configured.{FailsConfig, FailsEach, FailsText, MeansConfig, MeansConfigured, MeansEach};
 ghost use Rattle.pbfcut_program.specs.ConfiguredCuts.{output_area_of};
 ghost use Rattle.pbfcut_program.specs.Events.{Event, text_read, then_all};
 ghost use Rattle.pbfcut_program.specs.Fails.{FailsOpening};
 ghost use Rattle.pbfcut_program.specs.Jobs.{area_of};
+ghost use Rattle.pbfcut_program.specs.Settling.{IsStill};
 
+use crate::engine::Engine;
 use crate::host::{Host, TextFault};
 use crate::jobs::{Cut, read_area};
 use osm_config::{ConfiguredArea, ConfiguredExtract, read_extracts};
-use osm_polygon::{MultiPolygon, Ring};
+use osm_polygon::MultiPolygon;
 use pbf_frame::Stop;
-use pbfcut_cli::Ending;
+use pbfcut_cli::{ConfigFiles, Ending};
 use std::alloc::Global;
 
 /// An OUT, and the area that is cut out into it.
@@ -49,6 +51,7 @@ fn read_config_file<H: Host>(
 }
 
 /// Reads the area of an extract, if it is in a file.
+#[tactic(auto, using(crate::proofs::Logging::then_none))]
 fn read_configured_area<H: Host>(
     alloc: Global,
     host: &mut H,
@@ -62,10 +65,10 @@ fn read_configured_area<H: Host>(
 {
     match area {
         ConfiguredArea::InBox(bounds) => Ok(Cut::Box(*bounds)),
-        ConfiguredArea::InPolygons(polygons) => match MultiPolygon::new(alloc, polygons.as_slice()) {
-            Ok(area) => Ok(Cut::Polygon(area)),
-            Err(_) => Err(Ending::Stopped(Stop::Memory)),
-        },
+        ConfiguredArea::InPolygons(polygons) => {
+            let area = MultiPolygon::new(alloc, polygons.as_slice())?;
+            Ok(Cut::Polygon(area))
+        }
         ConfiguredArea::InFile(path) => {
             let area = read_area(alloc, host, path.as_str())?;
             Ok(Cut::Polygon(area))
@@ -130,4 +133,21 @@ pub(crate) fn read_configured<H: Host>(
 {
     let extracts = read_config_file(alloc, host, path, folder)?;
     read_each(alloc, host, extracts.as_slice())
+}
+
+/// `extract --config`, as far as it goes yet: the configuration is read, with the files of polygons that it names.
+pub(crate) fn run_extract_each<H: Host>(
+    engine: Engine,
+    host: &mut H,
+    files: &ConfigFiles<'_>,
+) -> Result<(), Ending>
+    ensures ok { OnOk result ⊥ }
+    ensures err { IfErr result (λ how. (events : List Event)
+        × (H.log host.new ≡ then_all (H.log host.old) events) × FailsEach files.now how events) }
+    ensures files { IsStill (H.log host.old) (H.log host.new) }
+{
+    match read_configured(engine.alloc, host, files.config, files.directory) {
+        Ok(_) => Err(Ending::ConfigNotYet),
+        Err(how) => Err(how),
+    }
 }
