@@ -78,11 +78,18 @@ fn extract_words(alloc: Global, extract: usize) -> Result<String, AllocError>
     numbered_words(alloc, extract)
 }
 
+/// Whether each byte can be printed: it is a letter, a digit or a mark of ASCII.
+fn are_graphic(bytes: &[u8]) -> bool
+    ensures { result ≡ list_all is_ascii_graphic bytes.now }
+{
+    bytes.iter().all(|byte| byte.is_ascii_graphic())
+}
+
 /// A name, if it can be printed: a configuration may have any.
 fn printable_name(name: &str) -> &str
     ensures { result.now ≡ printable_name name.now }
 {
-    if name.as_bytes().iter().all(|byte| byte.is_ascii_graphic()) {
+    if are_graphic(name.as_bytes()) {
         name
     } else {
         "?"
