@@ -7,7 +7,9 @@ use Rattle.osm_config.specs.Areas.{AreaSpec as ConfiguredArea, in_box, in_polygo
 use Rattle.osm_config.specs.Configs.{ExtractSpec}
 use Rattle.osm_config.specs.Paths.{extracts_of_text}
 use Rattle.osm_config.specs.Readings.{extract_of}
+use Rattle.pbf_frame.specs.declared.stop.Stop.TheVariants as stop
 use Rattle.pbfcut_cli.specs.declared.endings.Ending.{Ending}
+use Rattle.pbfcut_cli.specs.declared.endings.Ending.TheVariants as ending
 use Rattle.pbfcut_program.specs.declared.configured.OutputCut.{OutputCut}
 use Rattle.pbfcut_program.specs.Configured.{FailsConfig, FailsText, MeansConfig, MeansConfigured, MeansEach, OutputArea}
 use Rattle.pbfcut_program.specs.ConfiguredCuts.{output_area_of}
@@ -75,12 +77,27 @@ module _ (k l : Option (List Event)) (all left : List ConfiguredExtract) (outs :
       → (events : List Event) × (m ≡ then_all k events) × FailsOpening how events
   read_failed m how own log f = (r.events ++ own, and_then k l m r.events own r.log log, opening_after how r.events own read_calm f)
 
+  -- or there was no memory for it
+  pub read_stopped : (m : Option (List Event)) (x : ExtractSpec) (o : OutputArea) (own : List Event) → m ≡ then_all l own → MeansEach (x ∷ []) own (o ∷ [])
+      → (events : List Event) × (m ≡ then_all k events) × FailsOpening (ending.Stopped stop.Memory) events
+  read_stopped m x o own log one = read_failed m (ending.Stopped stop.Memory) own log (calm_each (x ∷ []) own (o ∷ []) one, tt)
+
   -- none is left
   pub read_all : length left ≡ 0 → (events : List Event) × (l ≡ then_all k events) × MeansEach (map extract_of all) events (map output_area_of outs)
   read_all none = (r.events, r.log, subst (λ xs. MeansEach (map extract_of xs) r.events (map output_area_of outs)) (whole left none r.parts) r.each) where
     whole : (rest : List ConfiguredExtract) → length rest ≡ 0 → r.done ++ rest ≡ all → r.done ≡ all
     whole [] e p = sym (append-nil r.done) ∙ p
     whole (x ∷ rest) e p = absurd (omega (arith, e))
+
+-- the configuration was read, and then all that it names
+pub config_read : (config : List ℕ) (folder : Option (List ℕ)) (k l m : Option (List Event)) (text : List ℕ) (extracts : List ExtractSpec) (given : List ConfiguredExtract) (later : List Event) (outputs : List OutputArea)
+    → l ≡ then_all k (text_read config text ∷ []) → extracts_of_text config folder text ≡ Ok extracts → map extract_of given ≡ extracts → m ≡ then_all l later → MeansEach (map extract_of given) later outputs
+    → (events : List Event) × (m ≡ then_all k events) × MeansConfig config folder events outputs
+config_read config folder k l m text extracts given later outputs first are same log each = (
+  text_read config text ∷ later,
+  and_then k l m (text_read config text ∷ []) later first log,
+  record { text = text; extracts = extracts; later = later; happened = refl; are = are; each = subst (λ xs. MeansEach xs later outputs) same each },
+)
 
 -- the configuration was read, and then something failed
 pub config_later : (config : List ℕ) (folder : Option (List ℕ)) (k l m : Option (List Event)) (text : List ℕ) (extracts : List ExtractSpec) (how : Ending) (later : List Event)

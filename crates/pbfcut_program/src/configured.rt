@@ -109,7 +109,9 @@ fn read_each<H: Host>(
     let mut rest = extracts;
     'extracts: while let Some((first, more)) = rest.split_first() {
         let out = read_extract(alloc, host, first)?;
-        outs.push(out)?;
+        if outs.push(out).is_err() {
+            return Err(Ending::Stopped(Stop::Memory));
+        }
         rest = more;
     }
     Ok(outs)
