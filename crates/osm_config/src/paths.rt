@@ -106,7 +106,8 @@ pub fn read_extracts(
     config: &str,
     folder: Option<&str>,
 ) -> Result<Vec<ConfiguredExtract>, ConfigError>
-    ensures { ReadsConfig (extracts_of_text config.now (option_map (λ s. s.now) folder.entry) text.now)
+    ensures { ReadsConfig
+        (extracts_of_text config.now (option_map (λ s. s.now) folder.entry) text.now)
         (result_map_both (λ extracts. map extract_of extracts.items) (λ e. e) result) }
 {
     let Config {
