@@ -1,5 +1,6 @@
 pub mod Beginning
 pub mod Closing
+pub mod ConfiguredLemmas
 pub mod DiskLemmas
 pub mod EventLemmas
 pub mod FailLemmas

@@ -1,4 +1,6 @@
 pub mod Changes
+pub mod Configured
+pub mod ConfiguredCuts
 pub mod Devices
 pub mod Events
 pub mod Fails

@@ -1,6 +1,7 @@
 //! The program: what a command does to its host, for every host.
 #![tactic(auto)]
 
+mod configured;
 mod ending;
 mod engine;
 pub mod file_laws;
