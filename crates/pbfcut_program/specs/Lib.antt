@@ -13,6 +13,8 @@ pub mod Outcomes
 pub mod Program
 pub mod Readings
 pub mod Settling
+pub mod Several
+pub mod SeveralOuts
 pub mod Taking
 pub mod Tasks
 pub mod Telling

@@ -14,6 +14,8 @@ mod output;
 mod printing;
 mod program;
 mod reading;
+mod several;
+mod several_outs;
 mod writing;
 
 pub use ending::report;
