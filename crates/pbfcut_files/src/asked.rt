@@ -15,11 +15,13 @@ pub struct Asked<'a> {
     pub(crate) input: &'a str,
     pub(crate) output: Option<&'a str>,
     pub(crate) region: Option<Region<'a>>,
+    /// The text that the run read last, or tried to: a configuration, or the file of a polygon.
+    pub(crate) text: Option<&'a str>,
 }
 
 impl<'a> Asked<'a> {
-    /// The files of a command that isn't help, and the program.
-    pub fn of(program: Program, command: &Command<'a>) -> Option<Asked<'a>> {
+    /// The files of a command that isn't help, the program, and the path of the text that it read last, if that is known.
+    pub fn of(program: Program, command: &Command<'a>, text: Option<&'a str>) -> Option<Asked<'a>> {
         let (input, output, region) = match command {
             Command::Help(_) => return None,
             Command::Blobs { input } => (*input, None, None),
@@ -32,20 +34,22 @@ impl<'a> Asked<'a> {
             Command::Extract { region, files, .. } => {
                 (files.input, Some(files.output), Some(*region))
             }
+            Command::ExtractEach { files, .. } => (files.input, None, None),
         };
         Some(Asked {
             program,
             input,
             output,
             region,
+            text,
         })
     }
 
-    /// The path of the polygon's file, if the area is one.
-    pub(crate) fn polygon(&self) -> Option<&'a str> {
+    /// The path of the polygon's file if the area is one, otherwise of the text that was read last.
+    pub(crate) fn text(&self) -> Option<&'a str> {
         match self.region {
             Some(Region::Polygon(path)) => Some(path),
-            _ => None,
+            _ => self.text,
         }
     }
 

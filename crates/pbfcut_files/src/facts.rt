@@ -6,7 +6,7 @@ use crate::disk::parent_folder;
 use crate::failure::{FailedWrite, Target};
 use crate::formats::form_of;
 use crate::polygon_text::is_no_file;
-use crate::reasons::{words_of, words_of_polygon, words_of_zlib};
+use crate::reasons::{words_of, words_of_config, words_of_polygon, words_of_zlib};
 use pbf_frame::Stop;
 use pbf_unpack::{Place, UnpackReason};
 use pbf_wire::Reason;
@@ -77,7 +77,7 @@ pub(crate) fn words_of_unmade(rt: &HostRuntime, output: &str) -> &'static str {
 
 /// Which file could not be opened, and why.
 fn tell_unopened(rt: &HostRuntime, asked: Asked<'_>) {
-    if let Some(path) = asked.polygon() {
+    if let Some(path) = asked.text() {
         if is_no_file(rt, path) {
             tell(
                 rt,
@@ -218,8 +218,12 @@ pub(crate) fn tell_fact(
     }
     match ending {
         Ending::Polygon(fault) => {
-            let path = asked.polygon().unwrap_or("polygon");
+            let path = asked.text().unwrap_or("polygon");
             tell(rt, asked, path, words_of_polygon(fault.reason));
+        }
+        Ending::Config(fault) => {
+            let path = asked.text().unwrap_or("config");
+            tell(rt, asked, path, words_of_config(fault.reason));
         }
         Ending::CannotOpen => tell_unopened(rt, asked),
         Ending::IsPipe => tell(

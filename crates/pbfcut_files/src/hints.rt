@@ -8,6 +8,7 @@ use crate::failure::{BROKEN_PIPE, FailedWrite, Target};
 use crate::formats::{Form, form_of, osmium_target};
 use crate::polygon_text::is_no_file;
 use osm_box::BoxFault;
+use osm_config::ConfigReason;
 use osm_polygon::{PolyFault, PolyPlace, PolyReason};
 use pbf_frame::Stop;
 use pbf_unpack::{InflateFault, UnpackReason};
@@ -138,9 +139,13 @@ fn of_missing(asked: Asked<'_>, path: &str, error: &io::Error) -> &'static str {
 
 /// What to do about the file that could not be opened.
 fn of_files(rt: &HostRuntime, asked: Asked<'_>) -> Option<String> {
-    if let Some(path) = asked.polygon() {
+    if let Some(path) = asked.text() {
         if is_no_file(rt, path) {
-            return text(rt, "write the polygon to a file first");
+            let hint = match asked.region {
+                Some(_) => "write the polygon to a file first",
+                None => "write the text to a file first",
+            };
+            return text(rt, hint);
         }
         if let Some(error) = error_of(rt, path) {
             return text(rt, of_missing(asked, path, &error));
@@ -231,6 +236,33 @@ fn of_polygon_fault(fault: &PolyFault) -> &'static str {
     }
 }
 
+/// What a configuration should be.
+fn of_config_fault(reason: ConfigReason) -> &'static str {
+    match reason {
+        ConfigReason::Json => "'python3 -m json.tool FILE' says where",
+        ConfigReason::Unknown | ConfigReason::Repeated => {
+            "an extract may have output, output_format, description, and one of bbox, polygon and multipolygon"
+        }
+        ConfigReason::FileName => {
+            "output and file_name are paths of files; - is none, since each extract has a file"
+        }
+        ConfigReason::Format => "leave output_format out; 'osmium cat' writes other formats",
+        ConfigReason::FileType => {
+            "leave file_type out: the text of the file shows whether it is GeoJSON or .poly"
+        }
+        ConfigReason::BadBox(_) => {
+            "a bbox is [west, south, east, north] in degrees, as [-0.5, 51.25, 0.3, 51.7]"
+        }
+        ConfigReason::BadPolygon(_) => {
+            "inline polygons are the coordinates of a Polygon or MultiPolygon of GeoJSON; a file is {\"file_name\": \"area.poly\"}"
+        }
+        ConfigReason::SameOutput => "give each extract an output of its own",
+        ConfigReason::Shape | ConfigReason::Missing | ConfigReason::Empty | ConfigReason::Area => {
+            "as {\"extracts\": [{\"output\": \"london.osm.pbf\", \"bbox\": [-0.5, 51.25, 0.3, 51.7]}]}"
+        }
+    }
+}
+
 /// What to do next after a run that ended so; the last write that failed, if one did.
 fn hint(
     rt: &HostRuntime,
@@ -243,6 +275,7 @@ fn hint(
     }
     match ending {
         Ending::Polygon(fault) => text(rt, of_polygon_fault(fault)),
+        Ending::Config(fault) => text(rt, of_config_fault(fault.reason)),
         Ending::CannotOpen => of_files(rt, asked),
         Ending::IsPipe => text(
             rt,
@@ -266,7 +299,7 @@ fn may_leave(asked: Asked<'_>, ending: &Ending) -> bool {
     }
     match ending {
         // The file of a polygon is read, and may be too long for the memory, before it is known whether there is an OUT.
-        Ending::Stopped(Stop::Memory) => asked.polygon().is_none(),
+        Ending::Stopped(Stop::Memory) => asked.text().is_none(),
         Ending::Stopped(_) => true,
         _ => false,
     }

@@ -96,6 +96,7 @@ opening_fails m j how events f = fails_early m j how events (of how f) where
   of ending.IsPipe f = (f.1, nothing_in events (quiet_of events f.0))
   of ending.OutExists f = inl (f.1, nothing_in events (quiet_of events f.0))
   of (ending.Polygon e) f = (f.1, nothing_in events (quiet_of events f.0))
+  of (ending.Config e) f = (f.1, nothing_in events (quiet_of events f.0))
   of (ending.Stopped stop.Memory) f = memory_fails m j [] events
   of _ f = absurd f.1
 

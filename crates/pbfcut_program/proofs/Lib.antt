@@ -1,5 +1,6 @@
 pub mod Beginning
 pub mod Closing
+pub mod ConfiguredLemmas
 pub mod DiskLemmas
 pub mod EventLemmas
 pub mod FailLemmas
@@ -20,6 +21,8 @@ pub mod RawCalls
 pub mod RunLemmas
 pub mod SayingLemmas
 pub mod SettlingLemmas
+pub mod SeveralRuns
+pub mod SeveralOutLemmas
 pub mod TakingLemmas
 pub mod TaskRuns
 pub mod Weaker

@@ -9,7 +9,7 @@ use Rattle.pbfcut_cli.specs.Words.{IsRead, ReadsAs, program_app}
 use Rattle.pbfcut_cli.specs.declared.endings.Ending.{Ending}
 use Rattle.pbfcut_cli.specs.declared.programs.Program.{Program}
 use Rattle.pbfcut_cli.specs.declared.words.Command.{Command}
-use Rattle.pbfcut_cli.specs.declared.words.Command.TheVariants.{Blobs, Info, Show, Check, Convert, Pack, Unpack, Extract, Help}
+use Rattle.pbfcut_cli.specs.declared.words.Command.TheVariants.{Blobs, Info, Show, Check, Convert, Pack, Unpack, Extract, ExtractEach, Help}
 use Rattle.pbfcut_cli.specs.declared.words.Files.{Files}
 use Rattle.pbfcut_cli.specs.declared.words.Region.{Region}
 use Rattle.pbfcut_cli.specs.declared.words.Strategy.{Strategy}
@@ -45,6 +45,7 @@ pub record RunsWriting (program : Program) (name : List ℕ) (rows : List Row) (
 module _ (program : Program) (rows : List Row) (events : List Event) where
   extract_done : (command : Command) → ReadsAs (codes "extract") rows command → Does (manner_in program command) command events → RunsExtract program rows events
   extract_done (Extract cut by files) r d = record { cut = cut; by = by; files = files; reads = r; extracts = d }
+  extract_done (ExtractEach parents files) r d = absurd d
   extract_done (Blobs input) r d = absurd (differ (codes "extract") (codes "blobs") refl r.0)
   extract_done (Info input json) r d = absurd (differ (codes "extract") (codes "info") refl r.0)
   extract_done (Show input dates progress) r d = absurd (differ (codes "extract") (codes "show") refl r.0)
@@ -57,6 +58,7 @@ module _ (program : Program) (rows : List Row) (events : List Event) where
   convert_done : (command : Command) → ReadsAs (codes "convert") rows command → Does (manner_in program command) command events → RunsWriting program (codes "convert") rows events Convert converting
   convert_done (Convert files) r d = record { files = files; reads = r; writes = d }
   convert_done (Extract cut by files) r d = absurd (differ (codes "convert") (codes "extract") refl r.0)
+  convert_done (ExtractEach parents files) r d = absurd d
   convert_done (Blobs input) r d = absurd (differ (codes "convert") (codes "blobs") refl r.0)
   convert_done (Info input json) r d = absurd (differ (codes "convert") (codes "info") refl r.0)
   convert_done (Show input dates progress) r d = absurd (differ (codes "convert") (codes "show") refl r.0)
@@ -68,6 +70,7 @@ module _ (program : Program) (rows : List Row) (events : List Event) where
   pack_done : (command : Command) → ReadsAs (codes "pack") rows command → Does (manner_in program command) command events → RunsWriting program (codes "pack") rows events Pack copying
   pack_done (Pack files) r d = record { files = files; reads = r; writes = d }
   pack_done (Extract cut by files) r d = absurd (differ (codes "pack") (codes "extract") refl r.0)
+  pack_done (ExtractEach parents files) r d = absurd d
   pack_done (Blobs input) r d = absurd (differ (codes "pack") (codes "blobs") refl r.0)
   pack_done (Info input json) r d = absurd (differ (codes "pack") (codes "info") refl r.0)
   pack_done (Show input dates progress) r d = absurd (differ (codes "pack") (codes "show") refl r.0)
@@ -79,6 +82,7 @@ module _ (program : Program) (rows : List Row) (events : List Event) where
   unpack_done : (command : Command) → ReadsAs (codes "unpack") rows command → Does (manner_in program command) command events → RunsWriting program (codes "unpack") rows events Unpack copying
   unpack_done (Unpack files) r d = record { files = files; reads = r; writes = d }
   unpack_done (Extract cut by files) r d = absurd (differ (codes "unpack") (codes "extract") refl r.0)
+  unpack_done (ExtractEach parents files) r d = absurd d
   unpack_done (Blobs input) r d = absurd (differ (codes "unpack") (codes "blobs") refl r.0)
   unpack_done (Info input json) r d = absurd (differ (codes "unpack") (codes "info") refl r.0)
   unpack_done (Show input dates progress) r d = absurd (differ (codes "unpack") (codes "show") refl r.0)

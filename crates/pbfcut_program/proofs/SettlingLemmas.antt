@@ -6,7 +6,7 @@ use Rattle.pbf_frame.specs.declared.device.Feed as feed
 use Rattle.pbfcut_cli.specs.declared.endings.Ending.{Ending}
 use Rattle.pbfcut_cli.specs.declared.programs.Program.{Program}
 use Rattle.pbfcut_cli.specs.declared.words.Command.{Command}
-use Rattle.pbfcut_cli.specs.declared.words.Command.TheVariants.{Blobs, Check, Convert, Extract, Help, Info, Pack, Show, Unpack}
+use Rattle.pbfcut_cli.specs.declared.words.Command.TheVariants.{Blobs, Check, Convert, Extract, ExtractEach, Help, Info, Pack, Show, Unpack}
 use Rattle.pbfcut_cli.specs.declared.words.Files.{Files}
 use Rattle.pbfcut_program.specs.declared.host.FinishFault.{FinishFault}
 use Rattle.pbfcut_program.specs.Changes.{DropsFile, HasOneFile, KeepsFile}
@@ -190,6 +190,7 @@ settles_in_before program (Convert files) l m n t s = settles_before program fil
 settles_in_before program (Pack files) l m n t s = settles_before program files l m n t s
 settles_in_before program (Unpack files) l m n t s = settles_before program files l m n t s
 settles_in_before program (Extract region by files) l m n t s = settles_before program files l m n t s
+settles_in_before program (ExtractEach parents files) l m n t s = still_then l m n t s
 settles_in_before program (Help text) l m n t s = still_then l m n t s
 settles_in_before program (Blobs input) l m n t s = still_then l m n t s
 settles_in_before program (Info input json) l m n t s = still_then l m n t s
@@ -222,6 +223,7 @@ command_same program (Convert files) events disk s = settles_same program files 
 command_same program (Pack files) events disk s = settles_same program files events disk s
 command_same program (Unpack files) events disk s = settles_same program files events disk s
 command_same program (Extract region by files) events disk s = settles_same program files events disk s
+command_same program (ExtractEach parents files) events disk s = inl (still_same events disk s)
 command_same program (Help text) events disk s = inl (still_same events disk s)
 command_same program (Blobs input) events disk s = inl (still_same events disk s)
 command_same program (Info input json) events disk s = inl (still_same events disk s)

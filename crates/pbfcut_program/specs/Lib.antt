@@ -1,4 +1,6 @@
 pub mod Changes
+pub mod Configured
+pub mod ConfiguredCuts
 pub mod Devices
 pub mod Events
 pub mod Fails
@@ -11,6 +13,8 @@ pub mod Outcomes
 pub mod Program
 pub mod Readings
 pub mod Settling
+pub mod Several
+pub mod SeveralOuts
 pub mod Taking
 pub mod Tasks
 pub mod Telling

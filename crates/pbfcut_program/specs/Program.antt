@@ -7,9 +7,6 @@ use Rattle.clap.specs.Words.{Text, subcommand_of, takes}
 use Rattle.osm_area.specs.Area.{AreaSpec, box_area}
 use Rattle.osm_ways.specs.Selection as selection
 use Rattle.osm_ways.specs.Whole.{is_wanted_by}
-use Rattle.osm_polygon.specs.Polygon.{Rings}
-use Rattle.osm_polygon.specs.Polygons.{polygons_area, polygons_of}
-use Rattle.osm_polygon.specs.Texts.{polygons_of_text}
 use Rattle.osm_text.specs.Digests.{digest_line, hex_byte}
 use Rattle.sha2.specs.Sha256.{sha256}
 use Rattle.pbf_block.specs.declared.counts.Counts.{Counts}
@@ -29,7 +26,7 @@ use Rattle.pbfcut_cli.specs.declared.programs.Program.{Program}
 use Rattle.pbfcut_cli.specs.declared.programs.Program.TheVariants.{Pbfcut, Pbfcutz}
 use Rattle.pbfcut_cli.specs.declared.words.CliFault.TheVariants as fault
 use Rattle.pbfcut_cli.specs.declared.words.Command.{Command}
-use Rattle.pbfcut_cli.specs.declared.words.Command.TheVariants.{Blobs, Info, Show, Check, Convert, Pack, Unpack, Extract, Help}
+use Rattle.pbfcut_cli.specs.declared.words.Command.TheVariants.{Blobs, Info, Show, Check, Convert, Pack, Unpack, Extract, ExtractEach, Help}
 use Rattle.pbfcut_cli.specs.declared.words.Files.{Files}
 use Rattle.pbfcut_cli.specs.declared.words.Region.{Region}
 use Rattle.pbfcut_cli.specs.declared.words.Region.TheVariants as region
@@ -37,7 +34,8 @@ use Rattle.pbfcut_cli.specs.declared.words.Strategy.{Strategy}
 use Rattle.pbfcut_cli.specs.declared.words.Strategy.TheVariants as strategy
 use Rattle.pbfcut_program.specs.declared.host.Screen.{Screen}
 use Rattle.pbfcut_program.specs.declared.host.Screen.TheVariants.{Output, Error}
-use Rattle.pbfcut_program.specs.Events.{Event, text_read, looked, opened, seeded, screened, read, wrote, printed, told, advised, Reading, Writing}
+use Rattle.pbfcut_program.specs.Configured.{FailsEach, MeansFile}
+use Rattle.pbfcut_program.specs.Events.{Event, looked, opened, seeded, screened, read, wrote, printed, told, advised, Reading, Writing}
 use Rattle.pbfcut_program.specs.Fails.{Each, FailsFor, Judging, Quiet, judging, judging_for, listing, printing}
 use Rattle.pbfcut_program.specs.Files.{IsKept, IsMade}
 use Rattle.pbfcut_program.specs.Leaving.{LeavesFor}
@@ -179,8 +177,7 @@ Writes m task files events = (counts : Counts) × WritesCounts m task files coun
 -- what is cut out: a box, or the polygons of a text that was read
 abbrev pub MeansArea : Region → List Event → AreaSpec → Type 0
 MeansArea (region.Box box) events area = (events ≡ []) × (area ≡ box_area box)
-MeansArea (region.Polygon path) events area = (text : List ℕ) × (polygons : List Rings)
-    × (events ≡ text_read path.now text ∷ []) × (polygons_of_text text ≡ Ok polygons) × (area ≡ polygons_area (polygons_of polygons))
+MeansArea (region.Polygon path) events area = MeansFile path.now events area
 
 -- what is kept besides what lies in it
 abbrev pub strategy_of : Strategy → selection.Strategy
@@ -208,6 +205,7 @@ digests_of (Convert files) = files.digests
 digests_of (Pack files) = files.digests
 digests_of (Unpack files) = files.digests
 digests_of (Extract region by files) = files.digests
+digests_of (ExtractEach parents files) = files.digests
 digests_of _ = false
 
 -- OUT gets zlib blobs, if it is pbfcutz that writes it
@@ -215,6 +213,7 @@ abbrev pub packs_of : Command → Bool
 packs_of (Convert files) = not files.raw
 packs_of (Pack files) = true
 packs_of (Extract region by files) = not files.raw
+packs_of (ExtractEach parents files) = not files.raw
 packs_of _ = false
 
 abbrev pub manner_in : Program → Command → Manner
@@ -231,6 +230,7 @@ Does m (Convert files) events = Writes m converting files events
 Does m (Pack files) events = Writes m copying files events
 Does m (Unpack files) events = Writes m copying files events
 Does m (Extract region by files) events = Extracts m region by files events
+Does m (ExtractEach parents files) events = ⊥
 
 -- ---- why a command fails
 
@@ -253,6 +253,7 @@ judging_in (Convert files) events = judging_for converting
 judging_in (Pack files) events = judging_for copying
 judging_in (Unpack files) events = judging_for copying
 judging_in (Extract region by files) events = judging_cut region by events
+judging_in (ExtractEach parents files) events = printing
 
 -- `info` reads as pbfcutz does, and writes a text, as `show` does
 abbrev pub reading_of : Manner → Command → Manner
@@ -279,6 +280,7 @@ LeavesIn m (Extract region by files) events = Each Quiet events ⊎ LeavesCut m 
 LeavesIn m _ events = Unit {0}
 
 abbrev pub FailsIn : Manner → Command → Ending → List Event → Type 0
+FailsIn m (ExtractEach parents files) how events = FailsEach files how events
 FailsIn m command how events = FailsFor (reading_of m command) (judging_in command events) how events × LeavesIn m command events × IsSaid m.digests (Does m command) how events
 
 -- ---- the whole run

@@ -37,7 +37,11 @@ pub(crate) enum Cut {
 }
 
 /// The polygons of a file: GeoJSON or a `.poly` file.
-fn read_area<H: Host>(alloc: Global, host: &mut H, path: &str) -> Result<MultiPolygon, Ending>
+pub(crate) fn read_area<H: Host>(
+    alloc: Global,
+    host: &mut H,
+    path: &str,
+) -> Result<MultiPolygon, Ending>
     ensures ok { IfOk result (λ area. (text : List ℕ) × (polygons : List Rings)
         × (H.log host.new ≡ then_all (H.log host.old) (text_read path.now text ∷ []))
         × (polygons_of_text text ≡ Ok polygons)

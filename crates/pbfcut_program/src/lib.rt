@@ -1,6 +1,7 @@
 //! The program: what a command does to its host, for every host.
 #![tactic(auto)]
 
+mod configured;
 mod ending;
 mod engine;
 pub mod file_laws;
@@ -13,6 +14,8 @@ mod output;
 mod printing;
 mod program;
 mod reading;
+mod several;
+mod several_outs;
 mod writing;
 
 pub use ending::report;

@@ -11,6 +11,7 @@ ghost use Rattle.pbfcut_program.specs.Settling.{RunSettles, Settles, SettlesIn};
 ghost use Rattle.pbfcut_program.specs.Telling.{IsSaid};
 ghost use Rattle.pbfcut_program.specs.Program.{Does, FailsIn, IsRun, IsWhy, Writes, digests_of, packs_of};
 
+use crate::configured::run_extract_each;
 use crate::ending::{report, report_command};
 use crate::engine::Engine;
 use crate::host::{Host, Screen};
@@ -30,6 +31,7 @@ fn prints_digests(command: &Command<'_>) -> bool
         Command::Check { digests, .. } => *digests,
         Command::Convert(files) | Command::Pack(files) | Command::Unpack(files) => files.digests,
         Command::Extract { files, .. } => files.digests,
+        Command::ExtractEach { files, .. } => files.digests,
         Command::Help(_) | Command::Blobs { .. } | Command::Info { .. } | Command::Show { .. } => {
             false
         }
@@ -43,6 +45,7 @@ fn packs(command: &Command<'_>) -> bool
     match command {
         Command::Convert(files) => !files.raw,
         Command::Extract { files, .. } => !files.raw,
+        Command::ExtractEach { files, .. } => !files.raw,
         Command::Pack(_) => true,
         _ => false,
     }
@@ -140,6 +143,7 @@ fn run_command<H: Host>(engine: Engine, host: &mut H, command: &Command<'_>) -> 
             let progress = shows_writing(&*host, engine.program, files);
             run_extract(engine, host, region, *strategy, files, progress)
         }
+        Command::ExtractEach { files, .. } => run_extract_each(engine, host, files),
     }
 }
 

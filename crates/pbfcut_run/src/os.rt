@@ -25,9 +25,11 @@ use std::process;
 pub(crate) struct Os<'a> {
     rt: &'a HostRuntime,
     program: Program,
-    /// The file of the polygon and IN, if the run has read them and they are plain files.
-    area: Option<Identity>,
+    /// The texts that the run has read, and IN, as far as they are plain files.
+    texts: Vec<Identity>,
     input: Option<Identity>,
+    /// The path of the text that was read last, for a hint.
+    text: Option<String>,
     /// The path of an OUT that gets its name late, for a hint.
     output: Option<String>,
     /// What the run would have spoiled, for a hint.
@@ -41,8 +43,9 @@ impl<'a> Os<'a> {
         Os {
             rt,
             program,
-            area: None,
+            texts: Vec::new(rt.alloc()),
             input: None,
+            text: None,
             output: None,
             spoiled: None,
             failed: None,
@@ -51,8 +54,10 @@ impl<'a> Os<'a> {
 
     /// Whether the plain file at this path is one that the run reads.
     fn is_read(&self, path: &str) -> bool {
-        let file = plain_file_at(self.rt, path);
-        file.is_some() && (file == self.input || file == self.area)
+        match plain_file_at(self.rt, path) {
+            Some(file) => self.input == Some(file) || self.texts.contains(&file),
+            None => false,
+        }
     }
 
     /// Notes the system's number of the reason why a write failed, if there is one.
@@ -121,7 +126,12 @@ impl Host for Os<'_> {
     }
 
     fn read_text(&mut self, path: &str) -> Result<String, TextFault> {
-        self.area = plain_file_at(self.rt, path);
+        self.text = String::from_str(self.rt.alloc(), path).ok();
+        if let Some(file) = plain_file_at(self.rt, path) {
+            if self.texts.push(file).is_err() {
+                return Err(TextFault::Memory);
+            }
+        }
         match read_polygon_text(self.rt, path) {
             Ok(text) => Ok(text),
             Err(error) if error.kind() == io::ErrorKind::OutOfMemory => Err(TextFault::Memory),
@@ -311,7 +321,11 @@ impl Host for Os<'_> {
     }
 
     fn advise(&mut self, command: &Command<'_>, ending: &Ending) {
-        let Some(asked) = Asked::of(self.program, command) else {
+        let text = match &self.text {
+            Some(path) => Some(path.as_str()),
+            None => None,
+        };
+        let Some(asked) = Asked::of(self.program, command, text) else {
             return;
         };
         match self.spoiled {

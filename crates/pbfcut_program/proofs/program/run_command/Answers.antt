@@ -87,3 +87,12 @@ returns-in-Pack-clause-ok g c = on_ok_weaker c.run_writing-in-Pack.result (λ d.
 
 pub returns-in-Pack-clause-err : goal.returns-in-Pack-clause-err
 returns-in-Pack-clause-err g c = IfErr-weaker c.run_writing-in-Pack.result _ _ (λ how f. (f.0, f.1, fails_copy (manner_of c.args.engine) c.args.command.now c.in-Pack.files how f.0 c.in-Pack.is f.2 f.3 f.4)) c.run_writing-in-Pack.ensures.err
+
+pub returns-in-ExtractEach-clause-ok : goal.returns-in-ExtractEach-clause-ok
+returns-in-ExtractEach-clause-ok g c = rw c.in-ExtractEach.is (on_ok_weaker c.run_extract_each.result (λ e. absurd e) c.run_extract_each.ensures.ok)
+
+pub returns-in-ExtractEach-clause-err : goal.returns-in-ExtractEach-clause-err
+returns-in-ExtractEach-clause-err g c = rw c.in-ExtractEach.is c.run_extract_each.ensures.err
+
+pub returns-in-ExtractEach-clause-files : goal.returns-in-ExtractEach-clause-files
+returns-in-ExtractEach-clause-files g c = rw c.in-ExtractEach.is c.run_extract_each.ensures.files
