@@ -19,7 +19,7 @@ const MANUAL: &str = "{\"directory\": \"/tmp/\", \"extracts\": [
     {\"output\": \"berlin.osm.pbf\", \"polygon\": {\"file_name\": \"berlin.geojson\", \"file_type\": \"geojson\"}},
     {\"output\": \"bremen.osm.pbf\", \"multipolygon\": {\"file_name\": \"bremen\"}}]}\n";
 
-/// Whether the extract of this index has this output, and its area passes the test.
+/// Whether the extract of this index has this output, and this box as its area.
 fn has_box(config: &Config, index: usize, output: &str, bounds: BoundingBox) -> bool {
     match config.extracts.get(index) {
         Some(extract) => match &extract.area {

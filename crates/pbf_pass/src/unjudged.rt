@@ -119,7 +119,7 @@ pub fn gather_unjudged<F: Feed, G: Gather>(
     ensures gathered { IfOk result (λ digest. GaveFile F.Feed feed.old feed.new
         (mark_by passes.check digest) (λ file. GathersFile G.gathered (judged_file (Some file))
         gathering.old gathering.new)) }
-    // Whatever the file is, some entities were gathered, and nothing else was done.
+    // Whatever the file is, what was gathered is what there was before, with some entities added.
     ensures some { OnOk result (GathersSome G.gathered gathering.old gathering.new) }
     // `Refused` and `Changed` come only if what the feed gave has a fault, whatever follows it (or by itself, if the feed was at its end).
     ensures faulty { IfErr result (ReadsFaulty F.Feed feed.old feed.new) }

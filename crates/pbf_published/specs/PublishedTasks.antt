@@ -16,8 +16,8 @@ use Rattle.pbf_published.specs.Published.{FrontUnlessChanged, GaveEachOrNone, Ga
 
 -- ---- a call
 
--- the first feed gave packed bytes of one digest, to its end, which mean a raw file of another, each by its check; so did the later ones, or of so many of
--- them nothing was read, which then count as having given the first raw file. This holds of the raw files, one for each feed
+-- the first feed gave packed bytes of one digest, to its end, which mean a raw file of another, each by its check; so did the later ones, except that
+-- nothing need be read of the first `may` of them: such a feed counts as having given the first raw file. This holds of the raw files, one for each feed
 abbrev pub GavePublishedFiles : (may : ℕ) → (first : FeedUse) → (later : List FeedUse) → (digest raw_digest : Mark) → (List (List ℕ) → Type 0) → Type 0
 GavePublishedFiles may first later digest raw_digest holds =
     GavePublished first.ghosts first.old first.new digest raw_digest (λ b. GaveEachOrNone (take may later) digest raw_digest b (λ some. GavePublishedEach (drop may later) digest raw_digest (λ files. holds (b ∷ some ++ files))))
@@ -53,12 +53,12 @@ abbrev pub FailBelow : {F U : Type 0} → feed.Ghosts F → feed.Ghosts U → (b
 FailBelow f u below [] = Unit {0}
 FailBelow f u below (one ∷ more) = (u.failures one ≡ f.failures (below one)) × FailBelow f u below more
 
--- how many later feeds aren't compared: so many if they were spared
+-- how many later feeds aren't compared: `may`, if they were spared
 abbrev pub skipped_of : (spared : Bool) → ℕ → ℕ
 skipped_of false may = 0
 skipped_of true may = may
 
--- each of these has this digest, but for so many that were skipped
+-- each of these except the first `skipped` has this digest
 abbrev pub HaveDigest : {F U : Type 0} → feed.Ghosts F → feed.Ghosts U → (below : U → F) → (skipped : ℕ) → (digest : List ℕ) → List U → Type 0
 HaveDigest f u below skipped digest [] = Unit {0}
 HaveDigest f u below zero digest (one ∷ more) = HasDigest f u (below one) one (Some digest) × HaveDigest f u below zero digest more

@@ -51,7 +51,7 @@ pub(crate) fn skipped_of(spared: bool, feeds: usize) -> usize
     if spared { feeds.saturating_sub(2) } else { 0 }
 }
 
-/// Compares the digests of later feeds, the first of which has this number, but for so many that are skipped.
+/// Compares the digests of later feeds with the first feed's, except for the first `skipped`. `number` is the pass of the first of them.
 fn compare_later<F: Feed>(
     feeds: &mut [PublishedFeed<F>],
     digest: [u8; 32],
@@ -75,7 +75,7 @@ fn compare_later<F: Feed>(
     compare_later(later, digest, 0, number + 1)
 }
 
-/// The digest of the first feed, which the later ones have too, but for so many that are skipped.
+/// The digest of the first feed. The later ones have it too, except the first `skipped`.
 pub(crate) fn shared_digest<F: Feed>(
     feeds: &mut [PublishedFeed<F>],
     skipped: usize,

@@ -21,8 +21,8 @@ pub record IsBegun (place : ℕ) (bytes : List ℕ) : Type 0 where
   pub raw : List ℕ
   pub means : IsPackedAt place raw (bytes ++ rest)
 
--- what it took begins with so many bytes of whole frames, and after them one was begun at most; none was as long as nothing failed. A raw file that
--- begins with what those mean goes on with frames
+-- what it took begins with `place` bytes of whole frames; after them a prefix of one frame at most, and nothing unless a write failed. Every raw file that
+-- begins with what they mean goes on with frames
 pub record HasWhole (course : Course) (place : ℕ) (taken : List ℕ) : Type 0 where
   pub whole : IsPackedAs (unpacked (take place taken)) (take place taken)
   pub within : place ≤ length taken

@@ -13,11 +13,11 @@ HoldsHeader front wanted = (4 ≤ front) × (front + wanted ≤ HEADER_LIMIT + 3
 unfoldable pub header_length : (front : List ℕ) → ℕ
 header_length front = big_number 4 (take 4 front)
 
--- with so many bytes more the header is that long, if it may be
+-- with `wanted` more bytes the header is as long as it says, if it may be that long
 abbrev pub HasHeader : (front : List ℕ) (wanted : ℕ) → Type 0
 HasHeader front wanted = header_length front < HEADER_LIMIT → length front + wanted ≡ 4 + header_length front
 
--- the header is there, and the blob gets as long as it says
+-- the header is there, and with `wanted` more bytes the blob is as long as it says
 pub record HoldsBlob (front blob : List ℕ) (wanted : ℕ) : Type 0 where
   pub four : 4 ≤ length front
   pub header : HasHeader front 0

@@ -85,8 +85,8 @@ impl<D: Drain> PackedDrain<D> {
         Ok(())
     }
 
-    /// Gives the drain below what is held of the file, which has to end here: then that drain took a file that means what this one took. If the
-    /// last frame isn't whole, it fails and changes nothing; then what was taken is no raw file.
+    /// Gives the drain below what is held of the file, which has to end here: then that drain took a file that means what this one took. It fails
+    /// if the last frame isn't whole; then what was taken is no raw file.
     pub fn finish(&mut self) -> Result<(), DrainFault>
         ensures gave { OnOk result (GaveAll self.old self.new) }
         ensures taken { taken_raw self.new ≡ taken_raw self.old }
@@ -106,8 +106,8 @@ impl<D: Drain> PackedDrain<D> {
         Ok(())
     }
 
-    /// Why it takes nothing more: `Write` if a write of the drain below failed, or if the bytes are no raw file; `Memory` if memory was refused. No
-    /// raw file is among them, as far as the drain below reports what it took, unless the packed one is near the limit of a file.
+    /// Why it takes nothing more: `Write` if a write of the drain below failed, or if the bytes are no raw file; `Memory` if memory was refused. If
+    /// the drain below reports what it took, the refused bytes don't begin a raw file, unless the packed file is near its limit.
     pub fn stop(&self) -> Option<Stop>
         ensures stop { result ≡ stop_of_course self.now.below.course }
         ensures cause { HasCause self.now self.now.below.course }

@@ -27,7 +27,7 @@ enum Part {
     Blob,
 }
 
-/// How many bytes the header has after its four bytes; none if it may not have so many.
+/// The length of the header, by its four bytes; 0 if it is too long.
 #[tactic(auto, unfolding(crate::specs::Parts::header_length))]
 fn length_of_header(front: &[u8]) -> usize
     requires { length front.now ≡ 4 }
@@ -42,7 +42,7 @@ fn length_of_header(front: &[u8]) -> usize
     }
 }
 
-/// How many bytes the blob has by its header; none if the header doesn't say that.
+/// The size of the blob, by its header; 0 if the header has a fault.
 fn size_of_blob(front: &[u8]) -> usize
     requires { (4 ≤ length front.now) × (length front.now ≤ HEADER_LIMIT + 3) }
     ensures sized { (head : Head) → head_of 0 (drop 4 front.now) ≡ Ok head → result ≡ head.size }

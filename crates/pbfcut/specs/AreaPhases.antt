@@ -1,4 +1,4 @@
--- What is gathered for one of several areas, in a pass that some of them don't need.
+-- What is gathered for one of several areas, in a pass that it may not need.
 use Rattle.std.specs.Prelude.{Bool, true, false}
 use Rattle.osm_entity.specs.Entity.{EntitySpec}
 

@@ -32,7 +32,7 @@ use Rattle.pbfcut.specs.Write.{FailsAtNext, Packed, PacksFront, PacksNext}
 
 -- ---- lists that go together
 
--- this holds of the elements at each place, and the lists are as long
+-- the lists have one length, and this holds of the elements at each index
 abbrev pub AllThree : {X Y Z : Type 0} → (X → Y → Z → Type 0) → List X → List Y → List Z → Type 0
 AllThree R [] [] [] = Unit {0}
 AllThree R (x ∷ xs) (y ∷ ys) (z ∷ zs) = R x y z × AllThree R xs ys zs

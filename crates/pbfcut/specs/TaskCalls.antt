@@ -8,7 +8,7 @@ use Rattle.pbfcut.specs.Calls.{DrainUse, FeedUse, GaveBy, GaveEach, GaveEachOrNo
 use Rattle.pbfcut.specs.Ends.{EndsInFront, EndsPasses}
 use Rattle.pbfcut.specs.Tasks.{Task, Holds, answer_of, judge_of, spares}
 
--- each feed gave a file, of this digest by the check, to its end; or so many after the first were spared, which then count as having given the first file.
+-- each feed gave a file, of this digest by the check, to its end; or the first `may` later feeds were spared; then they count as having given the first file.
 -- This holds of the files, one for each feed
 abbrev pub GaveFiles : (may : ℕ) → (first : FeedUse) → (later : List FeedUse) → (spared : Bool) → Mark → (List (List ℕ) → Type 0) → Type 0
 GaveFiles may first later spared digest holds =

@@ -17,7 +17,7 @@ use Rattle.pbfcut.specs.Theorem.{IsConverted, IsExtraction}
 
 pub data Task : Type 0 where
   checking : Task
-  -- the lines of all frames before the first fault of one, which go out as they are read
+  -- the lines of all frames before the first fault of one, which go out as they are read. `list_blobs` does it, and no `FileTask`
   listing_frames : Task
   showing : (dates : Bool) → Task
   converting : Task
@@ -45,7 +45,7 @@ passes_of converting = 2
 passes_of copying = 2
 passes_of (extracting by area) = spares_by by + 2
 
--- in so many passes after the first nothing may have been read, if the first was enough
+-- how many passes after the first may read nothing, if the first was enough
 abbrev pub spares : Task → ℕ
 spares (extracting by area) = spares_by by
 spares _ = 0

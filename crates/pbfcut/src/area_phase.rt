@@ -11,7 +11,7 @@ use pbf_header::Header;
 use pbf_pass::Gather;
 use std::alloc::AllocError;
 
-/// What is gathered for one of several areas. If the first pass was enough for it, nothing more is, though the others need this pass.
+/// What is gathered for one of several areas. If the first pass was enough for it, nothing more is.
 #[derive(Drop)]
 pub(crate) struct AreaPhase<G, R> {
     /// What the entities are gathered in.

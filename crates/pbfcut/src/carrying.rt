@@ -1,6 +1,7 @@
 //! What is cut out of a file by one call: several areas, each with its drain.
 
-ghost use Rattle.std.specs.Prelude.{◌≡◌};
+ghost use Rattle.std.specs.Prelude.{◌≡◌, []};
+ghost use Rattle.pbf_block.specs.Numbers.{counts_of};
 
 use osm_ways::Chosen;
 use pbf_block::Counts;
@@ -22,6 +23,7 @@ impl<A, D> AreaOutput<A, D> {
     pub fn new(area: A, drain: D) -> AreaOutput<A, D>
         ensures area { result.area ≡ area }
         ensures drain { result.drain ≡ drain }
+        ensures counts { result.counts ≡ counts_of [] }
     {
         AreaOutput {
             area,
@@ -31,7 +33,7 @@ impl<A, D> AreaOutput<A, D> {
     }
 }
 
-/// What a call reports that writes several extracts: the numbers of the entities are in the outputs.
+/// What a call that writes several extracts reports. The counts are in the outputs.
 #[derive(Clone, Copy, Debug)]
 pub struct EachReceipt {
     /// The digest of the bytes that each feed gave that was read. It says nothing if the check is [`PassCheck::None`](pbf_pass::PassCheck::None).

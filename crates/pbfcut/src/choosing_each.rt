@@ -138,8 +138,8 @@ fn begin_each<A: Area + Copy, P: NodeTaker + Drop, F: Feed, D>(
     })
 }
 
-/// The passes before the one that writes: the first judges the file and takes the nodes of each area, and maybe all ways too. If it has
-/// not for one of them, the second takes the ways of those; otherwise it isn't made.
+/// The passes before the one that writes: the first judges the file and takes the nodes of each area, and maybe all ways too. If it hasn't, the
+/// second takes the ways; otherwise there is no second.
 pub(crate) fn choose_each<A: Area + Copy, P: NodeTaker + Drop, F: Feed, G: Feed, D>(
     passes: Passes,
     outputs: &[AreaOutput<A, D>],

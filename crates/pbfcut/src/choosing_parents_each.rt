@@ -142,7 +142,7 @@ fn begin_parents_each<A: Area + Copy, P: RelationTaker + Drop, F: Feed, D>(
 }
 
 /// The passes before the one that writes: the first judges the file and takes the nodes of each area, and maybe all ways and relations too. If
-/// it has not for one of them, the second takes the ways of those, and the third their relations; otherwise neither is made.
+/// it hasn't, the second takes the ways, and the third the relations; otherwise there is neither.
 pub(crate) fn choose_parents_each<
     A: Area + Copy,
     P: RelationTaker + Drop,

@@ -53,9 +53,8 @@ fn write_chosen<A: Drop, F: Feed, D: Drain + Drop, S: BuildHasher + Copy + Drop>
 /// Writes the complete-ways extract of each of these areas into its drain, byte for byte what
 /// [`extract_sorted_with_receipt`](crate::extract_sorted_with_receipt) would write for only this area. The outputs come back in the same order.
 ///
-/// The file is judged once, and read once more to write all extracts. There is a pass between, over the second feed, if the first has not all
-/// ways for one of the areas: so it is if a node of the file comes after a way. If the call halts, it halts for all areas: each drain has
-/// a prefix of its extract then.
+/// The file is judged once, and read once more to write all extracts. There is a pass between, over the second feed, if a node of the file comes
+/// after a way. If the call halts, it halts for all areas. If all feeds supply the same bytes, each drain then has a prefix of its own extract.
 ///
 /// Space: one frame; and for each area the sets of its ids, and the block that is open.
 pub fn extract_each<
@@ -73,7 +72,8 @@ pub fn extract_each<
     outputs: Vec<AreaOutput<A, D>>,
     hasher: S,
 ) -> (Vec<AreaOutput<A, D>>, Result<EachReceipt, Halt>)
-    // Each area and its drain: what a call for only this area says. If the call halts, each drain has a prefix of its extract, whichever failed.
+    // Of each area and its drain: what a call for only this area says; if a write failed, only of those whose drain failed. If it halts and
+    // all feeds supply the same bytes, each drain has a prefix of its extract.
     ensures { ExtractsEach complete_ways A.area (fed F.Feed first.old first.new)
         (fed G.Feed second.old second.new ∷ []) (fed H.Feed third.old third.new ∷ []) D.Drain
         passes.check outputs.items result.0.items result.1 }
@@ -88,7 +88,7 @@ pub fn extract_each<
 /// The same with all parents, byte for byte what
 /// [`extract_parents_sorted_with_receipt`](crate::extract_parents_sorted_with_receipt) would write for only this area.
 ///
-/// There are two passes between, over the second feed and the third, if the first has not all ways and all relations for one of the areas.
+/// There are two passes between, over the second feed and the third, unless no node comes after a way, and no node or way after a relation.
 pub fn extract_parents_each<
     A: Area + Copy,
     F: Feed,
@@ -106,7 +106,8 @@ pub fn extract_parents_each<
     outputs: Vec<AreaOutput<A, D>>,
     hasher: S,
 ) -> (Vec<AreaOutput<A, D>>, Result<EachReceipt, Halt>)
-    // Each area and its drain: what a call for only this area says. If the call halts, each drain has a prefix of its extract, whichever failed.
+    // Of each area and its drain: what a call for only this area says; if a write failed, only of those whose drain failed. If it halts and
+    // all feeds supply the same bytes, each drain has a prefix of its extract.
     ensures { ExtractsEach all_parents A.area (fed F.Feed first.old first.new)
         (fed G.Feed second.old second.new ∷ fed H.Feed third.old third.new ∷ [])
         (fed I.Feed fourth.old fourth.new ∷ []) D.Drain
@@ -121,7 +122,7 @@ pub fn extract_parents_each<
     write_chosen(choice, outputs, fourth, hasher)
 }
 
-/// By what strategy several areas can be cut out of a file at once.
+/// The strategies by which several areas can be cut out of a file at once.
 #[derive(Clone, Copy, Debug)]
 pub enum EachStrategy {
     /// See [`extract_each`].
@@ -151,7 +152,8 @@ impl EachStrategy {
         hasher: S,
     ) -> (Vec<AreaOutput<A, D>>, Result<EachReceipt, Halt>)
         requires { length feeds.old ≡ spares_by (each_strategy self) + 2 }
-        // Each area and its drain: what a call for only this area says. If the call halts, each drain has a prefix of its extract, whichever failed.
+        // Of each area and its drain: what a call for only this area says; if a write failed, only of those whose drain failed. If it halts
+        // and all feeds supply the same bytes, each drain has a prefix of its extract.
         ensures { ExtractsAreas (each_strategy self) A.area (used F.Feed feeds.old feeds.new)
             D.Drain passes.check outputs.items result.0.items result.1 }
     {

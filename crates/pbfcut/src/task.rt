@@ -12,7 +12,7 @@ use pbf_frame::{Drain, Feed};
 use pbf_pass::{Halt, InputReceipt, Passes, check_with_receipt};
 use std::hash::BuildHasher;
 
-/// What is done with a file: a [`PlainTask`], or an extract, as [`CompleteWays`](crate::CompleteWays).
+/// What is done with a file: a [`PlainTask`], or an extract, such as [`CompleteWays`](crate::CompleteWays).
 pub trait FileTask {
     /// What the task means.
     ghost task: { Self → Task };

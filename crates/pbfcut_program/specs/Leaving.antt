@@ -12,7 +12,7 @@ use Rattle.pbfcut.specs.Calls.{AllSupply}
 use Rattle.pbfcut_program.specs.Readings.{IsWork}
 use Rattle.pbfcut.specs.Tasks.{Task, answer_of, listing_frames}
 
--- zlib blobs: whole frames that mean a prefix of the answer, and after them the beginning of one at most
+-- zlib blobs: whole frames that mean a prefix of the answer, and after them a prefix of one at most
 pub record IsPackedFront (answer bytes : List ℕ) : Type 0 where
   pub course : Course
   pub place : ℕ

@@ -106,7 +106,7 @@ fn close_raw<H: Host>(host: &mut H, feeds: Vec<H::In>)
     }
 }
 
-/// Hands the feeds back below those that unpack.
+/// Hands back the feeds below those that unpack.
 #[tactic(auto, using(crate::proofs::OpeningLemmas::closed_below))]
 fn close_published<H: Host>(host: &mut H, feeds: Vec<PublishedFeed<H::In>>)
     ensures { CloseAll H.In.Feed (map below_of feeds.items) (H.log host.old) (H.log host.new) }

@@ -222,7 +222,7 @@ fn run_raw_into<F: Feed, D: Drain + Drop, S: BuildHasher + Drop>(
     }
 }
 
-/// How a call halted whose drain packs; or, if it failed to write for want of memory, that.
+/// The halt of a call whose drain packs. If that drain stopped because memory was refused, a failed write is reported as that.
 fn named(halted: Halted, of_drain: Option<Stop>) -> Halted
     ensures { IsNamed of_drain halted.ending result.ending }
 {

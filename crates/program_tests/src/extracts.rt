@@ -213,8 +213,8 @@ fn several_extracts_are_those_of_calls_alone(rt: HostRuntime) -> Result<(), Fail
     are_all_as_alone(&rt, EachStrategy::CompleteWays)
 }
 
-/// Whichever drain has no room, the outputs come back in their order, and those before it have the bytes that they have otherwise, up to a place.
-fn keeps_fronts(alloc: Global, bytes: &[u8], full: usize) -> Result<bool, AllocError> {
+/// Whether, if this drain is full, the call fails, the outputs come back in order, and that drain has no more than its room.
+fn halts_in_order(alloc: Global, bytes: &[u8], full: usize) -> Result<bool, AllocError> {
     let mut rooms = [4_096; 3];
     if let Some(room) = rooms.get_mut(full) {
         *room = 60;
@@ -238,10 +238,10 @@ fn keeps_fronts(alloc: Global, bytes: &[u8], full: usize) -> Result<bool, AllocE
 }
 
 #[test]
-fn one_full_drain_loses_no_other(rt: HostRuntime) -> Result<(), Fail> {
+fn one_full_drain_halts_all_in_order(rt: HostRuntime) -> Result<(), Fail> {
     for full in 0..3 {
         assert!(rt;
-            keeps_fronts(rt.alloc(), &THREE_DENSE_NODES, full)?,
+            halts_in_order(rt.alloc(), &THREE_DENSE_NODES, full)?,
             "{full}"
         );
     }
