@@ -17,6 +17,7 @@ mod reading;
 mod several;
 mod several_into;
 mod several_outs;
+mod several_packed;
 mod writing;
 
 pub use ending::report;
