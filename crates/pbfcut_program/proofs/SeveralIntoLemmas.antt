@@ -128,15 +128,15 @@ module _ {F D : Type 0} (program : Program) (packs digests : Bool) (by : PassChe
 
 module _ {D : Type 0} (d : drain.Ghosts D) (befores : List (AreaOutput OutputArea D)) (overs : List (AreaOutput OutputArea (LinkedDrain (HashedDrain D)))) (put : AllZip IsHashing befores overs) where
   pub fresh_hashing : AllByRecursion (λ (o : AreaOutput OutputArea D). IsFreshOut d o.drain) befores → AllByRecursion (λ (o : AreaOutput OutputArea (LinkedDrain (HashedDrain D))). IsFreshOut (hashing d) o.drain) overs
-  fresh_hashing fresh = zip_right IsHashing _ _ (λ old over p start.
+  fresh_hashing fresh = zip_right IsHashing (λ (o : AreaOutput OutputArea D). IsFreshOut d o.drain) (λ (o : AreaOutput OutputArea (LinkedDrain (HashedDrain D))). IsFreshOut (hashing d) o.drain) (λ old over p start.
       let under = sym p.drain in
       ((p.none, subst (λ x. d.has_taken x 0 []) under start.0), subst (λ x. IfSome (d.taken x) (λ taken. taken ≡ [])) under start.1, subst (λ x. d.failures x ≡ 0) under start.2)) befores overs put fresh
 
   pub unhashed_hashing : AllByRecursion (λ (o : AreaOutput OutputArea D). o.area.output ≡ None) befores → AllByRecursion (λ (o : AreaOutput OutputArea (LinkedDrain (HashedDrain D))). o.area.output ≡ None) overs
-  unhashed_hashing none = zip_right IsHashing _ _ (λ old over p n. ap (λ (a : OutputArea). a.output) p.area ∙ n) befores overs put none
+  unhashed_hashing none = zip_right IsHashing (λ (o : AreaOutput OutputArea D). o.area.output ≡ None) (λ (o : AreaOutput OutputArea (LinkedDrain (HashedDrain D))). o.area.output ≡ None) (λ old over p n. ap (λ (a : OutputArea). a.output) p.area ∙ n) befores overs put none
 
   pub unmeant_hashing : AllByRecursion (λ (o : AreaOutput OutputArea D). o.area.meaning ≡ None) befores → AllByRecursion (λ (o : AreaOutput OutputArea (LinkedDrain (HashedDrain D))). o.area.meaning ≡ None) overs
-  unmeant_hashing none = zip_right IsHashing _ _ (λ old over p n. ap (λ (a : OutputArea). a.meaning) p.area ∙ n) befores overs put none
+  unmeant_hashing none = zip_right IsHashing (λ (o : AreaOutput OutputArea D). o.area.meaning ≡ None) (λ (o : AreaOutput OutputArea (LinkedDrain (HashedDrain D))). o.area.meaning ≡ None) (λ old over p n. ap (λ (a : OutputArea). a.meaning) p.area ∙ n) befores overs put none
 
 -- nothing was done, since memory was refused
 module _ {F D : Type 0} (program : Program) (packs digests : Bool) (by : PassCheck) (s : Strategy) (f : feed.Ghosts F) (d : drain.Ghosts D) (olds : List F) (halted : Halted) where

@@ -253,9 +253,12 @@ module _ {F D : Type 0} (digests : Bool) (by : PassCheck) (s : Strategy) (f : fe
     any_failing : AnyRisen → AnyFailing
     any_failing risen = any_after IsPacking (OutputFailed (packing d)) (λ old mid. 0 < failures_of_drain mid.drain) (λ old over mid p up. has_risen _ _ up) befores overs mids put risen
 
+    abbrev Over : Result InputDigests Halted → AreaOutput OutputArea D → AreaOutput OutputArea (PackedDrain D d) → Type 0
+    Over returned old mid = (over : AreaOutput OutputArea (PackedDrain D d)) × IsPacking old over × RunsRaw (manner Pbfcutz true digests) by f (packing d) (cut_of old) olds news AnyRisen over mid (result_with returned mid.counts)
+
     between : (returned : Result InputDigests Halted) → RunsRawEach (manner Pbfcutz true digests) by s f (packing d) olds news overs mids returned → AllZip (Between AnyRisen returned) befores mids
-    between returned ran = zip_with _ _ (Between AnyRisen returned) (λ old mid none b. record { over = b.0; begun = b.1; fresh = none; ran = b.2 }) befores mids fresh
-        (zip_then IsPacking _ (λ old mid. (over : AreaOutput OutputArea (PackedDrain D d)) × IsPacking old over × RunsRaw (manner Pbfcutz true digests) by f (packing d) (cut_of old) olds news AnyRisen over mid (result_with returned mid.counts))
+    between returned ran = zip_with (λ (o : AreaOutput OutputArea D). IsFreshOut d o.drain) (Over returned) (Between AnyRisen returned) (λ old mid none b. record { over = b.0; begun = b.1; fresh = none; ran = b.2 }) befores mids fresh
+        (zip_then IsPacking (λ over mid. RunsRaw (manner Pbfcutz true digests) by f (packing d) (extracting s (cut_into over.area)) olds news AnyRisen over mid (result_with returned mid.counts)) (Over returned)
         (λ old over mid p one. (over, p, subst (λ area. RunsRaw (manner Pbfcutz true digests) by f (packing d) (extracting s (cut_into area)) olds news AnyRisen over mid (result_with returned mid.counts)) p.area one)) befores overs mids put ran)
 
     packed_each : (returned result : Result InputDigests Halted) → RunsRawEach (manner Pbfcutz true digests) by s f (packing d) olds news overs mids returned → AreUnpacked mids returned result afters → RunsUnhashedEach (manner Pbfcutz true digests) by s f d olds news befores afters result
@@ -285,7 +288,7 @@ packed_manner Pbfcut packs digests by s f d olds news befores overs mids afters 
 
 -- no drain is hashed before a run
 pub unhashed_packing : {D : Type 0} {d : drain.Ghosts D} (befores : List (AreaOutput OutputArea D)) (overs : List (AreaOutput OutputArea (PackedDrain D d))) → AllZip IsPacking befores overs → AllByRecursion (λ (o : AreaOutput OutputArea D). o.area.output ≡ None) befores → AllByRecursion (λ (o : AreaOutput OutputArea (PackedDrain D d)). o.area.output ≡ None) overs
-unhashed_packing befores overs put none = zip_right IsPacking _ _ (λ old over p n. ap (λ (a : OutputArea). a.output) p.area ∙ n) befores overs put none
+unhashed_packing {D} {d} befores overs put none = zip_right IsPacking (λ (o : AreaOutput OutputArea D). o.area.output ≡ None) (λ (o : AreaOutput OutputArea (PackedDrain D d)). o.area.output ≡ None) (λ old over p n. ap (λ (a : OutputArea). a.output) p.area ∙ n) befores overs put none
 
 -- nothing was done, since memory was refused
 module _ {F D : Type 0} (m : Manner) (by : PassCheck) (s : Strategy) (f : feed.Ghosts F) (d : drain.Ghosts D) (olds : List F) (halted : Halted) (memory : halted.ending ≡ ending.Stopped stop.Memory) where
