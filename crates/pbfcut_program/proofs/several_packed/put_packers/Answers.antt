@@ -15,7 +15,7 @@ pub unreachable-requires : goal.unreachable-requires
 unreachable-requires g c =
     let gives = c.into_iter-output-iterator.ensures.into_iter_gives in
     let turn = YieldsList-turn (YieldsList-from_vec {s = c.into_iter-output-iterator.result} _ gives.0 (gives.1 ∙ c.args.outputs.ok.0)) c.outputs.yielded c.outputs.output-iterator c.outputs.yielded_by c.next.result c.next.new.self c.in-Some.output c.in-Some.is c.next.ensures.steps in
-    let bad : ⊥ = omega (arith, turn.0, c.outputs.invariant.left, c.in_default.ensures.cases) in
+    let bad : ⊥ = omega (arith, turn.0, c.outputs.invariant.left, c.in_default.ensures.cases.0) in
     bad
 
 pub put_packer-requires : goal.put_packer-requires
