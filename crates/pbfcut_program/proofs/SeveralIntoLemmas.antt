@@ -1,5 +1,5 @@
 -- What a run says of several areas once it is settled whether their OUTs get raw blobs or zlib blobs, and whether what they take is hashed.
-use Rattle.std.proofs.Common.{◌≡◌, ℕ, ◌<◌, List, [], ◌∷◌, map, Bool, true, false, Option, Some, None, Result, Ok, Err, IfOk, refl, sym, ap, subst, ◌∙◌}
+use Rattle.std.proofs.Common.{◌≡◌, ℕ, List, [], map, Bool, true, false, Option, None, Result, Err, IfOk, sym, ap, subst, ◌∙◌}
 use Rattle.std.specs.Prelude.{IfSome}
 use Rattle.std.specs.List.{AllByRecursion, AllZip}
 use Rattle.osm_ways.specs.Selection.{Strategy}
@@ -16,12 +16,11 @@ use Rattle.sha2.specs.Sha256.{sha256}
 use Rattle.pbfcut_cli.specs.declared.endings.Ending.TheVariants as ending
 use Rattle.pbfcut_cli.specs.declared.programs.Program.{Program}
 use Rattle.pbfcut_program.specs.declared.engine.Halted.{Halted}
-use Rattle.pbfcut_program.specs.declared.engine.Report.{Report}
 use Rattle.pbfcut_program.specs.declared.linked.LinkedDrain.{LinkedDrain}
 use Rattle.pbfcut_program.specs.declared.several.InputDigests.{InputDigests}
 use Rattle.pbfcut_program.specs.declared.several.OutputArea.{OutputArea}
 use Rattle.pbfcut_program.specs.Devices.{DrainFailed, IsAsked, IsFreshOut, Leads, MeansBy}
-use Rattle.pbfcut_program.specs.Manner.{Form, Manner, hashes_meaning, input_form, manner, output_form, raw_file}
+use Rattle.pbfcut_program.specs.Manner.{Form, hashes_meaning, input_form, manner, output_form, raw_file}
 use Rattle.pbfcut_program.specs.Several.{RunsArea, RunsEach, result_with}
 use Rattle.pbfcut_program.specs.SeveralOuts.{AnyFailedInto, IsHashing, IsUnhashed, RunsEachInto, RunsInto, RunsUnhashed, RunsUnhashedEach, cut_into}
 use Rattle.pbfcut_program.proofs.LeavingLemmas.{raw_leads}

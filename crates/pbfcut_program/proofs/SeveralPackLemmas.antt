@@ -1,5 +1,5 @@
 -- What a run says of several areas whose drains pack, once these are finished, one after the other.
-use Rattle.std.proofs.Common.{◌≡◌, ◌⊎◌, inl, inr, ℕ, ◌<◌, List, [], ◌∷◌, ◌++◌, map, Bool, true, false, Option, Some, None, Result, Ok, Err, IfOk, refl, sym, ap, subst, ◌∙◌}
+use Rattle.std.proofs.Common.{◌≡◌, ◌⊎◌, inl, inr, ℕ, ◌<◌, List, [], ◌∷◌, ◌++◌, map, Bool, true, false, Option, None, Result, Ok, Err, IfOk, refl, sym, ap, subst, ◌∙◌}
 use Rattle.std.specs.Prelude.{IfSome}
 use Rattle.std.specs.List.{AllByRecursion, AllZip}
 use Rattle.osm_ways.specs.Selection.{Strategy}
@@ -7,7 +7,7 @@ use Rattle.pbf_block.specs.declared.counts.Counts.{Counts}
 use Rattle.pbf_frame.specs.declared.device.Feed as feed
 use Rattle.pbf_frame.specs.declared.device.Drain as drain
 use Rattle.pbf_frame.specs.declared.stop.Stop.TheVariants as stop
-use Rattle.pbf_frame.specs.Devices.{IsFront, append}
+use Rattle.pbf_frame.specs.Devices.{IsFront}
 use Rattle.pbf_frame.proofs.Beginnings.{front_whole}
 use Rattle.pbf_pass.specs.declared.hashing.PassCheck.{PassCheck}
 use Rattle.pbf_unpack.specs.declared.drain.PackedDrain.{PackedDrain}
@@ -22,18 +22,17 @@ use Rattle.pbfcut_cli.specs.declared.endings.Ending.TheVariants as ending
 use Rattle.pbfcut_cli.specs.declared.programs.Program.{Program}
 use Rattle.pbfcut_cli.specs.declared.programs.Program.TheVariants.{Pbfcut, Pbfcutz}
 use Rattle.pbfcut_program.specs.declared.engine.Halted.{Halted}
-use Rattle.pbfcut_program.specs.declared.engine.Report.{Report}
 use Rattle.pbfcut_program.specs.declared.several.InputDigests.{InputDigests}
 use Rattle.pbfcut_program.specs.declared.several.OutputArea.{OutputArea}
 use Rattle.pbfcut_program.specs.Devices.{AreFresh, DrainFailed, FinishesPacked, Fronts, IsAsked, IsFreshOut, Leads, MeansBy, PackingFailed, Wholes, Works}
 use Rattle.pbfcut_program.specs.Fails.{EndsAsStop}
 use Rattle.pbfcut_program.specs.Leaving.{IsFrontAs}
-use Rattle.pbfcut_program.specs.Manner.{Form, Manner, hashes_meaning, input_form, manner, output_form, packed_file, raw_file}
+use Rattle.pbfcut_program.specs.Manner.{Manner, manner, packed_file}
 use Rattle.pbfcut_program.specs.Several.{report_with, result_with}
 use Rattle.pbfcut_program.specs.SeveralOuts.{AnyFailedInto, AreUnpacked, IsPacking, IsUnpacked, RunsRaw, RunsRawEach, RunsUnhashed, RunsUnhashedEach, cut_into}
 use Rattle.pbfcut_program.proofs.EventLemmas.{has_risen}
 use Rattle.pbfcut_program.proofs.LeavingLemmas.{fresh_front, packed_front}
-use Rattle.pbfcut_program.proofs.Weaker.{Finished, front_lost, whole_lost, works_finished, works_weaker}
+use Rattle.pbfcut_program.proofs.Weaker.{Finished, front_lost, whole_lost, works_finished}
 
 -- what is said of a drain that packs
 abbrev pub packing : {D : Type 0} → (d : drain.Ghosts D) → drain.Ghosts (PackedDrain D d)
