@@ -260,6 +260,10 @@ module _ {F D : Type 0} (digests : Bool) (by : PassCheck) (s : Strategy) (f : fe
         (zip_then IsPacking (λ over mid. RunsRaw (manner Pbfcutz true digests) by f (packing d) (extracting s (cut_into over.area)) olds news AnyRisen over mid (result_with returned mid.counts)) (Over returned)
         (λ old over mid p one. (over, p, subst (λ area. RunsRaw (manner Pbfcutz true digests) by f (packing d) (extracting s (cut_into area)) olds news AnyRisen over mid (result_with returned mid.counts)) p.area one)) befores overs mids put ran)
 
+    told : (halted same : Halted) → Outcome {A = InputDigests} AnyFailing AnyLost (Err halted) (Err same) → Outcome {A = InputDigests} AnyRisen AnyLost (Err halted) (Err same)
+    told halted same (inl none) = inl none
+    told halted same (inr (shown, lost)) = inr (shown, λ wrote risen. lost wrote (any_failing risen))
+
     packed_each : (returned result : Result InputDigests Halted) → RunsRawEach (manner Pbfcutz true digests) by s f (packing d) olds news overs mids returned → AreUnpacked mids returned result afters → RunsUnhashedEach (manner Pbfcutz true digests) by s f d olds news befores afters result
     packed_each (Ok report) (Ok same) ran off =
         let all = between (Ok report) ran in
@@ -272,10 +276,7 @@ module _ {F D : Type 0} (digests : Bool) (by : PassCheck) (s : Strategy) (f : fe
     packed_each (Err halted) (Err same) ran off =
         let all = between (Err halted) ran in
         let out = told halted same (err_all (Between AnyRisen (Err halted)) LostOut (lost_front AnyRisen (Err halted)) befores mids afters halted (Err same) all off) in
-        zip_then (Between AnyRisen (Err halted)) (Left Same) _ (λ old mid new b left. area_unhashed AnyRisen (Err halted) old mid b Same new left (Err same) AnyLost (left.kept, out)) befores mids afters all (left_err mids afters halted (Err same) off) where
-      told : (halted same : Halted) → Outcome {A = InputDigests} AnyFailing AnyLost (Err halted) (Err same) → Outcome {A = InputDigests} AnyRisen AnyLost (Err halted) (Err same)
-      told halted same (inl none) = inl none
-      told halted same (inr (shown, lost)) = inr (shown, λ wrote risen. lost wrote (any_failing risen))
+        zip_then (Between AnyRisen (Err halted)) (Left Same) _ (λ old mid new b left. area_unhashed AnyRisen (Err halted) old mid b Same new left (Err same) AnyLost (left.kept, out)) befores mids afters all (left_err mids afters halted (Err same) off)
     packed_each (Err halted) (Ok report) ran off = absurd (no_ok mids afters halted report off)
 
 -- by a program that packs

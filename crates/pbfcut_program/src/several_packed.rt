@@ -56,10 +56,7 @@ fn put_packer<'a, D: Drain>(
 fn take_packer<'a, D: Drain>(
     output: AreaOutput<OutputArea<'a>, PackedDrain<D>>,
     returned: Result<InputDigests, Halted>,
-) -> (
-    AreaOutput<OutputArea<'a>, D>,
-    Result<InputDigests, Halted>,
-)
+) -> (AreaOutput<OutputArea<'a>, D>, Result<InputDigests, Halted>)
     ensures { IsUnpacked output.entry returned result.1 result.0 }
 {
     let area = output.area;
