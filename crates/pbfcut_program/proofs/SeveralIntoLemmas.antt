@@ -19,7 +19,7 @@ use Rattle.pbfcut_program.specs.declared.engine.Halted.{Halted}
 use Rattle.pbfcut_program.specs.declared.linked.LinkedDrain.{LinkedDrain}
 use Rattle.pbfcut_program.specs.declared.several.InputDigests.{InputDigests}
 use Rattle.pbfcut_program.specs.declared.several.OutputArea.{OutputArea}
-use Rattle.pbfcut_program.specs.Devices.{DrainFailed, IsAsked, IsFreshOut, Leads, MeansBy}
+use Rattle.pbfcut_program.specs.Devices.{DrainFailed, IsAsked, IsFreshOut, Leads, MeansBy, TakenBy}
 use Rattle.pbfcut_program.specs.Manner.{Form, hashes_meaning, input_form, manner, output_form, raw_file}
 use Rattle.pbfcut_program.specs.Several.{RunsArea, RunsEach, result_with}
 use Rattle.pbfcut_program.specs.SeveralOuts.{AnyFailedInto, IsHashing, IsUnhashed, RunsEachInto, RunsInto, RunsUnhashed, RunsUnhashedEach, cut_into}
@@ -141,7 +141,7 @@ module _ {D : Type 0} (d : drain.Ghosts D) (befores : List (AreaOutput OutputAre
 module _ {F D : Type 0} (program : Program) (packs digests : Bool) (by : PassCheck) (s : Strategy) (f : feed.Ghosts F) (d : drain.Ghosts D) (olds : List F) (halted : Halted) where
   into_failed : (failed : Type 0) (old new : AreaOutput OutputArea D) → RunsUnhashed (manner program packs digests) by f d (extracting s (cut_into old.area)) olds olds failed old new (Err halted) → RunsInto (manner program packs digests) by f d (extracting s (cut_into old.area)) olds olds failed old new (Err halted)
   into_failed failed old new ran = record {
-    works = λ read. works_weaker program packs digests by f (extracting s (cut_into old.area)) olds olds _ _ failed failed (Err halted) (λ w t. ((t.0, subst (λ o. IfSome o (λ known. known ≡ sha256 w)) (sym ran.unhashed) tt), t.1)) (λ lost. lost) (ran.works read);
+    works = λ read. works_weaker program packs digests by f (extracting s (cut_into old.area)) olds olds (λ w. d.has_taken new.drain 0 w × MeansBy (output_form packs program) new.area.meaning w) (λ w. TakenBy d new.drain new.area.output w × MeansBy (output_form packs program) new.area.meaning w) failed failed (Err halted) (λ w t. ((t.0, subst (λ o. IfSome o (λ known. known ≡ sha256 w)) (sym ran.unhashed) tt), t.1)) (λ lost. lost) (ran.works read);
     front = ran.front;
     hashed = tt;
     meaning = tt;

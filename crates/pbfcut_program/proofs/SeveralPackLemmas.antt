@@ -43,9 +43,6 @@ packing d = record { taken = λ p. taken_raw p; failures = λ p. failures_of_dra
 pub packing_more : {D : Type 0} {d : drain.Ghosts D} (xs : List (AreaOutput OutputArea D)) (ys : List (AreaOutput OutputArea (PackedDrain D d))) (x : AreaOutput OutputArea D) (y : AreaOutput OutputArea (PackedDrain D d)) → AllZip IsPacking xs ys → IsPacking x y → AllZip IsPacking (xs ++ x ∷ []) (ys ++ y ∷ [])
 packing_more xs ys x y all one = zip_more IsPacking xs ys x y all one
 
-pub unpacked_none : {D : Type 0} {d : drain.Ghosts D} (r : Result InputDigests Halted) → AreUnpacked {d = d} [] r r []
-unpacked_none r = refl
-
 pub unpacked_more : {D : Type 0} {d : drain.Ghosts D} (xs : List (AreaOutput OutputArea (PackedDrain D d))) (ys : List (AreaOutput OutputArea D)) (x : AreaOutput OutputArea (PackedDrain D d)) (y : AreaOutput OutputArea D) (returned between result : Result InputDigests Halted)
     → AreUnpacked xs returned between ys → IsUnpacked x between result y → AreUnpacked (xs ++ x ∷ []) returned result (ys ++ y ∷ [])
 unpacked_more [] [] x y returned between result same one = (result, subst (λ r. IsUnpacked x r result y) same one, refl)

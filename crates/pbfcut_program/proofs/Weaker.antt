@@ -11,7 +11,7 @@ use Rattle.pbf_frame.specs.Verdict.{Verdict}
 use Rattle.pbf_pass.specs.Stops.{WriteFailed}
 use Rattle.pbf_pass.specs.declared.hashing.PassCheck.{PassCheck}
 use Rattle.pbf_unpack.specs.declared.drain.PackedDrain.{PackedDrain}
-use Rattle.pbf_unpack.specs.Packing.{HasPacked, failures_of_drain, frame_held, taken_raw}
+use Rattle.pbf_unpack.specs.Packing.{GaveAll, HasPacked, failures_of_drain, frame_held, taken_raw}
 use Rattle.pbf_unpack.specs.RawFrames.{IsRawFile}
 use Rattle.pbf_unpack.specs.Unpacked.{Unpacked, unpacked}
 use Rattle.pbf_unpack.proofs.PackingLemmas.{packed_means}
