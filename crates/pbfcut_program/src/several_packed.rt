@@ -24,7 +24,7 @@ use pbfcut::{AreaOutput, EachStrategy};
 use std::alloc::{AllocError, Global};
 use std::hash::BuildHasher;
 
-/// Makes so many Deflaters.
+/// Makes this many deflaters.
 fn make_deflaters(alloc: Global, count: usize) -> Result<Vec<Deflater>, AllocError>
     ensures { IfOk result (λ made. vec_len made ≡ count) }
 {
@@ -52,7 +52,7 @@ fn put_packer<'a, D: Drain>(
     }
 }
 
-/// Finishes it, by what the run came to, and takes it off again: what it took is hashed for the raw file that its OUT means.
+/// Finishes it, if all went well so far, and takes it off again. What it took was hashed as the raw file that OUT means.
 fn take_packer<'a, D: Drain>(
     output: AreaOutput<OutputArea<'a>, PackedDrain<D>>,
     returned: Result<InputDigests, Halted>,
@@ -98,7 +98,8 @@ fn put_packers<'a, D: Drain + Drop>(
     packing
 }
 
-/// Finishes them, one after the other, and takes them off again; `outputs` has room for what is left.
+/// Finishes them, one after the other, and takes them off again; `outputs` has room for what is left. The first that fails decides what
+/// the run comes to, and none is finished after that.
 fn take_packers<'a, D: Drain + Drop>(
     packing: Outputs<'a, PackedDrain<D>>,
     returned: Result<InputDigests, Halted>,
