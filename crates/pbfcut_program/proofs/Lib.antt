@@ -23,6 +23,8 @@ pub mod SayingLemmas
 pub mod SettlingLemmas
 pub mod SeveralRuns
 pub mod SeveralOutLemmas
+pub mod SeveralPackLemmas
+pub mod SeveralIntoLemmas
 pub mod TakingLemmas
 pub mod TaskRuns
 pub mod Weaker

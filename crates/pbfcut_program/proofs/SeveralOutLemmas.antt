@@ -48,11 +48,11 @@ hashing d =
     record { taken = λ l. hashed.taken l.drain; failures = λ l. hashed.failures l.drain; lender = λ l. hashed.lender l.drain; has_taken = λ l log b. HasLinked hashed l.drain log b }
 
 -- a digest is known if digests are printed
-asked : {X : Type 0} (r : Result X Halted) (digests : Bool) (known : Option (List ℕ)) (digest : List ℕ) → digests ≡ true → known ≡ Some digest → IfOk r (λ _. IsAsked digests known)
+pub asked : {X : Type 0} (r : Result X Halted) (digests : Bool) (known : Option (List ℕ)) (digest : List ℕ) → digests ≡ true → known ≡ Some digest → IfOk r (λ _. IsAsked digests known)
 asked (Ok x) digests known digest printed is = subst (λ b. IsAsked b known) (sym printed) (subst (λ o. IsAsked true o) (sym is) tt)
 asked (Err h) digests known digest printed is = tt
 
-not_asked : {X : Type 0} (r : Result X Halted) (digests : Bool) (known : Option (List ℕ)) → digests ≡ false → known ≡ None → IfOk r (λ _. IsAsked digests known)
+pub not_asked : {X : Type 0} (r : Result X Halted) (digests : Bool) (known : Option (List ℕ)) → digests ≡ false → known ≡ None → IfOk r (λ _. IsAsked digests known)
 not_asked (Ok x) digests known printed is = subst (λ b. IsAsked b known) (sym printed) (subst (λ o. IsAsked false o) (sym is) tt)
 not_asked (Err h) digests known printed is = tt
 

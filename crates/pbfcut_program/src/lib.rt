@@ -15,7 +15,9 @@ mod printing;
 mod program;
 mod reading;
 mod several;
+mod several_into;
 mod several_outs;
+mod several_packed;
 mod writing;
 
 pub use ending::report;

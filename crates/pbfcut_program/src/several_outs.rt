@@ -21,10 +21,10 @@ use pbfcut::{AreaOutput, EachStrategy};
 use std::hash::BuildHasher;
 
 /// The areas of a run, each with its drain.
-type Outputs<'a, D> = Vec<AreaOutput<OutputArea<'a>, D>>;
+pub(crate) type Outputs<'a, D> = Vec<AreaOutput<OutputArea<'a>, D>>;
 
 /// A drain that hashes what goes to the one below.
-type HashingDrain<D> = LinkedDrain<HashedDrain<D>>;
+pub(crate) type HashingDrain<D> = LinkedDrain<HashedDrain<D>>;
 
 /// Puts a drain that hashes over that of an output.
 fn put_hasher<'a, D: Drain>(
@@ -61,7 +61,7 @@ fn take_hasher<'a, D: Drain>(
 
 /// Puts drains that hash over those of these outputs; `hashing` has room for them.
 #[tactic(auto, using(crate::proofs::SeveralOutLemmas::hashing_more))]
-fn put_hashers<'a, D: Drain + Drop>(
+pub(crate) fn put_hashers<'a, D: Drain + Drop>(
     outputs: Outputs<'a, D>,
     hashing: Outputs<'a, HashingDrain<D>>,
 ) -> Outputs<'a, HashingDrain<D>>
@@ -78,7 +78,7 @@ fn put_hashers<'a, D: Drain + Drop>(
 
 /// Takes them off again; `outputs` has room for what is left.
 #[tactic(auto, using(crate::proofs::SeveralOutLemmas::unhashed_more))]
-fn take_hashers<'a, D: Drain + Drop>(
+pub(crate) fn take_hashers<'a, D: Drain + Drop>(
     hashing: Outputs<'a, HashingDrain<D>>,
     outputs: Outputs<'a, D>,
 ) -> Outputs<'a, D>

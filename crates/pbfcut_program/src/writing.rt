@@ -234,10 +234,10 @@ fn named(halted: Halted, of_drain: Option<Stop>) -> Halted
 }
 
 /// Gives OUT the rest of what a drain packs, once a call has ended.
-fn finish<D: Drain>(
-    returned: Result<Report, Halted>,
+pub(crate) fn finish<T: Drop, D: Drain>(
+    returned: Result<T, Halted>,
     drain: &mut PackedDrain<D>,
-) -> Result<Report, Halted>
+) -> Result<T, Halted>
     ensures ends { FinishesPacked drain.old drain.new returned result }
     ensures taken { taken_raw drain.new ≡ taken_raw drain.old }
 {
