@@ -14,6 +14,7 @@ pub mod Program
 pub mod Readings
 pub mod Settling
 pub mod Several
+pub mod SeveralChanges
 pub mod SeveralFiles
 pub mod SeveralOuts
 pub mod Taking

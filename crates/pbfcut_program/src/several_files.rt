@@ -339,9 +339,9 @@ pub(crate) fn keep_outs<H: Host>(
 {
     match finish_each(host, parts, outputs) {
         Ok(()) => name_each(host, placing, parts),
-        Err(told) => {
+        Err(failed) => {
             forget_each(host, placing.program, parts);
-            Err(told)
+            Err(failed)
         }
     }
 }

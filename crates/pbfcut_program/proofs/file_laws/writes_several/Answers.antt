@@ -1,0 +1,11 @@
+use Rattle.pbfcut_program.proofs.SeveralDisk.{dropped_back, kept_there, others_back}
+use Rattle.pbfcut_program.proofs.file_laws.writes_several.Goals as goal
+
+pub returns-clause-kept : goal.returns-clause-kept
+returns-clause-kept c overwrite before later one events disk x a k = kept_there overwrite before one later events x disk a k
+
+pub returns-clause-dropped : goal.returns-clause-dropped
+returns-clause-dropped c overwrite before later one events disk x k = dropped_back overwrite before one later events x disk k
+
+pub returns-clause-others : goal.returns-clause-others
+returns-clause-others c overwrite files events disk x a path outputs left = others_back overwrite files events x disk a path outputs left
