@@ -73,7 +73,7 @@ out_of p = (p.0.now, p.1)
 
 pub looked_more : (overwrite : Bool) (path : OutputCut → List ℕ) (outs : List OutputCut) (out : OutputCut) (l m n : Option (List Event)) → m ≡ then_all l (looks_each overwrite (map path outs)) → n ≡ then_one m (looked (path out) overwrite false) → n ≡ then_all l (looks_each overwrite (map path (outs ++ out ∷ [])))
 looked_more overwrite path outs out l m n before one =
-    let look = λ output. looked output overwrite false in
+    let look = λ (output : List ℕ). looked output overwrite false in
     and_then l m n (looks_each overwrite (map path outs)) (looked (path out) overwrite false ∷ []) before one
     ∙ ap (λ k. then_all l k) (sym (map_push look (map path outs) (path out)) ∙ ap (λ k. map look k) (sym (map_push path outs out)))
 
@@ -98,12 +98,9 @@ pub closes_empty : {D : Type 0} (d : drain.Ghosts D) (outs : List OutputCut) (pa
 closes_empty d [] [] [] l m paths begun c = ([], c ∙ then_none l, tt)
 closes_empty d (o ∷ os) (p ∷ ps) (x ∷ xs) l m paths begun c =
     let rest = closes_empty d os ps xs c.0 m paths.1 begun.1 c.2 in
-    let fin = c.1.1.1 [] begun.0.fresh.0 in (
-      (wrote (record { name = Some (string_bytes p.name); bytes = []; reports = is_some (d.taken x.drain); failures = d.failures x.drain; kept = false; fault = c.1.0 }) ∷ []) ∷ rest.0,
-      and_then l c.0 m _ (flatten rest.0) fin rest.1,
-      (_, refl, refl, refl, refl),
-      rest.2,
-    )
+    let w : Writing = record { name = Some (string_bytes p.name); bytes = []; reports = is_some (d.taken x.drain); failures = d.failures x.drain; kept = false; fault = c.1.0 } in
+    let closed = c.1.1.1 [] begun.0.fresh.0 in
+    ((wrote w ∷ []) ∷ rest.0, and_then l c.0 m (wrote w ∷ []) (flatten rest.0) closed rest.1, ((w, refl, refl, refl, refl), rest.2))
 closes_empty d [] (p ∷ ps) outputs l m paths begun c = absurd paths
 closes_empty d (o ∷ os) [] outputs l m paths begun c = absurd paths
 closes_empty d [] [] (x ∷ xs) l m paths begun c = absurd begun
@@ -170,7 +167,7 @@ made_some program output bytes None es m = absurd m
 -- ---- they are taken back
 
 pub finishes_more : {A D X Y : Type 0} (d : drain.Ghosts D) (outs : List (Part × AreaOutput A D)) (out : Part × AreaOutput A D) (at : ℕ) (first : Result X NotKept) (next : Result Y NotKept) (l m n : Option (List Event)) → at ≡ length outs → FinishesEach d first outs l m → FinishesNext d first at out next m n → FinishesEach d next (outs ++ out ∷ []) l n
-finishes_more d outs out at (Ok a) (Ok b) l m n is all one = one_more _ outs out l m n all one
+finishes_more d outs out at (Ok a) (Ok b) l m n is all one = one_more (FinishesWhole d) outs out l m n all one
 finishes_more d outs out at (Ok a) (Err told) l m n is all one = record {
   whole = outs;
   failed = out;
@@ -194,7 +191,7 @@ finishes_more d outs out at (Err told) (Err same) l m n is all one = record {
   second = all.second;
   wholes = all.wholes;
   fails = subst (λ (t : NotKept). FinishesPart d true (Some t.fault) all.failed all.first all.second) (sym one.0) all.fails;
-  unkept = one_more _ all.later out all.second m n all.unkept one.1;
+  unkept = one_more (FinishesUnkept d) all.later out all.second m n all.unkept one.1;
 }
 
 pub finishes_mapped : {X A D Y Z : Type 0} (d : drain.Ghosts D) (v : X → Part × AreaOutput A D) (xs : List X) (x : X) (at : ℕ) (first : Result Y NotKept) (next : Result Z NotKept) (l m n : Option (List Event)) → at ≡ length xs → FinishesEach d first (map v xs) l m → FinishesNext d first at (v x) next m n → FinishesEach d next (map v (xs ++ x ∷ [])) l n

@@ -13,7 +13,7 @@ use crate::host::{FinishFault, Host};
 use crate::jobs::Cut;
 use crate::output::{Place, forget, make_out, name_whole};
 use crate::several::OutputArea;
-use pbf_frame::Stop;
+use pbf_frame::{Drain, Stop};
 use pbfcut::AreaOutput;
 use pbfcut_cli::{Ending, Program};
 use std::alloc::Global;
@@ -119,19 +119,33 @@ fn begin_output<'a, D>(cut: &'a Cut, drain: D) -> AreaOutput<OutputArea<'a>, D>
     AreaOutput::new(area, drain)
 }
 
-/// The list with one more, for which it has room.
-fn with_one<T: Drop>(list: Vec<T>, item: T) -> Vec<T>
-    requires { length list.items < vec_capacity list }
-    ensures items { result.items ≡ list.items ++ item ∷ [] }
-    ensures room { vec_capacity list ≤ vec_capacity result }
+/// One output more, for which there is room.
+fn add_output<'a, D: Drain + Drop>(
+    outputs: Outputs<'a, D>,
+    output: AreaOutput<OutputArea<'a>, D>,
+) -> Outputs<'a, D>
+    requires { length outputs.items < vec_capacity outputs }
+    ensures items { result.items ≡ outputs.entry.items ++ output.entry ∷ [] }
+    ensures room { vec_capacity outputs.entry ≤ vec_capacity result }
 {
-    let mut list = list;
-    list.push(item).unwrap();
-    list
+    let mut outputs = outputs;
+    outputs.push(output).unwrap();
+    outputs
+}
+
+/// One file more, for which there is room.
+fn add_part(parts: Vec<Part>, part: Part) -> Vec<Part>
+    requires { length parts.items < vec_capacity parts }
+    ensures items { result.items ≡ parts.items ++ part ∷ [] }
+    ensures room { vec_capacity parts ≤ vec_capacity result }
+{
+    let mut parts = parts;
+    parts.push(part).unwrap();
+    parts
 }
 
 /// One OUT more, for which `made` has room.
-fn with_file<'a, D: Drop>(
+fn with_file<'a, D: Drain + Drop>(
     made: MadeOuts<'a, D>,
     cut: &'a Cut,
     file: MadeFile<D>,
@@ -142,8 +156,8 @@ fn with_file<'a, D: Drop>(
 {
     let MadeOuts { outputs, parts } = made;
     let output = begin_output(cut, file.drain);
-    let outputs = with_one(outputs, output);
-    let parts = with_one(parts, file.part);
+    let outputs = add_output(outputs, output);
+    let parts = add_part(parts, file.part);
     MadeOuts { outputs, parts }
 }
 

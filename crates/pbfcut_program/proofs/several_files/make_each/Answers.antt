@@ -14,15 +14,15 @@ outs-init g c = record {
   parts_room = c.requires.parts.1;
 }
 
-pub with_file-requires-clause-outputs : goal.with_file-requires-clause-outputs
-with_file-requires-clause-outputs g c =
+pub with_file-longer-requires-clause-outputs : goal.with_file-longer-requires-clause-outputs
+with_file-longer-requires-clause-outputs g c =
     let out = c.in-Some.out.now in
     let rest : c.outs.rest.now ≡ out ∷ c.in-Some.more.now = search rules in
     let u = c.outs.invariant.made in
     omega (arith, c.outs.invariant.outputs_room, zip_length (IsBegun g.H.Out.Drain) _ _ u.is.begun, ap length (next_parts u.done c.args.outs.now c.outs.rest.now out c.in-Some.more.now rest u.parts), length-append u.done (out ∷ c.in-Some.more.now))
 
-pub with_file-requires-clause-parts : goal.with_file-requires-clause-parts
-with_file-requires-clause-parts g c =
+pub with_file-longer-requires-clause-parts : goal.with_file-longer-requires-clause-parts
+with_file-longer-requires-clause-parts g c =
     let out = c.in-Some.out.now in
     let rest : c.outs.rest.now ≡ out ∷ c.in-Some.more.now = search rules in
     let u = c.outs.invariant.made in

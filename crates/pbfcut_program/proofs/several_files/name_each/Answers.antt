@@ -18,7 +18,7 @@ parts-preserved g c =
     let rest : c.parts.rest.now ≡ part ∷ c.in-Some.more.now = search rules in
     let u = c.parts.invariant in
     let n = c.in-Ok.ensures in
-    let named = subst (λ (x : List ℕ). IsKept program overwrite c.as_str.result.now (Some x) n.0) c.as_str-2.ensures.value n.2 in
+    let named = subst (λ (x : List ℕ). IsKept program overwrite c.as_str.result.now (Some x) n.0) c.as_str-in-Some.ensures.value n.2 in
     let kept = subst (λ (x : List ℕ). IsKept program overwrite x (Some (string_bytes part.name)) n.0) c.as_str.ensures.value named in
     record {
       done = u.done ++ part ∷ [];
@@ -29,7 +29,7 @@ parts-preserved g c =
 pub overflow_sub-at : goal.overflow_sub-at
 overflow_sub-at g c =
     let u = c.parts.invariant in
-    omega (arith, c.len.ensures, c.len-2.ensures, ap length u.parts, length-append u.done c.parts.rest.now)
+    omega (arith, ap length u.parts, length-append u.done c.parts.rest.now)
 
 pub returns-in-Err : goal.returns-in-Err
 returns-in-Err g c =
@@ -40,14 +40,14 @@ returns-in-Err g c =
     let rest : c.parts.rest.now ≡ part ∷ c.in-Some.more.now = search rules in
     let u = c.parts.invariant in
     let e = c.in-Err.ensures in
-    let named = subst (λ (x : List ℕ). EndsOut {A = Unit {0}} program overwrite c.as_str.result.now (Some x) None (Err c.in-Err.fault) e.0) c.as_str-2.ensures.value e.2 in
+    let named = subst (λ (x : List ℕ). EndsOut {A = Unit {0}} program overwrite c.as_str.result.now (Some x) None (Err c.in-Err.fault) e.0) c.as_str-in-Some.ensures.value e.2 in
     let ended = subst (λ (x : List ℕ). EndsOut {A = Unit {0}} program overwrite x (Some (string_bytes part.name)) None (Err c.in-Err.fault) e.0) c.as_str.ensures.value named in
     record {
       named = u.done;
       failed = part;
       later = c.in-Some.more.now;
       are = next_parts u.done c.args.parts.now c.parts.rest.now part c.in-Some.more.now rest u.parts;
-      place = omega (arith, c.len.ensures, c.len-2.ensures, ap length u.parts, length-append u.done c.parts.rest.now);
+      place = omega (arith, ap length u.parts, length-append u.done c.parts.rest.now);
       first = log c.parts.host;
       second = log c.name_whole.new.host;
       ends = e.0;
