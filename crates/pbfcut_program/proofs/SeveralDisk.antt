@@ -406,7 +406,7 @@ module _ (overwrite : Bool) (fronts : List OneFile) (one : OneFile) (backs : Lis
         let writes = map (λ (o : OneFile). wrote o.out) files in
         let rest = flat_map ends_of files ++ x.last in
         subst (λ (es : List Event). Happened e es) (sym x.happened) (happened_after e x.before (flat_map made_of files ++ (x.between ++ (writes ++ rest))) (happened_after e (flat_map made_of files) (x.between ++ (writes ++ rest))
-            (happened_after e x.between (writes ++ rest) (happened_after e writes rest (happened_before e (flat_map ends_of files) x.last ends)))))
+        (happened_after e x.between (writes ++ rest) (happened_after e writes rest (happened_before e (flat_map ends_of files) x.last ends)))))
 
     pub part_back : (Happened (stays mine.name) events → ⊥) → after events disk mine.name ≡ disk mine.name
     part_back left =

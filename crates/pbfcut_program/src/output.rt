@@ -409,7 +409,11 @@ fn name_part<H: Host>(host: &mut H, name: &str, place: Place<'_>) -> Result<(), 
 }
 
 /// A whole file, which is on the disk, has OUT's name or gets it.
-pub(crate) fn name_whole<H: Host>(host: &mut H, name: &str, place: Place<'_>) -> Result<(), FinishFault>
+pub(crate) fn name_whole<H: Host>(
+    host: &mut H,
+    name: &str,
+    place: Place<'_>,
+) -> Result<(), FinishFault>
     ensures { (events : List Event) × (H.log host.new ≡ then_all (H.log host.old) events)
         × EndsOut place.entry.program place.entry.overwrite place.entry.path.now (Some name.now) None result events }
 {

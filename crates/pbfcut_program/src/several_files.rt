@@ -235,11 +235,7 @@ fn forget_each<H: Host>(host: &mut H, program: Program, parts: &[Part])
 }
 
 /// Takes an OUT back that isn't whole.
-fn close_part<H: Host>(
-    host: &mut H,
-    part: &Part,
-    output: AreaOutput<OutputArea<'_>, H::Out>,
-)
+fn close_part<H: Host>(host: &mut H, part: &Part, output: AreaOutput<OutputArea<'_>, H::Out>)
     ensures { FinishesUnkept H.Out.Drain (part.now, output.entry) (H.log host.old) (H.log host.new) }
 {
     host.close_out(part.name.as_str(), output.drain);
@@ -313,11 +309,7 @@ fn finish_each<H: Host>(
 }
 
 /// Gives whole files the names of their OUTs. If one doesn't get its name, it and those after it are dropped, and those before it stand.
-fn name_each<H: Host>(
-    host: &mut H,
-    placing: Placing,
-    parts: &[Part],
-) -> Result<(), NotKept>
+fn name_each<H: Host>(host: &mut H, placing: Placing, parts: &[Part]) -> Result<(), NotKept>
     ensures { NamesEach placing.program placing.overwrite result parts.now
         (H.log host.old) (H.log host.new) }
 {
