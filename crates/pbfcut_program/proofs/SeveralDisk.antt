@@ -6,9 +6,9 @@ use Rattle.std.specs.List.{AllByRecursion, flat_map}
 use Rattle.pbf_frame.specs.Devices.{append}
 use Rattle.pbfcut.proofs.SeveralLemmas.{all_units}
 use Rattle.pbfcut_cli.specs.declared.programs.Program.TheVariants.{Pbfcutz}
-use Rattle.pbfcut_program.specs.Events.{Event, Writing, text_read, text_not_read, looked, opened, not_opened, seeded, screened, made, not_made, read, wrote, linked, moved, renamed, not_named, removed, stays, not_synced, printed, told, advised}
+use Rattle.pbfcut_program.specs.Events.{Event, text_read, text_not_read, looked, opened, not_opened, seeded, screened, made, not_made, read, wrote, linked, moved, renamed, not_named, removed, stays, not_synced, printed, told, advised}
 use Rattle.pbfcut_program.specs.Fails.{Each}
-use Rattle.pbfcut_program.specs.Files.{AllowsAll, Disk, Drops, IsDropped, IsEnd, IsKept, IsMade, Keeps, Names, Still, after, changed, put, written}
+use Rattle.pbfcut_program.specs.Files.{AllowsAll, Disk, Drops, IsDropped, IsEnd, IsKept, Keeps, Names, Still, after, changed, put, written}
 use Rattle.pbfcut_program.specs.SeveralChanges.{HandlesFiles, IsApart, IsDroppedFile, IsHandled, IsKeptWhole, OneFile, Pairwise}
 use Rattle.pbfcut_program.specs.Taking.{Happened}
 use Rattle.pbfcut_program.proofs.DiskLemmas.{IsFile, after_both, after_still, allows_first, allows_last, allows_past, file_of, happened_after, happened_before, misnames_still, misses_still, past_still, put_other, put_same, some_same, which}
@@ -131,7 +131,7 @@ all_writes_spare p [] d = tt
 all_writes_spare p (one ∷ more) d = (d.0, all_writes_spare p more d.1)
 
 module _ (overwrite : Bool) where
-  file : (one : OneFile) → IsHandled overwrite one → IsFile Pbfcutz one.output one.out.name one.makes
+  abbrev pub file : (one : OneFile) → IsHandled overwrite one → IsFile Pbfcutz one.output one.out.name one.makes
   file one h = file_of Pbfcutz one.output one.out.name one.makes h.0
 
   other_than : (p : List ℕ) (one : OneFile) (h : IsHandled overwrite one) → (one.out.name ≡ Some p → ⊥) → p ≡ (file one h).name → ⊥
@@ -210,7 +210,7 @@ all_front : {X : Type 0} (P : X → Type 0) (xs ys : List X) → AllByRecursion 
 all_front P [] ys a = tt
 all_front P (x ∷ xs) ys a = (a.0, all_front P xs ys a.1)
 
-all_back : {X : Type 0} (P : X → Type 0) (xs ys : List X) → AllByRecursion P (xs ++ ys) → AllByRecursion P ys
+pub all_back : {X : Type 0} (P : X → Type 0) (xs ys : List X) → AllByRecursion P (xs ++ ys) → AllByRecursion P ys
 all_back P [] ys a = a
 all_back P (x ∷ xs) ys a = all_back P xs ys a.1
 
@@ -254,6 +254,18 @@ kept_gives overwrite output name bytes es disk differ is (tries, names, last, e,
     ap (λ (x : List Event). after x disk output) e
     ∙ ap (λ (d : Disk). d output) (past_still tries (names ++ last) disk (misnames_still tries t) ∙ after_both names last disk ∙ after_still last (after names disk) (misnames_still last l))
     ∙ named_gives overwrite output name bytes names disk differ is k
+
+-- without `overwrite` none had the name
+names_free : (overwrite : Bool) (output name : List ℕ) (names : List Event) (disk : Disk) → Names overwrite output name names → AllowsAll disk names → overwrite ≡ false → disk output ≡ None
+names_free overwrite output name names disk (inl n) a new = (subst (λ (es : List Event). AllowsAll disk es) n.2 a).0
+names_free overwrite output name names disk (inr (inl e)) a new = (subst (λ (es : List Event). AllowsAll disk es) e a).0
+names_free overwrite output name names disk (inr (inr n)) a new = absurd (true_false (sym n.0 ∙ new)) where
+  true_false : true ≡ false → ⊥
+  true_false h = cc
+
+named_free : (overwrite : Bool) (output name : List ℕ) (es : List Event) (disk : Disk) → Keeps Pbfcutz overwrite output name es → AllowsAll disk es → overwrite ≡ false → disk output ≡ None
+named_free overwrite output name es disk (tries, names, last, e, t, k, l) a new =
+    names_free overwrite output name names disk k (allows_first names last disk (allows_past tries (names ++ last) disk (misnames_still tries t) (subst (λ (x : List Event). AllowsAll disk x) e a))) new
 
 -- a file's other name is no name any more, unless it stays
 named_goes : (overwrite : Bool) (output name : List ℕ) (names : List Event) (disk : Disk) → (name ≡ output → ⊥) → Names overwrite output name names → (Happened (stays name) names → ⊥) → after names disk name ≡ None
@@ -320,7 +332,7 @@ module _ (overwrite : Bool) (files : List OneFile) (events : List Event) (x : Ha
       ∙ spared p x.before disk (all_still_spare p x.before x.still.0)
 
 -- one file of the run
-module _ (overwrite : Bool) (fronts : List OneFile) (one : OneFile) (backs : List OneFile) (events : List Event) (x : HandlesFiles overwrite (fronts ++ one ∷ backs) events) (disk : Disk) where
+module _ (overwrite : Bool) (fronts : List OneFile) (one : OneFile) (backs : List OneFile) (events : List Event) (x : HandlesFiles overwrite (fronts ++ one ∷ backs) events) (apart : Pairwise IsApart (fronts ++ one ∷ backs)) (disk : Disk) where
   abbrev files : List OneFile
   files = fronts ++ one ∷ backs
 
@@ -336,7 +348,7 @@ module _ (overwrite : Bool) (fronts : List OneFile) (one : OneFile) (backs : Lis
   abbrev fourth : Disk
   fourth = filled overwrite files events x disk
 
-  here : IsHandled overwrite one
+  abbrev pub here : IsHandled overwrite one
   here = (all_back (IsHandled overwrite) fronts (one ∷ backs) x.each).0
 
   handled_fronts : AllByRecursion (IsHandled overwrite) fronts
@@ -345,14 +357,14 @@ module _ (overwrite : Bool) (fronts : List OneFile) (one : OneFile) (backs : Lis
   handled_backs : AllByRecursion (IsHandled overwrite) backs
   handled_backs = (all_back (IsHandled overwrite) fronts (one ∷ backs) x.each).1
 
-  mine : IsFile Pbfcutz one.output one.out.name one.makes
+  abbrev pub mine : IsFile Pbfcutz one.output one.out.name one.makes
   mine = file overwrite one here
 
   output_fronts : AllByRecursion (Differs one.output) fronts
-  output_fronts = all_two (λ o. IsApart o one) (λ o. Unit {0}) (Differs one.output) (λ o q u. (q.1, λ e. q.0 (sym e))) fronts (pairs_before IsApart fronts one backs x.apart) (all_units fronts)
+  output_fronts = all_two (λ o. IsApart o one) (λ o. Unit {0}) (Differs one.output) (λ o q u. (q.1, λ e. q.0 (sym e))) fronts (pairs_before IsApart fronts one backs apart) (all_units fronts)
 
   output_backs : AllByRecursion (Differs one.output) backs
-  output_backs = all_two (IsApart one) (λ o. Unit {0}) (Differs one.output) (λ o q u. (q.2, q.0)) backs (pairs_after IsApart fronts one backs x.apart) (all_units backs)
+  output_backs = all_two (IsApart one) (λ o. Unit {0}) (Differs one.output) (λ o q u. (q.2, q.0)) backs (pairs_after IsApart fronts one backs apart) (all_units backs)
 
   makes_allowed : AllowsAll disk events → AllowsAll first (flat_map made_of files)
   makes_allowed a =
@@ -364,10 +376,10 @@ module _ (overwrite : Bool) (fronts : List OneFile) (one : OneFile) (backs : Lis
     names = names_apart overwrite files first x.each (makes_allowed a)
 
     name_fronts : AllByRecursion (Differs mine.name) fronts
-    name_fronts = all_two (λ o. OtherName overwrite o one) (λ o. IsApart o one) (Differs mine.name) (λ o r q. ((λ e. r (mine.is ∙ sym e)), (λ e. q.2 (mine.is ∙ ap (λ n. Some n) e)))) fronts (pairs_before (OtherName overwrite) fronts one backs names) (pairs_before IsApart fronts one backs x.apart)
+    name_fronts = all_two (λ o. OtherName overwrite o one) (λ o. IsApart o one) (Differs mine.name) (λ o r q. ((λ e. r (mine.is ∙ sym e)), (λ e. q.2 (mine.is ∙ ap (λ n. Some n) e)))) fronts (pairs_before (OtherName overwrite) fronts one backs names) (pairs_before IsApart fronts one backs apart)
 
     name_backs : AllByRecursion (Differs mine.name) backs
-    name_backs = all_two (OtherName overwrite one) (IsApart one) (Differs mine.name) (λ o r q. ((λ e. r (e ∙ sym mine.is)), (λ e. q.1 (mine.is ∙ ap (λ n. Some n) e)))) backs (pairs_after (OtherName overwrite) fronts one backs names) (pairs_after IsApart fronts one backs x.apart)
+    name_backs = all_two (OtherName overwrite one) (IsApart one) (Differs mine.name) (λ o r q. ((λ e. r (e ∙ sym mine.is)), (λ e. q.1 (mine.is ∙ ap (λ n. Some n) e)))) backs (pairs_after (OtherName overwrite) fronts one backs names) (pairs_after IsApart fronts one backs apart)
 
     made_there : second mine.name ≡ Some []
     made_there =
@@ -421,22 +433,47 @@ module _ (overwrite : Bool) (fronts : List OneFile) (one : OneFile) (backs : Lis
           of (inl k) = kept_goes overwrite one.output mine.name one.ends (after (flat_map ends_of fronts) fourth) mine.named (kept_named overwrite one here k) (λ h. left (ends_happened (stays mine.name) h))
           of (inr k) = dropped_goes mine.name one.ends (after (flat_map ends_of fronts) fourth) (dropped_named overwrite one here k) (λ h. left (ends_happened (stays mine.name) h))
 
-  -- it is dropped: none of the events is about the path of its OUT
-  pub dropped_back : IsDroppedFile one → after events disk one.output ≡ disk one.output
-  dropped_back k =
+  -- until then none of the events is about the path of its OUT
+  abbrev last : Disk
+  last = after (flat_map ends_of fronts) fourth
+
+  before_ends : last one.output ≡ disk one.output
+  before_ends =
       let o = one.output in
-      let d = after (flat_map ends_of fronts) fourth in
       let own : IsNotNamed o one = λ e. mine.named (some_same (sym mine.is ∙ e)) in
       let unnamed_all = all_append (IsNotNamed o) fronts (one ∷ backs) (unnamed o fronts output_fronts) (own, unnamed o backs output_backs) in
-      ap (λ (y : Disk). y o) (run_after overwrite files events x disk)
-      ∙ spared o x.last (ended overwrite files events x disk) (all_still_spare o x.last x.still.2)
-      ∙ phase_at o ends_of fronts one backs fourth (all_ends_spare overwrite o backs handled_backs output_backs)
-      ∙ spared o one.ends d (drops_spare o mine.name one.ends (dropped_named overwrite one here k) (λ e. mine.named (sym e)))
-      ∙ spared o (flat_map ends_of fronts) fourth (all_ends_spare overwrite o fronts handled_fronts output_fronts)
+      spared o (flat_map ends_of fronts) fourth (all_ends_spare overwrite o fronts handled_fronts output_fronts)
       ∙ spared o (flat_map wrote_of files) third (all_writes_spare o files unnamed_all)
       ∙ spared o x.between second (all_still_spare o x.between x.still.1)
       ∙ spared o (flat_map made_of files) first (all_makes_spare overwrite o files x.each unnamed_all)
       ∙ spared o x.before disk (all_still_spare o x.before x.still.0)
+
+  -- it is dropped
+  pub dropped_back : IsDroppedFile one → after events disk one.output ≡ disk one.output
+  dropped_back k =
+      let o = one.output in
+      ap (λ (y : Disk). y o) (run_after overwrite files events x disk)
+      ∙ spared o x.last (ended overwrite files events x disk) (all_still_spare o x.last x.still.2)
+      ∙ phase_at o ends_of fronts one backs fourth (all_ends_spare overwrite o backs handled_backs output_backs)
+      ∙ spared o one.ends last (drops_spare o mine.name one.ends (dropped_named overwrite one here k) (λ e. mine.named (sym e)))
+      ∙ before_ends
+
+  -- what is said of the file system as it ends is so
+  ends_allowed : AllowsAll disk events → AllowsAll last one.ends
+  ends_allowed a =
+      let mades = flat_map (λ (o : OneFile). o.makes) files in
+      let writes = map (λ (o : OneFile). wrote o.out) files in
+      let rest = flat_map ends_of files ++ x.last in
+      let same : after writes third ≡ fourth = ap (λ (es : List Event). after es third) (sym (flat_map_single (λ (o : OneFile). wrote o.out) files)) in
+      let begins = allows_last x.before (mades ++ (x.between ++ (writes ++ rest))) disk (subst (λ (es : List Event). AllowsAll disk es) x.happened a) in
+      let works = allows_last x.between (writes ++ rest) second (allows_last mades (x.between ++ (writes ++ rest)) first begins) in
+      let ends = allows_first (flat_map ends_of files) x.last fourth (subst (λ (d : Disk). AllowsAll d rest) same (allows_last writes rest third works)) in
+      let mine_and_later = allows_last (flat_map ends_of fronts) (one.ends ++ flat_map ends_of backs) fourth (subst (λ (es : List Event). AllowsAll fourth es) (flat_map-append ends_of fronts (one ∷ backs)) ends) in
+      allows_first one.ends (flat_map ends_of backs) last mine_and_later
+
+  -- it is kept, and replaces none: there was none
+  pub kept_fresh : AllowsAll disk events → IsKeptWhole overwrite one → overwrite ≡ false → disk one.output ≡ None
+  kept_fresh a k new = sym before_ends ∙ named_free overwrite one.output mine.name one.ends last (kept_named overwrite one here k) (ends_allowed a) new
 
 -- ---- another path
 
@@ -456,11 +493,12 @@ find overwrite p (one ∷ more) h = of (which (file overwrite one h.0).name p) (
   of (inr n) (inl d) = inl ((λ e. n (some_same (sym (file overwrite one h.0).is ∙ e))), d)
   of (inr n) (inr k) = inr (record { fronts = one ∷ k.fronts; one = k.one; backs = k.backs; are = ap (λ l. one ∷ l) k.are; is = k.is })
 
-pub others_back : (overwrite : Bool) (files : List OneFile) (events : List Event) (x : HandlesFiles overwrite files events) (disk : Disk) → AllowsAll disk events → (p : List ℕ) → AllByRecursion (λ (one : OneFile). p ≡ one.output → ⊥) files → (Happened (stays p) events → ⊥) → after events disk p ≡ disk p
-others_back overwrite files events x disk a p outputs left = of (find overwrite p files x.each) where
+pub others_back : (overwrite : Bool) (files : List OneFile) (events : List Event) (x : HandlesFiles overwrite files events) → Pairwise IsApart files → (disk : Disk) → AllowsAll disk events → (p : List ℕ) → AllByRecursion (λ (one : OneFile). p ≡ one.output → ⊥) files → (Happened (stays p) events → ⊥) → after events disk p ≡ disk p
+others_back overwrite files events x apart disk a p outputs left = of (find overwrite p files x.each) where
   of : AllByRecursion (IsNotNamed p) files ⊎ IsOneOf p files → after events disk p ≡ disk p
   of (inl d) = spares_all overwrite files events x disk p (all_two (IsNotNamed p) (λ one. p ≡ one.output → ⊥) (Differs p) (λ one n o. (n, o)) files d outputs)
   of (inr k) =
       let split = subst (λ (fs : List OneFile). HandlesFiles overwrite fs events) k.are x in
-      let same : (mine overwrite k.fronts k.one k.backs events split disk).name ≡ p = some_same (sym (mine overwrite k.fronts k.one k.backs events split disk).is ∙ k.is) in
-      subst (λ (q : List ℕ). (Happened (stays q) events → ⊥) → after events disk q ≡ disk q) same (part_back overwrite k.fronts k.one k.backs events split disk a) left
+      let pairs = subst (λ (fs : List OneFile). Pairwise IsApart fs) k.are apart in
+      let same : (mine overwrite k.fronts k.one k.backs events split pairs disk).name ≡ p = some_same (sym (mine overwrite k.fronts k.one k.backs events split pairs disk).is ∙ k.is) in
+      subst (λ (q : List ℕ). (Happened (stays q) events → ⊥) → after events disk q ≡ disk q) same (part_back overwrite k.fronts k.one k.backs events split pairs disk a) left

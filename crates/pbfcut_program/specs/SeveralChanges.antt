@@ -39,5 +39,8 @@ pub record HandlesFiles (overwrite : Bool) (files : List OneFile) (events : List
   pub last : List Event
   pub happened : events ≡ before ++ (flat_map (λ one. one.makes) files ++ (between ++ (map (λ one. wrote one.out) files ++ (flat_map (λ one. one.ends) files ++ last))))
   pub each : AllByRecursion (IsHandled overwrite) files
-  pub apart : Pairwise IsApart files
   pub still : Each Still before × Each Still between × Each Still last
+
+-- so are OUTs with these paths
+abbrev pub HandlesEach : (overwrite : Bool) → (outputs : List (List ℕ)) → List Event → Type 0
+HandlesEach overwrite outputs events = (files : List OneFile) × (map (λ one. one.output) files ≡ outputs) × HandlesFiles overwrite files events
