@@ -17,6 +17,7 @@ pub mod Several
 pub mod SeveralChanges
 pub mod SeveralFiles
 pub mod SeveralOuts
+pub mod SeveralWrites
 pub mod Taking
 pub mod Tasks
 pub mod Telling
