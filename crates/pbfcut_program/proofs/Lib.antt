@@ -22,8 +22,6 @@ pub mod RunLemmas
 pub mod SayingLemmas
 pub mod SettlingLemmas
 pub mod SeveralRuns
-pub mod SeveralClosing
-pub mod SeveralDisk
 pub mod SeveralFileLemmas
 pub mod SeveralOutLemmas
 pub mod TakingLemmas

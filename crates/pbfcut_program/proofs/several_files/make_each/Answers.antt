@@ -1,4 +1,5 @@
-use Rattle.std.proofs.Common.{◌≡◌, ◌∙◌, List, [], ◌∷◌, ◌++◌, ap, arith, length, length-append, refl, rules, subst}
+use Rattle.std.proofs.Common.{◌≡◌, ◌∙◌, ℕ, List, [], ◌∷◌, ◌++◌, ap, arith, length, length-append, refl, rules, subst, sym}
+use Rattle.std.specs.String.{string_bytes}
 use Rattle.pbfcut.proofs.SeveralLemmas.{zip_length}
 use Rattle.pbfcut_program.specs.declared.configured.OutputCut.{OutputCut}
 use Rattle.pbfcut_program.specs.declared.several_files.Part.{Part}
