@@ -22,6 +22,8 @@ pub mod RunLemmas
 pub mod SayingLemmas
 pub mod SettlingLemmas
 pub mod SeveralRuns
+pub mod SeveralClosing
+pub mod SeveralDisk
 pub mod SeveralFileLemmas
 pub mod SeveralOutLemmas
 pub mod TakingLemmas
