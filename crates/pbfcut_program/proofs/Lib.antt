@@ -22,6 +22,9 @@ pub mod RunLemmas
 pub mod SayingLemmas
 pub mod SettlingLemmas
 pub mod SeveralRuns
+pub mod SeveralClosing
+pub mod SeveralDisk
+pub mod SeveralFileLemmas
 pub mod SeveralOutLemmas
 pub mod SeveralPackLemmas
 pub mod SeveralIntoLemmas

@@ -14,7 +14,10 @@ pub mod Program
 pub mod Readings
 pub mod Settling
 pub mod Several
+pub mod SeveralChanges
+pub mod SeveralFiles
 pub mod SeveralOuts
+pub mod SeveralWrites
 pub mod Taking
 pub mod Tasks
 pub mod Telling

@@ -2,7 +2,8 @@
 //! Names count as they are written: nothing is said of two spellings of one name. Like the laws of runs, each is the contract of a
 //! function that does nothing.
 
-ghost use Rattle.std.specs.Prelude.{[], ◌≡◌, ◌⊎◌, ◌++◌, ℕ, List, Bool, true, false, Some, None, codes};
+ghost use Rattle.std.specs.Prelude.{[], ◌≡◌, ◌⊎◌, ◌++◌, ◌∷◌, ℕ, List, Bool, true, false, Some, None, codes};
+ghost use Rattle.std.specs.List.{AllByRecursion};
 ghost use Rattle.clap.specs.Words.{Row, Text};
 ghost use Rattle.pbfcut_cli.specs.Words.{ReadsAs};
 ghost use Rattle.pbfcut_cli.specs.declared.programs.Program.{Program};
@@ -17,6 +18,7 @@ ghost use Rattle.pbfcut_program.specs.Events.{Event, Writing, stays};
 ghost use Rattle.pbfcut_program.specs.Files.{AllowsAll, Disk, after};
 ghost use Rattle.pbfcut_program.specs.Program.{IsMeant, manner_in};
 ghost use Rattle.pbfcut_program.specs.Settling.{HandlesIn, RunSettles};
+ghost use Rattle.pbfcut_program.specs.SeveralChanges.{HandlesFiles, IsApart, IsDroppedFile, IsKeptWhole, OneFile, Pairwise};
 ghost use Rattle.pbfcut_program.specs.Taking.{Happened};
 
 /// What a user finds after a run that keeps OUT: OUT has all that was written to it, and every other file is as it was. pbfcutz writes OUT
@@ -75,6 +77,32 @@ pub fn always_whole()
         ⊎ DropsFile program output w (started ++ later)
         → AllowsAll disk (started ++ later) → (path bytes : List ℕ) → (path ≡ output → ⊥)
         → disk path ≡ Some bytes → after started disk path ≡ Some bytes }
+{}
+
+/// What a user finds after a run of pbfcutz that writes several OUTs, if they have different paths, and none has the name that another's file
+/// has until it is whole: each OUT that is kept has all that was written to it, and each one that is dropped has what it had. Every other
+/// file is as it was, but a part may be left. Without `--overwrite` there was nothing by the names of those that are kept.
+pub fn writes_several()
+    ensures kept { (overwrite : Bool) (before later : List OneFile) (one : OneFile)
+        (events : List Event) (disk : Disk)
+        → HandlesFiles overwrite (before ++ one ∷ later) events
+        → Pairwise IsApart (before ++ one ∷ later) → AllowsAll disk events
+        → IsKeptWhole overwrite one → after events disk one.output ≡ Some one.out.bytes }
+    ensures dropped { (overwrite : Bool) (before later : List OneFile) (one : OneFile)
+        (events : List Event) (disk : Disk)
+        → HandlesFiles overwrite (before ++ one ∷ later) events
+        → Pairwise IsApart (before ++ one ∷ later) → IsDroppedFile one
+        → after events disk one.output ≡ disk one.output }
+    ensures others { (overwrite : Bool) (files : List OneFile) (events : List Event) (disk : Disk)
+        → HandlesFiles overwrite files events → Pairwise IsApart files → AllowsAll disk events
+        → (path : List ℕ)
+        → AllByRecursion (λ one. path ≡ one.output → ⊥) files
+        → (Happened (stays path) events → ⊥) → after events disk path ≡ disk path }
+    ensures fresh { (overwrite : Bool) (before later : List OneFile) (one : OneFile)
+        (events : List Event) (disk : Disk)
+        → HandlesFiles overwrite (before ++ one ∷ later) events
+        → Pairwise IsApart (before ++ one ∷ later) → AllowsAll disk events
+        → IsKeptWhole overwrite one → overwrite ≡ false → disk one.output ≡ None }
 {}
 
 /// What any run does to a user's files, however it ends: no file has changed; or OUT was made, and was kept or dropped, as `writes_out` and

@@ -15,6 +15,7 @@ mod printing;
 mod program;
 mod reading;
 mod several;
+mod several_files;
 mod several_into;
 mod several_outs;
 mod several_packed;
