@@ -1,0 +1,143 @@
+-- The tables of the extract.
+use Rattle.std.proofs.Common.{arith, ◌≡◌, inl, inr, ℕ, List, [], ◌∷◌, Bool, true, false, Option, Some, None, codes, refl, sym, subst, ◌∙◌}
+use Rattle.std.specs.Str.{bytes_eq}
+use Rattle.clap.specs.Words.{Row, Text, subcommand_of}
+use Rattle.osm_area.specs.Area.{box_area}
+use Rattle.osm_ways.specs.Selection.{complete_ways}
+use Rattle.pbf_examples.specs.Extracts.{two_nodes}
+use Rattle.pbf_examples.specs.Frames.{three_nodes}
+use Rattle.pbf_examples.specs.Reading.{box}
+use Rattle.pbf_pass.specs.declared.hashing.PassCheck.TheVariants as check
+use Rattle.pbfcut.specs.Tasks.{extracting}
+use Rattle.pbfcut.specs.Theorem.{IsExtraction}
+use Rattle.pbfcut_cli.specs.Joined.{normalized}
+use Rattle.pbfcut_cli.specs.Words.{IsRead, ReadsAs, program_app}
+use Rattle.pbfcut_cli.specs.declared.programs.Program.TheVariants.{Pbfcut}
+use Rattle.pbfcut_cli.specs.declared.words.Region.TheVariants as region
+use Rattle.pbfcut_cli.specs.declared.words.Strategy.TheVariants.{CompleteWays}
+use Rattle.pbfcut_program.proofs.DiskLemmas.{put_other}
+use Rattle.pbfcut_program.specs.Events.{made}
+use Rattle.pbfcut_program.specs.Files.{after}
+use Rattle.pbfcut_program.specs.Manner.{AreDigests, Manner}
+use Rattle.pbfcut_program.specs.Program.{Extracts, IsRun, WritesCounts, manner_in}
+use Rattle.pbfcut_program.specs.Readings.{IsWhole, IsWork}
+use Rattle.sha2.specs.Sha256.{sha256}
+use Rattle.run_examples.proofs.Computing.{runs_on_literals}
+use Rattle.run_examples.proofs.FlagLemmas.{reads_absent, reads_off}
+use Rattle.run_examples.specs.Extract.{Happens, OnDisk, Typed, counts, disk, happens, input, meaning, output, rows, typed}
+use Rattle.run_examples.specs.Lines.{all_of, files, none_of, whole}
+
+-- ---- what is typed
+
+pub reads : ReadsAs (codes "extract") rows meaning
+unfolding runs_on_literals
+reads =
+    (refl, (refl, refl, reads_off (codes "parents") rows refl), (refl, refl), record {
+      formats = refl;
+      input = refl;
+      output = inl (refl, refl);
+      overwrite = reads_absent (codes "overwrite") rows refl;
+      raw = reads_absent (codes "raw") rows refl;
+      progress = reads_off (codes "progress") rows refl;
+      quiet = reads_off (codes "no-progress") rows refl;
+      digests = reads_off (codes "digests") rows refl;
+    })
+
+pub values_are : subcommand_of (program_app Pbfcut) (normalized typed) ≡ Some (codes "extract", rows)
+unfolding runs_on_literals
+values_are = refl
+
+pub typed_is : Typed
+unfolding runs_on_literals
+typed_is = record {
+  taken = refl;
+  values = values_are;
+  degrees = refl;
+  meant = inr (subst (λ command. IsRead command meaning) (sym values_are) reads);
+}
+
+-- ---- what happens
+
+abbrev raw : Manner
+raw = manner_in Pbfcut meaning
+
+pub extraction_is : IsExtraction complete_ways (box_area box) three_nodes counts two_nodes
+unfolding runs_on_literals
+extraction_is =
+    (record {
+      sound = refl;
+      extract = record { sound = refl; header = refl; meaning = refl; entities = refl };
+      counted = refl;
+    }, record { is = refl; again = refl })
+
+-- of any file: the digest is never computed
+module _ (file : List ℕ) where
+  all_read : IsWhole (AreDigests raw check.Sha256 (sha256 file) None) (Some file) (all_of file) file
+  all_read = record { are = refl; end = refl; is_known = (refl, refl); opened = refl }
+
+work_is : IsWork raw check.Sha256 (extracting complete_ways (box_area box)) (Some three_nodes ∷ Some three_nodes ∷ Some three_nodes ∷ []) (all_of three_nodes ∷ none_of three_nodes ∷ all_of three_nodes ∷ []) two_nodes counts (sha256 three_nodes) None
+unfolding runs_on_literals
+work_is = record {
+  files = three_nodes ∷ three_nodes ∷ three_nodes ∷ [];
+  read = (all_read three_nodes, inr (omega arith, refl, refl), inl (all_read three_nodes), tt);
+  holds = (refl, λ e f. extraction_is);
+}
+
+module _ (key : ℕ) where
+  writes_are : WritesCounts raw (extracting complete_ways (box_area box)) (files input output) counts (happens key)
+  unfolding runs_on_literals
+  writes_are = record {
+    has = Some three_nodes ∷ Some three_nodes ∷ Some three_nodes ∷ [];
+    rs = all_of three_nodes ∷ none_of three_nodes ∷ all_of three_nodes ∷ [];
+    out = whole output two_nodes;
+    key = key;
+    digest = sha256 three_nodes;
+    raw = None;
+    known = None;
+    meaning = None;
+    makes = made output ∷ [];
+    keeps = [];
+    happened = refl;
+    passes = refl;
+    made = ([], tt, refl, refl);
+    named = refl;
+    kept = refl;
+    whole = refl;
+    hashed = refl;
+    meaning_hashed = refl;
+    work = work_is;
+  }
+
+  extracts_are : Extracts raw (region.Box box) CompleteWays (files input output) (happens key)
+  unfolding runs_on_literals
+  extracts_are = record {
+    area = box_area box;
+    before = [];
+    after = happens key;
+    counts = counts;
+    happened = refl;
+    means = (refl, refl);
+    writes = writes_are;
+  }
+
+  run_is : IsRun Pbfcut typed (happens key) 0
+  run_is = inl (refl, meaning, typed_is.meant, extracts_are)
+
+pub happens_is : Happens
+unfolding runs_on_literals
+happens_is = record { cut = refl; extraction = extraction_is; line = refl; run = run_is }
+
+-- ---- what is on the disk
+
+no_other_is : (key : ℕ) (name : Text) → (name ≡ input → ⊥) → (name ≡ output → ⊥) → after (happens key) disk name ≡ None
+no_other_is key name not_input not_output =
+    put_other output name _ _ not_output ∙ (put_other output name _ _ not_output ∙ put_other input name _ _ not_input)
+
+pub on_disk_is : OnDisk
+on_disk_is = record {
+  possible = λ key. (tt, refl, refl, refl, tt, refl, tt, tt, tt, tt, tt, tt);
+  moments = λ key. refl;
+  output_has = λ key. refl;
+  input_has = λ key. refl;
+  no_other = no_other_is;
+}
