@@ -17,7 +17,7 @@ use Rattle.pbfcut_cli.specs.declared.words.Region.TheVariants as region
 use Rattle.pbfcut_cli.specs.declared.words.Strategy.TheVariants.{CompleteWays}
 use Rattle.pbfcut_program.proofs.DiskLemmas.{put_other}
 use Rattle.pbfcut_program.specs.Events.{made}
-use Rattle.pbfcut_program.specs.Files.{after}
+use Rattle.pbfcut_program.specs.Files.{after, put}
 use Rattle.pbfcut_program.specs.Manner.{AreDigests, Manner}
 use Rattle.pbfcut_program.specs.Program.{Extracts, IsRun, WritesCounts, manner_in}
 use Rattle.pbfcut_program.specs.Readings.{IsWhole, IsWork}
@@ -79,7 +79,7 @@ work_is : IsWork raw check.Sha256 (extracting complete_ways (box_area box)) (Som
 unfolding runs_on_literals
 work_is = record {
   files = three_nodes ∷ three_nodes ∷ three_nodes ∷ [];
-  read = (all_read three_nodes, inr (omega arith, refl, refl), inl (all_read three_nodes), tt);
+  read = (all_read three_nodes, (inr (omega arith, refl, refl), (inl (all_read three_nodes), tt)));
   holds = (refl, λ e f. extraction_is);
 }
 
@@ -121,7 +121,7 @@ module _ (key : ℕ) where
   }
 
   run_is : IsRun Pbfcut typed (happens key) 0
-  run_is = inl (refl, meaning, typed_is.meant, extracts_are)
+  run_is = inl (refl, (meaning, typed_is.meant, extracts_are))
 
 pub happens_is : Happens
 unfolding runs_on_literals
@@ -131,11 +131,12 @@ happens_is = record { cut = refl; extraction = extraction_is; line = refl; run =
 
 no_other_is : (key : ℕ) (name : Text) → (name ≡ input → ⊥) → (name ≡ output → ⊥) → after (happens key) disk name ≡ None
 no_other_is key name not_input not_output =
-    put_other output name _ _ not_output ∙ (put_other output name _ _ not_output ∙ put_other input name _ _ not_input)
+    put_other output name (Some two_nodes) (put output (Some []) disk) not_output
+    ∙ (put_other output name (Some []) disk not_output ∙ put_other input name (Some three_nodes) (λ other. None) not_input)
 
 pub on_disk_is : OnDisk
 on_disk_is = record {
-  possible = λ key. (tt, refl, refl, refl, tt, refl, tt, tt, tt, tt, tt, tt);
+  possible = λ key. (tt, (refl, (refl, (refl, (tt, (refl, (tt, (tt, (tt, (tt, (tt, tt)))))))))));
   moments = λ key. refl;
   output_has = λ key. refl;
   input_has = λ key. refl;

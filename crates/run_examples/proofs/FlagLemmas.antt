@@ -19,3 +19,10 @@ reads_off id rows is = (λ e. refl, λ e. absurd (true_false (ap says_false (sym
 
 pub reads_absent : (id : Text) (rows : List Row) → one_of id rows ≡ None → ReadsFlag false id rows
 reads_absent id rows is = (λ e. refl, λ e. absurd (none_some (sym is ∙ e)), λ e. refl)
+
+-- a flag that was typed
+abbrev says_true : Option Text → Bool
+says_true value = option_map_or (λ text. bytes_eq text (codes "true")) value false
+
+pub reads_on : (id : Text) (rows : List Row) → one_of id rows ≡ Some (codes "true") → ReadsFlag true id rows
+reads_on id rows is = (λ e. absurd (none_some (sym e ∙ is)), λ e. refl, λ e. absurd (true_false (ap says_true (sym is ∙ e))))

@@ -1,2 +1,5 @@
 pub mod Lines
 pub mod Extract
+pub mod AnyRun
+pub mod Refused
+pub mod Packed

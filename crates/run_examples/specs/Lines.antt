@@ -76,3 +76,11 @@ whole name bytes =
       kept = true;
       fault = None;
     }
+
+-- OUT, a file of this name, took nothing, and wasn't to be kept
+abbrev pub empty : (name : List ℕ) → Writing
+empty name = record (whole name []) { kept = false }
+
+-- the files of a command that was typed with `--raw`
+abbrev pub raw_files : (input output : Text) → Files
+raw_files input output = record (files input output) { raw = true }
