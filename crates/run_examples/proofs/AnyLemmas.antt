@@ -1,10 +1,9 @@
 -- What each run of the extract comes to that ends with 0: the law of files, over what the words mean.
-use Rattle.std.proofs.Common.{◌≡◌, inl, inr, ℕ, List, Bool, true, false, Option, Some, None, codes, refl, ap, sym, ◌∙◌}
+use Rattle.std.proofs.Common.{◌≡◌, inl, inr, ℕ, List, Bool, true, false, Some, None, codes, refl, ap, sym, ◌∙◌}
 use Rattle.std.specs.Prelude.{Result, Ok}
 use Rattle.std.specs.Borrow.{Bor}
-use Rattle.clap.specs.Words.{Text, takes}
+use Rattle.clap.specs.Words.{Text}
 use Rattle.osm_area.specs.Area.{AreaSpec, box_area}
-use Rattle.osm_box.specs.Degrees.{box_of_text}
 use Rattle.osm_box.specs.declared.bounding_box.BoundingBox.{BoundingBox}
 use Rattle.osm_box.specs.declared.bounding_box.BoxFault.{BoxFault}
 use Rattle.osm_ways.specs.Selection as selection
@@ -12,9 +11,8 @@ use Rattle.pbf_examples.specs.Extracts.{two_nodes}
 use Rattle.pbf_examples.specs.Frames.{three_nodes}
 use Rattle.pbf_examples.specs.Reading.{box}
 use Rattle.pbfcut.specs.Extracting.{extract_bytes}
-use Rattle.pbfcut.specs.Kept.{extract_of, verdict_on}
-use Rattle.pbfcut_cli.specs.Joined.{normalized}
-use Rattle.pbfcut_cli.specs.Words.{ReadsFlag, ReadsOutput, ReadsRegion, ReadsStrategy, program_app}
+use Rattle.pbfcut.specs.Kept.{verdict_on}
+use Rattle.pbfcut_cli.specs.Words.{ReadsFlag, ReadsOutput, ReadsRegion, ReadsStrategy}
 use Rattle.pbfcut_cli.specs.declared.programs.Program.TheVariants.{Pbfcut}
 use Rattle.pbfcut_cli.specs.declared.words.Command.TheVariants.{Extract}
 use Rattle.pbfcut_cli.specs.declared.words.Region.{Region}
@@ -82,8 +80,7 @@ module _ (over : Disk) (events : List Event) (there : over input ≡ Some three_
       let name = output_is x.files.output x.reads.3.output in
       let by = strategy_is x.by x.reads.1 in
       let area = area_is x.cut g.took.before g.took.area x.reads.2 g.took.means in
-      let bytes : g.took.bytes ≡ two_nodes = sym (raw_is m.packs g.took.bytes) ∙ g.took.extract.1.is ∙ ap (λ s. extract_bytes s g.took.area (verdict_on three_nodes)) by ∙ ap (λ a. extract_bytes selection.complete_ways a (verdict_on three_nodes)) area ∙ happens_is.cut in
-      (
+      let bytes : g.took.bytes ≡ two_nodes = sym (raw_is m.packs g.took.bytes) ∙ g.took.extract.1.is ∙ ap (λ s. extract_bytes s g.took.area (verdict_on three_nodes)) by ∙ ap (λ a. extract_bytes selection.complete_ways a (verdict_on three_nodes)) area ∙ happens_is.cut in (
         ap (after events over) (sym name) ∙ g.gives.there refl ∙ ap (λ b. Some b) bytes,
         ap over (sym name) ∙ g.gives.fresh refl (not_over x.files.overwrite x.reads.3.overwrite),
       )

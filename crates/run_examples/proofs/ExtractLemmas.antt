@@ -1,7 +1,6 @@
 -- The tables of the extract.
-use Rattle.std.proofs.Common.{arith, ◌≡◌, inl, inr, ℕ, List, [], ◌∷◌, Bool, true, false, Option, Some, None, codes, refl, sym, subst, ◌∙◌}
-use Rattle.std.specs.Str.{bytes_eq}
-use Rattle.clap.specs.Words.{Row, Text, subcommand_of}
+use Rattle.std.proofs.Common.{arith, ◌≡◌, inl, inr, ℕ, List, [], ◌∷◌, ◌++◌, Bool, true, false, take, drop, Some, None, ap, codes, refl, sym, subst, ◌∙◌}
+use Rattle.clap.specs.Words.{Text, subcommand_of}
 use Rattle.osm_area.specs.Area.{box_area}
 use Rattle.osm_ways.specs.Selection.{complete_ways}
 use Rattle.pbf_examples.specs.Extracts.{two_nodes}
@@ -10,20 +9,23 @@ use Rattle.pbf_examples.specs.Reading.{box}
 use Rattle.pbf_pass.specs.declared.hashing.PassCheck.TheVariants as check
 use Rattle.pbfcut.specs.Tasks.{extracting}
 use Rattle.pbfcut.specs.Theorem.{IsExtraction}
+use Rattle.pbfcut_cli.specs.Endings.{message_of, program_name}
 use Rattle.pbfcut_cli.specs.Joined.{normalized}
 use Rattle.pbfcut_cli.specs.Words.{IsRead, ReadsAs, program_app}
 use Rattle.pbfcut_cli.specs.declared.programs.Program.TheVariants.{Pbfcut}
 use Rattle.pbfcut_cli.specs.declared.words.Region.TheVariants as region
 use Rattle.pbfcut_cli.specs.declared.words.Strategy.TheVariants.{CompleteWays}
 use Rattle.pbfcut_program.proofs.DiskLemmas.{put_other}
-use Rattle.pbfcut_program.specs.Events.{made}
+use Rattle.pbfcut_program.specs.Changes.{KeepsFile}
+use Rattle.pbfcut_program.specs.Events.{Event, advised, made, told}
 use Rattle.pbfcut_program.specs.Files.{after, put}
 use Rattle.pbfcut_program.specs.Manner.{AreDigests, Manner}
 use Rattle.pbfcut_program.specs.Program.{Extracts, IsRun, WritesCounts, manner_in}
 use Rattle.pbfcut_program.specs.Readings.{IsWhole, IsWork}
+use Rattle.pbfcut_program.specs.Settling.{RunSettles}
 use Rattle.sha2.specs.Sha256.{sha256}
 use Rattle.run_examples.proofs.Computing.{runs_on_literals}
-use Rattle.run_examples.proofs.FlagLemmas.{reads_absent, reads_off}
+use Rattle.run_examples.proofs.FlagLemmas.{reads_absent, reads_off, true_false}
 use Rattle.run_examples.specs.Extract.{Happens, OnDisk, Typed, counts, disk, happens, input, meaning, output, rows, typed}
 use Rattle.run_examples.specs.Lines.{all_of, files, none_of, whole}
 
@@ -31,17 +33,21 @@ use Rattle.run_examples.specs.Lines.{all_of, files, none_of, whole}
 
 pub reads : ReadsAs (codes "extract") rows meaning
 unfolding runs_on_literals
-reads =
-    (refl, (refl, refl, reads_off (codes "parents") rows refl), (refl, refl), record {
-      formats = refl;
-      input = refl;
-      output = inl (refl, refl);
-      overwrite = reads_absent (codes "overwrite") rows refl;
-      raw = reads_absent (codes "raw") rows refl;
-      progress = reads_off (codes "progress") rows refl;
-      quiet = reads_off (codes "no-progress") rows refl;
-      digests = reads_off (codes "digests") rows refl;
-    })
+reads = (
+  refl,
+  (refl, refl, reads_off (codes "parents") rows refl),
+  (refl, refl),
+  record {
+    formats = refl;
+    input = refl;
+    output = inl (refl, refl);
+    overwrite = reads_absent (codes "overwrite") rows refl;
+    raw = reads_absent (codes "raw") rows refl;
+    progress = reads_off (codes "progress") rows refl;
+    quiet = reads_off (codes "no-progress") rows refl;
+    digests = reads_off (codes "digests") rows refl;
+  },
+)
 
 pub values_are : subcommand_of (program_app Pbfcut) (normalized typed) ≡ Some (codes "extract", rows)
 unfolding runs_on_literals
@@ -63,12 +69,14 @@ raw = manner_in Pbfcut meaning
 
 pub extraction_is : IsExtraction complete_ways (box_area box) three_nodes counts two_nodes
 unfolding runs_on_literals
-extraction_is =
-    (record {
-      sound = refl;
-      extract = record { sound = refl; header = refl; meaning = refl; entities = refl };
-      counted = refl;
-    }, record { is = refl; again = refl })
+extraction_is = (
+  record {
+    sound = refl;
+    extract = record { sound = refl; header = refl; meaning = refl; entities = refl };
+    counted = refl;
+  },
+  record { is = refl; again = refl },
+)
 
 -- of any file: the digest is never computed
 module _ (file : List ℕ) where
@@ -123,9 +131,47 @@ module _ (key : ℕ) where
   run_is : IsRun Pbfcut typed (happens key) 0
   run_is = inl (refl, (meaning, typed_is.meant, extracts_are))
 
+  keeps_file : KeepsFile Pbfcut false output (whole output two_nodes) (happens key)
+  keeps_file = record {
+    keeps = [];
+    file = record {
+      before = take 5 (happens key);
+      makes = made output ∷ [];
+      between = take 3 (drop 6 (happens key));
+      last = drop 10 (happens key);
+      happened = refl;
+      is_made = ([], tt, refl, refl);
+      still = ((tt, (tt, (tt, (tt, (tt, tt))))), (tt, (tt, (tt, tt))), (tt, tt));
+    };
+    is_kept = refl;
+    kept = refl;
+    whole = refl;
+  }
+
+  settles_is : RunSettles Pbfcut typed (Some []) (Some (happens key))
+  settles_is = inr (meaning, typed_is.meant, (happens key, refl, inr (whole output two_nodes, inl keeps_file)))
+
+-- only a run that fails ends with advice
+abbrev is_advice : Event → Bool
+is_advice advised = true
+is_advice _ = false
+
+abbrev ends_so : (last : Bool) → List Event → Bool
+ends_so last [] = last
+ends_so last (e ∷ es) = ends_so (is_advice e) es
+
+ends_after : (last : Bool) (es : List Event) (e f : Event) → ends_so last (es ++ e ∷ f ∷ []) ≡ is_advice f
+ends_after last [] e f = refl
+ends_after last (x ∷ es) e f = ends_after (is_advice x) es e f
+
+status_is : (key status : ℕ) → IsRun Pbfcut typed (happens key) status → status ≡ 0
+status_is key status (inl r) = r.0
+status_is key status (inr f) =
+    absurd (true_false (sym (ap (ends_so false) f.happened ∙ ends_after false f.before (told (message_of (program_name Pbfcut) f.how)) advised)))
+
 pub happens_is : Happens
 unfolding runs_on_literals
-happens_is = record { cut = refl; extraction = extraction_is; line = refl; run = run_is }
+happens_is = record { cut = refl; extraction = extraction_is; line = refl; run = run_is; status = status_is; settles = settles_is }
 
 -- ---- what is on the disk
 

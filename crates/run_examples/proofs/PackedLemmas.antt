@@ -1,9 +1,8 @@
 -- The tables of the extract by pbfcutz.
-use Rattle.std.proofs.Common.{arith, ◌≡◌, inl, inr, ℕ, List, [], ◌∷◌, Bool, true, false, Option, Some, None, codes, refl, sym, subst, ap, ◌∙◌}
+use Rattle.std.proofs.Common.{arith, ◌≡◌, inl, inr, ℕ, List, [], ◌∷◌, Some, None, codes, refl, sym, subst, ◌∙◌, ◌⊎◌, take, drop}
 use Rattle.std.specs.Prelude.{replicate}
-use Rattle.std.specs.Str.{bytes_eq}
 use Rattle.std.proofs.lemmas.Slice.Eq.{bytes_eq-Decides}
-use Rattle.clap.specs.Words.{subcommand_of}
+use Rattle.clap.specs.Words.{Text, subcommand_of}
 use Rattle.osm_area.specs.Area.{box_area}
 use Rattle.osm_ways.specs.Selection.{complete_ways}
 use Rattle.pbf_examples.specs.Extracts.{two_nodes}
@@ -17,18 +16,22 @@ use Rattle.pbfcut.specs.Kept.{IsWritable}
 use Rattle.pbfcut.specs.Tasks.{Task, extracting}
 use Rattle.pbfcut.specs.Theorem.{IsExtraction}
 use Rattle.pbfcut_cli.specs.Joined.{normalized}
-use Rattle.pbfcut_cli.specs.Words.{IsRead, ReadsAs, ReadsFlag, program_app}
+use Rattle.pbfcut_cli.specs.Words.{IsRead, ReadsAs, program_app}
 use Rattle.pbfcut_cli.specs.declared.programs.Program.TheVariants.{Pbfcutz}
 use Rattle.pbfcut_cli.specs.declared.words.Region.TheVariants as region
 use Rattle.pbfcut_cli.specs.declared.words.Strategy.TheVariants.{CompleteWays}
+use Rattle.pbfcut_program.proofs.DiskLemmas.{put_other}
+use Rattle.pbfcut_program.specs.Changes.{KeepsFile}
 use Rattle.pbfcut_program.specs.Events.{linked, made, removed}
-use Rattle.pbfcut_program.specs.Files.{after}
+use Rattle.pbfcut_program.specs.Files.{IsKept, after, put}
 use Rattle.pbfcut_program.specs.Manner.{AreDigests, Manner}
 use Rattle.pbfcut_program.specs.Program.{Extracts, IsRun, WritesCounts, manner_in}
 use Rattle.pbfcut_program.specs.Readings.{IsWhole, IsWork}
+use Rattle.pbfcut_program.specs.Settling.{RunSettles}
 use Rattle.run_examples.proofs.Computing.{runs_on_literals}
 use Rattle.run_examples.proofs.ExtractLemmas.{extraction_is}
 use Rattle.run_examples.proofs.FlagLemmas.{reads_off, reads_on, true_false}
+use Rattle.run_examples.proofs.NameLemmas.{which}
 use Rattle.run_examples.specs.Extract.{counts, disk, input, output}
 use Rattle.run_examples.specs.Lines.{all_of, none_of, raw_files, whole}
 use Rattle.run_examples.specs.Packed.{PartOnDisk, PartRun, TypedRaw, meaning_raw, part, parts, rows_raw, typed_raw}
@@ -37,17 +40,21 @@ use Rattle.run_examples.specs.Packed.{PartOnDisk, PartRun, TypedRaw, meaning_raw
 
 reads : ReadsAs (codes "extract") rows_raw meaning_raw
 unfolding runs_on_literals
-reads =
-    (refl, (refl, refl, reads_off (codes "parents") rows_raw refl), (refl, refl), record {
-      formats = refl;
-      input = refl;
-      output = inl (refl, refl);
-      overwrite = reads_off (codes "overwrite") rows_raw refl;
-      raw = reads_on (codes "raw") rows_raw refl;
-      progress = reads_off (codes "progress") rows_raw refl;
-      quiet = reads_off (codes "no-progress") rows_raw refl;
-      digests = reads_off (codes "digests") rows_raw refl;
-    })
+reads = (
+  refl,
+  (refl, refl, reads_off (codes "parents") rows_raw refl),
+  (refl, refl),
+  record {
+    formats = refl;
+    input = refl;
+    output = inl (refl, refl);
+    overwrite = reads_off (codes "overwrite") rows_raw refl;
+    raw = reads_on (codes "raw") rows_raw refl;
+    progress = reads_off (codes "progress") rows_raw refl;
+    quiet = reads_off (codes "no-progress") rows_raw refl;
+    digests = reads_off (codes "digests") rows_raw refl;
+  },
+)
 
 values_are : subcommand_of (program_app Pbfcutz) (normalized typed_raw) ≡ Some (codes "extract", rows_raw)
 unfolding runs_on_literals
@@ -93,8 +100,11 @@ module _ (key : ℕ) where
     );
   }
 
-  not_output : part ≡ output → ⊥
+  pub not_output : part ≡ output → ⊥
   not_output e = true_false (sym ((bytes_eq-Decides part output).1 e))
+
+  named_is : IsKept Pbfcutz false output (Some part) (linked part output ∷ removed part ∷ [])
+  named_is = ([], linked part output ∷ removed part ∷ [], [], refl, tt, inl (removed part, inl refl, refl), tt)
 
   writes_are : WritesCounts m task (raw_files input output) counts (parts key)
   unfolding runs_on_literals
@@ -112,7 +122,7 @@ module _ (key : ℕ) where
     happened = refl;
     passes = refl;
     made = ([], tt, not_output, refl);
-    named = ([], linked part output ∷ removed part ∷ [], [], refl, tt, inl (removed part, inl refl, refl), tt);
+    named = named_is;
     kept = refl;
     whole = refl;
     hashed = refl;
@@ -135,10 +145,38 @@ module _ (key : ℕ) where
   run_is : IsRun Pbfcutz typed_raw (parts key) 0
   run_is = inl (refl, (meaning_raw, typed_raw_is.meant, extracts_are))
 
+  keeps_file : KeepsFile Pbfcutz false output (whole part two_nodes) (parts key)
+  keeps_file = record {
+    keeps = linked part output ∷ removed part ∷ [];
+    file = record {
+      before = take 5 (parts key);
+      makes = made part ∷ [];
+      between = take 3 (drop 6 (parts key));
+      last = drop 12 (parts key);
+      happened = refl;
+      is_made = ([], tt, not_output, refl);
+      still = ((tt, (tt, (tt, (tt, (tt, tt))))), (tt, (tt, (tt, tt))), (tt, tt));
+    };
+    is_kept = named_is;
+    kept = refl;
+    whole = refl;
+  }
+
+  settles_is : RunSettles Pbfcutz typed_raw (Some []) (Some (parts key))
+  settles_is = inr (meaning_raw, typed_raw_is.meant, (parts key, refl, inr (whole part two_nodes, inl keeps_file)))
+
 pub part_run_is : PartRun
-part_run_is = record { unpacked_same = same; run = run_is }
+part_run_is = record { unpacked_same = same; run = run_is; settles = settles_is }
 
 -- ---- what is on the disk
+
+no_other_is : (key : ℕ) (name : Text) → (name ≡ part) ⊎ (name ≡ part → ⊥) → (name ≡ input → ⊥) → (name ≡ output → ⊥) → after (parts key) disk name ≡ None
+no_other_is key name (inl e) not_in not_out = subst (λ n. after (parts key) disk n ≡ None) (sym e) refl
+no_other_is key name (inr not_part) not_in not_out =
+    put_other part name None (put output (Some two_nodes) (put part (Some two_nodes) (put part (Some []) disk))) not_part
+    ∙ (put_other output name (Some two_nodes) (put part (Some two_nodes) (put part (Some []) disk)) not_out
+    ∙ (put_other part name (Some two_nodes) (put part (Some []) disk) not_part
+    ∙ (put_other part name (Some []) disk not_part ∙ put_other input name (Some three_nodes) (λ other. None) not_in)))
 
 pub part_on_disk_is : PartOnDisk
 part_on_disk_is = record {
@@ -146,5 +184,5 @@ part_on_disk_is = record {
   moments = λ key. refl;
   output_has = λ key. refl;
   input_has = λ key. refl;
-  no_part = λ key. refl;
+  no_other = λ key name. no_other_is key name (which name part);
 }

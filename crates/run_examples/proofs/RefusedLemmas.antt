@@ -1,5 +1,5 @@
 -- The tables of the run that is refused.
-use Rattle.std.proofs.Common.{◌≡◌, ◌⊎◌, inl, inr, ℕ, List, [], ◌∷◌, false, Option, Some, None, refl}
+use Rattle.std.proofs.Common.{inl, inr, ℕ, List, [], ◌∷◌, false, take, drop, Option, Some, refl}
 use Rattle.osm_area.specs.Area.{box_area}
 use Rattle.osm_ways.specs.Selection.{complete_ways}
 use Rattle.pbf_examples.specs.Reading.{box}
@@ -16,15 +16,18 @@ use Rattle.pbfcut_cli.specs.declared.endings.Ending.TheVariants as ending
 use Rattle.pbfcut_cli.specs.declared.programs.Program.TheVariants.{Pbfcut}
 use Rattle.pbfcut_cli.specs.declared.words.Region.TheVariants as region
 use Rattle.pbfcut_cli.specs.declared.words.Strategy.TheVariants.{CompleteWays}
+use Rattle.pbfcut_program.specs.Changes.{DropsFile}
+use Rattle.pbfcut_program.specs.Events.{made}
 use Rattle.pbfcut_program.specs.Fails.{Each, FailsFor, IsRefused, Opens}
 use Rattle.pbfcut_program.specs.Leaving.{KeepsNone, LeavesFor, TookFront}
 use Rattle.pbfcut_program.specs.Manner.{Manner, of_input, output_form}
-use Rattle.pbfcut_program.specs.Program.{Does, FailsIn, IsRun, LeavesCut, judging_cut, manner_in}
+use Rattle.pbfcut_program.specs.Program.{FailsIn, IsRun, LeavesCut, judging_cut, manner_in}
+use Rattle.pbfcut_program.specs.Settling.{RunSettles}
 use Rattle.pbfcut_program.specs.Telling.{SaysLittle}
 use Rattle.run_examples.proofs.Computing.{runs_on_literals}
 use Rattle.run_examples.proofs.ExtractLemmas.{typed_is}
-use Rattle.run_examples.specs.Extract.{meaning, typed}
-use Rattle.run_examples.specs.Lines.{all_of, none_of}
+use Rattle.run_examples.specs.Extract.{meaning, output, typed}
+use Rattle.run_examples.specs.Lines.{all_of, empty, none_of}
 use Rattle.run_examples.specs.Refused.{EmptyOut, Refused, fails, refused, short_file}
 
 abbrev raw : Manner
@@ -104,9 +107,27 @@ module _ (key : ℕ) where
     why = (meaning, typed_is.meant, fails_in);
   })
 
+  drops_file : DropsFile Pbfcut output (empty output) (refused key)
+  drops_file = record {
+    drops = [];
+    file = record {
+      before = take 5 (refused key);
+      makes = made output ∷ [];
+      between = take 3 (drop 6 (refused key));
+      last = drop 10 (refused key);
+      happened = refl;
+      is_made = ([], tt, refl, refl);
+      still = ((tt, (tt, (tt, (tt, (tt, tt))))), (tt, (tt, (tt, tt))), (tt, (tt, tt)));
+    };
+    is_dropped = refl;
+  }
+
+  settles_is : RunSettles Pbfcut typed (Some []) (Some (refused key))
+  settles_is = inr (meaning, typed_is.meant, (refused key, refl, inr (empty output, inr drops_file)))
+
 pub refused_run_is : Refused
 unfolding runs_on_literals
-refused_run_is = record { fault = refl; run = run_is }
+refused_run_is = record { fault = refl; run = run_is; settles = settles_is }
 
 pub empty_out_is : EmptyOut
 empty_out_is = record {

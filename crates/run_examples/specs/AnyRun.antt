@@ -1,6 +1,6 @@
--- What each run of the command line of the chapter Extract comes to, if it ends with status 0 over that
--- disk. The chapter shows one such run; here nothing is said of what happens in between, and OUT
--- still has the same bytes. So an exit status of 0 can't stand beside other bytes.
+-- What any run of the command line of the chapter Extract comes to if it ends with status 0 over that
+-- disk. The chapter shows one such run. Here nothing is said of what happens in between, and still OUT
+-- has the same bytes afterwards.
 use Rattle.std.specs.Prelude.{◌≡◌, ℕ, List, Some}
 use Rattle.pbf_examples.specs.Extracts.{two_nodes}
 use Rattle.pbfcut_cli.specs.declared.programs.Program.TheVariants.{Pbfcut}

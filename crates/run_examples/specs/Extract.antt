@@ -26,6 +26,7 @@ use Rattle.pbfcut_cli.specs.declared.words.Strategy.TheVariants.{CompleteWays}
 use Rattle.pbfcut_program.specs.Events.{Event, looked, made, opened, printed, read, seeded, wrote}
 use Rattle.pbfcut_program.specs.Files.{AllowsAll, Disk, after}
 use Rattle.pbfcut_program.specs.Program.{IsMeant, IsRun, counts_text}
+use Rattle.pbfcut_program.specs.Settling.{RunSettles}
 use Rattle.pbfcut_program.specs.declared.host.Screen.TheVariants.{Output}
 use Rattle.run_examples.specs.Lines.{all_of, files, given, none_of, off, only, whole}
 
@@ -89,6 +90,10 @@ pub record Happens : Type 0 where
   pub line : counts_text counts ≡ codes "nodes 2 ways 0 relations 0\n"
   -- so this is a run of the program, and its exit status is 0
   pub run : (key : ℕ) → IsRun Pbfcut typed (happens key) 0
+  -- and can't be another one
+  pub status : (key status : ℕ) → IsRun Pbfcut typed (happens key) status → status ≡ 0
+  -- it did to files what a run may do: OUT was made, and kept, and nothing else was touched
+  pub settles : (key : ℕ) → RunSettles Pbfcut typed (Some []) (Some (happens key))
 
 -- ---- what is on the disk
 

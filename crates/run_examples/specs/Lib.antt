@@ -3,3 +3,4 @@ pub mod Extract
 pub mod AnyRun
 pub mod Refused
 pub mod Packed
+pub mod Dropped

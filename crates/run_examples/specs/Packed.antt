@@ -20,6 +20,7 @@ use Rattle.pbfcut_cli.specs.declared.words.Strategy.TheVariants.{CompleteWays}
 use Rattle.pbfcut_program.specs.Events.{Event, linked, looked, made, opened, printed, read, removed, seeded, wrote}
 use Rattle.pbfcut_program.specs.Files.{AllowsAll, after}
 use Rattle.pbfcut_program.specs.Program.{IsMeant, IsRun}
+use Rattle.pbfcut_program.specs.Settling.{RunSettles}
 use Rattle.pbfcut_program.specs.declared.host.Screen.TheVariants.{Output}
 use Rattle.run_examples.specs.Extract.{disk, input, output}
 use Rattle.run_examples.specs.Lines.{all_of, given, none_of, off, raw_files, whole}
@@ -72,6 +73,7 @@ pub record PartRun : Type 0 where
   -- the blobs of IN are raw, so it means itself
   pub unpacked_same : unpacked three_nodes ≡ three_nodes
   pub run : (key : ℕ) → IsRun Pbfcutz typed_raw (parts key) 0
+  pub settles : (key : ℕ) → RunSettles Pbfcutz typed_raw (Some []) (Some (parts key))
 
 -- ---- what is on the disk
 
@@ -87,4 +89,7 @@ pub record PartOnDisk : Type 0 where
       ≡ None ∷ None ∷ None ∷ Some two_nodes ∷ Some two_nodes ∷ []
   pub output_has : (key : ℕ) → after (parts key) disk output ≡ Some two_nodes
   pub input_has : (key : ℕ) → after (parts key) disk input ≡ Some three_nodes
-  pub no_part : (key : ℕ) → after (parts key) disk part ≡ None
+  -- so the part is gone, too
+  pub no_other :
+      (key : ℕ) (name : Text) → (name ≡ input → ⊥) → (name ≡ output → ⊥)
+      → after (parts key) disk name ≡ None

@@ -2,8 +2,8 @@
 --
 --     pbfcut extract --box=0,0,1,1 in.osm.pbf out.osm.pbf
 --
--- IN is refused, and nothing is written. `pbfcut` keeps what it made, so an empty OUT is left;
--- `pbfcutz` would remove it.
+-- IN is refused, and nothing is written. `pbfcut` leaves what it made, so there is an empty OUT then.
+-- (`pbfcutz` removes it: the chapter Dropped.)
 use Rattle.std.specs.Prelude.{◌≡◌, ℕ, false, List, [], ◌∷◌, ◌++◌, take, Some, codes}
 use Rattle.pbf_examples.specs.Frames.{three_nodes}
 use Rattle.pbf_examples.specs.Reading.{◌refused_at◌for◌}
@@ -12,6 +12,7 @@ use Rattle.pbfcut_cli.specs.declared.programs.Program.TheVariants.{Pbfcut}
 use Rattle.pbfcut_program.specs.Events.{Event, advised, looked, made, opened, read, seeded, told, wrote}
 use Rattle.pbfcut_program.specs.Files.{AllowsAll, Disk, after}
 use Rattle.pbfcut_program.specs.Program.{IsRun}
+use Rattle.pbfcut_program.specs.Settling.{RunSettles}
 use Rattle.run_examples.specs.Extract.{input, output, typed}
 use Rattle.run_examples.specs.Lines.{all_of, empty, none_of, only}
 
@@ -44,6 +45,8 @@ pub record Refused : Type 0 where
   pub fault : short_file refused_at 34 for BlobCut
   -- so this is a run of the program, and its exit status is 1
   pub run : (key : ℕ) → IsRun Pbfcut typed (refused key) 1
+  -- OUT was made, and is left as it is
+  pub settles : (key : ℕ) → RunSettles Pbfcut typed (Some []) (Some (refused key))
 
 -- ---- what is on the disk
 

@@ -3,6 +3,7 @@
 #![tactic(auto)]
 
 ghost use Rattle.run_examples.specs.AnyRun.{AnyRun};
+ghost use Rattle.run_examples.specs.Dropped.{AsBefore, Dropped};
 ghost use Rattle.run_examples.specs.Extract.{Happens, OnDisk, Typed};
 ghost use Rattle.run_examples.specs.Packed.{PartOnDisk, PartRun, TypedRaw};
 ghost use Rattle.run_examples.specs.Refused.{EmptyOut, Refused};
@@ -30,4 +31,10 @@ pub fn packed()
     ensures typed { TypedRaw }
     ensures happens { PartRun }
     ensures on_disk { PartOnDisk }
+{}
+
+/// A run of `pbfcutz` that is refused.
+pub fn dropped()
+    ensures run { Dropped }
+    ensures on_disk { AsBefore }
 {}
