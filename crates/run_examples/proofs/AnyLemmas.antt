@@ -23,14 +23,13 @@ use Rattle.pbfcut_program.proofs.GivingLemmas.{gives_extract}
 use Rattle.pbfcut_program.proofs.RunLemmas.{extract_ran}
 use Rattle.pbfcut_program.specs.Changes.{EndsWell, GivesExtract}
 use Rattle.pbfcut_program.specs.Events.{Event}
-use Rattle.pbfcut_program.specs.Files.{AllowsAll, Disk, after, put}
+use Rattle.pbfcut_program.specs.Files.{AllowsAll, Disk, after}
 use Rattle.pbfcut_program.specs.Manner.{meant, output_form}
 use Rattle.pbfcut_program.specs.Program.{IsRun, MeansArea, manner_in, strategy_of}
 use Rattle.run_examples.proofs.Computing.{runs_on_literals}
-use Rattle.run_examples.proofs.ExtractLemmas.{typed_is, happens_is}
+use Rattle.run_examples.proofs.ExtractLemmas.{cut_is, degrees_are, taken_is, values_are}
 use Rattle.run_examples.proofs.FlagLemmas.{none_some, true_false}
-use Rattle.run_examples.specs.AnyRun.{AnyRun}
-use Rattle.run_examples.specs.Extract.{disk, input, output, rows, typed}
+use Rattle.run_examples.specs.Extract.{input, output, rows, typed}
 
 some_same : {A : Type 0} {a b : A} → Some a ≡ Some b → a ≡ b
 some_same e = cc
@@ -48,7 +47,7 @@ strategy_is (Smart types) r = absurd (true_false (sym r.0))
 
 area_is : (cut : Region) (before : List Event) (area : AreaSpec) → ReadsRegion rows cut → MeansArea cut before area → area ≡ box_area box
 unfolding runs_on_literals
-area_is (region.Box b) before area r means = means.1 ∙ ap box_area (box_same (sym r.1 ∙ typed_is.degrees))
+area_is (region.Box b) before area r means = means.1 ∙ ap box_area (box_same (sym r.1 ∙ degrees_are))
 area_is (region.Polygon path) before area r means = absurd (none_some (sym r.0))
 
 output_is : (path : Bor Text) → ReadsOutput rows path → path.now ≡ output
@@ -70,7 +69,7 @@ raw_is false bytes = refl
 module _ (over : Disk) (events : List Event) (there : over input ≡ Some three_nodes) (run : IsRun Pbfcut typed events 0) (allowed : AllowsAll over events) where
   ended : EndsWell Pbfcut typed (codes "extract") rows events over three_nodes
   unfolding runs_on_literals
-  ended = record { taken = typed_is.taken; command = typed_is.values; run = run; allowed = allowed; there = there }
+  ended = record { taken = taken_is; command = values_are; run = run; allowed = allowed; there = there }
 
   pub comes_to : (after events over output ≡ Some two_nodes) × (over output ≡ None)
   comes_to =
@@ -80,13 +79,7 @@ module _ (over : Disk) (events : List Event) (there : over input ≡ Some three_
       let name = output_is x.files.output x.reads.3.output in
       let by = strategy_is x.by x.reads.1 in
       let area = area_is x.cut g.took.before g.took.area x.reads.2 g.took.means in
-      let bytes : g.took.bytes ≡ two_nodes = sym (raw_is m.packs g.took.bytes) ∙ g.took.extract.1.is ∙ ap (λ s. extract_bytes s g.took.area (verdict_on three_nodes)) by ∙ ap (λ a. extract_bytes selection.complete_ways a (verdict_on three_nodes)) area ∙ happens_is.cut in (
+      let bytes : g.took.bytes ≡ two_nodes = sym (raw_is m.packs g.took.bytes) ∙ g.took.extract.1.is ∙ ap (λ s. extract_bytes s g.took.area (verdict_on three_nodes)) by ∙ ap (λ a. extract_bytes selection.complete_ways a (verdict_on three_nodes)) area ∙ cut_is in (
         ap (after events over) (sym name) ∙ g.gives.there refl ∙ ap (λ b. Some b) bytes,
         ap over (sym name) ∙ g.gives.fresh refl (not_over x.files.overwrite x.reads.3.overwrite),
       )
-
-pub any_run_is : AnyRun
-any_run_is = record {
-  output_has = λ events run allowed. (comes_to disk events refl run allowed).0;
-  none_over = λ bytes events run allowed. none_some (sym (comes_to (put output (Some bytes) disk) events refl run allowed).1);
-}

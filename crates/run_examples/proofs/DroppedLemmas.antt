@@ -1,4 +1,4 @@
--- The tables of the run of pbfcutz that is refused.
+-- The lines of the run of pbfcutz that is refused.
 use Rattle.std.proofs.Common.{◌≡◌, ◌⊎◌, inl, inr, ℕ, List, [], ◌∷◌, false, take, drop, Option, Some, None, refl, sym, subst, ◌∙◌}
 use Rattle.clap.specs.Words.{Text}
 use Rattle.osm_area.specs.Area.{box_area}
@@ -31,9 +31,8 @@ use Rattle.pbfcut_program.specs.Program.{FailsIn, IsRun, LeavesCut, judging_cut,
 use Rattle.pbfcut_program.specs.Settling.{RunSettles}
 use Rattle.pbfcut_program.specs.Telling.{SaysLittle}
 use Rattle.run_examples.proofs.Computing.{runs_on_literals}
-use Rattle.run_examples.proofs.NameLemmas.{which}
-use Rattle.run_examples.proofs.PackedLemmas.{not_output, typed_raw_is}
-use Rattle.run_examples.specs.Dropped.{AsBefore, Dropped, dropped, drops}
+use Rattle.run_examples.proofs.PackedLemmas.{meant_is, not_output}
+use Rattle.run_examples.specs.Dropped.{dropped, drops}
 use Rattle.run_examples.specs.Extract.{output}
 use Rattle.run_examples.specs.Lines.{empty}
 use Rattle.run_examples.specs.Packed.{meaning_raw, part, typed_raw}
@@ -54,7 +53,7 @@ how = ending.Stopped (stop.Refused cause)
 abbrev had : List (Option (List ℕ))
 had = Some short_file ∷ Some short_file ∷ Some short_file ∷ []
 
-same : unpacked short_file ≡ short_file
+pub same : unpacked short_file ≡ short_file
 unfolding runs_on_literals head_of unpacked_within unpacked_from
 same = refl
 
@@ -107,14 +106,14 @@ module _ (key : ℕ) where
   fails_in : FailsIn m meaning_raw how (drops key)
   fails_in = (fails_for, inr leaves_cut, inl says_little)
 
-  run_is : IsRun Pbfcutz typed_raw (dropped key) 1
+  pub run_is : IsRun Pbfcutz typed_raw (dropped key) 1
   unfolding runs_on_literals
   run_is = inr (record {
     how = how;
     before = drops key;
     happened = refl;
     status_is = refl;
-    why = (meaning_raw, typed_raw_is.meant, fails_in);
+    why = (meaning_raw, meant_is, fails_in);
   })
 
   drops_file : DropsFile Pbfcutz output (empty part) (dropped key)
@@ -132,20 +131,11 @@ module _ (key : ℕ) where
     is_dropped = ([], removed part, refl, tt, inl refl);
   }
 
-  settles_is : RunSettles Pbfcutz typed_raw (Some []) (Some (dropped key))
-  settles_is = inr (meaning_raw, typed_raw_is.meant, (dropped key, refl, inr (empty part, inr drops_file)))
+  pub settles_is : RunSettles Pbfcutz typed_raw (Some []) (Some (dropped key))
+  settles_is = inr (meaning_raw, meant_is, (dropped key, refl, inr (empty part, inr drops_file)))
 
-pub dropped_run_is : Dropped
-dropped_run_is = record { unpacked_same = same; run = run_is; settles = settles_is }
-
-as_before : (key : ℕ) (name : Text) → (name ≡ part) ⊎ (name ≡ part → ⊥) → after (dropped key) short_disk name ≡ short_disk name
+pub as_before : (key : ℕ) (name : Text) → (name ≡ part) ⊎ (name ≡ part → ⊥) → after (dropped key) short_disk name ≡ short_disk name
 as_before key name (inl e) = subst (λ n. after (dropped key) short_disk n ≡ short_disk n) (sym e) refl
 as_before key name (inr not_part) =
     put_other part name None (put part (Some []) (put part (Some []) short_disk)) not_part
     ∙ (put_other part name (Some []) (put part (Some []) short_disk) not_part ∙ put_other part name (Some []) short_disk not_part)
-
-pub as_before_is : AsBefore
-as_before_is = record {
-  possible = λ key. (tt, (refl, (refl, (refl, (tt, (refl, (tt, (tt, (tt, (tt, (tt, (tt, (tt, tt)))))))))))));
-  same = λ key name. as_before key name (which name part);
-}

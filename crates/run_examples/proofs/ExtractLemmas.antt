@@ -1,11 +1,12 @@
--- The tables of the extract.
-use Rattle.std.proofs.Common.{arith, ◌≡◌, inl, inr, ℕ, List, [], ◌∷◌, ◌++◌, Bool, true, false, take, drop, Some, None, ap, codes, refl, sym, subst, ◌∙◌}
-use Rattle.clap.specs.Words.{Text, subcommand_of}
+-- The lines of the extract's tables.
+use Rattle.std.proofs.Common.{Ok, arith, ◌≡◌, inl, inr, ℕ, List, [], ◌∷◌, ◌++◌, Bool, true, false, take, drop, Some, None, ap, codes, refl, sym, subst, ◌∙◌}
+use Rattle.clap.specs.Words.{Text, subcommand_of, takes}
 use Rattle.osm_area.specs.Area.{box_area}
+use Rattle.osm_box.specs.Degrees.{box_of_text}
 use Rattle.osm_ways.specs.Selection.{complete_ways}
 use Rattle.pbf_examples.specs.Extracts.{two_nodes}
 use Rattle.pbf_examples.specs.Frames.{three_nodes}
-use Rattle.pbf_examples.specs.Reading.{box}
+use Rattle.pbf_examples.specs.Reading.{◌cut_by◌gives◌, box}
 use Rattle.pbf_pass.specs.declared.hashing.PassCheck.TheVariants as check
 use Rattle.pbfcut.specs.Tasks.{extracting}
 use Rattle.pbfcut.specs.Theorem.{IsExtraction}
@@ -20,13 +21,13 @@ use Rattle.pbfcut_program.specs.Changes.{KeepsFile}
 use Rattle.pbfcut_program.specs.Events.{Event, advised, made, told}
 use Rattle.pbfcut_program.specs.Files.{after, put}
 use Rattle.pbfcut_program.specs.Manner.{AreDigests, Manner}
-use Rattle.pbfcut_program.specs.Program.{Extracts, IsRun, WritesCounts, manner_in}
+use Rattle.pbfcut_program.specs.Program.{Extracts, IsMeant, IsRun, WritesCounts, counts_text, manner_in}
 use Rattle.pbfcut_program.specs.Readings.{IsWhole, IsWork}
 use Rattle.pbfcut_program.specs.Settling.{RunSettles}
 use Rattle.sha2.specs.Sha256.{sha256}
 use Rattle.run_examples.proofs.Computing.{runs_on_literals}
 use Rattle.run_examples.proofs.FlagLemmas.{reads_absent, reads_off, true_false}
-use Rattle.run_examples.specs.Extract.{Happens, OnDisk, Typed, counts, disk, happens, input, meaning, output, rows, typed}
+use Rattle.run_examples.specs.Extract.{counts, disk, happens, input, meaning, output, rows, typed}
 use Rattle.run_examples.specs.Lines.{all_of, files, none_of, whole}
 
 -- ---- what is typed
@@ -53,14 +54,16 @@ pub values_are : subcommand_of (program_app Pbfcut) (normalized typed) ≡ Some 
 unfolding runs_on_literals
 values_are = refl
 
-pub typed_is : Typed
+pub taken_is : takes (program_app Pbfcut) (normalized typed) ≡ true
 unfolding runs_on_literals
-typed_is = record {
-  taken = refl;
-  values = values_are;
-  degrees = refl;
-  meant = inr (subst (λ command. IsRead command meaning) (sym values_are) reads);
-}
+taken_is = refl
+
+pub degrees_are : box_of_text (codes "0,0,1,1") ≡ Ok box
+unfolding runs_on_literals
+degrees_are = refl
+
+pub meant_is : IsMeant Pbfcut typed meaning
+meant_is = inr (subst (λ command. IsRead command meaning) (sym values_are) reads)
 
 -- ---- what happens
 
@@ -128,8 +131,8 @@ module _ (key : ℕ) where
     writes = writes_are;
   }
 
-  run_is : IsRun Pbfcut typed (happens key) 0
-  run_is = inl (refl, (meaning, typed_is.meant, extracts_are))
+  pub run_is : IsRun Pbfcut typed (happens key) 0
+  run_is = inl (refl, (meaning, meant_is, extracts_are))
 
   keeps_file : KeepsFile Pbfcut false output (whole output two_nodes) (happens key)
   keeps_file = record {
@@ -148,8 +151,8 @@ module _ (key : ℕ) where
     whole = refl;
   }
 
-  settles_is : RunSettles Pbfcut typed (Some []) (Some (happens key))
-  settles_is = inr (meaning, typed_is.meant, (happens key, refl, inr (whole output two_nodes, inl keeps_file)))
+  pub settles_is : RunSettles Pbfcut typed (Some []) (Some (happens key))
+  settles_is = inr (meaning, meant_is, (happens key, refl, inr (whole output two_nodes, inl keeps_file)))
 
 -- only a run that fails ends with advice
 abbrev is_advice : Event → Bool
@@ -164,27 +167,22 @@ ends_after : (last : Bool) (es : List Event) (e f : Event) → ends_so last (es 
 ends_after last [] e f = refl
 ends_after last (x ∷ es) e f = ends_after (is_advice x) es e f
 
-status_is : (key status : ℕ) → IsRun Pbfcut typed (happens key) status → status ≡ 0
+pub status_is : (key status : ℕ) → IsRun Pbfcut typed (happens key) status → status ≡ 0
 status_is key status (inl r) = r.0
 status_is key status (inr f) =
     absurd (true_false (sym (ap (ends_so false) f.happened ∙ ends_after false f.before (told (message_of (program_name Pbfcut) f.how)) advised)))
 
-pub happens_is : Happens
+pub cut_is : three_nodes cut_by box gives two_nodes
 unfolding runs_on_literals
-happens_is = record { cut = refl; extraction = extraction_is; line = refl; run = run_is; status = status_is; settles = settles_is }
+cut_is = refl
+
+pub line_is : counts_text counts ≡ codes "nodes 2 ways 0 relations 0\n"
+unfolding runs_on_literals
+line_is = refl
 
 -- ---- what is on the disk
 
-no_other_is : (key : ℕ) (name : Text) → (name ≡ input → ⊥) → (name ≡ output → ⊥) → after (happens key) disk name ≡ None
+pub no_other_is : (key : ℕ) (name : Text) → (name ≡ input → ⊥) → (name ≡ output → ⊥) → after (happens key) disk name ≡ None
 no_other_is key name not_input not_output =
     put_other output name (Some two_nodes) (put output (Some []) disk) not_output
     ∙ (put_other output name (Some []) disk not_output ∙ put_other input name (Some three_nodes) (λ other. None) not_input)
-
-pub on_disk_is : OnDisk
-on_disk_is = record {
-  possible = λ key. (tt, (refl, (refl, (refl, (tt, (refl, (tt, (tt, (tt, (tt, (tt, tt)))))))))));
-  moments = λ key. refl;
-  output_has = λ key. refl;
-  input_has = λ key. refl;
-  no_other = no_other_is;
-}

@@ -1,8 +1,8 @@
--- The tables of the extract by pbfcutz.
-use Rattle.std.proofs.Common.{arith, ◌≡◌, inl, inr, ℕ, List, [], ◌∷◌, Some, None, codes, refl, sym, subst, ◌∙◌, ◌⊎◌, take, drop}
+-- The lines of the extract by pbfcutz.
+use Rattle.std.proofs.Common.{arith, false, ◌≡◌, inl, inr, ℕ, List, [], ◌∷◌, true, Some, None, codes, refl, sym, subst, ◌∙◌, ◌⊎◌, take, drop}
 use Rattle.std.specs.Prelude.{replicate}
 use Rattle.std.proofs.lemmas.Slice.Eq.{bytes_eq-Decides}
-use Rattle.clap.specs.Words.{Text, subcommand_of}
+use Rattle.clap.specs.Words.{Text, subcommand_of, takes}
 use Rattle.osm_area.specs.Area.{box_area}
 use Rattle.osm_ways.specs.Selection.{complete_ways}
 use Rattle.pbf_examples.specs.Extracts.{two_nodes}
@@ -25,16 +25,15 @@ use Rattle.pbfcut_program.specs.Changes.{KeepsFile}
 use Rattle.pbfcut_program.specs.Events.{linked, made, removed}
 use Rattle.pbfcut_program.specs.Files.{IsKept, after, put}
 use Rattle.pbfcut_program.specs.Manner.{AreDigests, Manner}
-use Rattle.pbfcut_program.specs.Program.{Extracts, IsRun, WritesCounts, manner_in}
+use Rattle.pbfcut_program.specs.Program.{Extracts, IsMeant, IsRun, WritesCounts, manner_in}
 use Rattle.pbfcut_program.specs.Readings.{IsWhole, IsWork}
 use Rattle.pbfcut_program.specs.Settling.{RunSettles}
 use Rattle.run_examples.proofs.Computing.{runs_on_literals}
 use Rattle.run_examples.proofs.ExtractLemmas.{extraction_is}
 use Rattle.run_examples.proofs.FlagLemmas.{reads_off, reads_on, true_false}
-use Rattle.run_examples.proofs.NameLemmas.{which}
 use Rattle.run_examples.specs.Extract.{counts, disk, input, output}
 use Rattle.run_examples.specs.Lines.{all_of, none_of, raw_files, whole}
-use Rattle.run_examples.specs.Packed.{PartOnDisk, PartRun, TypedRaw, meaning_raw, part, parts, rows_raw, typed_raw}
+use Rattle.run_examples.specs.Packed.{meaning_raw, part, parts, rows_raw, typed_raw}
 
 -- ---- what is typed
 
@@ -56,17 +55,16 @@ reads = (
   },
 )
 
-values_are : subcommand_of (program_app Pbfcutz) (normalized typed_raw) ≡ Some (codes "extract", rows_raw)
+pub values_are : subcommand_of (program_app Pbfcutz) (normalized typed_raw) ≡ Some (codes "extract", rows_raw)
 unfolding runs_on_literals
 values_are = refl
 
-pub typed_raw_is : TypedRaw
+pub taken_is : takes (program_app Pbfcutz) (normalized typed_raw) ≡ true
 unfolding runs_on_literals
-typed_raw_is = record {
-  taken = refl;
-  values = values_are;
-  meant = inr (subst (λ command. IsRead command meaning_raw) (sym values_are) reads);
-}
+taken_is = refl
+
+pub meant_is : IsMeant Pbfcutz typed_raw meaning_raw
+meant_is = inr (subst (λ command. IsRead command meaning_raw) (sym values_are) reads)
 
 -- ---- what happens
 
@@ -76,7 +74,7 @@ m = manner_in Pbfcutz meaning_raw
 abbrev task : Task
 task = extracting complete_ways (box_area box)
 
-same : unpacked three_nodes ≡ three_nodes
+pub same : unpacked three_nodes ≡ three_nodes
 unfolding runs_on_literals head_of unpacked_within unpacked_from
 same = refl
 
@@ -142,8 +140,8 @@ module _ (key : ℕ) where
     writes = writes_are;
   }
 
-  run_is : IsRun Pbfcutz typed_raw (parts key) 0
-  run_is = inl (refl, (meaning_raw, typed_raw_is.meant, extracts_are))
+  pub run_is : IsRun Pbfcutz typed_raw (parts key) 0
+  run_is = inl (refl, (meaning_raw, meant_is, extracts_are))
 
   keeps_file : KeepsFile Pbfcutz false output (whole part two_nodes) (parts key)
   keeps_file = record {
@@ -162,27 +160,15 @@ module _ (key : ℕ) where
     whole = refl;
   }
 
-  settles_is : RunSettles Pbfcutz typed_raw (Some []) (Some (parts key))
-  settles_is = inr (meaning_raw, typed_raw_is.meant, (parts key, refl, inr (whole part two_nodes, inl keeps_file)))
-
-pub part_run_is : PartRun
-part_run_is = record { unpacked_same = same; run = run_is; settles = settles_is }
+  pub settles_is : RunSettles Pbfcutz typed_raw (Some []) (Some (parts key))
+  settles_is = inr (meaning_raw, meant_is, (parts key, refl, inr (whole part two_nodes, inl keeps_file)))
 
 -- ---- what is on the disk
 
-no_other_is : (key : ℕ) (name : Text) → (name ≡ part) ⊎ (name ≡ part → ⊥) → (name ≡ input → ⊥) → (name ≡ output → ⊥) → after (parts key) disk name ≡ None
+pub no_other_is : (key : ℕ) (name : Text) → (name ≡ part) ⊎ (name ≡ part → ⊥) → (name ≡ input → ⊥) → (name ≡ output → ⊥) → after (parts key) disk name ≡ None
 no_other_is key name (inl e) not_in not_out = subst (λ n. after (parts key) disk n ≡ None) (sym e) refl
 no_other_is key name (inr not_part) not_in not_out =
     put_other part name None (put output (Some two_nodes) (put part (Some two_nodes) (put part (Some []) disk))) not_part
     ∙ (put_other output name (Some two_nodes) (put part (Some two_nodes) (put part (Some []) disk)) not_out
     ∙ (put_other part name (Some two_nodes) (put part (Some []) disk) not_part
     ∙ (put_other part name (Some []) disk not_part ∙ put_other input name (Some three_nodes) (λ other. None) not_in)))
-
-pub part_on_disk_is : PartOnDisk
-part_on_disk_is = record {
-  possible = λ key. (tt, (refl, (refl, (refl, (tt, (refl, (tt, (tt, (tt, (tt, (refl, (tt, (tt, tt)))))))))))));
-  moments = λ key. refl;
-  output_has = λ key. refl;
-  input_has = λ key. refl;
-  no_other = λ key name. no_other_is key name (which name part);
-}

@@ -1,8 +1,8 @@
--- The tables of the run that is refused.
+-- The lines of the run that is refused.
 use Rattle.std.proofs.Common.{inl, inr, ℕ, List, [], ◌∷◌, false, take, drop, Option, Some, refl}
 use Rattle.osm_area.specs.Area.{box_area}
 use Rattle.osm_ways.specs.Selection.{complete_ways}
-use Rattle.pbf_examples.specs.Reading.{box}
+use Rattle.pbf_examples.specs.Reading.{◌refused_at◌for◌, box}
 use Rattle.pbf_frame.specs.declared.stop.Stop.TheVariants as stop
 use Rattle.pbf_wire.specs.Faults.{fault}
 use Rattle.pbf_wire.specs.declared.fault.Fault.{Fault}
@@ -25,10 +25,10 @@ use Rattle.pbfcut_program.specs.Program.{FailsIn, IsRun, LeavesCut, judging_cut,
 use Rattle.pbfcut_program.specs.Settling.{RunSettles}
 use Rattle.pbfcut_program.specs.Telling.{SaysLittle}
 use Rattle.run_examples.proofs.Computing.{runs_on_literals}
-use Rattle.run_examples.proofs.ExtractLemmas.{typed_is}
+use Rattle.run_examples.proofs.ExtractLemmas.{meant_is}
 use Rattle.run_examples.specs.Extract.{meaning, output, typed}
 use Rattle.run_examples.specs.Lines.{all_of, empty, none_of}
-use Rattle.run_examples.specs.Refused.{EmptyOut, Refused, fails, refused, short_file}
+use Rattle.run_examples.specs.Refused.{fails, refused, short_file}
 
 abbrev raw : Manner
 raw = manner_in Pbfcut meaning
@@ -97,14 +97,14 @@ module _ (key : ℕ) where
   fails_in : FailsIn raw meaning how (fails key)
   fails_in = (fails_for, inr leaves_cut, inl says_little)
 
-  run_is : IsRun Pbfcut typed (refused key) 1
+  pub run_is : IsRun Pbfcut typed (refused key) 1
   unfolding runs_on_literals
   run_is = inr (record {
     how = how;
     before = fails key;
     happened = refl;
     status_is = refl;
-    why = (meaning, typed_is.meant, fails_in);
+    why = (meaning, meant_is, fails_in);
   })
 
   drops_file : DropsFile Pbfcut output (empty output) (refused key)
@@ -122,16 +122,9 @@ module _ (key : ℕ) where
     is_dropped = refl;
   }
 
-  settles_is : RunSettles Pbfcut typed (Some []) (Some (refused key))
-  settles_is = inr (meaning, typed_is.meant, (refused key, refl, inr (empty output, inr drops_file)))
+  pub settles_is : RunSettles Pbfcut typed (Some []) (Some (refused key))
+  settles_is = inr (meaning, meant_is, (refused key, refl, inr (empty output, inr drops_file)))
 
-pub refused_run_is : Refused
+pub fault_is : short_file refused_at 34 for BlobCut
 unfolding runs_on_literals
-refused_run_is = record { fault = refl; run = run_is; settles = settles_is }
-
-pub empty_out_is : EmptyOut
-empty_out_is = record {
-  possible = λ key. (tt, (refl, (refl, (refl, (tt, (refl, (tt, (tt, (tt, (tt, (tt, (tt, tt))))))))))));
-  output_has = λ key. refl;
-  input_has = λ key. refl;
-}
+fault_is = refl

@@ -1,5 +1,5 @@
--- The run of `pbfcutz` that fails. IN lacks its last byte, and typed is the command line of the chapter
--- Packed:
+-- The run of `pbfcutz` that fails. IN lacks its last byte, and typed is the command line of the
+-- chapter Packed:
 --
 --     pbfcutz extract --raw --box=0,0,1,1 in.osm.pbf out.osm.pbf
 --
@@ -35,7 +35,7 @@ drops key =
 abbrev pub dropped : (key : ℕ) → List Event
 dropped key = drops key ++ told (codes "pbfcutz: refused at 34: 13 BlobCut\n") ∷ advised ∷ []
 
-pub record Dropped : Type 0 where
+pub record DroppedRun : Type 0 where
   -- the blobs of IN are raw, so it means itself
   pub unpacked_same : unpacked short_file ≡ short_file
   pub run : (key : ℕ) → IsRun Pbfcutz typed_raw (dropped key) 1

@@ -1,5 +1,5 @@
--- The same extract by `pbfcutz`, which reads published files too, and with `--raw` writes as `pbfcut`
--- does. On the disk is one file, in.osm.pbf, which has three nodes, and typed is
+-- The same extract by `pbfcutz`, which reads published files too, and with `--raw` writes as
+-- `pbfcut` does. On the disk is one file, in.osm.pbf, which has three nodes, and typed is
 --
 --     pbfcutz extract --raw --box=0,0,1,1 in.osm.pbf out.osm.pbf
 --

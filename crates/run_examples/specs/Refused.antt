@@ -2,8 +2,8 @@
 --
 --     pbfcut extract --box=0,0,1,1 in.osm.pbf out.osm.pbf
 --
--- IN is refused, and nothing is written. `pbfcut` leaves what it made, so there is an empty OUT then.
--- (`pbfcutz` removes it: the chapter Dropped.)
+-- IN is refused, and nothing is written. `pbfcut` leaves what it made, so there is an empty OUT
+-- then. (`pbfcutz` removes it: the chapter Dropped.)
 use Rattle.std.specs.Prelude.{◌≡◌, ℕ, false, List, [], ◌∷◌, ◌++◌, take, Some, codes}
 use Rattle.pbf_examples.specs.Frames.{three_nodes}
 use Rattle.pbf_examples.specs.Reading.{◌refused_at◌for◌}
@@ -40,7 +40,7 @@ fails key =
 abbrev pub refused : (key : ℕ) → List Event
 refused key = fails key ++ told (codes "pbfcut: refused at 34: 13 BlobCut\n") ∷ advised ∷ []
 
-pub record Refused : Type 0 where
+pub record RefusedRun : Type 0 where
   -- this is the file's first fault
   pub fault : short_file refused_at 34 for BlobCut
   -- so this is a run of the program, and its exit status is 1

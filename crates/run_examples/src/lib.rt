@@ -1,28 +1,36 @@
-//! Runs by example: a chapter a function, which does nothing. Its contract is the chapter's tables: what is typed, what happens, and what is on
-//! the disk then. They are proved by computing the definitions of a run and of a disk.
+//! Runs by example. Each function does nothing, and its contract is tables of a chapter: what is typed, what happens, and what is on the disk
+//! then. They are proved by computing the definitions of a run and of a disk.
 #![tactic(auto)]
 
-ghost use Rattle.run_examples.specs.AnyRun.{AnyRun};
-ghost use Rattle.run_examples.specs.Dropped.{AsBefore, Dropped};
+ghost use Rattle.run_examples.specs.AnyRun.{EachRun};
+ghost use Rattle.run_examples.specs.Dropped.{AsBefore, DroppedRun};
 ghost use Rattle.run_examples.specs.Extract.{Happens, OnDisk, Typed};
 ghost use Rattle.run_examples.specs.Packed.{PartOnDisk, PartRun, TypedRaw};
-ghost use Rattle.run_examples.specs.Refused.{EmptyOut, Refused};
+ghost use Rattle.run_examples.specs.Refused.{EmptyOut, RefusedRun};
 
-/// An extract by `pbfcut`.
+/// The command line of an extract by `pbfcut`, and what it means.
+pub fn typed()
+    ensures { Typed }
+{}
+
+/// What happens in a run of it.
 pub fn extract()
-    ensures typed { Typed }
-    ensures happens { Happens }
-    ensures on_disk { OnDisk }
+    ensures { Happens }
+{}
+
+/// What is on the disk before, meanwhile and afterwards.
+pub fn on_disk()
+    ensures { OnDisk }
 {}
 
 /// What any run of the same command line comes to that ends with 0.
 pub fn any_extract()
-    ensures { AnyRun }
+    ensures { EachRun }
 {}
 
 /// A run that is refused.
 pub fn refused()
-    ensures run { Refused }
+    ensures run { RefusedRun }
     ensures on_disk { EmptyOut }
 {}
 
@@ -35,6 +43,6 @@ pub fn packed()
 
 /// A run of `pbfcutz` that is refused.
 pub fn dropped()
-    ensures run { Dropped }
+    ensures run { DroppedRun }
     ensures on_disk { AsBefore }
 {}
