@@ -1,11 +1,11 @@
 #!/usr/bin/env python3
 """Checks a part of a crate over stubs of the crates below it: while one writes a proof, in seconds instead of minutes.
 
-usage: tools/over_stubs.py [--jobs N] [--tree FOLDER] [--alone] CRATE [PATH..]
+usage: tools/over_stubs.py [--jobs N] [--tree FOLDER] [--alone] [--test] CRATE [PATH..]
 
 PATH is a function or a module by its path below the crate, as `rt check --only` takes it; with none the clauses and definitions are read
 and nothing is proved. FOLDER is a checkout, this one where nothing else is said. The functions of the crate that those of PATH call are
-checked too, or, with --alone, stand as stubs.
+checked too, or, with --alone, stand as stubs. With --test the tests are checked too.
 
 A stub is a crate whose functions are endless loops with holes as their proofs, so its contracts, definitions and lemmas are all that is
 left of it. What a lemma of it rests on may be wrong: the gate proves every crate over the real ones. The stubs are kept in
@@ -106,10 +106,11 @@ def show(lines, name):
 
 
 def main():
-    arguments = argparse.ArgumentParser(usage="tools/over_stubs.py [--jobs N] [--tree FOLDER] [--alone] CRATE [PATH..]")
+    arguments = argparse.ArgumentParser(usage="tools/over_stubs.py [--jobs N] [--tree FOLDER] [--alone] [--test] CRATE [PATH..]")
     arguments.add_argument("--jobs", type=int, default=1)
     arguments.add_argument("--tree", default=build.TOP)
     arguments.add_argument("--alone", action="store_true")
+    arguments.add_argument("--test", action="store_true")
     arguments.add_argument("crate")
     arguments.add_argument("paths", nargs="*", metavar="PATH")
     given = arguments.parse_args()
@@ -119,7 +120,8 @@ def main():
     tree = os.path.abspath(given.tree)
     build.TOP = tree
     os.makedirs(KEPT, exist_ok=True)
-    only = [word for path in given.paths or [""] for word in ("--only", f"{given.crate}::{path}" if path else "")]
+    only = ["--test"] if given.test else []
+    only += [word for path in given.paths or [""] for word in ("--only", f"{given.crate}::{path}" if path else "")]
     folder = os.path.join(tree, "crates", given.crate)
     with tempfile.TemporaryDirectory(prefix="alone-") as room:
         if given.alone:

@@ -21,8 +21,8 @@ TOP = os.path.dirname(os.path.dirname(os.path.abspath(__file__)))
 CALLS = {
     # the program itself
     "pbfcut_program::run": ("pbfcut_program", "program"),
-    # what `pbfcutz extract` calls for most strategies
-    "pbf_published::extract_by": ("pbf_published", "extracting"),
+    # what `pbfcutz` calls for `show`, `convert`, `pack`, `unpack` and `extract`
+    "pbf_published::run_published": ("pbf_published", "running"),
     "extract": ("pbfcut", "extracting"), "extract_with_receipt": ("pbfcut", "extracting"), "extract_parents": ("pbfcut", "extracting"),
     "extract_sorted": ("pbfcut", "sorted"), "extract_sorted_with_receipt": ("pbfcut", "sorted"),
     "extract_smart_with_receipt": ("pbfcut", "smart"),

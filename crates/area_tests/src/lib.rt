@@ -1,6 +1,8 @@
-//! The tests of `osm_area` and `osm_polygon`: what no contract says.
+//! The tests of `osm_area`, `osm_polygon` and `osm_config`: what no contract says.
 #![tactic(auto)]
 
+#[cfg(test)]
+mod config;
 #[cfg(test)]
 mod geojson;
 #[cfg(test)]

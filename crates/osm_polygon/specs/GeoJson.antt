@@ -175,6 +175,13 @@ abbrev pub if_some : List Rings → PolygonsOrFault
 if_some [] = Err (record { place = where_.Text; reason = reason.Empty })
 if_some (polygon ∷ polygons) = Ok (polygon ∷ polygons)
 
+-- the polygons of coordinates that a polygon or a multipolygon has, if there is one
+abbrev pub polygon_coordinates : Json → PolygonsOrFault
+polygon_coordinates value = and_then (with_polygon [] value) if_some
+
+abbrev pub multi_polygon_coordinates : Json → PolygonsOrFault
+multi_polygon_coordinates value = and_then (each with_polygon [] value) if_some
+
 -- the polygons of the JSON that a text is, or its first fault
 abbrev pub geojson_polygons : Option Json → PolygonsOrFault
 geojson_polygons None = Err (record { place = where_.Text; reason = reason.Json })

@@ -9,6 +9,7 @@ ghost use Rattle.osm_polygon.specs.Edges.{point_of};
 ghost use Rattle.osm_polygon.specs.GeoJson.{and_polygon, each, fault_after, geojson_polygons, if_closed, if_some, is_closed, is_same_place, items_in};
 ghost use Rattle.osm_polygon.specs.GeoJson.{geometry_named, geometry_of, member, number_at, position, ring_places};
 ghost use Rattle.osm_polygon.specs.GeoJson.{document_by, feature_by, geometry_by, shape_by};
+ghost use Rattle.osm_polygon.specs.GeoJson.{polygon_coordinates, multi_polygon_coordinates};
 ghost use Rattle.osm_polygon.specs.GeoJson.{with_feature, with_geometry, with_polygon, with_position, with_ring, with_shape};
 ghost use Rattle.osm_polygon.specs.Readings.{ReadsText, error_after};
 ghost use Rattle.osm_polygon.specs.RingPlaces.{places_of, rings_of};
@@ -383,6 +384,38 @@ fn if_some(polygons: Vec<Vec<Ring>>) -> Result<Vec<Vec<Ring>>, PolyError>
         return Err(refused(PolyPlace::Text, PolyReason::Empty));
     }
     Ok(polygons)
+}
+
+/// The polygon with these coordinates, which are a JSON value as a Polygon of GeoJSON has them.
+///
+/// # Errors
+///
+/// `Refused` with the first fault, or `Memory` if memory is refused.
+pub fn read_polygon_coordinates(
+    alloc: Global,
+    value: &Value<'_>,
+) -> Result<Vec<Vec<Ring>>, PolyError>
+    ensures { ReadsText (polygon_coordinates (value_view value.now))
+        (result_map_both (λ polygons. map rings_of polygons.items) (λ e. e) result) }
+{
+    let polygons = with_polygon(alloc, Vec::new(alloc), value)?;
+    if_some(polygons)
+}
+
+/// The polygons with these coordinates, which are a JSON value as a MultiPolygon of GeoJSON has them.
+///
+/// # Errors
+///
+/// `Refused` with the first fault, or `Memory` if memory is refused.
+pub fn read_multi_polygon_coordinates(
+    alloc: Global,
+    value: &Value<'_>,
+) -> Result<Vec<Vec<Ring>>, PolyError>
+    ensures { ReadsText (multi_polygon_coordinates (value_view value.now))
+        (result_map_both (λ polygons. map rings_of polygons.items) (λ e. e) result) }
+{
+    let polygons = with_polygons(alloc, Vec::new(alloc), value)?;
+    if_some(polygons)
 }
 
 /// The polygons of a text of GeoJSON.

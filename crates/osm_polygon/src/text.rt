@@ -15,7 +15,7 @@ use crate::ring::Ring;
 use std::alloc::Global;
 
 /// The text after a byte order mark, if it begins with one.
-fn without_mark(text: &str) -> &str
+pub fn without_mark(text: &str) -> &str
     ensures { result.now ≡ without_mark text.now }
 {
     match text.strip_prefix('\u{feff}') {

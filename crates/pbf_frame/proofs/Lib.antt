@@ -17,3 +17,4 @@ pub mod Refusing
 pub mod Staying
 pub mod Putting
 pub mod ReadBack
+pub mod HeadPlaces

@@ -24,7 +24,7 @@ all_same : {X : Type 0} (R : X → X → Type 0) → ((x : X) → R x x) → (xs
 all_same R h [] = tt
 all_same R h (x ∷ xs) = (h x, all_same R h xs)
 
-all_mapped : {X : Type 0} (f : X → X) (xs : List X) → AllZip (λ x y. y ≡ f x) xs (map f xs)
+pub all_mapped : {X : Type 0} (f : X → X) (xs : List X) → AllZip (λ x y. y ≡ f x) xs (map f xs)
 all_mapped f [] = tt
 all_mapped f (x ∷ xs) = (refl, all_mapped f xs)
 
@@ -63,7 +63,7 @@ each_takes_file gathered known befores nows pass t = subst (λ l. EachTakesFile 
 -- ---- visitors
 
 module _ {V : Type 0} (took : Takes V) where
-  each_visited : (fs : List FrameSpec) (olds news : List V) → Visited (EachTook took) olds fs news → AllZip (λ old new. Visited took old fs new) olds news
+  pub each_visited : (fs : List FrameSpec) (olds news : List V) → Visited (EachTook took) olds fs news → AllZip (λ old new. Visited took old fs new) olds news
   each_visited [] olds news same = subst (λ l. AllZip (λ old new. Visited took old [] new) olds l) (sym same) (all_same _ (λ v. refl) olds)
   each_visited (f ∷ fs) olds news v = all_then (λ old mid. took old f mid) (λ mid new. Visited took mid fs new) (λ old new. Visited took old (f ∷ fs) new) (λ old mid new one more. (mid, one, more)) olds v.0 news v.1 (each_visited fs v.0 news v.2)
 

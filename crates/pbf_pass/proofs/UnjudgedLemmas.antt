@@ -1,7 +1,8 @@
 -- What a pass after the one that judged the file has gathered, and why it stops.
 use Rattle.std.proofs.Common.{arith}
-use Rattle.std.proofs.Common.{◌≡◌, ℕ, inl, inr, false, List, [], ◌∷◌, ◌++◌, Option, Some, None, refl, ◌∙◌}
+use Rattle.std.proofs.Common.{◌≡◌, ℕ, inl, inr, false, List, [], ◌∷◌, ◌++◌, Option, Some, None, refl, sym, ap, ◌∙◌}
 use Rattle.std.specs.List.{AllByRecursion, fold}
+use Rattle.std.proofs.lemmas.List.Sums.{fold-append}
 use Rattle.osm_entity.specs.Entity.{EntitySpec}
 use Rattle.pbf_frame.specs.declared.device.Feed as feed
 use Rattle.pbf_frame.specs.declared.stop.Stop.{Stop}
@@ -10,7 +11,7 @@ use Rattle.pbf_frame.specs.Frames.{FrameSpec}
 use Rattle.pbf_frame.specs.Refusals.{Refuses}
 use Rattle.pbf_frame.specs.Verdict.{Verdict, with_first_known, Says, judged_known}
 use Rattle.pbf_frame.proofs.Refusing.{faulty_as}
-use Rattle.pbf_pass.specs.Unjudged.{IsSound, GathersFrame, GathersFile, StopsAtFrame, StopsUnjudged, ReadsFaulty}
+use Rattle.pbf_pass.specs.Unjudged.{IsSound, GathersFrame, GathersFile, GathersSome, StopsAtFrame, StopsUnjudged, ReadsFaulty}
 use Rattle.pbf_pass.specs.Counting.{stored_entities}
 use Rattle.pbf_pass.specs.Judged.{fully, fully_known}
 use Rattle.pbf_pass.specs.Refused.{RefusesRest}
@@ -75,3 +76,11 @@ module _ {V S : Type 0} (gathered : S → EntitySpec → S) (sets : V → S) (to
 
   pub gathers_file : (known : Option Verdict) (count : ℕ) (before now : V) → VisitsAll took known count before now → GathersFile gathered (fully_known known) (sets before) (sets now)
   gathers_file known count before now p = grind (arith, sets before, sets now, gathers_all gathered p.frames (sets before) (sets now) (sets now) (has_gathered before p.frames now p.visited) refl, has_gathered before p.frames now p.visited)
+
+-- some entities more
+some_more : {S : Type 0} (gathered : S → EntitySpec → S) (first before now : S) → GathersSome gathered first before → GathersSome gathered before now → GathersSome gathered first now
+some_more gathered first before now a b = (a.0 ++ b.0, b.1 ∙ ap (λ s. fold gathered s b.0) a.1 ∙ sym (fold-append gathered first a.0 b.0))
+
+-- whatever the frames are, some entities were gathered
+pub some_visited : {V S : Type 0} (gathered : S → EntitySpec → S) (sets : V → S) (took : Takes V) → ((old new : V) (f : FrameSpec) → took old f new → GathersSome gathered (sets old) (sets new)) → (fs : List FrameSpec) (before now : V) → Visited took before fs now → GathersSome gathered (sets before) (sets now)
+some_visited gathered sets took is fs before now visited = visited_to took (λ gone v. GathersSome gathered (sets before) (sets v)) (λ gone f mid last so_far one. some_more gathered (sets before) (sets mid) (sets last) so_far (is mid last f one)) fs [] before now ([], refl) visited

@@ -19,6 +19,10 @@ use Rattle.pbf_pass.specs.Stops.{Caused}
 abbrev pub GathersPayload : {S : Type 0} → (S → EntitySpec → S) → (before now : S) → Payload → Type 0
 GathersPayload gathered before now p = fault_in p ≡ None → now ≡ fold gathered before (entities_in p)
 
+-- some entities were gathered, whether the payload has a fault or not
+abbrev pub GathersSome : {S : Type 0} → (S → EntitySpec → S) → (before now : S) → Type 0
+GathersSome gathered before now = (es : List EntitySpec) × (now ≡ fold gathered before es)
+
 -- it has a fault, which says that the bytes changed since they were judged; or a write failed, or memory was refused
 abbrev pub StopsAtPayload : ℕ → (wrote : Type 0) → Payload → Stop → Type 0
 StopsAtPayload number wrote p stop = Caused (λ e. ⊥) ⊥ wrote (λ pass. (pass ≡ number) × (fault_in p ≡ None → ⊥)) stop

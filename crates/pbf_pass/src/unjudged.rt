@@ -2,7 +2,7 @@
 //! those of the first pass is seen by their digest, at the end.
 
 ghost use Rattle.std.specs.Prelude.{◌≡◌, [], ◌∷◌, Some, IfOk, IfErr, OnOk};
-ghost use Rattle.pbf_pass.specs.Unjudged.{GathersPayload, GathersFrame, GathersFile, StopsAtPayload, StopsAtFrame, StopsUnjudged, ReadsFaulty};
+ghost use Rattle.pbf_pass.specs.Unjudged.{GathersPayload, GathersFrame, GathersFile, GathersSome, StopsAtPayload, StopsAtFrame, StopsUnjudged, ReadsFaulty};
 ghost use Rattle.pbf_pass.specs.Given.{GaveFile};
 ghost use Rattle.pbf_pass.specs.Hashing.{mark_by};
 ghost use Rattle.pbf_pass.specs.Judged.{judged_file};
@@ -27,6 +27,7 @@ fn gather_block<G: Gather>(
 ) -> Result<(), Stop>
     ensures gathered { OnOk result (GathersPayload G.gathered gathering.old gathering.new
         (primitive_block frame.now.payload_at frame.now.payload.now)) }
+    ensures some { OnOk result (GathersSome G.gathered gathering.old gathering.new) }
     ensures stopped { IfErr result (StopsAtPayload number ⊥
         (primitive_block frame.now.payload_at frame.now.payload.now)) }
 {
@@ -46,6 +47,7 @@ fn gather_payload<G: Gather>(
 ) -> Result<(), Stop>
     ensures gathered { OnOk result (GathersPayload G.gathered gathering.old gathering.new
         (lent_by frame.now)) }
+    ensures some { OnOk result (GathersSome G.gathered gathering.old gathering.new) }
     ensures stopped { IfErr result (StopsAtPayload number ⊥ (lent_by frame.now)) }
 {
     match frame.kind {
@@ -68,7 +70,8 @@ pub struct Later<'a, G> {
 
 impl<G: Gather> Visit for Later<'_, G> {
     ghost took = { λ old f new. GathersFrame G.gathered old.gathering.now new.gathering.now f
-        × (new.number ≡ old.number) };
+        × (new.number ≡ old.number)
+        × GathersSome G.gathered old.gathering.now new.gathering.now };
 
     ghost failed = { λ old f _ stop. StopsAtFrame old.number ⊥ f stop };
 
@@ -116,6 +119,8 @@ pub fn gather_unjudged<F: Feed, G: Gather>(
     ensures gathered { IfOk result (λ digest. GaveFile F.Feed feed.old feed.new
         (mark_by passes.check digest) (λ file. GathersFile G.gathered (judged_file (Some file))
         gathering.old gathering.new)) }
+    // Whatever the file is, what was gathered is what there was before, with some entities added.
+    ensures some { OnOk result (GathersSome G.gathered gathering.old gathering.new) }
     // `Refused` and `Changed` come only if what the feed gave has a fault, whatever follows it (or by itself, if the feed was at its end).
     ensures faulty { IfErr result (ReadsFaulty F.Feed feed.old feed.new) }
     // `Refused`, and `Changed` with the number of the pass, come only for a file that has a fault, and `Read` only if the feed's count of

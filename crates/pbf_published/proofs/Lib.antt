@@ -1,3 +1,4 @@
 pub mod PublishedLemmas
+pub mod TaskLemmas
 pub mod TracedLemmas
 mod ShowingLemmas

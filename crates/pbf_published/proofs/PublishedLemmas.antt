@@ -21,14 +21,9 @@ use Rattle.pbf_unpack.specs.declared.feed.State.{State}
 use Rattle.pbf_unpack.specs.Reports.{has_all, stop_in}
 use Rattle.pbf_unpack.specs.Supplying.{unless_failed}
 use Rattle.pbf_unpack.specs.Unpacked.{unpacked}
-use Rattle.pbfcut.specs.Calls.{Differ, FeedUse, GaveBy, GaveOrNot, supply_of}
-use Rattle.pbfcut.proofs.ConvertingLemmas.{nothing_out}
+use Rattle.pbfcut.specs.Calls.{Differ}
 use Rattle.pbf_published.specs.declared.input.PublishedHalt.{PublishedHalt}
-use Rattle.pbf_published.specs.Published.{Closed, GavePublished, GaveOrNone, Opened, PassedAs, ReportsOutcome, UnlessChanged, raw_of}
-
--- what is one with a third is the same
-pub same_by : {F : Type 0} (mid last first : F) → mid ≡ last → mid ≡ first → last ≡ first
-same_by mid last first e e2 = sym e ∙ e2
+use Rattle.pbf_published.specs.Published.{GavePublished, HasDigest, IsOpened, PassedAs, ReportsOutcome, UnlessChanged, raw_of}
 
 -- what is said of a digest that may be there
 if_digest : (o : Option (List ℕ)) (digest : List ℕ) (holds : List ℕ → Type 0) → o ≡ Some digest → IfSome o holds → holds digest
@@ -49,15 +44,15 @@ had_these (Some all) bytes h = same_bytes (h all refl) where
 abbrev pub DigestIsOf : PassCheck → (known digest : Option (List ℕ)) → Type 0
 DigestIsOf check known digest = (all : List ℕ) → known ≡ Some all → digest ≡ Some (digest_by check all)
 
-module _ {F U : Type 0} (f : feed.Ghosts F) (first last : F) {u : feed.Ghosts U} {old new : U} {raw_digest : Mark} {holds : List ℕ → Type 0} (given : GaveFile u old new raw_digest holds) (check : PassCheck) (o : Option (List ℕ)) (remaining : u.remaining old ≡ raw_of (f.remaining first)) (opened : Opened (f.remaining first) (f.has_passed first) check (u.has_passed old)) (closed : Closed (f.has_passed last) (f.remaining last) (u.has_passed new) (u.remaining new) o) where
+module _ {F U : Type 0} (f : feed.Ghosts F) (first last : F) {u : feed.Ghosts U} {old new : U} {raw_digest : Mark} {holds : List ℕ → Type 0} (given : GaveFile u old new raw_digest holds) (check : PassCheck) (o : Option (List ℕ)) (opened : IsOpened f u check first old) (has : HasDigest f u last new o) where
   ended : (all : List ℕ) → f.remaining first ≡ Some all → u.remaining new ≡ Some []
-  ended all is = none_left_of_all (u.remaining old) (u.remaining new) given.file (unpacked all) given.supplied.gave.told given.supplied.end (remaining ∙ ap raw_of is)
+  ended all is = none_left_of_all (u.remaining old) (u.remaining new) given.file (unpacked all) given.supplied.gave.told given.supplied.end (opened.remaining ∙ ap raw_of is)
 
   -- what passed by a log is what the feed had to give
   logged_whole : (digest : List ℕ) → o ≡ Some digest → (log : ℕ) → f.has_passed first log [] → PassedAs (f.has_passed last) log (mark_by check digest) given.file (λ passed. IfSome (f.remaining first) (λ all. all ≡ passed))
   logged_whole digest is log start =
       let p = if_digest o digest (λ d. PassedAs (f.has_passed last) log (mark_by check d) given.file (λ packed. u.remaining new ≡ Some [] → f.remaining first ≡ Some packed)) is
-      (closed.logged check log (f.remaining first) given.file (given.supplied.gave.logged _ [] (opened.logged log start))) in
+      (has.logged check log (f.remaining first) given.file (given.supplied.gave.logged _ [] (opened.logged log start))) in
       record { packed = p.packed; passed = p.passed; digest_is = p.digest_is; means = p.means; is_known = had_these (f.remaining first) p.packed (λ all had. p.is_known (ended all had)) }
 
   -- what is said of the file that an unpacking feed gave is said of the raw file that packed bytes mean
@@ -67,17 +62,6 @@ module _ {F U : Type 0} (f : feed.Ghosts F) (first last : F) {u : feed.Ghosts U}
   -- the digest is that of what the feed had to give
   pub digest_told : DigestIsOf check (f.remaining first) o
   digest_told all is = grind arith
-
--- the same of a feed that may have been spared
-pub published_or_none : {F : Type 0} (check : PassCheck) (f : feed.Ghosts F) (first last : F) (above : FeedUse) {raw_digest : Mark} (holds : List ℕ → Type 0) (file : List ℕ) (spared : Bool) → GaveOrNot above spared raw_digest file holds → (o : Option (List ℕ)) → supply_of above ≡ raw_of (f.remaining first)
-    → Opened (f.remaining first) (f.has_passed first) check (above.ghosts.has_passed above.old) → Closed (f.has_passed last) (f.remaining last) (above.ghosts.has_passed above.new) (above.ghosts.remaining above.new) o → (digest : List ℕ) → (spared ≡ false → o ≡ Some digest) → (above.new ≡ above.old → last ≡ first)
-    → (keeps : List ℕ → Type 0) → ((file : List ℕ) → holds file → keeps file) → GaveOrNone f first last (mark_by check digest) raw_digest file keeps
-published_or_none check f first last above holds file false given o remaining opened closed digest is same keeps step = inl (published_of f first last given check o remaining opened closed digest (is refl) keeps step)
-published_or_none check f first last above holds file true none o remaining opened closed digest is same keeps step = inr (same none.0, step file none.1)
-
--- a feed that was closed is one that a reference goes to
-pub closed_below : {F : Type 0} (f : feed.Ghosts F) (mid last : F) (supplied : ℕ → List ℕ → Type 0) (left o : Option (List ℕ)) → mid ≡ last → Closed (f.has_passed mid) (f.remaining mid) supplied left o → Closed (f.has_passed last) (f.remaining last) supplied left o
-closed_below f mid last supplied left o same closed = subst (λ (x : _). Closed (f.has_passed x) (f.remaining x) supplied left o) same closed
 
 pub not_both : (b : Bool) → b ≡ true → b ≡ false → ⊥
 not_both b h1 h2 = grind arith
@@ -122,14 +106,6 @@ pub with_nothing : (o : Result InputReceipt Halt) (refuses : Refusal → Type 0)
     → IfErr o (λ h. Caused (λ e. refused e × nothing) read wrote changed (stop_of h))
 with_nothing o refuses nothing refused read wrote changed h7 h8 = grind arith
 
--- each of two cases gives one
-pub either_of : {A B C D : Type 0} → (A → C) → (B → D) → A ⊎ B → C ⊎ D
-either_of h0 h1 h2 = grind arith
-
--- no feed was refused memory
-pub none_lacks : (a b : Bool) → (a || b) ≡ false → (a ≡ false) × (b ≡ false)
-none_lacks a b h2 = grind arith
-
 -- ---- why a pass is reported as changed
 
 -- two feeds mean raw files that differ: so their bytes do
@@ -140,6 +116,10 @@ packed_differ first other raw_first raw_other first_is other_is differ b c is_b 
 pub changed_stop : (refused : Fault → Type 0) (read wrote : Type 0) (numbers : ℕ → Type 0) (reported s : Stop) (number : ℕ) → reported ≡ s → s ≡ stop.Changed number → numbers number → Caused refused read wrote numbers reported
 changed_stop refused read wrote numbers reported s number is change holds = subst (λ (x : Stop). Caused refused read wrote numbers x) (sym (is ∙ change)) holds
 
+-- and then nothing is said of what went out
+pub changed_any : (holds : Type 0) (reported s : Stop) (number : ℕ) → reported ≡ s → s ≡ stop.Changed number → UnlessChanged holds reported
+changed_any holds reported s number is change = subst (λ (x : Stop). UnlessChanged holds x) (sym (is ∙ change)) tt
+
 -- the first feed has no digest: so it doesn't report its bytes
 pub first_unknown : (check : PassCheck) (known o : Option (List ℕ)) → DigestIsOf check known o → o ≡ None → Differ known known
 first_unknown check known o of none b c is_b is_c same = (let bad : ⊥ = (let some : None ≡ Some (digest_by check b) = sym none ∙ of b is_b in cc) in absurd bad)
@@ -147,18 +127,3 @@ first_unknown check known o of none b c is_b is_c same = (let bad : ⊥ = (let s
 -- a later feed hasn't the digest of the first: so its bytes differ
 pub later_differ : (check : PassCheck) (first other o p : Option (List ℕ)) (digest : List ℕ) → DigestIsOf check first o → o ≡ Some digest → DigestIsOf check other p → (p ≡ Some digest → ⊥) → Differ first other
 later_differ check first other o p digest of is other_of unlike b c is_b is_c same = unlike (other_of c is_c ∙ ap (λ (l : List ℕ). Some (digest_by check l)) (sym same) ∙ sym (of b is_b) ∙ is)
-
--- the second feed was read, and hasn't the digest of the first: so its bytes differ
-pub second_differs : (check : PassCheck) {above : FeedUse} {raw_digest : Mark} (file : List ℕ) (holds : List ℕ → Type 0) (spared : Bool) → GaveOrNot above spared raw_digest file holds → spared ≡ false → {first other o p : Option (List ℕ)} {digest : List ℕ} → DigestIsOf check first o → o ≡ Some digest
-    → (GaveBy above raw_digest holds → DigestIsOf check other p) → (p ≡ Some digest → ⊥) → Differ first other
-second_differs check file holds false given was of is read unlike = later_differ check _ _ _ _ _ of is (read given) unlike
-second_differs check file holds true none was of is read unlike = (let bad : ⊥ = cc in absurd bad)
-
--- what is said of the next feed, whether the one before was read or not
-pub rest_of : (above : FeedUse) (raw_digest : Mark) (file : List ℕ) (holds : List ℕ → Type 0) (spared : Bool) → GaveOrNot above spared raw_digest file holds → (c : List ℕ) × holds c
-rest_of above raw_digest file holds spared h5 = grind arith
-
--- before a drain was used, whatever is said
-pub nothing_went_out : {A : Type 0} (r : Result A PublishedHalt) (old new : Option (List ℕ)) (whole : List ℕ → List ℕ) (supplies : List ℕ → Type 0) → new ≡ old
-    → IfErr r (λ h. UnlessChanged ((b : List ℕ) → supplies b → IsFront old new (whole b)) h.stop)
-nothing_went_out r old new whole supplies h5 = grind (arith, unless_changed, nothing_out)

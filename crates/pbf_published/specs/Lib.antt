@@ -1,3 +1,3 @@
 pub mod Published
 pub mod Showing
-pub mod Extracting
+pub mod PublishedTasks

@@ -9,7 +9,8 @@ use Rattle.pbf_frame.specs.declared.stop.Stop.TheVariants.{Refused, Read, Write,
 use Rattle.pbf_frame.specs.Devices.{IsAtEnd, IsFront, prepend}
 use Rattle.pbf_frame.specs.Transfers.{Added}
 use Rattle.pbf_frame.specs.Verdict.{Verdict}
-use Rattle.pbf_pass.specs.Hashing.{IsDigestOf, Mark, below_log, hash_log, mark_by}
+use Rattle.pbf_pass.specs.Hashing.{Holds as HoldsBytes, IsDigestOf, Mark, below_log, digest_by, hash_log, mark_by}
+use Rattle.pbf_pass.specs.declared.hashed.PassFeed.{PassFeed}
 use Rattle.pbf_pass.specs.declared.hashing.PassCheck.{PassCheck}
 use Rattle.pbf_pass.specs.declared.receipt.Halt.{Halt}
 use Rattle.pbf_pass.specs.declared.receipt.InputReceipt.{InputReceipt}
@@ -20,6 +21,10 @@ use Rattle.pbfcut.specs.Calls.{AllSupply, AnyFailed, ChangedIn, DrainUse, Failed
 use Rattle.pbf_published.specs.declared.input.PublishedHalt.{PublishedHalt}
 
 -- ---- what was given
+
+-- the raw file that a feed is to supply, if it reports its bytes
+abbrev pub raw_of : Option (List ℕ) → Option (List ℕ)
+raw_of known = option_map unpacked known
 
 -- by a log of a feed packed bytes passed, of this digest by the check, that mean this raw file, and of which this is known
 pub record PassedAs (has_passed : ℕ → List ℕ → Type 0) (log : ℕ) (digest : Mark) (raw : List ℕ) (known : List ℕ → Type 0) : Type 0 where
@@ -97,25 +102,29 @@ pub record HasTraced {F : Type 0} (f : feed.Ghosts F) (feed : F) (log : ℕ) (by
   pub passed : f.has_passed feed one bytes × f.has_passed feed two bytes
   pub told : start ≡ prepend bytes (f.remaining feed)
 
--- ---- feeds that are opened and closed
+-- ---- feeds that are opened, and their digests
 
--- an unpacking feed, by its logs, has supplied nothing of what the feed below reports and logs
-pub record Opened (known : Option (List ℕ)) (passed : ℕ → List ℕ → Type 0) (check : PassCheck) (supplied : ℕ → List ℕ → Type 0) : Type 0 where
-  pub hashed : supplied (log_number (hash_log check) (hash_log check) known) []
-  pub logged : (log : ℕ) → passed log [] → supplied (log_number (hash_log check) (below_log log) known) []
+-- an unpacking feed over this one supplies the raw file that it has, counts its failures, and has supplied nothing by the logs for the check and for
+-- each log of the feed below
+pub record IsOpened {F U : Type 0} (f : feed.Ghosts F) (u : feed.Ghosts U) (check : PassCheck) (below : F) (now : U) : Type 0 where
+  pub remaining : u.remaining now ≡ raw_of (f.remaining below)
+  pub failures : u.failures now ≡ f.failures below
+  pub hashed : u.has_passed now (log_number (hash_log check) (hash_log check) (f.remaining below)) []
+  pub logged : (log : ℕ) → f.has_passed below log [] → u.has_passed now (log_number (hash_log check) (below_log log) (f.remaining below)) []
 
--- if there is a digest, packed bytes have it by the check, mean what was supplied, and passed by each log of the feed below. If nothing is
--- reported to be left, there is one, and they are what there was at the start
-pub record Closed (passed : ℕ → List ℕ → Type 0) (left_below : Option (List ℕ)) (supplied : ℕ → List ℕ → Type 0) (left digest : Option (List ℕ)) : Type 0 where
-  pub means : (check : PassCheck) (start : Option (List ℕ)) (raw : List ℕ) → supplied (log_number (hash_log check) (hash_log check) start) raw → IfSome digest (λ d. Means (mark_by check d) start left left_below raw)
-  pub logged : (check : PassCheck) (log : ℕ) (start : Option (List ℕ)) (raw : List ℕ) → supplied (log_number (hash_log check) (below_log log) start) raw → IfSome digest (λ d. PassedAs passed log (mark_by check d) raw (λ packed. left ≡ Some [] → start ≡ Some packed))
-  pub there : left ≡ Some [] → digest ≡ None → ⊥
+-- the digest that a hashing feed returns is that of what its hasher held, and the feed below stays
+pub record Digested {F : Type 0} (old new : PassFeed F) (digest : List ℕ) : Type 0 where
+  pub feed : new.feed ≡ old.feed
+  pub is : (bytes : List ℕ) → HoldsBytes old.hasher bytes → digest ≡ digest_by old.hasher.check bytes
+
+-- an unpacking feed has this digest: packed bytes have it by the check, mean what was supplied, and passed by each log of the feed below. If nothing is
+-- reported to be left, it has one, and they are what there was at the start
+pub record HasDigest {F U : Type 0} (f : feed.Ghosts F) (u : feed.Ghosts U) (below : F) (now : U) (digest : Option (List ℕ)) : Type 0 where
+  pub means : (check : PassCheck) (start : Option (List ℕ)) (raw : List ℕ) → u.has_passed now (log_number (hash_log check) (hash_log check) start) raw → IfSome digest (λ d. Means (mark_by check d) start (u.remaining now) (f.remaining below) raw)
+  pub logged : (check : PassCheck) (log : ℕ) (start : Option (List ℕ)) (raw : List ℕ) → u.has_passed now (log_number (hash_log check) (below_log log) start) raw → IfSome digest (λ d. PassedAs (f.has_passed below) log (mark_by check d) raw (λ packed. u.remaining now ≡ Some [] → start ≡ Some packed))
+  pub there : u.remaining now ≡ Some [] → digest ≡ None → ⊥
 
 -- ---- why a call stops
-
--- the raw file that a feed is to supply, if it reports its bytes
-abbrev pub raw_of : Option (List ℕ) → Option (List ℕ)
-raw_of known = option_map unpacked known
 
 -- what is refused is the raw file that the first feed's bytes mean, by its first fault, and then the drain took nothing
 abbrev pub RefusedRaw : {D : Type 0} → Option Verdict → drain.Ghosts D → (old new : D) → Fault → Type 0

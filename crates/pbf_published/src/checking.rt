@@ -8,11 +8,11 @@ ghost use Rattle.pbf_pass.specs.Hashing.{mark_by, raw_check};
 ghost use Rattle.pbf_published.specs.Published.{ChangedOf, GavePublished, raw_of};
 
 use crate::input::{
-    PublishedHalt, PublishedInput, close, first_digest, lacks_memory, open, published_outcome,
+    PublishedHalt, PublishedInput, close, first_digest, lacks_memory, open, packed_digest,
+    published_outcome,
 };
 use pbf_frame::Feed;
 use pbf_pass::Passes;
-use pbf_unpack::Inflater;
 use std::alloc::Global;
 
 /// Judges the raw file that a published one means, counts its entities, and returns the digests of both files.
@@ -35,10 +35,11 @@ pub fn check_with_receipt<F: Feed>(
         (ChangedOf (F.remaining feed.old ∷ [])) h.stop) }
 {
     let alloc = passes.alloc;
-    let mut input = open(alloc, Inflater::new(alloc)?, &mut *feed, passes.check);
+    let mut input = open(alloc, &mut *feed, passes.check)?;
     let outcome = pbf_pass::check_with_receipt(passes.of_raw(), &mut input);
     let outcome = published_outcome(outcome, &input, lacks_memory(&input));
-    let (digest, _feed) = close(input);
+    let digest = packed_digest(&mut input);
+    let _feed = close(input);
     let receipt = outcome?;
     Ok(PublishedInput {
         counts: receipt.counts,

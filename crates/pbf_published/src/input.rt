@@ -2,14 +2,14 @@
 
 ghost use Rattle.std.specs.Prelude.{◌≡◌, Some, None, IfOk, IfErr, OnOk, false};
 ghost use Rattle.pbf_frame.specs.declared.stop.Stop.TheVariants as stop;
-ghost use Rattle.pbf_published.specs.Published.{Closed, Opened, ReportsOutcome, raw_of, told_by};
+ghost use Rattle.pbf_published.specs.Published.{Digested, HasDigest, IsOpened, ReportsOutcome, told_by};
+ghost use Rattle.pbf_published.specs.PublishedTasks.{below_of};
 
 use crate::traced::TracedFeed;
 use pbf_block::Counts;
 use pbf_frame::{Feed, Stop};
 use pbf_pass::{Halt, InputReceipt, PassCheck, PassFeed, Refusal};
-use pbf_unpack::{Inflater, Place, UnpackFault, UnpackedFeed};
-use sha2::{Digest, Sha256};
+use pbf_unpack::{DigestFeed, Inflater, Place, UnpackFault, UnpackedFeed};
 use std::alloc::{AllocError, Global};
 
 /// What a call reports: how many entities, and the digests of its input.
@@ -60,46 +60,53 @@ impl From<AllocError> for PublishedHalt {
 /// A published file, hashed as it is, and supplied as the raw file that it means.
 pub type PublishedFeed<F> = UnpackedFeed<TracedFeed<PassFeed<F>>>;
 
-/// A published file from its start.
-pub fn open<F: Feed>(
+impl<F: Feed> DigestFeed for TracedFeed<PassFeed<F>> {
+    ghost digested = { λ old new digest. Digested old.feed new.feed digest };
+
+    fn digest(&mut self) -> [u8; 32] {
+        self.feed.digest()
+    }
+}
+
+/// A published file from its start, which a call is to hash by this check. `Err` says that memory was refused.
+pub fn open<F: Feed + Drop>(
     alloc: Global,
-    inflater: Inflater,
     feed: F,
     check: PassCheck,
-) -> PublishedFeed<F>
-    ensures remaining { ⟦<PublishedFeed<F> as Feed>⟧.remaining result
-        ≡ raw_of (F.remaining feed) }
-    ensures opened { Opened (F.remaining feed) (F.has_passed feed) check
-        (⟦<PublishedFeed<F> as Feed>⟧.has_passed result) }
-    ensures below { result.feed.feed.feed ≡ feed }
-    ensures lender { ⟦<PublishedFeed<F> as Feed>⟧.lender result ≡ F.lender feed }
-    ensures failures { ⟦<PublishedFeed<F> as Feed>⟧.failures result
-        ≡ F.failures feed }
+) -> Result<PublishedFeed<F>, AllocError>
+    ensures opened { IfOk result (λ now. IsOpened F.Feed ⟦<PublishedFeed<F> as Feed>⟧ check feed now) }
+    ensures below { IfOk result (λ now. below_of now ≡ feed) }
+    ensures lender { IfOk result (λ now. ⟦<PublishedFeed<F> as Feed>⟧.lender now ≡ F.lender feed) }
 {
+    let inflater = Inflater::new(alloc)?;
     let traced = TracedFeed {
         feed: PassFeed::new(feed, check),
     };
-    UnpackedFeed::new(alloc, inflater, traced)
+    Ok(UnpackedFeed::new(alloc, inflater, traced))
 }
 
-/// The digest of the packed bytes that were read, if all that they mean was supplied, and the feed below.
-pub fn close<F: Feed>(feed: PublishedFeed<F>) -> (Option<[u8; 32]>, F)
-    ensures closed { Closed (F.has_passed result.1) (F.remaining result.1)
-        (⟦<PublishedFeed<F> as Feed>⟧.has_passed feed)
-        (⟦<PublishedFeed<F> as Feed>⟧.remaining feed) result.0 }
-    ensures feed { result.1 ≡ feed.feed.feed.feed }
-    ensures lender { F.lender result.1
-        ≡ ⟦<PublishedFeed<F> as Feed>⟧.lender feed }
+/// The digest of the packed bytes that were read, if all that they mean was supplied. Another digest is begun.
+pub(crate) fn packed_digest<F: Feed>(feed: &mut PublishedFeed<F>) -> Option<[u8; 32]>
+    ensures digest { HasDigest F.Feed ⟦<PublishedFeed<F> as Feed>⟧ (below_of feed.old) feed.old result }
+    ensures below { below_of feed.new ≡ below_of feed.old }
 {
-    let all = feed.has_given_all();
-    let traced = feed.into_feed();
-    let mut hashed = traced.feed;
-    let digest = hashed.digest();
-    (if all { Some(digest) } else { None }, hashed.into_inner())
+    if feed.has_given_all() {
+        Some(feed.digest())
+    } else {
+        None
+    }
+}
+
+/// The feed below, which comes back whatever was read.
+pub fn close<F: Feed>(feed: PublishedFeed<F>) -> F
+    ensures below { result ≡ below_of feed }
+    ensures lender { F.lender result ≡ ⟦<PublishedFeed<F> as Feed>⟧.lender feed }
+{
+    feed.into_feed().feed.into_inner()
 }
 
 /// The digest of the feed of the first pass, which has one after a call that succeeded.
-pub fn first_digest(first: Option<[u8; 32]>) -> Result<[u8; 32], Stop>
+pub(crate) fn first_digest(first: Option<[u8; 32]>) -> Result<[u8; 32], Stop>
     ensures there { IfOk result (λ digest. first ≡ Some digest) }
     ensures stops { IfErr result (λ s. (s ≡ stop.Changed 1) × (first ≡ None)) }
 {
@@ -107,7 +114,7 @@ pub fn first_digest(first: Option<[u8; 32]>) -> Result<[u8; 32], Stop>
 }
 
 /// A later pass with another digest is `Changed`.
-pub fn compare(digest: [u8; 32], later: Option<[u8; 32]>, pass: u8) -> Result<(), Stop>
+pub(crate) fn compare(digest: [u8; 32], later: Option<[u8; 32]>, pass: u8) -> Result<(), Stop>
     ensures same { OnOk result (later ≡ Some digest) }
     ensures stops { IfErr result (λ s. (s ≡ stop.Changed pass) × (later ≡ Some digest → ⊥)) }
 {
@@ -118,25 +125,12 @@ pub fn compare(digest: [u8; 32], later: Option<[u8; 32]>, pass: u8) -> Result<()
     }
 }
 
-/// The same of a pass that may have been spared.
-pub fn compare_unless_spared(
-    receipt: &InputReceipt,
-    digest: [u8; 32],
-    later: Option<[u8; 32]>,
-    pass: u8,
-) -> Result<(), Stop>
-    ensures same { OnOk result (receipt.now.spared ≡ false → later ≡ Some digest) }
-    ensures stops { IfErr result (λ s. (s ≡ stop.Changed pass)
-        × (receipt.now.spared ≡ false) × (later ≡ Some digest → ⊥)) }
-{
-    if receipt.spared {
-        return Ok(());
-    }
-    compare(digest, later, pass)
-}
-
 /// What a stop of a call over raw files says of published ones: of the first of them, and of a feed that was refused memory.
-pub fn stopped<F: Feed>(stop: Stop, first: &PublishedFeed<F>, lacks_memory: bool) -> PublishedHalt
+pub(crate) fn stopped<F: Feed>(
+    stop: Stop,
+    first: &PublishedFeed<F>,
+    lacks_memory: bool,
+) -> PublishedHalt
     ensures { result.stop ≡ told_by lacks_memory stop }
 {
     let place = match stop {
@@ -156,7 +150,7 @@ pub fn stopped<F: Feed>(stop: Stop, first: &PublishedFeed<F>, lacks_memory: bool
 
 /// What a call over raw files returns, as it is reported of the published ones: of the first of them, and of a feed that was refused
 /// memory.
-pub fn published_outcome<F: Feed>(
+pub(crate) fn published_outcome<F: Feed>(
     outcome: Result<InputReceipt, Halt>,
     first: &PublishedFeed<F>,
     lacks_memory: bool,
@@ -174,14 +168,9 @@ pub fn published_outcome<F: Feed>(
 }
 
 /// Whether a feed was refused memory. If it wasn't, the reads of it that failed are those of the feed below.
-pub fn lacks_memory<F: Feed>(feed: &PublishedFeed<F>) -> bool
-    ensures { result ≡ false → ⟦<UnpackedFeed<TracedFeed<PassFeed<F>>> as Feed>⟧.failures feed.now
-        ≡ F.failures feed.now.feed.feed.feed }
+pub(crate) fn lacks_memory<F: Feed>(feed: &PublishedFeed<F>) -> bool
+    ensures { result ≡ false → ⟦<PublishedFeed<F> as Feed>⟧.failures feed.now
+        ≡ F.failures (below_of feed.now) }
 {
     feed.stop() == Some(Stop::Memory)
-}
-
-/// The inflaters of two feeds.
-pub(crate) fn two_inflaters(alloc: Global) -> Result<(Inflater, Inflater), AllocError> {
-    Ok((Inflater::new(alloc)?, Inflater::new(alloc)?))
 }

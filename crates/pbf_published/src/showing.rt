@@ -1,81 +1,20 @@
 //! `show`, `info` and `blobs` of published files.
 
-ghost use Rattle.std.specs.Prelude.{◌≡◌, ◌∷◌, ◌++◌, [], IfOk, IfErr, OnErr, OnOk, Some, false};
+ghost use Rattle.std.specs.Prelude.{◌≡◌, IfOk, IfErr, OnErr, OnOk, false};
 ghost use Rattle.pbf_frame.specs.Verdict.{judged_known};
 ghost use Rattle.pbf_pass.specs.Given.{Took};
-ghost use Rattle.pbf_pass.specs.Judged.{judged_file};
-ghost use Rattle.pbf_pass.specs.Pass.{CountsFile};
-ghost use Rattle.pbf_pass.specs.Hashing.{mark_by, raw_check};
-ghost use Rattle.pbfcut.specs.Calls.{drained, fed};
 ghost use Rattle.pbfcut.specs.Listing.{Lists, ListsFront, ListsToFault};
-ghost use Rattle.pbfcut.specs.Showing.{Shown, ShowsFront};
 ghost use Rattle.pbfcut.specs.Summary.{counts_line, counts_object, judged_headings};
 ghost use Rattle.pbf_pass.specs.Stops.{Caused, FaultOf, ReadFailed, WriteFailed, unchanged};
 ghost use Rattle.pbf_published.specs.Showing.{TellsInfo, info_lines, info_object, storage, summary_text};
-ghost use Rattle.pbf_published.specs.Published.{GavePublished, RefusedRaw, StopsPublished, UnlessChanged, raw_of};
+ghost use Rattle.pbf_published.specs.Published.{RefusedRaw, raw_of};
 
-use crate::input::{
-    PublishedHalt, PublishedInput, close, compare, first_digest, lacks_memory, open,
-    published_outcome, stopped, two_inflaters,
-};
+use crate::input::{PublishedHalt, close, lacks_memory, open, stopped};
 use pbf_frame::{Drain, Feed, Stop, write_all};
-use pbf_pass::{PassCheck, Passes};
-use pbf_unpack::{Inflater, Stored};
+use pbf_pass::PassCheck;
+use pbf_unpack::Stored;
 use pbfcut::{Summary, put_counts, put_counts_object};
 use std::alloc::{AllocError, Global};
-
-/// Writes the text of the raw file that a published one means, as `show_with_receipt` of pbfcut does that of a raw file.
-///
-/// Both feeds have to supply the same bytes. `Changed(2)` says that they did not; what was written before is unspecified. A refusal has
-/// the place of the fault in the published file, and nothing is written then.
-///
-/// Space: that of `show`, and for each feed one packed frame and a raw one.
-pub fn show_with_receipt<F: Feed, G: Feed, D: Drain>(
-    passes: Passes,
-    first: &mut F,
-    second: &mut G,
-    drain: &mut D,
-    dates: bool,
-) -> Result<PublishedInput, PublishedHalt>
-    // Each feed gave packed bytes of the digest `input`, which mean a raw file, of the SHA-256 digest `raw` if that is the check. That of
-    // the first has no fault, and the counts are those of its entities. The drain took exactly the text of that of the second, which has no
-    // fault.
-    ensures receipt { IfOk result (λ receipt. GavePublished F.Feed first.old first.new
-        (mark_by passes.check receipt.input)
-        (mark_by (raw_check passes.check) receipt.raw) (λ b. CountsFile (judged_file (Some b)) receipt.counts
-        × GavePublished G.Feed second.old second.new (mark_by passes.check receipt.input)
-        (mark_by (raw_check passes.check) receipt.raw)
-        (λ c. Took D.Drain drain.old drain.new (Shown dates (judged_file (Some c)))))) }
-    // Each stop has its cause. What is refused is the raw file that the first feed's bytes mean, by its first fault, and then the drain took
-    // nothing. `Read` and `Write` come only if a count of failures rose: of a feed, of the drain. `Changed` has the number of the pass
-    // whose feed has other packed bytes than the first, as far as both report them.
-    ensures stops { IfErr result (λ h. StopsPublished judged_file (fed F.Feed first.old first.new)
-        (fed G.Feed second.old second.new ∷ []) (drained D.Drain drain.old drain.new) h.stop) }
-    // Whatever stopped it, except `Changed`, if both feeds mean one raw file, a prefix of its text went out, and nothing if it has a fault.
-    ensures beginning { IfErr result (λ h. UnlessChanged
-        (raw_of (F.remaining first.old) ≡ raw_of (G.remaining second.old)
-        → ShowsFront dates (judged_file (raw_of (F.remaining first.old)))
-        (D.taken drain.old) (D.taken drain.new)) h.stop) }
-{
-    let alloc = passes.alloc;
-    let (inflater, another) = two_inflaters(alloc)?;
-    let mut one = open(alloc, inflater, &mut *first, passes.check);
-    let mut two = open(alloc, another, &mut *second, passes.check);
-    let outcome = pbfcut::show_with_receipt(passes.of_raw(), &mut one, &mut two, drain, dates);
-    let is_memory = lacks_memory(&one) | lacks_memory(&two);
-    let outcome = published_outcome(outcome, &one, is_memory);
-    let (one, _first) = close(one);
-    let (two, _second) = close(two);
-    let receipt = outcome?;
-    let raw = receipt.input;
-    let input = first_digest(one)?;
-    compare(input, two, 2)?;
-    Ok(PublishedInput {
-        counts: receipt.counts,
-        input,
-        raw,
-    })
-}
 
 /// How blobs are stored, in quotation marks.
 fn storage(stored: Stored) -> &'static [u8]
@@ -144,7 +83,7 @@ fn read_info<F: Feed>(alloc: Global, feed: &mut F, json: bool) -> Result<Vec<u8>
         (FaultOf (judged_headings (raw_of (F.remaining feed.old))))
         (ReadFailed F.Feed feed.old feed.new) ⊥ unchanged h.stop) }
 {
-    let mut input = open(alloc, Inflater::new(alloc)?, &mut *feed, PassCheck::None);
+    let mut input = open(alloc, &mut *feed, PassCheck::None)?;
     let outcome = pbfcut::read_summary(alloc, &mut input);
     let stored = input.stored();
     match outcome {
@@ -152,7 +91,7 @@ fn read_info<F: Feed>(alloc: Global, feed: &mut F, json: bool) -> Result<Vec<u8>
         Err(stop) => {
             let halt = stopped(stop, &input, lacks_memory(&input));
             // What is known of the feed comes back with the reference itself.
-            let (_digest, _feed) = close(input);
+            let _feed = close(input);
             Err(halt)
         }
     }
@@ -208,14 +147,14 @@ pub fn list_blobs<F: Feed, D: Drain>(
     ensures beginning { OnErr result (ListsFront D.Drain drain.old drain.new
         (judged_known false 0 (raw_of (F.remaining feed.old)))) }
 {
-    let mut input = open(alloc, Inflater::new(alloc)?, &mut *feed, PassCheck::None);
+    let mut input = open(alloc, &mut *feed, PassCheck::None)?;
     let outcome = pbfcut::list_blobs(alloc, &mut input, drain);
     match outcome {
         Ok(frames) => Ok(frames),
         Err(stop) => {
             let halt = stopped(stop, &input, lacks_memory(&input));
             // What is known of the feed comes back with the reference itself.
-            let (_digest, _feed) = close(input);
+            let _feed = close(input);
             Err(halt)
         }
     }

@@ -5,5 +5,8 @@ pub mod PayloadLemmas
 pub mod SupplyLemmas
 pub mod ReportLemmas
 pub mod RawLemmas
+pub mod FrameHeld
+pub mod GoingOn
 pub mod PackingLemmas
 pub mod FinishLemmas
+pub mod CauseLemmas

@@ -1,10 +1,10 @@
 -- What a packing drain has taken, and what the drain below took for it.
-use Rattle.std.proofs.Common.{◌≡◌, ℕ, ◌+◌, ◌-◌, ◌≤◌, List, [], ◌++◌, length, take, drop, Option, Some, None, Ok, true, refl, sym, ap, subst, ◌∙◌, append_assoc, length-append, take-append-drop, arith}
+use Rattle.std.proofs.Common.{◌≡◌, ℕ, ◌+◌, ◌-◌, ◌<◌, ◌≤◌, List, [], ◌++◌, length, take, drop, Option, Some, None, Ok, true, refl, sym, ap, subst, ◌∙◌, append_assoc, length-append, take-append-drop, arith}
 use Rattle.std.specs.Prelude.{IfSome}
 use Rattle.std.specs.Option.{option_map}
 use Rattle.std.proofs.lemmas.List.{append-nil, drop-take, length-take, take-append-le, take_at, drop_at, take_all}
 use Rattle.std.proofs.Math.Seq.{take-add}
-use Rattle.pbf_frame.specs.Devices.{append, IsFront}
+use Rattle.pbf_frame.specs.Devices.{append, HasRisen, IsFront}
 use Rattle.pbf_wire.specs.Occurrence.{Occurrence, items, found}
 use Rattle.pbf_wire.specs.Reading.{bytes_held, last_of}
 use Rattle.pbf_wire.specs.declared.limits.TheConstants.{RAW_LIMIT}
@@ -19,6 +19,8 @@ use Rattle.pbf_unpack.specs.declared.whole.WholeFrame.{WholeFrame}
 use Rattle.pbf_unpack.specs.Packed.{packed_in, fits_size}
 use Rattle.pbf_unpack.specs.Unpacked.{as_they_stand, unpacked_frame, unpacked_from, unpacked}
 use Rattle.pbf_unpack.specs.Whole.{MeansWhole}
+use Rattle.pbf_unpack.specs.RawFrames.{GoesOn, IsOneFrame}
+use Rattle.pbf_unpack.proofs.GoingOn.{goes_on_first, goes_on_more}
 use Rattle.pbf_unpack.proofs.UnpackedLemmas.{joined_assoc, joined_nothing, joined_end, nothing_more}
 
 -- ---- packed bytes, put together
@@ -45,12 +47,12 @@ not_begun place taken exact =
 
 -- at first it is nothing
 pub whole_nothing : HasWhole Taking 0 []
-whole_nothing = grind (arith, nothing_more 0, packed_nothing 0, not_begun 0 [] refl)
+whole_nothing = record { whole = grind (arith, nothing_more 0, packed_nothing 0); within = omega arith; begun = not_begun 0 [] refl; goes_on = subst GoesOn (sym (ap (λ u. u.0) (nothing_more 0))) goes_on_first; exact = λ _. refl }
 
 -- whole frames, and one more
-pub whole_more : (place : ℕ) (taken raw frame : List ℕ) → HasWhole Taking place taken → IsPackedAt place raw frame
+pub whole_more : (place : ℕ) (taken raw frame : List ℕ) → IsOneFrame raw → HasWhole Taking place taken → IsPackedAt place raw frame
     → HasWhole Taking (place + length frame) (taken ++ frame) × (unpacked (taken ++ frame) ≡ unpacked (take place taken) ++ raw)
-whole_more place taken raw frame has means =
+whole_more place taken raw frame one has means =
     let exact : length taken ≡ place = has.exact refl in
     let all : take place taken ≡ taken = take_all place taken (omega (arith, exact)) in
     let joined : IsPackedAs (unpacked taken ++ raw) (taken ++ frame) = packed_then 0 (unpacked taken) raw taken frame (subst (λ (l : List ℕ). IsPackedAs (unpacked l) l) all has.whole) (subst (λ (n : ℕ). IsPackedAt n raw frame) (omega (arith, exact)) means) in
@@ -61,6 +63,7 @@ whole_more place taken raw frame has means =
         whole = subst (λ (l : List ℕ). IsPackedAs (unpacked l) l) (sym whole) (subst (λ (l : List ℕ). IsPackedAs l (taken ++ frame)) (sym is) joined);
         within = omega (arith, long);
         begun = not_begun (place + length frame) (taken ++ frame) long;
+        goes_on = subst (λ (l : List ℕ). GoesOn (unpacked l)) (sym whole) (subst GoesOn (sym is) (goes_on_more (unpacked taken) raw one (subst (λ (l : List ℕ). GoesOn (unpacked l)) all has.goes_on)));
         exact = λ _. long;
       },
       is ∙ ap (λ (l : List ℕ). unpacked l ++ raw) (sym all),
@@ -76,6 +79,7 @@ whole_begun place count taken raw frame has means =
       whole = subst (λ (l : List ℕ). IsPackedAs (unpacked l) l) (sym front) has.whole;
       within = omega (arith, length-append taken (take count frame), exact);
       begun = ∣ record { rest = drop count frame; raw = raw; means = rw (after, take-append-drop) means } ∣₁;
+      goes_on = subst (λ (l : List ℕ). GoesOn (unpacked l)) (sym front) has.goes_on;
       exact = λ taking. absurd (cc);
     }
 
@@ -94,16 +98,20 @@ at_start known taken h1 h2 = grind arith
 
 -- what the drain below took of one more frame: all of it, or a part
 module _ (old new : Option (List ℕ)) (place : ℕ) (raw frame : List ℕ) (has : (taken : List ℕ) → old ≡ Some taken → HasWhole Taking place taken) (means : IsPackedAt place raw frame) where
-  pub sent_whole : (end : ℕ) → end ≡ place + length frame → new ≡ append old frame → (taken : List ℕ) → new ≡ Some taken → HasWhole Taking end taken
-  sent_whole end ends added taken is =
+  pub sent_whole : IsOneFrame raw → (end : ℕ) → end ≡ place + length frame → new ≡ append old frame → (taken : List ℕ) → new ≡ Some taken → HasWhole Taking end taken
+  sent_whole one end ends added taken is =
       let before = taken_before old new frame taken added is in
-      let more = (whole_more place before.first raw frame (has before.first before.was) means).0 in
+      let more = (whole_more place before.first raw frame one (has before.first before.was) means).0 in
       subst (λ (n : ℕ). HasWhole Taking n taken) (sym ends) (subst (λ (l : List ℕ). HasWhole Taking (place + length frame) l) (sym before.is) more)
 
   pub sent_part : IsFront old new frame → (taken : List ℕ) → new ≡ Some taken → HasWhole Failed place taken
   sent_part front taken is =
       let before = taken_before old new (take front.count frame) taken front.taken is in
       subst (λ (l : List ℕ). HasWhole Failed place l) (sym before.is) (whole_begun place front.count before.first raw frame (has before.first before.was) means)
+
+-- a count of failures that has risen isn't 0
+pub has_failed : (old new : ℕ) → HasRisen old new → 0 < new
+has_failed old new risen = omega (arith, risen)
 
 -- ---- a frame in written form
 
@@ -144,11 +152,11 @@ raw_start known h1 = grind (arith, nothing_more)
 
 module _ (old new : Option (List ℕ)) (place : ℕ) (raw frame : List ℕ) (has : (taken : List ℕ) → old ≡ Some taken → HasWhole Taking place taken) where
   -- the same, if the frame that is held went on
-  pub raw_sent : IsPackedAt place raw frame → (end : ℕ) (held : List ℕ) → end ≡ place + length frame → held ≡ [] → new ≡ append old frame → raw_in end held new ≡ raw_in place raw old
-  raw_sent means end held ends empty added = cases old refl where
+  pub raw_sent : IsOneFrame raw → IsPackedAt place raw frame → (end : ℕ) (held : List ℕ) → end ≡ place + length frame → held ≡ [] → new ≡ append old frame → raw_in end held new ≡ raw_in place raw old
+  raw_sent one means end held ends empty added = cases old refl where
     cases : (o : Option (List ℕ)) → old ≡ o → raw_in end held new ≡ raw_in place raw old
     cases None is = rw (added, is) refl
-    cases (Some l) is = grind (arith, has l is, whole_more place l raw frame (has l is) means, take_all end (l ++ frame), length-append l frame, append-nil (unpacked (take end (l ++ frame))))
+    cases (Some l) is = grind (arith, has l is, whole_more place l raw frame one (has l is) means, take_all end (l ++ frame), length-append l frame, append-nil (unpacked (take end (l ++ frame))))
 
   -- the same, if a part of the frame did
   pub raw_stuck : (held : List ℕ) → IsFront old new frame → raw_in place held new ≡ raw_in place held old

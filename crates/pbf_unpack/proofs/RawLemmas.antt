@@ -34,10 +34,10 @@ last_nil [] ys e = e
 last_nil (x ∷ xs) ys e = (let bad : ⊥ = cc in absurd bad)
 
 module _ (had : Bool) (place : ℕ) (f : FrameSpec) (is : IsFrame had place f) where
-  parts : FrameParts had place (frame_bytes f ++ []) f []
+  pub parts : FrameParts had place (frame_bytes f ++ []) f []
   parts = next_parts had place (frame_bytes f ++ []) f [] (frame_is_next had place f [] is)
 
-  says : head_of (header_at f) f.header ≡ Ok parts.head
+  pub says : head_of (header_at f) f.header ≡ Ok parts.head
   says = ap (λ (p : ℕ). head_of (p + 4) f.header) is.offset ∙ parts.header_is.says
 
   size_is : length f.blob ≡ (head_says (header_at f) f.header).size

@@ -5,6 +5,7 @@ use Rattle.pbf_frame.specs.declared.stop.Stop.{Stop}
 use Rattle.pbf_frame.specs.declared.stop.Stop.TheVariants as stop
 use Rattle.pbf_unpack.specs.declared.below.Course.{Course}
 use Rattle.pbf_unpack.specs.declared.below.Course.TheVariants.{Taking, Failed, Unfit, Refused}
+use Rattle.pbf_unpack.specs.RawFrames.{GoesOn}
 use Rattle.pbf_unpack.specs.Unpacked.{then_unpacked, as_they_stand, unpacked_from, unpacked}
 
 -- whatever follows them, these bytes at a place mean raw ones without a fault
@@ -20,11 +21,13 @@ pub record IsBegun (place : ℕ) (bytes : List ℕ) : Type 0 where
   pub raw : List ℕ
   pub means : IsPackedAt place raw (bytes ++ rest)
 
--- what it took begins with so many bytes of whole frames, and after them one was begun at most; none was as long as nothing failed
+-- what it took begins with `place` bytes of whole frames; after them a prefix of one frame at most, and nothing unless a write failed. Every raw file that
+-- begins with what they mean goes on with frames
 pub record HasWhole (course : Course) (place : ℕ) (taken : List ℕ) : Type 0 where
   pub whole : IsPackedAs (unpacked (take place taken)) (take place taken)
   pub within : place ≤ length taken
   pub begun : ∥ IsBegun place (drop place taken) ∥₁
+  pub goes_on : GoesOn (unpacked (take place taken))
   pub exact : course ≡ Taking → length taken ≡ place
 
 -- these bytes at a place mean a raw frame, and end within the limit of a file

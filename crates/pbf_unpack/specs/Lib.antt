@@ -11,3 +11,4 @@ pub mod Course
 pub mod Packing
 pub mod Packs
 pub mod Streams
+pub mod RawFrames

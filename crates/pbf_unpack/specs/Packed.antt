@@ -1,10 +1,12 @@
 -- A blob that holds zlib data and no other, and the payload that it stands for.
-use Rattle.std.specs.Prelude.{ℕ, ℤ, pos, negsuc, ◌-◌, ◌==◌, ◌&&◌, Bool, true, false, List, length, Option, Some, None, Result, Ok, Err, is_none, if◌then◌else◌}
+use Rattle.std.specs.Prelude.{◌≡◌, ℕ, ℤ, pos, negsuc, ◌-◌, ◌==◌, ◌&&◌, Bool, true, false, List, length, Option, Some, None, Result, Ok, Err, is_none, if◌then◌else◌}
 use Rattle.pbf_wire.specs.Occurrence.{Occurrence, items, found}
 use Rattle.pbf_wire.specs.Reading.{bytes_held, last_of}
 use Rattle.pbf_wire.specs.Wire.{wire}
 use Rattle.pbf_frame.specs.declared.blob.TheConstants.{RAW, ZLIB_DATA, LZMA_DATA, BZIP2_DATA, LZ4_DATA, ZSTD_DATA, BLOB_KINDS}
 use Rattle.pbf_wire.specs.declared.limits.TheConstants.{RAW_LIMIT}
+use Rattle.pbf_frame.specs.declared.frame.FrameKind.{FrameKind}
+use Rattle.pbf_frame.specs.declared.frame.FrameKind.TheVariants as kinds
 use Rattle.pbf_frame.specs.Header.{int32_held}
 use Rattle.zlib.specs.Stream.{inflated}
 use Rattle.zlib.specs.declared.fault.InflateFault.{InflateFault}
@@ -25,6 +27,10 @@ lacks_others os = lacks RAW os && lacks LZMA_DATA os && lacks BZIP2_DATA os && l
 abbrev pub packed_in : ℕ → List ℕ → Option Occurrence
 packed_in at blob =
     if is_none (wire BLOB_KINDS (items at blob)) && lacks_others (found (items at blob)) then last_of ZLIB_DATA (found (items at blob)) else None
+
+-- the blob of a frame of this kind is read, and holds zlib data
+abbrev pub HoldsPacked : FrameKind → ℕ → (blob : List ℕ) → Type 0
+HoldsPacked kind at blob = (kind ≡ kinds.Other → ⊥) × (packed_in at blob ≡ None → ⊥)
 
 -- raw_size is this length
 abbrev pub is_length : ℤ → ℕ → Bool

@@ -5,8 +5,10 @@ use Rattle.pbf_frame.specs.declared.device.Drain as drain
 use Rattle.pbf_frame.specs.Devices.{HasRisen, IsFront}
 use Rattle.pbf_unpack.specs.declared.frame.RawFrame.{RawFrame}
 use Rattle.pbf_unpack.specs.declared.below.Below.{Below}
-use Rattle.pbf_unpack.specs.declared.below.Course.TheVariants.{Taking, Failed}
+use Rattle.pbf_unpack.specs.declared.below.Course.{Course}
+use Rattle.pbf_unpack.specs.declared.below.Course.TheVariants.{Taking, Failed, Unfit, Refused}
 use Rattle.pbf_unpack.specs.declared.drain.PackedDrain.{PackedDrain}
+use Rattle.pbf_unpack.specs.RawFrames.{IsNearLimit, IsRawFile}
 use Rattle.pbf_unpack.specs.Unpacked.{as_they_stand, unpacked_from, unpacked}
 use Rattle.pbf_unpack.specs.Course.{IsPackedAs, spent_failures}
 
@@ -64,3 +66,14 @@ pub record IsEmptied {D : Type 0} {d : drain.Ghosts D} (p : PackedDrain D d) : T
 -- why a write fails, by the failures of the drain below: it failed, or the drain takes nothing more
 abbrev pub failures_of_drain : {D : Type 0} {d : drain.Ghosts D} → PackedDrain D d → ℕ
 failures_of_drain {d = d} p = spent_failures p.below.course + d.failures p.below.drain
+
+-- why it takes nothing more: the drain below failed; or no raw file begins with what it took, unless the packed one is near its limit. Of memory nothing is said
+abbrev pub HasCause : {D : Type 0} {d : drain.Ghosts D} → PackedDrain D d → Course → Type 0
+HasCause p Taking = Unit {0}
+HasCause {d = d} p Failed = 0 < d.failures p.below.drain
+HasCause {d = d} p Unfit = (packed raw rest : List ℕ) → d.taken p.below.drain ≡ Some packed → taken_raw p ≡ Some raw → IsRawFile (raw ++ rest) → IsNearLimit packed
+HasCause p Refused = Unit {0}
+
+-- what it took is no raw file, as far as the drain below reports that
+abbrev pub IsCut : {D : Type 0} {d : drain.Ghosts D} → PackedDrain D d → Type 0
+IsCut p = (raw : List ℕ) → taken_raw p ≡ Some raw → IsRawFile raw → ⊥

@@ -1,11 +1,12 @@
 //! The drain below a packing one, and how far the file is that it takes.
 
-ghost use Rattle.std.specs.Prelude.{◌≡◌, ◌+◌, ◌≤◌, ◌++◌, List, ℕ, Some, [], length, OnOk, OnErr, IfSome};
+ghost use Rattle.std.specs.Prelude.{◌≡◌, ◌+◌, ◌<◌, ◌≤◌, ◌++◌, List, ℕ, Some, [], length, OnOk, OnErr, IfSome};
 ghost use Rattle.pbf_frame.specs.Devices.{HasRisen, IsFront};
 ghost use Rattle.pbf_frame.specs.Transfers.{Added};
 ghost use Rattle.pbf_frame.specs.declared.frame.TheConstants.{FILE_LIMIT};
 ghost use Rattle.pbf_unpack.specs.declared.below.Course.TheVariants as courses;
 ghost use Rattle.pbf_unpack.specs.Course.{HasWhole, Stands};
+ghost use Rattle.pbf_unpack.specs.RawFrames.{IsOneFrame};
 
 use pbf_frame::{Drain, DrainFault, write_both};
 
@@ -31,6 +32,7 @@ pub(crate) struct Below<D: Drain> {
     pub(crate) course: Course,
     ghost in_range: { place ≤ FILE_LIMIT },
     ghost whole: { (taken : List ℕ) → D.taken drain ≡ Some taken → HasWhole course place taken },
+    ghost failed: { course ≡ courses.Failed → 0 < D.failures drain },
 }
 
 impl<D: Drain> Below<D> {
@@ -52,7 +54,8 @@ impl<D: Drain> Below<D> {
     /// Gives the drain a whole frame, in two parts.
     pub(crate) fn send(&mut self, front: &[u8], blob: &[u8]) -> Result<(), DrainFault>
         requires taking { self.old.course ≡ courses.Taking }
-        requires means { (raw : List ℕ) × Stands self.old.place raw (front.now ++ blob.now) }
+        requires means { (raw : List ℕ) × Stands self.old.place raw (front.now ++ blob.now)
+            × IsOneFrame raw }
         ensures place { OnOk result
             (self.new.place ≡ self.old.place + length (front.now ++ blob.now)) }
         ensures course { OnOk result (self.new.course ≡ courses.Taking) }

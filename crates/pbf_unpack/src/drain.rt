@@ -1,12 +1,12 @@
 //! A raw file, given to another drain as the published one that means it.
 
-ghost use Rattle.std.specs.Prelude.{◌≡◌, ◌+◌, ◌≤◌, List, ℕ, Some, [], OnOk, OnErr, IfSome, IsSome};
+ghost use Rattle.std.specs.Prelude.{◌≡◌, ◌⊎◌, ◌+◌, ◌<◌, ◌≤◌, ◌++◌, length, List, ℕ, Some, [], OnOk, OnErr, IfSome, IsSome};
 ghost use Rattle.pbf_frame.specs.Keeps.{KeepsDrain};
 ghost use Rattle.pbf_frame.specs.declared.header.TheConstants.{HEADER_LIMIT, LARGEST_SIZE};
 ghost use Rattle.pbf_frame.specs.declared.put.TheConstants.{HEAD_ROOM};
 ghost use Rattle.pbf_unpack.specs.declared.packer.TheConstants.{MOST_ROOM};
 ghost use Rattle.pbf_unpack.specs.Course.{spent_failures, stop_of_course, HasWhole};
-ghost use Rattle.pbf_unpack.specs.Packing.{taken_raw, failures_of_drain, GaveAll, HasPacked, IsEmptied, TookSame};
+ghost use Rattle.pbf_unpack.specs.RawFrames.{IsNoRaw};
 ghost use Rattle.pbf_unpack.specs.declared.below.Course.TheVariants as courses;
 
 use crate::below::{Below, Course};
@@ -27,9 +27,13 @@ pub struct PackedDrain<D: Drain> {
     pub(crate) below: Below<D>,
     pub(crate) frame: RawFrame,
     packer: Packer,
+    ghost unfit: { below.course ≡ courses.Unfit
+        → IsNoRaw below.place (frame.front.items ++ frame.blob.items) },
 }
 
 impl<D: Drain> PackedDrain<D> {
+    ghost use Rattle.pbf_unpack.specs.Packing.{taken_raw, failures_of_drain, frame_held, GaveAll, HasCause, HasPacked, IsCut, IsEmptied, TookSame};
+
     /// Over a drain that took nothing. It does not allocate before the first frame.
     pub fn new(alloc: Global, deflater: Deflater, drain: D) -> Self
         requires { IfSome (D.taken drain) (λ taken. taken ≡ []) }
@@ -48,7 +52,9 @@ impl<D: Drain> PackedDrain<D> {
 
     /// Takes nothing more.
     fn stop_as(&mut self, course: Course) -> DrainFault
-        requires { course ≡ courses.Taking → ⊥ }
+        requires stops { (course ≡ courses.Taking → ⊥) × (course ≡ courses.Failed → ⊥) }
+        requires unfit { course ≡ courses.Unfit
+            → IsNoRaw self.old.below.place (frame_held self.old.frame) }
         ensures course { self.new.below.course ≡ course }
         ensures drain { self.new.below.drain ≡ self.old.below.drain }
         ensures place { self.new.below.place ≡ self.old.below.place }
@@ -61,6 +67,7 @@ impl<D: Drain> PackedDrain<D> {
     /// Gives the drain below the frame that is held.
     fn send(&mut self) -> Result<(), DrainFault>
         requires taking { self.old.below.course ≡ courses.Taking }
+        requires complete { self.old.frame.wanted ≡ 0 }
         ensures taken { taken_raw self.new ≡ taken_raw self.old }
         ensures logged { OnOk result (TookSame self.old self.new) }
         ensures empty { OnOk result (IsEmptied self.new) }
@@ -78,11 +85,12 @@ impl<D: Drain> PackedDrain<D> {
         Ok(())
     }
 
-    /// Gives the drain below what is held of the file, which has to end here: then that drain took a file that means what this one took.
+    /// Gives the drain below what is held of the file, which has to end here: then that drain took a file that means what this one took. It fails
+    /// if the last frame isn't whole; then what was taken is no raw file.
     pub fn finish(&mut self) -> Result<(), DrainFault>
         ensures gave { OnOk result (GaveAll self.old self.new) }
         ensures taken { taken_raw self.new ≡ taken_raw self.old }
-        ensures stopped { OnErr result (IsSome (stop_of_course self.new.below.course)) }
+        ensures stopped { OnErr result (IsSome (stop_of_course self.new.below.course) ⊎ IsCut self.new) }
         ensures keeps { KeepsDrain D.Drain self.old.below.drain self.new.below.drain }
     {
         if self.below.course != Course::Taking {
@@ -91,13 +99,18 @@ impl<D: Drain> PackedDrain<D> {
         if self.frame.is_empty() {
             return Ok(());
         }
+        if !self.frame.is_complete() {
+            return Err(DrainFault);
+        }
         self.send()?;
         Ok(())
     }
 
-    /// Why it takes nothing more: `Write` if a write of the drain below failed, or if the bytes are no raw file; `Memory` if memory was refused.
+    /// Why it takes nothing more: `Write` if a write of the drain below failed, or if the bytes are no raw file; `Memory` if memory was refused. If
+    /// the drain below reports what it took, the refused bytes don't begin a raw file, unless the packed file is near its limit.
     pub fn stop(&self) -> Option<Stop>
-        ensures { result ≡ stop_of_course self.now.below.course }
+        ensures stop { result ≡ stop_of_course self.now.below.course }
+        ensures cause { HasCause self.now self.now.below.course }
     {
         match self.below.course {
             Course::Taking => None,
@@ -125,6 +138,8 @@ impl<D: Drain> PackedDrain<D> {
 }
 
 impl<D: Drain> Drain for PackedDrain<D> {
+    ghost use Rattle.pbf_unpack.specs.Packing.{taken_raw, failures_of_drain, HasPacked};
+
     ghost taken = { λ p. taken_raw p };
 
     ghost has_taken = { λ p log raw. HasPacked p log raw };

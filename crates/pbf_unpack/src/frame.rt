@@ -1,9 +1,11 @@
 //! The bytes of one raw frame, as they come in.
 
-ghost use Rattle.std.specs.Prelude.{◌≡◌, ◌+◌, ◌<◌, ◌≤◌, ◌++◌, ◌==◌, [], length, take, IfOk, OnErr, vec_len, true};
+ghost use Rattle.std.specs.Prelude.{◌≡◌, ◌+◌, ◌<◌, ◌≤◌, ◌++◌, ◌==◌, [], length, take, drop, IfOk, Ok, OnErr, vec_len, false, true};
+ghost use Rattle.pbf_frame.specs.declared.header.Head.{Head};
 ghost use Rattle.pbf_frame.specs.declared.header.TheConstants.{HEADER_LIMIT, LARGEST_SIZE};
 ghost use Rattle.pbf_unpack.specs.declared.frame.Part.TheVariants as parts;
-ghost use Rattle.pbf_unpack.specs.Parts.{HoldsHeader};
+ghost use Rattle.pbf_frame.specs.Steps.{head_of};
+ghost use Rattle.pbf_unpack.specs.Parts.{HasHeader, HoldsBlob, HoldsHeader};
 
 use byteorder::{BigEndian, ByteOrder};
 use pbf_frame::{FrameKind, HEAD_ROOM, HEADER_LIMIT, RAW_LIMIT, put_head, read_head};
@@ -25,6 +27,33 @@ enum Part {
     Blob,
 }
 
+/// The length of the header, by its four bytes; 0 if it is too long.
+#[tactic(auto, unfolding(crate::specs::Parts::header_length))]
+fn length_of_header(front: &[u8]) -> usize
+    requires { length front.now ≡ 4 }
+    ensures long { HasHeader front.now result }
+    ensures small { result < HEADER_LIMIT }
+{
+    let length = BigEndian::read_u32(front);
+    if length < HEADER_LIMIT {
+        length as usize
+    } else {
+        0
+    }
+}
+
+/// The size of the blob, by its header; 0 if the header has a fault.
+fn size_of_blob(front: &[u8]) -> usize
+    requires { (4 ≤ length front.now) × (length front.now ≤ HEADER_LIMIT + 3) }
+    ensures sized { (head : Head) → head_of 0 (drop 4 front.now) ≡ Ok head → result ≡ head.size }
+    ensures small { result ≤ LARGEST_SIZE }
+{
+    match read_head(&front[4..], 0) {
+        Ok(head) => head.size as usize,
+        Err(_) => 0,
+    }
+}
+
 /// A raw frame that is taken bit by bit.
 #[derive(Drop)]
 pub(crate) struct RawFrame {
@@ -35,7 +64,11 @@ pub(crate) struct RawFrame {
     // How many bytes of that part are still to come. None are if the frame is whole, or can't become a whole one.
     wanted: usize,
     ghost prefix: { part ≡ parts.Prefix → vec_len front + wanted ≡ 4 },
+    ghost prefix_begun: { part ≡ parts.Prefix → 0 < wanted },
     ghost header: { part ≡ parts.Header → HoldsHeader (vec_len front) wanted },
+    ghost header_long: { part ≡ parts.Header → HasHeader front.items wanted },
+    ghost header_begun: { part ≡ parts.Header → wanted ≡ 0 → vec_len front ≡ 4 },
+    ghost blob_long: { part ≡ parts.Blob → HoldsBlob front.items blob.items wanted },
     ghost front_held: { vec_len front ≤ HEADER_LIMIT + 3 },
     ghost blob_last: { (part ≡ parts.Blob → ⊥) → vec_len blob ≡ 0 },
     ghost blob_held: { part ≡ parts.Blob → vec_len blob + wanted ≤ LARGEST_SIZE },
@@ -66,7 +99,8 @@ impl RawFrame {
 
     /// Whether there are no bytes.
     pub(crate) fn is_empty(&self) -> bool
-        ensures { result ≡ true → frame_held self.now ≡ [] }
+        ensures empty { result ≡ true → frame_held self.now ≡ [] }
+        ensures held { result ≡ false → 0 < length (frame_held self.now) }
     {
         self.front.is_empty() && self.blob.is_empty()
     }
@@ -76,31 +110,6 @@ impl RawFrame {
         ensures { result ≡ (self.now.wanted == 0) }
     {
         self.wanted == 0
-    }
-
-    /// What comes after a part that is complete.
-    fn expect(&mut self)
-        ensures front { self.new.front ≡ self.old.front }
-        ensures blob { self.new.blob ≡ self.old.blob }
-    {
-        if self.wanted > 0 {
-            return;
-        }
-        if self.part == Part::Prefix {
-            let length = BigEndian::read_u32(&self.front);
-            self.part = Part::Header;
-            self.wanted = if length < HEADER_LIMIT {
-                length as usize
-            } else {
-                0
-            };
-        } else if self.part == Part::Header {
-            self.part = Part::Blob;
-            self.wanted = match read_head(&self.front[4..], 0) {
-                Ok(head) => head.size as usize,
-                Err(_) => 0,
-            };
-        }
     }
 
     /// Takes a prefix of the bytes, as much of it as belongs to the part that is taken.
@@ -119,7 +128,15 @@ impl RawFrame {
             self.front.extend_from_slice(taken)?;
         }
         self.wanted -= count;
-        self.expect();
+        if self.wanted == 0 {
+            if self.part == Part::Prefix {
+                self.part = Part::Header;
+                self.wanted = length_of_header(&self.front);
+            } else if self.part == Part::Header {
+                self.part = Part::Blob;
+                self.wanted = size_of_blob(&self.front);
+            }
+        }
         Ok(count)
     }
 

@@ -22,6 +22,6 @@ pub use deflate::Deflater;
 pub use drain::PackedDrain;
 pub use fault::{UnpackFault, UnpackReason};
 pub use feed::UnpackedFeed;
-pub use reports::Place;
+pub use reports::{DigestFeed, Place};
 pub use stored::Stored;
 pub use zlib::{InflateFault, Inflater};

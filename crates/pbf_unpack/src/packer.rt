@@ -1,6 +1,6 @@
 //! One frame, packed.
 
-ghost use Rattle.std.specs.Prelude.{◌≡◌, ◌+◌, ◌-◌, ◌≤◌, ◌<◌, ◌++◌, List, ℕ, Ok, true, length, IfOk, IfSome, vec_len};
+ghost use Rattle.std.specs.Prelude.{◌≡◌, ◌+◌, ◌-◌, ◌≤◌, ◌<◌, ◌++◌, List, ℕ, None, Ok, false, true, length, IfOk, IfSome, vec_len};
 ghost use Rattle.pbf_wire.specs.declared.limits.TheConstants.{OFFSET_LIMIT, RAW_LIMIT};
 ghost use Rattle.pbf_frame.specs.declared.frame.TheConstants.{FILE_LIMIT};
 ghost use Rattle.pbf_frame.specs.Writing.{written_frame};
@@ -8,6 +8,8 @@ ghost use Rattle.zlib.specs.Stream.{inflated};
 ghost use Rattle.pbf_unpack.specs.Streams.{stream_in, HasStream};
 ghost use Rattle.pbf_unpack.specs.Unpacked.{as_they_stand, unpacked_frame};
 ghost use Rattle.pbf_unpack.specs.Course.{IsPackedAt, Stands};
+ghost use Rattle.pbf_unpack.specs.Packed.{HoldsPacked};
+ghost use Rattle.pbf_unpack.specs.RawFrames.{IsOneFrame, IsPastLimit};
 ghost use Rattle.pbf_unpack.specs.declared.packer.TheConstants.{FIELDS_ROOM, MOST_ROOM};
 ghost use Rattle.pbf_frame.specs.declared.put.TheConstants.{HEAD_ROOM};
 
@@ -54,8 +56,9 @@ pub(crate) struct Packer {
 /// Whether the bytes of a whole frame mean themselves: its blob isn't read, or has no zlib data.
 fn stands(frame: WholeFrame, blob: &[u8]) -> bool
     requires { frame.blob_at + length blob.now ≤ OFFSET_LIMIT }
-    ensures { (bytes : List ℕ) → result ≡ true
+    ensures stands { (bytes : List ℕ) → result ≡ true
         → unpacked_frame frame.kind frame.blob_at bytes blob.now ≡ as_they_stand bytes }
+    ensures packed { result ≡ false → HoldsPacked frame.kind frame.blob_at blob.now }
 {
     frame.kind == FrameKind::Other
         || packed_field(Message {
@@ -250,8 +253,11 @@ impl Packer {
         place: u64,
     ) -> Result<Option<Packing>, AllocError>
         requires { place ≤ FILE_LIMIT }
-        ensures { IfOk result (λ o. IfSome o (λ packing.
+        ensures stands { IfOk result (λ o. IfSome o (λ packing.
             Stands place (frame_held frame.now) (goes_on frame.now self.new packing))) }
+        ensures one { IfOk result (λ o. IfSome o (λ _. IsOneFrame (frame_held frame.now))) }
+        ensures past { IfOk result (λ o. o ≡ None
+            → IsPastLimit place frame.now.front.items frame.now.blob.items) }
     {
         let Some(raw) = whole_frame(&frame.front, &frame.blob, place) else {
             return Ok(None);

@@ -24,6 +24,16 @@ pub enum Place {
     InPayload(u64, u64),
 }
 
+/// A feed that has a digest of what it gave.
+pub trait DigestFeed: Feed {
+    /// It returned this digest, and was left so.
+    ghost digested: { Self → Self → List ℕ → Type 0 };
+
+    /// The digest of what it gave. Another digest is begun.
+    fn digest(&mut self) -> [u8; 32]
+        ensures { digested self.old self.new result };
+}
+
 impl<F: Feed> UnpackedFeed<F> {
     /// A feed over one at the start of a file. It has supplied nothing, by each log, and if the feed below reports its bytes, it
     /// reports the raw file that they mean. It does not allocate before the first frame.
@@ -109,5 +119,14 @@ impl<F: Feed> UnpackedFeed<F> {
         ensures lender { F.lender result ≡ F.lender self.feed }
     {
         self.feed
+    }
+}
+
+impl<F: DigestFeed> UnpackedFeed<F> {
+    /// The digest of the packed bytes: that of what the feed below gave.
+    pub fn digest(&mut self) -> [u8; 32]
+        ensures { F.digested self.old.feed self.new.feed result }
+    {
+        self.feed.digest()
     }
 }

@@ -1,10 +1,11 @@
 //! A whole frame, read from a feed.
 
-ghost use Rattle.std.specs.Prelude.{◌≡◌, ◌+◌, ◌-◌, ◌<◌, ◌≤◌, ◌++◌, length, IfOk, IfSome, OnOk, vec_len, max};
+ghost use Rattle.std.specs.Prelude.{◌≡◌, ◌+◌, ◌-◌, ◌<◌, ◌≤◌, ◌++◌, length, IfOk, IfSome, None, OnOk, vec_len, max};
 ghost use Rattle.pbf_frame.specs.declared.header.Head.{Head};
 ghost use Rattle.pbf_frame.specs.declared.header.TheConstants.{HEADER_LIMIT};
 ghost use Rattle.pbf_frame.specs.Reads.{FillsFrom};
 ghost use Rattle.pbf_unpack.specs.Whole.{TookBytes, BeginsWith, Means, MeansWhole, IsPlaced, IsPlacedAt, Stores, StoresFront};
+ghost use Rattle.pbf_unpack.specs.RawFrames.{IsFrameOf, IsPastLimit};
 ghost use Rattle.pbf_frame.specs.declared.frame.TheConstants.{FILE_LIMIT};
 
 use crate::buffers::Buffers;
@@ -46,6 +47,8 @@ pub(crate) fn whole_frame(front: &[u8], blob: &[u8], place: u64) -> Option<Whole
     requires { place ≤ FILE_LIMIT }
     ensures means { IfSome result (MeansWhole place (front.now ++ blob.now) blob.now) }
     ensures placed { IfSome result (IsPlacedAt place (front.now ++ blob.now) blob.now) }
+    ensures frame { IfSome result (λ w. IsFrameOf w.kind front.now blob.now) }
+    ensures past { result ≡ None → IsPastLimit place front.now blob.now }
 {
     if front.len() < 4 {
         return None;

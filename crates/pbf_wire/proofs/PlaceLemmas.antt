@@ -1,11 +1,15 @@
 -- What is read of a message doesn't depend on its place.
 use Rattle.std.proofs.Common.{◌≡◌, ℕ, zero, suc, ◌+◌, ◌/◌, ◌%◌, ◌^◌, Bool, cond, eqb, ltb, List, [], ◌∷◌, length, take, drop, map, refl, sym, ap, ◌∙◌, arith}
-use Rattle.std.specs.Prelude.{Result, Ok, Err}
-use Rattle.std.specs.List.{flat_map}
+use Rattle.std.specs.Prelude.{Option, None, Result, Ok, Err, filter, ◌==◌}
+use Rattle.std.specs.List.{flat_map, last_or}
+use Rattle.std.specs.Option.{option_map}
 use Rattle.std.proofs.lemmas.List.Concat.{flat_map_single}
 use Rattle.pbf_wire.specs.declared.fault.Reason.{Reason}
 use Rattle.pbf_wire.specs.declared.fault.Reason.TheVariants.{LengthPast, NumberZero, TagLarge}
+use Rattle.pbf_wire.specs.declared.kind.Kind.{Kind}
+use Rattle.pbf_wire.specs.Reading.{last_of}
 use Rattle.pbf_wire.specs.Varint.{varint_at}
+use Rattle.pbf_wire.specs.Wire.{reason_in, wire}
 use Rattle.pbf_wire.specs.Occurrence.{Content, Bytes, Occurrence, Item, ◌>>=◌, body_at, occurrence_at, items_from, items_past, items, found, unplaced, without_places}
 
 abbrev bare_body : Result (Content × ℕ) Reason → Result (Content × ℕ) Reason
@@ -72,3 +76,35 @@ blind o = ap (λ (c : Content). record { place = 0; number = o.number; content =
 
 pub moved : (at bt : ℕ) (m : List ℕ) → map without_places (found (items at m)) ≡ map without_places (found (items bt m))
 moved at bt m = sym (flat_map_single without_places (found (items at m))) ∙ same_at (λ o. without_places o ∷ []) blind at bt m ∙ flat_map_single without_places (found (items bt m))
+
+-- ---- the last occurrence of a field
+
+last_bare : (k : ℕ) (os : List Occurrence) (o : Option Occurrence)
+    → option_map without_places (last_or o (filter (λ x. x.number == k) os)) ≡ last_or (option_map without_places o) (filter (λ x. x.number == k) (map without_places os))
+last_bare k [] o = refl
+last_bare k (x ∷ os) o = grind (arith, last_bare k os)
+
+-- without its places it is the same at each place
+pub last_moved : (k at bt : ℕ) (m : List ℕ) → option_map without_places (last_of k (found (items at m))) ≡ option_map without_places (last_of k (found (items bt m)))
+last_moved k at bt m =
+    last_bare k (found (items at m)) None ∙ ap (λ (os : List Occurrence). last_or None (filter (λ x. x.number == k) os)) (moved at bt m) ∙ sym (last_bare k (found (items bt m)) None)
+
+-- ---- wire faults
+
+reason_same : (kind : Option Kind) (c : Content) → reason_in kind c ≡ reason_in kind (unplaced c)
+reason_same kind c = grind arith
+
+module _ (kinds : List (ℕ × Kind)) where
+  wired_fronts : (at bt : ℕ) (r s : Result (Occurrence × ℕ) Reason) (more others : ℕ → List Item) → bare_front r ≡ bare_front s → ((k : ℕ) → wire kinds (more k) ≡ None → wire kinds (others k) ≡ None)
+      → wire kinds (items_from at r more) ≡ None → wire kinds (items_from bt s others) ≡ None
+  wired_fronts at bt r s more others h same none = grind (arith, reason_same)
+
+  wired_past : (skip at bt : ℕ) (m : List ℕ) → wire kinds (items_past skip at m) ≡ None → wire kinds (items_past skip bt m) ≡ None
+  unfolding items_past
+  wired_past skip at bt [] none = refl
+  wired_past (suc skip) at bt (b ∷ bs) none = wired_past skip (at + 1) (bt + 1) bs none
+  wired_past zero at bt (b ∷ bs) none = wired_fronts at bt _ _ _ _ (front_same at bt (b ∷ bs)) (λ k. wired_past k (at + 1) (bt + 1) bs) none
+
+  -- a message without a wire fault has none at any place
+  pub wired_moved : (at bt : ℕ) (m : List ℕ) → wire kinds (items at m) ≡ None → wire kinds (items bt m) ≡ None
+  wired_moved at bt m none = wired_past 0 at bt m none

@@ -226,7 +226,7 @@ same_frames : (b : List ℕ) (one two : List FrameSpec) → judged_file (Some b)
 same_frames b one two e f = grind arith
 
 -- by the types and the area of the call
-begun_by : {S : Type 0} {step : S → Seen → S} {b : List ℕ} {begun phase : S} {h : HeaderSpec} (wanted whole : List TagSpec → Bool) → wanted ≡ whole → (taken_in area : AreaSpec) → taken_in ≡ area → Begins wanted taken_in step b begun phase h → Begins whole area step b begun phase h
+pub begun_by : {S : Type 0} {step : S → Seen → S} {b : List ℕ} {begun phase : S} {h : HeaderSpec} (wanted whole : List TagSpec → Bool) → wanted ≡ whole → (taken_in area : AreaSpec) → taken_in ≡ area → Begins wanted taken_in step b begun phase h → Begins whole area step b begun phase h
 begun_by {S} {step} {b} {begun} {phase} {h} wanted whole is taken_in area same begins =
     subst (λ (a : AreaSpec). Begins whole a step b begun phase h) same (subst (λ (w : List TagSpec → Bool). Begins w taken_in step b begun phase h) is begins)
 
@@ -264,6 +264,11 @@ module _ {S : Type 0} (start : S) (step : S → Seen → S) (has_ways : S → Bo
     pub chooses : (spared : Bool) → spared ≡ has_ways phase → GathersRest second.ghosts with_way spared second.old second.new digest started ways → GaveOrNot second spared digest b (λ c. IsChoice area b c sets h)
     chooses true all rest = (rest.0, chosen b (all_ways all rest.1))
     chooses false all rest = gave_file_less second.ghosts second.old second.new digest (λ file. GathersFile with_way (judged_file (Some file)) started ways) _ (λ c more. chosen c (more_ways all c more)) rest
+
+    -- of one of several areas, for which the second file was read though the first pass had all ways, or since it hadn't
+    pub chooses_of : (is_done : Bool) → is_done ≡ has_ways phase → (c : List ℕ) → c ≡ b → (is_done ≡ true → ways ≡ started) → (is_done ≡ false → GathersFile with_way (judged_file (Some c)) started ways) → IsChoice area b c sets h
+    chooses_of true all c same rest more = subst (λ (l : List ℕ). IsChoice area b l sets h) (sym same) (chosen b (all_ways all (rest refl)))
+    chooses_of false all c same rest more = chosen c (more_ways all c (more refl))
 
     -- and a third one, for relations
     module _ (found_of : S → Found) (takes_all : TakesAll start step has_ways ended found_of) (third : FeedUse) (found : Found) (founds : found ≡ found_of phase) (begun_relations relations : RelationSets) (begins_with : begun_relations ≡ relations_from sets.ways found)
@@ -308,6 +313,12 @@ module _ {S : Type 0} (start : S) (step : S → Seen → S) (has_ways : S → Bo
       chooses_parents false all two three =
           gave_file_less second.ghosts second.old second.new digest (λ file. GathersFile with_way (judged_file (Some file)) started ways) _ (λ c ways.
           gave_file_less third.ghosts third.old third.new digest (λ file. GathersFile with_relation (judged_file (Some file)) begun_relations relations) _ (λ e more. with_parents c e (more_ways all c ways) (more_relations all e more)) three) two
+
+      -- of one of several areas
+      pub chooses_parents_of : (is_done : Bool) → is_done ≡ has_ways phase → (c e : List ℕ) → c ≡ b → e ≡ b → (is_done ≡ true → ways ≡ started) → (is_done ≡ false → GathersFile with_way (judged_file (Some c)) started ways)
+          → (is_done ≡ true → relations ≡ begun_relations) → (is_done ≡ false → GathersFile with_relation (judged_file (Some e)) begun_relations relations) → IsChoiceWithParents area b c e now h
+      chooses_parents_of true all c e same too rest more kept_all gathers = subst (λ (l : List ℕ). IsChoiceWithParents area b c l now h) (sym too) (subst (λ (l : List ℕ). IsChoiceWithParents area b l b now h) (sym same) (with_parents b b (all_ways all (rest refl)) (all_relations all (rest refl) (kept_all refl))))
+      chooses_parents_of false all c e same too rest more kept_all gathers = with_parents c e (more_ways all c (more refl)) (more_relations all e (gathers refl))
 
 -- ---- with the members of relations that are wanted whole
 

@@ -7,6 +7,13 @@ pub mod FileLaw
 pub mod PickingLemmas
 pub mod PackingLemmas
 pub mod WritingLemmas
+pub mod SeveralLemmas
+pub mod WritingEachLemmas
+pub mod OutputLemmas
+pub mod AreaPhaseLemmas
+pub mod ChoosingEachLemmas
+pub mod ChoosingParentsLemmas
+pub mod EachReceiptLemmas
 pub mod StayLemmas
 pub mod ConvertingLemmas
 pub mod ChangedLemmas
@@ -18,3 +25,4 @@ pub mod NodeLemmas
 pub mod ManyLemmas
 pub mod CopyingLemmas
 pub mod SmartLemmas
+pub mod TaskLemmas

@@ -4,6 +4,10 @@ pub mod FileFaults
 pub mod Pick
 pub mod Many
 pub mod Write
+pub mod Several
+pub mod AreaPhases
+pub mod ChoosingEach
+pub mod EachReceipts
 pub mod Repeat
 pub mod Showing
 pub mod Summary
@@ -16,4 +20,6 @@ pub mod Changes
 pub mod Choosing
 pub mod Ends
 pub mod Receipts
+pub mod Tasks
+pub mod TaskCalls
 pub mod Copying

@@ -9,7 +9,7 @@ use Rattle.pbf_frame.specs.Keeps.{KeepsFeed}
 use Rattle.pbf_frame.specs.Refusals.{Refuses}
 use Rattle.pbfcut.specs.declared.repeat.LaterPass.{LaterPass}
 use Rattle.pbf_pass.specs.declared.receipt.Passes.{Passes}
-use Rattle.pbf_pass.specs.Unjudged.{GathersFile, IsFaulty}
+use Rattle.pbf_pass.specs.Unjudged.{GathersFile, GathersSome, IsFaulty}
 use Rattle.pbf_pass.specs.Given.{GaveFile}
 use Rattle.pbf_pass.specs.Hashing.{IsDigestOf, Mark, mark_by}
 use Rattle.pbf_pass.specs.Judged.{judged_file}
@@ -52,5 +52,6 @@ GathersRest f gathered false old new digest before now = GaveFile f old new dige
 -- what a later pass does that gathers, or that is spared since none were left
 pub record GathersLater {F S X : Type 0} (f : feed.Ghosts F) (with_one : S → EntitySpec → S) (spared : Bool) (again : LaterPass) (old new : F) (before now : S) (result : Result X Stop) : Type 0 where
   pub gathered : OnOk result (GathersRest f with_one spared old new (digest_of again) before now)
+  pub some : OnOk result (GathersSome with_one before now)
   pub stops : IfErr result (StopsLater f again old new ⊥)
   pub keeps : KeepsFeed f old new

@@ -1,6 +1,6 @@
 //! Passes after the first one, whose bytes have to have its digest.
 
-ghost use Rattle.std.specs.Prelude.{◌≡◌, true, false, IfErr, OnOk, Ok, Err};
+ghost use Rattle.std.specs.Prelude.{◌≡◌, true, false, IfErr, MatchResult, OnOk, Ok, Err};
 ghost use Rattle.pbf_frame.specs.declared.stop.Stop.TheVariants.{Changed};
 ghost use Rattle.pbf_pass.specs.Hashing.{mark_by};
 ghost use Rattle.pbfcut.specs.Repeat.{as_change, digest_of, GathersLater};
@@ -72,5 +72,19 @@ impl LaterPass {
             return Ok(());
         }
         self.gather(feed, gathering)
+    }
+
+    /// What a pass that doesn't judge ends with, once its bytes are compared.
+    pub(crate) fn conclude(self, outcome: Result<[u8; 32], Stop>) -> Result<(), Stop>
+        ensures same { OnOk result (MatchResult outcome
+            (λ digest. mark_by self.passes.check digest ≡ digest_of self) (λ _. ⊥)) }
+        ensures other { IfErr result (λ stop. MatchResult outcome
+            (λ digest. (stop ≡ Changed self.number) × (digest ≡ self.digest → ⊥))
+            (λ first. stop ≡ as_change self.number first)) }
+    {
+        match outcome {
+            Ok(input) => self.compare(input),
+            Err(first) => Err(self.changed(first)),
+        }
     }
 }

@@ -38,7 +38,7 @@ fn pack_block<D: Drain, S: BuildHasher>(
 }
 
 /// Packs what is picked of the payload of a frame, which isn't judged.
-fn pack_payload<D: Drain, S: BuildHasher>(
+pub(crate) fn pack_payload<D: Drain, S: BuildHasher>(
     frame: &Frame<'_>,
     entities: &mut EntityPacker<'_>,
     packer: &mut Packer<D, S>,

@@ -42,8 +42,9 @@ pub calm_draws : (program : Program) (key : ℕ) → Each Calm (draws program ke
 calm_draws program key = grind arith
 
 -- what `show` does before its passes, and what comes next
-pub shown_events : (ds rs ws : List Event) (s : Event) → (ds ++ s ∷ []) ++ (rs ++ ws) ≡ (ds ++ s ∷ rs) ++ ws
-shown_events ds rs ws s = append_assoc ds (s ∷ []) (rs ++ ws) ∙ sym (append_assoc ds (s ∷ rs) ws)
+pub shown_events : (os ds rs ws : List Event) (s : Event) → (os ++ (ds ++ s ∷ [])) ++ (rs ++ ws) ≡ ((os ++ ds) ++ s ∷ rs) ++ ws
+shown_events [] ds rs ws s = append_assoc ds (s ∷ []) (rs ++ ws) ∙ sym (append_assoc ds (s ∷ rs) ws)
+shown_events (o ∷ os) ds rs ws s = ap (λ es. o ∷ es) (shown_events os ds rs ws s)
 
 -- all of it
 pub quiet_begun : (is : Bool) (files : Files) (has : List (Option (List ℕ))) (key : ℕ) (makes : List Event) → Each Quiet makes → Each Quiet (begun is files has key makes)
@@ -51,7 +52,7 @@ quiet_begun is files has key makes q =
     let opens = openings files.input.now 1 has in
     each_both Quiet (looks is files ++ opens) (seeded (Some key) ∷ makes) (quiet_of _ (each_both Calm (looks is files) opens (calm_looks is files) (calm_openings files.input.now 1 has))) (tt, q)
 
-opens_openings : (input : List ℕ) (pass : ℕ) (has : List (Option (List ℕ))) → Opens pass has (openings input pass has)
+pub opens_openings : (input : List ℕ) (pass : ℕ) (has : List (Option (List ℕ))) → Opens pass has (openings input pass has)
 opens_openings input pass [] = tt
 opens_openings input pass (h ∷ has) = (inl (refl, refl), opens_after (pass + 1) has (opened input pass h ∷ []) (openings input (pass + 1) has) (opens_openings input (pass + 1) has))
 

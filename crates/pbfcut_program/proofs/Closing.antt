@@ -8,30 +8,32 @@ use Rattle.pbf_frame.specs.declared.device.Feed as feed
 use Rattle.pbf_frame.specs.declared.device.Drain as drain
 use Rattle.pbf_frame.specs.declared.stop.Stop.{Stop}
 use Rattle.pbf_frame.specs.declared.stop.Stop.TheVariants as stop
-use Rattle.pbf_frame.specs.Devices.{HasRisen, IsFront}
+use Rattle.pbf_frame.specs.Devices.{IsFront}
 use Rattle.pbf_frame.specs.Verdict.{Verdict}
 use Rattle.pbf_pass.specs.Stops.{WriteFailed}
 use Rattle.pbf_pass.specs.declared.hashing.PassCheck.{PassCheck}
+use Rattle.pbf_unpack.specs.RawFrames.{IsNearLimit}
 use Rattle.pbfcut_cli.specs.declared.endings.Ending.{Ending}
 use Rattle.pbfcut_cli.specs.declared.programs.Program.{Program}
 use Rattle.pbfcut_cli.specs.declared.programs.Program.TheVariants.{Pbfcut, Pbfcutz}
 use Rattle.pbfcut_program.specs.declared.engine.Report.{Report}
 use Rattle.pbfcut_program.specs.declared.engine.Halted.{Halted}
 use Rattle.pbfcut_program.specs.declared.host.FinishFault.{FinishFault}
-use Rattle.pbfcut.specs.Calls.{AllSupply, AnyFailed}
-use Rattle.pbfcut_program.specs.Devices.{AreFresh, ChangeIn, CloseAll, Closes, Finishes, Fronts, GiveAll, GiveLater, GivesOrNot, GivesOtherAt, IsAsked, IsFresh, IsFreshOut, StopsFor, Works, used}
+use Rattle.pbfcut.specs.Calls.{AllSupply, AnyFailed, used}
+use Rattle.pbfcut_program.specs.Devices.{AreFresh, ChangeIn, CloseAll, Closes, Finishes, Fronts, GiveAll, GiveLater, GivesOrNot, GivesOtherAt, IsAsked, IsFresh, IsFreshOut, StopsFor, Works}
 use Rattle.pbfcut_program.specs.Events.{Event, Reading, Writing, read, wrote, then_all, then_one}
-use Rattle.pbfcut_program.specs.Fails.{Each, Fails, FailsToFinish, FailsToRead, FailsToWrite, Has, Stops, TookNothing, UnlessPacked, judging, readings}
+use Rattle.pbfcut_program.specs.Fails.{Each, Fails, FailsToFinish, FailsToRead, FailsToWrite, Has, NearsLimit, Stops, TookNothing, CauseOfWrite, judging, judging_for, readings}
 use Rattle.pbfcut_program.specs.Manner.{AreDigests, Manner, input_form, manner, of_input, output_form}
 use Rattle.pbfcut_program.specs.Outcomes.{EndsAs}
 use Rattle.pbfcut_program.specs.Program.{digest_if_asked}
 use Rattle.pbfcut_program.specs.Readings.{IsOther, IsWholeOrSpared, IsWork, ReadAll, ReadLater}
-use Rattle.pbfcut_program.specs.Leaving.{IsUnkept, Leaves, TookFront}
-use Rattle.pbfcut_program.specs.Tasks.{Task, answer_of, judge_of, spares}
+use Rattle.pbfcut_program.specs.Leaving.{Answer, IsUnkept, Leaves, TookFront}
+use Rattle.pbfcut.specs.Tasks.{Task, answer_of, judge_of, spares}
+use Rattle.pbfcut_program.specs.Tasks.{GivesRaw}
 use Rattle.pbfcut_program.specs.Telling.{Silent}
-use Rattle.pbfcut_program.proofs.EventLemmas.{each_both, has_after, has_before, nothing_read, readings_both, readings_of}
-use Rattle.pbfcut_program.proofs.FailLemmas.{stop_fails, text_stops, unless_packed}
-use Rattle.pbfcut_program.proofs.LeavingLemmas.{IsReturn, IsReturned, TakenFront, keeps_none, reads_return, returned_front, returned_silent, returned_unkept, taken_front}
+use Rattle.pbfcut_program.proofs.EventLemmas.{each_both, has_after, has_before, has_risen, nothing_read, readings_both, readings_of}
+use Rattle.pbfcut_program.proofs.FailLemmas.{stop_fails, text_stops, write_weaker}
+use Rattle.pbfcut_program.proofs.LeavingLemmas.{IsReturn, IsReturned, TakenFront, keeps_none, reads_return, returned_front, returned_silent, returned_unkept, taken_front, taken_is}
 use Rattle.pbfcut_program.proofs.Logging.{and_then, then_none}
 
 -- what a feed gave
@@ -41,10 +43,6 @@ reading f now bytes = record { bytes = bytes; left = f.remaining now; failures =
 -- the events of readings
 abbrev pub reads : List Reading → List Event
 reads rs = map (λ r. read r) rs
-
--- a count that was 0 has risen
-pub has_failed : (old new : ℕ) → old ≡ 0 → HasRisen old new → 0 < new
-has_failed old new e risen = omega (arith, subst (λ (n : ℕ). HasRisen n new) e risen)
 
 -- ---- feeds
 
@@ -79,14 +77,14 @@ module _ {F : Type 0} (f : feed.Ghosts F) where
   close_given known may _ _ _ l m fresh c g = absurd g
 
   -- one of them failed
-  close_failed : (olds news : List F) (l m : Option (List Event)) → AreFresh f olds → CloseAll f news l m → AnyFailed (used f olds news) → (rs : List Reading) × (m ≡ then_all l (reads rs)) × Has FailsToRead (reads rs)
-  close_failed (old ∷ olds) (now ∷ news) l m fresh c (inl risen) =
+  close_failed : (olds news : List F) (l m : Option (List Event)) → CloseAll f news l m → AnyFailed (used f olds news) → (rs : List Reading) × (m ≡ then_all l (reads rs)) × Has FailsToRead (reads rs)
+  close_failed (old ∷ olds) (now ∷ news) l m c (inl risen) =
       let rest = close_rest news c.0 m c.2 in
-      (reading f now c.1.0.0 ∷ rest.0, and_then l c.0 m (read (reading f now c.1.0.0) ∷ []) (reads rest.0) c.1.0.1 rest.1, inl (has_failed _ _ fresh.0.1 risen))
-  close_failed (old ∷ olds) (now ∷ news) l m fresh c (inr later) =
-      let rest = close_failed olds news c.0 m fresh.1 c.2 later in
+      (reading f now c.1.0.0 ∷ rest.0, and_then l c.0 m (read (reading f now c.1.0.0) ∷ []) (reads rest.0) c.1.0.1 rest.1, inl (has_risen _ _ risen))
+  close_failed (old ∷ olds) (now ∷ news) l m c (inr later) =
+      let rest = close_failed olds news c.0 m c.2 later in
       (reading f now c.1.0.0 ∷ rest.0, and_then l c.0 m (read (reading f now c.1.0.0) ∷ []) (reads rest.0) c.1.0.1 rest.1, inr rest.2)
-  close_failed _ _ l m fresh c g = absurd g
+  close_failed _ _ l m c g = absurd g
 
   -- one of them gave other bytes than a file: what was read before it, of it, and after it
   abbrev ReadOther : List ℕ → ℕ → ℕ → List Reading → Type 0
@@ -115,18 +113,18 @@ module _ {F : Type 0} (f : feed.Ghosts F) where
 -- ---- what comes after the feeds
 
 -- OUT, or nothing, is returned: whatever it took, and if it took nothing
-abbrev pub Ends : (took : List ℕ → Type 0) → (failed : Type 0) → (is : Writing → Type 0) → Option (List Event) → Option (List Event) → Type 0
-Ends took failed is m n =
-    ((es : List Event) × (n ≡ then_all m es) × (readings es ≡ []) × (failed → Has FailsToWrite es) × Each (IsReturn is) es)
+abbrev pub Ends : (took : List ℕ → Type 0) → (failed near : Type 0) → (is : Writing → Type 0) → Option (List Event) → Option (List Event) → Type 0
+Ends took failed near is m n =
+    ((es : List Event) × (n ≡ then_all m es) × (readings es ≡ []) × ((failed → Has FailsToWrite es) × (near → Has NearsLimit es)) × Each (IsReturn is) es)
     × (took [] → (es : List Event) × (n ≡ then_all m es) × (readings es ≡ []) × Each TookNothing es × Each (IsReturn is) es)
 
-pub ends_with_none : (m : Option (List Event)) (took : List ℕ → Type 0) → Ends took ⊥ (λ w. ⊥) m m
-ends_with_none m took = (([], then_none m, refl, (λ x. absurd x), tt), λ t. ([], then_none m, refl, tt, tt))
+pub ends_with_none : (m : Option (List Event)) (took : List ℕ → Type 0) → Ends took ⊥ ⊥ (λ w. ⊥) m m
+ends_with_none m took = (([], then_none m, refl, ((λ x. absurd x), λ x. absurd x), tt), λ t. ([], then_none m, refl, tt, tt))
 
-pub ends_with_out : {D : Type 0} (d : drain.Ghosts D) (out : D) (name : Option (List ℕ)) (kept : Bool) (fault : Option FinishFault) (took : List ℕ → Type 0) (failed : Type 0) (m n : Option (List Event)) → ((w : List ℕ) → took w → d.has_taken out 0 w) → (failed → 0 < d.failures out) → Finishes d out name kept fault m n
-    → Ends took failed (IsReturned (d.taken out) kept) m n
-ends_with_out d out name kept fault took failed m n taken risen fin = (
-  (wrote (record { name = name; bytes = fin.0.0; reports = is_some (d.taken out); failures = d.failures out; kept = kept; fault = fault }) ∷ [], fin.0.2, refl, (λ x. inl (inl (risen x))), ((inr fin.0.1, refl, refl), tt)),
+pub ends_with_out : {D : Type 0} (d : drain.Ghosts D) (out : D) (name : Option (List ℕ)) (kept : Bool) (fault : Option FinishFault) (took : List ℕ → Type 0) (failed near : Type 0) (m n : Option (List Event)) → ((w : List ℕ) → took w → d.has_taken out 0 w) → (failed → 0 < d.failures out) → (near → IfSome (d.taken out) IsNearLimit) → Finishes d out name kept fault m n
+    → Ends took failed near (IsReturned (d.taken out) kept) m n
+ends_with_out d out name kept fault took failed near m n taken risen close fin = (
+  (wrote (record { name = name; bytes = fin.0.0; reports = is_some (d.taken out); failures = d.failures out; kept = kept; fault = fault }) ∷ [], fin.0.2, refl, ((λ x. inl (inl (risen x))), λ x. inl (λ some. taken_is IsNearLimit fin.0.0 (d.taken out) fin.0.1 (close x) some)), ((inr fin.0.1, refl, refl), tt)),
   λ none. (wrote (record { name = name; bytes = []; reports = is_some (d.taken out); failures = d.failures out; kept = kept; fault = fault }) ∷ [], fin.1 [] (taken [] none), refl, (refl, tt), ((inl refl, refl, refl), tt)),
 )
 
@@ -139,14 +137,14 @@ none_left : (rs : List Reading) (n at : ℕ) → n ≡ at + 1 → n ≡ length r
 none_left [] n at e h = refl
 none_left (r ∷ rs) n at e h = grind arith
 
-module _ {F : Type 0} (f : feed.Ghosts F) (packs digests : Bool) (judge : Option (List ℕ) → Option Verdict) (took : List ℕ → Type 0) (failed : Type 0) (is : Writing → Type 0) (l m n : Option (List Event)) (tail : Ends took failed is m n) where
+module _ {F : Type 0} (f : feed.Ghosts F) (packs digests : Bool) (judge : Option (List ℕ) → Option Verdict) (sound : List ℕ → Type 0) (took : List ℕ → Type 0) (failed near : Type 0) (is : Writing → Type 0) (l m n : Option (List Event)) (tail : Ends took failed near is m n) where
   -- only that is returned
   abbrev Returned : List Event → Type 0
   Returned events = Each (IsReturn is) events
 
   -- what is said, as events, of how a call of a program stopped, by what its feeds had
   abbrev StopFails : Program → Stop → List F → Type 0
-  StopFails program s olds = (events : List Event) × (n ≡ then_all l events) × Stops (manner program packs digests) (judging judge) (map f.remaining olds) events s × Returned events
+  StopFails program s olds = (events : List Event) × (n ≡ then_all l events) × Stops (manner program packs digests) (judging judge sound) (map f.remaining olds) events s × Returned events
 
   returned_after : (rs : List Reading) (es : List Event) → Returned es → Returned (reads rs ++ es)
   returned_after rs es x = each_both (IsReturn is) (reads rs) es (reads_return is rs) x
@@ -192,7 +190,7 @@ module _ {F : Type 0} (f : feed.Ghosts F) (packs digests : Bool) (judge : Option
     by_last (inl last) = told tail.0.0 tail.0.1 tail.0.2 (inl (none_left rest.2.2 (length news) stops.at last rest.2.6)) (returned_after (one ∷ rest.0) tail.0.0 tail.0.4)
     by_last (inr nothing) = (let end = tail.1 nothing in told end.0 end.1 end.2 (inr (each_both _ (reads (one ∷ rest.0)) end.0 (nothing_read (one ∷ rest.0)) end.3)) (returned_after (one ∷ rest.0) end.0 end.4))
 
-  pub stop_told : (program : Program) (s : Stop) (olds news : List F) → AreFresh f olds → CloseAll f news l m → StopsFor program f judge olds news (took []) (UnlessPacked (output_form packs program) failed) s → StopFails program s olds
+  pub stop_told : (program : Program) (s : Stop) (olds news : List F) → AreFresh f olds → CloseAll f news l m → StopsFor program f judge olds news (took []) (CauseOfWrite (output_form packs program) sound (map f.remaining olds) failed near) s → StopFails program s olds
   stop_told Pbfcut (stop.Refused e) (old ∷ olds) (now ∷ news) fresh c stops =
       let rest = close_rest f news c.0 m c.2 in
       let end = tail.1 stops.1 in
@@ -210,21 +208,23 @@ module _ {F : Type 0} (f : feed.Ghosts F) (packs digests : Bool) (judge : Option
       let end = tail.1 stops.1 in
       (reads rest.0 ++ end.0, and_then l m n (reads rest.0) end.0 rest.1 end.1, (stops.0, each_both _ (reads rest.0) end.0 (nothing_read rest.0) end.3), returned_after rest.0 end.0 end.4)
   stop_told program stop.Read olds news fresh c stops =
-      let rest = close_failed f olds news l m fresh c stops in
+      let rest = close_failed f olds news l m c stops in
       (reads rest.0 ++ tail.0.0, and_then l m n (reads rest.0) tail.0.0 rest.1 tail.0.1, has_before _ (reads rest.0) tail.0.0 rest.2, returned_after rest.0 tail.0.0 tail.0.4)
-  stop_told program stop.Write olds news fresh c stops = grind (arith, some_log news c, unless_packed (output_form packs program) failed, has_after, close_rest f news l m c, some_returned news c)
+  stop_told program stop.Write olds news fresh c stops =
+      let rs = reads (close_rest f news l m c).0 in
+      (some news c, some_log news c, write_weaker (output_form packs program) sound sound (map f.remaining olds) _ _ _ _ (λ file x. x) (λ x. has_after _ rs tail.0.0 (tail.0.3.0 x)) (λ x. has_after _ rs tail.0.0 (tail.0.3.1 x)) stops, some_returned news c)
   stop_told program stop.Memory olds news fresh c stops = (some news c, some_log news c, tt, some_returned news c)
   stop_told Pbfcut (stop.Changed pass) (old ∷ olds) (now ∷ news) fresh c stops = change_fails pass old now olds news fresh c stops
   stop_told Pbfcut (stop.Changed pass) _ _ fresh c stops = absurd stops
   stop_told Pbfcutz (stop.Changed pass) olds news fresh c stops = (some news c, some_log news c, stops, some_returned news c)
 
 -- a call stopped, and all devices were returned
-pub work_fails : (program : Program) (packs digests : Bool) (check : PassCheck) {F : Type 0} (f : feed.Ghosts F) (task : Task) (took : List ℕ → Type 0) (failed : Type 0) (is : Writing → Type 0) (l m n : Option (List Event)) (olds news : List F) (halted : Halted)
-    → Ends took failed is m n → AreFresh f olds → CloseAll f news l m → Works (manner program packs digests) check f task olds news took failed (Err halted)
-    → (events : List Event) × (n ≡ then_all l events) × Fails (manner program packs digests) (judging (judge_of task)) (map f.remaining olds) halted.ending events × Each (IsReturn is) events
-work_fails program packs digests check f task took failed is l m n olds news halted tail fresh c works =
-    let told = stop_told f packs digests (judge_of task) took failed is l m n tail program works.0 olds news fresh c works.2 in
-    (told.0, told.1, stop_fails (manner program packs digests) (judging (judge_of task)) (map f.remaining olds) halted.ending told.0 works.0 works.1 told.2, told.3)
+pub work_fails : (program : Program) (packs digests : Bool) (check : PassCheck) {F : Type 0} (f : feed.Ghosts F) (task : Task) (took : List ℕ → Type 0) (failed near : Type 0) (is : Writing → Type 0) (l m n : Option (List Event)) (olds news : List F) (halted : Halted)
+    → Ends took failed near is m n → AreFresh f olds → CloseAll f news l m → Works (manner program packs digests) check f task olds news took (CauseOfWrite (output_form packs program) (GivesRaw task) (map f.remaining olds) failed near) (Err halted)
+    → (events : List Event) × (n ≡ then_all l events) × Fails (manner program packs digests) (judging_for task) (map f.remaining olds) halted.ending events × Each (IsReturn is) events
+work_fails program packs digests check f task took failed near is l m n olds news halted tail fresh c works =
+    let told = stop_told f packs digests (judge_of task) (GivesRaw task) took failed near is l m n tail program works.0 olds news fresh c works.2 in
+    (told.0, told.1, stop_fails (manner program packs digests) (judging_for task) (map f.remaining olds) halted.ending told.0 works.0 works.1 told.2, told.3)
 
 -- ---- what it does
 
@@ -270,15 +270,15 @@ if_done f d out name kept fault by check task took failed l m n olds news (Ok re
 if_done f d out name kept fault by check task took failed l m n olds news (Err halted) fresh c fin taken works = tt
 
 -- a call stopped, and it and its devices left this
-pub stops_leaving : (m : Manner) (task : Task) (has : List (Option (List ℕ))) (before after : Option (List ℕ)) (events : List Event) → IfSome before (λ taken. taken ≡ []) → Each IsUnkept events
-    → ((answer : List ℕ) → TakenFront after answer → Each (TookFront answer) events)
-    → UnlessPacked (output_form m.packs m.program) ((bytes : List ℕ) → AllSupply bytes has → IsFront before after (answer_of task (of_input m bytes))) → Leaves m task has events
-stops_leaving m task has before after events fresh unkept fronts given = inl (keeps_none task events unkept, unless_packed (output_form m.packs m.program) _ _ (λ front bytes all. fronts _ (taken_front before after _ fresh (front bytes all))) given)
+pub stops_leaving : (m : Manner) (task : Task) (has : List (Option (List ℕ))) (after : Option (List ℕ)) (events : List Event) → Each IsUnkept events
+    → ((answer : Answer) → TakenFront after answer → Each (TookFront answer) events)
+    → ((bytes : List ℕ) → AllSupply bytes has → TakenFront after (output_form m.packs m.program, answer_of task (of_input m bytes))) → Leaves m task has events
+stops_leaving m task has after events unkept fronts given = inl (keeps_none task events unkept, λ bytes all. fronts _ (given bytes all))
 
 -- if no more happened
-pub returns_leaving : (m : Manner) (task : Task) (has : List (Option (List ℕ))) (before after : Option (List ℕ)) (events : List Event) → IfSome before (λ taken. taken ≡ []) → Each (IsReturn (IsReturned after false)) events
-    → UnlessPacked (output_form m.packs m.program) ((bytes : List ℕ) → AllSupply bytes has → IsFront before after (answer_of task (of_input m bytes))) → Leaves m task has events
-returns_leaving m task has before after events fresh returned given = stops_leaving m task has before after events fresh (returned_unkept after events returned) (λ answer x. returned_front after false answer x events returned) given
+pub returns_leaving : (m : Manner) (task : Task) (has : List (Option (List ℕ))) (after : Option (List ℕ)) (events : List Event) → Each (IsReturn (IsReturned after false)) events
+    → ((bytes : List ℕ) → AllSupply bytes has → TakenFront after (output_form m.packs m.program, answer_of task (of_input m bytes))) → Leaves m task has events
+returns_leaving m task has after events returned given = stops_leaving m task has after events (returned_unkept after events returned) (λ answer x. returned_front after false answer x events returned) given
 
 -- the digest that was wanted
 pub hashed_as : (digests : Bool) (known : Option (List ℕ)) (w : List ℕ) → IfSome known (λ digest. digest ≡ sha256 w) → IsAsked digests known → known ≡ digest_if_asked digests w
@@ -290,16 +290,16 @@ hashed_as digests known w h3 h4 = grind arith
 pub text_fails : {F D A : Type 0} (program : Program) (digests : Bool) (check : PassCheck) (f : feed.Ghosts F) (d : drain.Ghosts D) (task : Task) (before out : D) (name : Option (List ℕ)) (fault : Option FinishFault) (l m n : Option (List Event)) (olds news : List F) (outcome : Result Report Halted) (result : Result A Ending)
     → IsFreshOut d before → AreFresh f olds → CloseAll f news l m → Finishes d out name (is_ok outcome) fault m n → Works (manner program false digests) check f task olds news (d.has_taken out 0) (WriteFailed d before out) outcome
     → Fronts (input_form program) task (map f.remaining olds) (d.taken before) (d.taken out) outcome → EndsAs fault outcome result
-    → IfErr result (λ how. (events : List Event) × (n ≡ then_all l events) × Fails (manner program false digests) (judging (judge_of task)) (map f.remaining olds) how events × Leaves (manner program false digests) task (map f.remaining olds) events × Each Silent events)
+    → IfErr result (λ how. (events : List Event) × (n ≡ then_all l events) × Fails (manner program false digests) (judging_for task) (map f.remaining olds) how events × Leaves (manner program false digests) task (map f.remaining olds) events × Each Silent events)
 text_fails program digests check f d task before out name None l m n olds news (Ok report) (Ok a) fresh begun c fin works front ends = tt
 text_fails program digests check f d task before out name None l m n olds news (Ok report) (Err how) fresh begun c fin works front ends = absurd ends
 text_fails program digests check f d task before out name None l m n olds news (Err halted) (Ok a) fresh begun c fin works front ends = absurd ends
 text_fails program digests check f d task before out name None l m n olds news (Err halted) (Err how) fresh begun c fin works front ends =
     let by = manner program false digests in
     let has = map f.remaining olds in
-    let tail = ends_with_out d out name false None (d.has_taken out 0) (WriteFailed d before out) m n (λ w t. t) (λ risen. has_failed _ _ fresh.2 risen) fin in
-    let fail = work_fails program false digests check f task (d.has_taken out 0) (WriteFailed d before out) (IsReturned (d.taken out) false) l m n olds news halted tail begun c works in
-    (fail.0, fail.1, subst (λ h. Fails by (judging (judge_of task)) has h fail.0) (sym ends) fail.2, returns_leaving by task has (d.taken before) (d.taken out) fail.0 fresh.1 fail.3 front, returned_silent _ fail.0 fail.3)
+    let tail = ends_with_out d out name false None (d.has_taken out 0) (WriteFailed d before out) ⊥ m n (λ w t. t) (λ risen. has_risen _ _ risen) (λ none. absurd none) fin in
+    let fail = work_fails program false digests check f task (d.has_taken out 0) (WriteFailed d before out) ⊥ (IsReturned (d.taken out) false) l m n olds news halted tail begun c works in
+    (fail.0, fail.1, subst (λ h. Fails by (judging_for task) has h fail.0) (sym ends) fail.2, returns_leaving by task has (d.taken out) fail.0 fail.3 (λ bytes all. taken_front (d.taken before) (d.taken out) _ fresh.1 (front bytes all)), returned_silent _ fail.0 fail.3)
 text_fails program digests check f d task before out name (Some why) l m n olds news (Ok report) (Ok a) fresh begun c fin works front ends = absurd ends
 text_fails program digests check f d task before out name (Some why) l m n olds news (Err halted) (Ok a) fresh begun c fin works front ends = absurd ends
 text_fails program digests check f d task before out name (Some why) l m n olds news (Ok report) (Err how) fresh begun c fin works front ends =
@@ -309,7 +309,7 @@ text_fails program digests check f d task before out name (Some why) l m n olds 
     let events : List Event = reads done.0 ++ wrote done.1 ∷ [] in (
       events,
       done.2,
-      subst (λ h. Fails by (judging (judge_of task)) has h events) (sym ends) (text_stops by (judging (judge_of task)) has why events (has_after _ (reads done.0) (wrote done.1 ∷ []) (inl done.3))),
+      subst (λ h. Fails by (judging_for task) has h events) (sym ends) (text_stops by (judging_for task) has why events (has_after _ (reads done.0) (wrote done.1 ∷ []) (inl done.3))),
       inr (record { before = []; rs = done.0; out = done.1; after = []; happened = refl; by = check; counts = report.counts; digest = report.input; raw = report.raw; work = done.5 }),
       each_both Silent (reads done.0) (wrote done.1 ∷ []) (returned_silent (λ w. Unit {0}) (reads done.0) (reads_return (λ w. Unit {0}) done.0)) (tt, tt),
     )
@@ -317,4 +317,4 @@ text_fails program digests check f d task before out name (Some why) l m n olds 
     let by = manner program false digests in
     let has = map f.remaining olds in
     let fail = finish_fails f d out name false (Some why) l m n news c fin why refl in
-    (fail.0, fail.1, subst (λ h. Fails by (judging (judge_of task)) has h fail.0) (sym ends) (text_stops by (judging (judge_of task)) has why fail.0 fail.2), returns_leaving by task has (d.taken before) (d.taken out) fail.0 fresh.1 fail.3 front, returned_silent _ fail.0 fail.3)
+    (fail.0, fail.1, subst (λ h. Fails by (judging_for task) has h fail.0) (sym ends) (text_stops by (judging_for task) has why fail.0 fail.2), returns_leaving by task has (d.taken out) fail.0 fail.3 (λ bytes all. taken_front (d.taken before) (d.taken out) _ fresh.1 (front bytes all)), returned_silent _ fail.0 fail.3)

@@ -1,8 +1,13 @@
 -- Events before and after others.
-use Rattle.std.proofs.Common.{arith, ◌≡◌, inl, inr, List, [], ◌∷◌, ◌++◌, map, refl, ap, ◌∙◌}
+use Rattle.std.proofs.Common.{arith, ◌≡◌, ◌<◌, ℕ, inl, inr, List, [], ◌∷◌, ◌++◌, map, refl, ap, ◌∙◌}
 use Rattle.std.proofs.lemmas.List.{append-nil}
+use Rattle.pbf_frame.specs.Devices.{HasRisen}
 use Rattle.pbfcut_program.specs.Events.{Event, Reading, read}
 use Rattle.pbfcut_program.specs.Fails.{Calm, Has, Each, Quiet, TookNothing, readings}
+
+-- a count that has risen isn't 0
+pub has_risen : (old new : ℕ) → HasRisen old new → 0 < new
+has_risen old new risen = omega (arith, risen)
 
 pub has_after : (p : Event → Type 0) (xs ys : List Event) → Has p ys → Has p (xs ++ ys)
 has_after p [] ys h = h

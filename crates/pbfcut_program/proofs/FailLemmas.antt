@@ -4,13 +4,14 @@ use Rattle.pbf_frame.specs.Verdict.{Verdict}
 use Rattle.pbf_frame.specs.declared.stop.Stop.{Stop}
 use Rattle.pbf_frame.specs.declared.stop.Stop.TheVariants as stop
 use Rattle.pbf_pass.specs.Stops.{Caused}
+use Rattle.pbf_unpack.specs.Unpacked.{unpacked}
 use Rattle.pbf_wire.specs.declared.fault.Fault.{Fault}
 use Rattle.pbfcut_cli.specs.declared.endings.Ending.{Ending}
 use Rattle.pbfcut_cli.specs.declared.endings.Ending.TheVariants as ending
 use Rattle.pbfcut_cli.specs.declared.programs.Program.{Program}
 use Rattle.pbfcut_program.specs.Events.{Event, then_all}
-use Rattle.pbfcut_program.specs.Fails.{Calm, CauseOfOpening, Each, EndsAsStop, Fails, FailsAsClosed, FailsFor, FailsOpening, FailsToFinish, FailsToWrite, Has, IsChangedBy, IsRefusedBy, Judging, Opens, Quiet, Stops, TookNothing, UnlessPacked, readings}
-use Rattle.pbfcut_program.specs.Manner.{Form, Manner}
+use Rattle.pbfcut_program.specs.Fails.{Calm, CauseOfOpening, CauseOfWrite, Each, EndsAsStop, Fails, FailsAsClosed, FailsFor, FailsOpening, FailsToFinish, FailsToWrite, Has, IsChangedBy, IsRefusedBy, Judging, NearsLimit, Opens, Quiet, Stops, TookNothing, judging, readings}
+use Rattle.pbfcut_program.specs.Manner.{Form, Manner, output_form, packed_file, raw_file}
 use Rattle.pbfcut_program.specs.declared.engine.Halted.{Halted}
 use Rattle.pbfcut_program.specs.declared.host.FinishFault.{FinishFault}
 use Rattle.pbfcut_program.specs.declared.host.FinishFault.TheVariants as finishing
@@ -36,11 +37,17 @@ opening_after how xs ys quiet f = (each_both _ xs ys quiet f.0, cause_after how 
 pub caused_weaker : (refused also : Fault → Type 0) (read more wrote out : Type 0) (changed too : ℕ → Type 0) (s : Stop) → ((e : Fault) → refused e → also e) → (read → more) → (wrote → out) → ((pass : ℕ) → changed pass → too pass) → Caused refused read wrote changed s → Caused also more out too s
 caused_weaker refused also read more wrote out changed too s h9 h10 h11 h12 h13 = grind arith
 
-pub unless_packed : (form : Form) (said also : Type 0) → (said → also) → UnlessPacked form said → UnlessPacked form also
-unless_packed form said also h3 h4 = grind arith
+-- the same of why a write failed
+pub write_weaker : (form : Form) (sound also : List ℕ → Type 0) (has : List (Option (List ℕ))) (failed near risen more : Type 0) → ((file : List ℕ) → also file → sound file) → (failed → risen) → (near → more) → CauseOfWrite form sound has failed near → CauseOfWrite form also has risen more
+write_weaker raw_file sound also has failed near risen more s r n c = r c
+write_weaker packed_file sound also has failed near risen more s r n c = λ bytes all x. either (c bytes all (s (unpacked bytes) x)) where
+  either : (failed ⊎ near) → (risen ⊎ more)
+  either (inl f) = inl (r f)
+  either (inr f) = inr (n f)
 
-pub unless_said : (form : Form) (said : Type 0) → said → UnlessPacked form said
-unless_said form said h2 = grind arith
+write_failed : (form : Form) (sound : List ℕ → Type 0) (has : List (Option (List ℕ))) (failed near : Type 0) → failed → CauseOfWrite form sound has failed near
+write_failed raw_file sound has failed near f = f
+write_failed packed_file sound has failed near f = λ bytes all x. inl f
 
 -- a stop is how a command fails
 pub stop_fails : (m : Manner) (j : Judging) (has : List (Option (List ℕ))) (how : Ending) (events : List Event) (s : Stop) → EndsAsStop m.program s how → Stops m j has events s → Fails m j has how events
@@ -50,7 +57,7 @@ memory_stops : (m : Manner) (j : Judging) (has : List (Option (List ℕ))) (even
 memory_stops m j has events = grind arith
 
 write_caused : (m : Manner) (j : Judging) (has : List (Option (List ℕ))) (events : List Event) → Has FailsToWrite events → Stops m j has events stop.Write
-write_caused m j has events h4 = grind (arith, unless_said)
+write_caused m j has events h4 = grind (arith, write_failed)
 
 memory_fails : (m : Manner) (j : Judging) (has : List (Option (List ℕ))) (events : List Event) → Fails m j has (ending.Stopped stop.Memory) events
 memory_fails m j has events = (stop.Memory, refl, memory_stops m j has events)
@@ -105,8 +112,11 @@ module _ (xs ys : List Event) (keeps : (p : Event → Type 0) → Has p xs → H
   changed_in : (program : Program) (has : List (Option (List ℕ))) (pass : ℕ) → IsChangedBy program has pass xs → IsChangedBy program has pass ys
   changed_in program has pass h3 = grind (arith, last_in)
 
+  write_in : (form : Form) (sound : List ℕ → Type 0) (has : List (Option (List ℕ))) → CauseOfWrite form sound has (Has FailsToWrite xs) (Has NearsLimit xs) → CauseOfWrite form sound has (Has FailsToWrite ys) (Has NearsLimit ys)
+  write_in form sound has c = write_weaker form sound sound has _ _ _ _ (λ file x. x) (keeps FailsToWrite) (keeps NearsLimit) c
+
   stops_in : (m : Manner) (j : Judging) (has : List (Option (List ℕ))) (s : Stop) → Stops m j has xs s → Stops m j has ys s
-  stops_in m j has s h4 = grind (arith, caused_weaker, refused_in, unless_packed, changed_in)
+  stops_in m j has s h4 = grind (arith, caused_weaker, refused_in, write_in, changed_in)
 
   exists_in : (p q : Event → Type 0) → ((Has p xs × Each TookNothing xs) ⊎ Has q xs) → ((Has p ys × Each TookNothing ys) ⊎ Has q ys)
   exists_in p q h2 = grind arith
@@ -119,6 +129,17 @@ fails_after m j has how xs ys q f = fails_in ys (xs ++ ys) (λ p. has_after p xs
 
 pub fails_before : (m : Manner) (j : Judging) (has : List (Option (List ℕ))) (how : Ending) (xs ys : List Event) → Each Quiet ys → Fails m j has how xs → Fails m j has how (xs ++ ys)
 fails_before m j has how xs ys q f = fails_in xs (xs ++ ys) (λ p. has_before p xs ys) (λ n. each_both _ xs ys n (nothing_in ys q)) (readings_before xs ys (readings_of_quiet ys q)) m j has how f
+
+-- ---- if what is to be written has to meet more
+
+stops_sound : (m : Manner) (judge : Option (List ℕ) → Option Verdict) (sound also : List ℕ → Type 0) (has : List (Option (List ℕ))) (events : List Event) (s : Stop) → ((file : List ℕ) → also file → sound file) → Stops m (judging judge sound) has events s → Stops m (judging judge also) has events s
+stops_sound m judge sound also has events s h c = caused_weaker _ _ _ _ _ _ _ _ s (λ e x. x) (λ x. x) (write_weaker (output_form m.packs m.program) sound also has _ _ _ _ h (λ x. x) (λ x. x)) (λ pass x. x) c
+
+fails_sound : (m : Manner) (judge : Option (List ℕ) → Option Verdict) (sound also : List ℕ → Type 0) (has : List (Option (List ℕ))) (how : Ending) (events : List Event) → ((file : List ℕ) → also file → sound file) → Fails m (judging judge sound) has how events → Fails m (judging judge also) has how events
+fails_sound m judge sound also has how events h f = grind (arith, stops_sound m judge sound also has events)
+
+pub sound_fails : (m : Manner) (judge : Option (List ℕ) → Option Verdict) (sound also : List ℕ → Type 0) (how : Ending) (events : List Event) → ((file : List ℕ) → also file → sound file) → FailsFor m (judging judge sound) how events → FailsFor m (judging judge also) how events
+sound_fails m judge sound also how events h f = record { has = f.has; opens = f.opens; why = fails_sound m judge sound also f.has how events h f.why }
 
 -- ---- after those in which IN was opened
 

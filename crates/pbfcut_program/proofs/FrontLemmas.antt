@@ -1,26 +1,29 @@
 -- What went out when a call of the engine stopped, if its feeds had the same bytes.
-use Rattle.std.proofs.Common.{arith, ◌≡◌, inl, inr, ℕ, ◌+◌, List, [], ◌∷◌, map, Option, Some, Result, Ok, Err, IfErr, OnErr, Bool, false, refl, ap, sym, ◌∙◌}
+use Rattle.std.proofs.Common.{arith, ◌≡◌, inl, inr, ℕ, ◌+◌, List, [], ◌∷◌, map, length, subst, Option, Some, Result, Ok, Err, IfErr, OnErr, Bool, false, refl, ap, sym, ◌∙◌}
+use Rattle.pbf_frame.specs.declared.device.Feed as feed
+use Rattle.pbf_frame.specs.declared.device.Drain as drain
 use Rattle.pbf_frame.specs.Devices.{IsFront}
-use Rattle.pbf_frame.specs.Verdict.{judged}
 use Rattle.pbf_frame.specs.declared.stop.Stop.{Stop}
 use Rattle.pbf_frame.specs.declared.stop.Stop.TheVariants as stop
+use Rattle.pbf_pass.specs.declared.hashing.PassCheck.{PassCheck}
 use Rattle.pbf_pass.specs.declared.receipt.Halt.{Halt}
 use Rattle.pbf_pass.specs.declared.receipt.InputReceipt.{InputReceipt}
-use Rattle.pbf_pass.specs.Judged.{fully, judged_file}
 use Rattle.pbf_pass.specs.Stops.{Caused}
 use Rattle.pbf_unpack.specs.Unpacked.{unpacked}
 use Rattle.pbf_wire.specs.declared.fault.Fault.{Fault}
 use Rattle.pbf_published.specs.declared.input.PublishedHalt.{PublishedHalt}
 use Rattle.pbf_published.specs.declared.input.PublishedInput.{PublishedInput}
 use Rattle.pbf_published.specs.Published.{ChangedFrom, ChangedOf, UnlessChanged, raw_of}
-use Rattle.pbfcut.specs.Calls.{AllSupply}
-use Rattle.pbfcut.specs.Showing.{ShowsFront}
+use Rattle.pbf_published.specs.PublishedTasks.{DoesPublished}
+use Rattle.pbfcut.specs.Calls.{AllSupply, drained, supply_of, used}
 use Rattle.pbfcut_program.specs.declared.engine.Report.{Report}
 use Rattle.pbfcut_program.specs.declared.engine.Halted.{Halted}
 use Rattle.pbfcut_program.specs.Devices.{Fronts}
 use Rattle.pbfcut_program.specs.Manner.{Form, meant, meant_known, packed_file, raw_file}
 use Rattle.pbfcut_program.specs.Outcomes.{ReportsPublished, ReportsRaw}
-use Rattle.pbfcut_program.specs.Tasks.{Task, answer_of, showing}
+use Rattle.pbfcut_program.proofs.PublishedCalls.{supplies_are}
+use Rattle.pbfcut.specs.TaskCalls.{DoesTask}
+use Rattle.pbfcut.specs.Tasks.{Task, answer_of}
 
 -- what is known of a stopped call over raw files holds of what is reported of it
 raw_stopped : {X Y : Type 0} (outcome : Result InputReceipt Halt) (result : Result Report Halted) → (X → Y) → OnErr outcome X → ReportsRaw outcome result → OnErr result Y
@@ -47,10 +50,6 @@ module _ (refused : Fault → Type 0) (read wrote : Type 0) (has : List (Option 
   published_stopped Y (Ok receipt) (Err halted) to x c r = absurd r
   published_stopped Y (Err halt) (Ok report) to x c r = absurd r
 
--- the text of a file whose bytes are known
-text_front : (dates : Bool) (has before after : Option (List ℕ)) (file : List ℕ) → has ≡ Some file → ShowsFront dates (judged_file has) before after → IsFront before after (answer_of (showing dates) file)
-text_front dates has before after file is shows = shows (fully (judged false 0 file)) (ap judged_file is)
-
 pub meant_is : (form : Form) (known : Option (List ℕ)) (bytes : List ℕ) → known ≡ Some bytes → meant_known form known ≡ Some (meant form bytes)
 meant_is form known bytes h3 = grind arith
 
@@ -61,22 +60,19 @@ raws_are : (bytes : List ℕ) (has : List (Option (List ℕ))) → AllSupply byt
 raws_are bytes [] all = tt
 raws_are bytes (one ∷ more) all = (raw_is one bytes all.0, raws_are bytes more all.1)
 
-module _ (task : Task) (has : List (Option (List ℕ))) (before after : Option (List ℕ)) (result : Result Report Halted) where
+module _ {F D : Type 0} (f : feed.Ghosts F) (d : drain.Ghosts D) (out out_now : D) (by : PassCheck) (task : Task) (result : Result Report Halted) where
   -- of raw files
-  pub raw_front : (outcome : Result InputReceipt Halt) → ReportsRaw outcome result → OnErr outcome ((b : List ℕ) → AllSupply b has → IsFront before after (answer_of task b)) → Fronts raw_file task has before after result
-  raw_front outcome r begins = raw_stopped outcome result (λ front. front) begins r
+  pub raw_front : (olds news : List F) (outcome : Result InputReceipt Halt) → length news ≡ length olds → DoesTask task (used f olds news) (drained d out out_now) by outcome → ReportsRaw outcome result → Fronts raw_file task (map f.remaining olds) (d.taken out) (d.taken out_now) result
+  raw_front [] news outcome many does r = absurd does
+  raw_front (old ∷ olds) [] outcome many does r = absurd does
+  raw_front (old ∷ olds) (now ∷ news) outcome many does r =
+      subst (λ has. Fronts raw_file task has (d.taken out) (d.taken out_now) result) (supplies_are f (old ∷ olds) (now ∷ news) many) (raw_stopped outcome result (λ front. front) does.beginning r)
 
   -- of published ones
-  pub published_front : (outcome : Result PublishedInput PublishedHalt) → ReportsPublished outcome result → (refused : Fault → Type 0) (read wrote : Type 0) → IfErr outcome (λ h. UnlessChanged ((b : List ℕ) → AllSupply b (map raw_of has) → IsFront before after (answer_of task b)) h.stop)
-      → IfErr outcome (λ h. Caused refused read wrote (ChangedOf has) h.stop) → Fronts packed_file task has before after result
-  published_front outcome r refused read wrote begins stops = published_stopped refused read wrote has _ _ outcome result (λ bytes all front. front (unpacked bytes) (raws_are bytes has all)) begins stops r
-
--- ---- texts
-
-module _ (dates : Bool) (one two before after : Option (List ℕ)) (result : Result Report Halted) where
-  pub show_raw : (outcome : Result InputReceipt Halt) → ReportsRaw outcome result → OnErr outcome (one ≡ two → ShowsFront dates (judged_file one) before after) → Fronts raw_file (showing dates) (one ∷ two ∷ []) before after result
-  show_raw outcome r begins = raw_stopped outcome result (λ front bytes all. text_front dates one before after bytes all.0 (front (all.0 ∙ sym all.1.0))) begins r
-
-  pub show_published : (outcome : Result PublishedInput PublishedHalt) → ReportsPublished outcome result → (refused : Fault → Type 0) (read wrote : Type 0) → IfErr outcome (λ h. UnlessChanged (raw_of one ≡ raw_of two → ShowsFront dates (judged_file (raw_of one)) before after) h.stop)
-      → IfErr outcome (λ h. Caused refused read wrote (ChangedOf (one ∷ two ∷ [])) h.stop) → Fronts packed_file (showing dates) (one ∷ two ∷ []) before after result
-  show_published outcome r refused read wrote begins stops = grind (arith, published_stopped refused read wrote (one ∷ two ∷ []), text_front dates (raw_of one) before after, raw_is one, raw_is two)
+  pub published_front : (olds news : List F) (outcome : Result PublishedInput PublishedHalt) → length news ≡ length olds → DoesPublished task (used f olds news) (drained d out out_now) by outcome → ReportsPublished outcome result → Fronts packed_file task (map f.remaining olds) (d.taken out) (d.taken out_now) result
+  published_front [] news outcome many does r = absurd does
+  published_front (old ∷ olds) [] outcome many does r = absurd does
+  published_front (old ∷ olds) (now ∷ news) outcome many does r =
+      let has = map supply_of (used f (old ∷ olds) (now ∷ news)) in
+      subst (λ has. Fronts packed_file task has (d.taken out) (d.taken out_now) result) (supplies_are f (old ∷ olds) (now ∷ news) many)
+      (published_stopped _ _ _ has _ _ outcome result (λ bytes all front. front (unpacked bytes) (raws_are bytes has all)) does.beginning does.stops r)

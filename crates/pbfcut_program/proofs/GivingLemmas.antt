@@ -14,7 +14,7 @@ use Rattle.pbfcut_program.specs.Files.{AllowsAll, Disk, IsKept, IsMade, Still, a
 use Rattle.pbfcut_program.specs.Manner.{Manner}
 use Rattle.pbfcut_program.specs.Program.{Extracts, MeansArea, Writes, WritesCounts, advice, counts_text, done_lines, is_empty, is_screen, looks, openings, prints, screen_of, strategy_of}
 use Rattle.pbfcut_program.specs.Taking.{Happened}
-use Rattle.pbfcut_program.specs.Tasks.{Task, converting, copying, extracting}
+use Rattle.pbfcut.specs.Tasks.{Task, converting, copying, extracting}
 use Rattle.pbfcut_program.specs.declared.host.Screen.{Screen}
 use Rattle.pbfcut_program.proofs.DiskLemmas.{after_still, allows_first, allows_past, keeps_now, none_stays}
 use Rattle.pbfcut_program.proofs.EventLemmas.{each_both}

@@ -20,15 +20,16 @@ use Rattle.pbfcut_program.specs.Devices.{Closes, EndsFor, Finishes, Fronts, IsFr
 use Rattle.pbfcut_program.specs.Events.{Event, Reading, Writing, opened, screened, read, wrote, then_all}
 use Rattle.pbfcut_program.specs.Fails.{Each, Fails, FailsFor, Judging, judging, listing}
 use Rattle.pbfcut_program.specs.Outcomes.{ListsBy, ending_of_text}
-use Rattle.pbfcut_program.specs.Manner.{Manner, input_form, manner, meant, of_input, to_raw}
+use Rattle.pbfcut_program.specs.Manner.{Manner, input_form, manner, meant, of_input, raw_file, to_raw}
 use Rattle.pbfcut_program.specs.Program.{IsListing}
-use Rattle.pbfcut_program.specs.Leaving.{LeavesFor}
-use Rattle.pbfcut_program.specs.Tasks.{answer_of, listing_frames}
+use Rattle.pbfcut_program.specs.Leaving.{IsFrontAs, LeavesFor}
+use Rattle.pbfcut.specs.Tasks.{answer_of, listing_frames}
 use Rattle.pbfcut_program.specs.Telling.{Silent}
-use Rattle.pbfcut_program.proofs.Closing.{ends_with_out, has_failed, reading, stop_told}
+use Rattle.pbfcut_program.proofs.Closing.{ends_with_out, reading, stop_told}
+use Rattle.pbfcut_program.proofs.EventLemmas.{has_risen}
 use Rattle.pbfcut_program.proofs.FailLemmas.{caused_weaker, opened_fails, stop_fails, text_stops}
 use Rattle.pbfcut_program.proofs.FrontLemmas.{meant_is}
-use Rattle.pbfcut_program.proofs.LeavingLemmas.{IsReturned, TakenFront, front_taken, returned_silent, taken_front}
+use Rattle.pbfcut_program.proofs.LeavingLemmas.{IsReturned, TakenFront, returned_silent, taken_front, taken_is}
 use Rattle.pbfcut_program.proofs.Logging.{and_then}
 use Rattle.pbfcut_program.proofs.Weaker.{ends_weaker}
 
@@ -68,17 +69,17 @@ module _ {F D : Type 0} (f : feed.Ghosts F) (d : drain.Ghosts D) (now : F) (out 
 
   -- a prefix of the lines, if that is what the drain took
   abbrev LeavesLines : Manner → Option (List ℕ) → List Event → Type 0
-  LeavesLines m has events = ((bytes : List ℕ) → has ≡ Some bytes → TakenFront (d.taken out) (answer_of listing_frames (of_input m bytes))) → LeavesFor (to_raw m) listing_frames events
+  LeavesLines m has events = ((bytes : List ℕ) → has ≡ Some bytes → TakenFront (d.taken out) (raw_file, answer_of listing_frames (of_input m bytes))) → LeavesFor (to_raw m) listing_frames events
 
   lines_left : (m : Manner) (input : List ℕ) (has : Option (List ℕ)) → LeavesLines m has (all input has)
-  lines_left m input has front = record { has = has ∷ []; opens = (inl (refl, refl), tt); leaves = inl (tt, λ bytes same. (tt, (tt, (tt, (front_taken _ fin.0.0 (d.taken out) fin.0.1 (front bytes same.0), tt))))) }
+  lines_left m input has front = record { has = has ∷ []; opens = (inl (refl, refl), tt); leaves = inl (tt, λ bytes same. (tt, (tt, (tt, (taken_is (IsFrontAs (raw_file, answer_of listing_frames (of_input m bytes))) fin.0.0 (d.taken out) fin.0.1 (front bytes same.0), tt))))) }
 
   pub list_front : (program : Program) (old : F) (before : D) (outcome : Result ℕ Halted) → IsFreshOut d before → ListsBy program f d old now before out outcome → Fronts (input_form program) listing_frames (f.remaining old ∷ []) (d.taken before) (d.taken out) outcome
-      → (bytes : List ℕ) → f.remaining old ≡ Some bytes → TakenFront (d.taken out) (answer_of listing_frames (meant (input_form program) bytes))
+      → (bytes : List ℕ) → f.remaining old ≡ Some bytes → TakenFront (d.taken out) (raw_file, answer_of listing_frames (meant (input_form program) bytes))
   list_front program old before (Err halted) fresh lists front bytes is = taken_front (d.taken before) (d.taken out) _ fresh.1 (front bytes (is, tt))
   list_front program old before (Ok count) fresh listed front bytes is =
       let same = subst (λ (k : Option (List ℕ)). Says (judged_known false 0 k) (listed.frames, None)) (meant_is (input_form program) (f.remaining old) bytes is) listed.says in
-      subst (λ (v : Verdict). TakenFront (d.taken out) (lines v.0)) (sym same) (taken_front (d.taken before) (d.taken out) (lines listed.frames) fresh.1 (front_whole _ _ (lines listed.frames) listed.added.told))
+      subst (λ (v : Verdict). TakenFront (d.taken out) (raw_file, lines v.0)) (sym same) (taken_front (d.taken before) (d.taken out) (lines listed.frames) fresh.1 (front_whole _ _ (lines listed.frames) listed.added.told))
 
   -- by what it has
   pub listing_fails : (m : Manner) (j : Judging) (how : Ending) (k : Option (List Event)) (input : List ℕ) (has : Option (List ℕ)) → l ≡ then_all k (opened input 1 has ∷ screened true ∷ []) → Fails m j (has ∷ []) how (all input has)
@@ -89,23 +90,23 @@ module _ {F D : Type 0} (f : feed.Ghosts F) (d : drain.Ghosts D) (now : F) (out 
       → (events : List Event) × (n ≡ then_all k events) × FailsFor m j (ending_of_text why) events × LeavesLines m has events × Each Silent events
   listing_lost m j k input has e why gone = listing_fails m j (ending_of_text why) k input has e (text_stops m j (has ∷ []) why (all input has) (inr (inr (inr (inl gone)))))
 
-  pub list_fails : (m : Manner) (old : F) (before : D) (outcome : Result ℕ Halted) (k : Option (List Event)) (input : List ℕ) → IsFresh f old → IsFreshOut d before → l ≡ then_all k (opened input 1 (f.remaining old) ∷ screened true ∷ []) → ListsBy m.program f d old now before out outcome
+  pub list_fails : (m : Manner) (old : F) (before : D) (outcome : Result ℕ Halted) (k : Option (List Event)) (input : List ℕ) → l ≡ then_all k (opened input 1 (f.remaining old) ∷ screened true ∷ []) → ListsBy m.program f d old now before out outcome
       → IfErr outcome (λ halted. (events : List Event) × (n ≡ then_all k events) × FailsFor m listing halted.ending events × LeavesLines m (f.remaining old) events × Each Silent events)
-  list_fails m old before (Err halted) k input fresh start e ends =
+  list_fails m old before (Err halted) k input e ends =
       listing_fails m listing halted.ending k input (f.remaining old) e (stop_fails m listing (f.remaining old ∷ []) halted.ending (all input (f.remaining old)) ends.0 ends.1
-      (caused_weaker _ _ _ _ _ _ _ _ ends.0 (λ x fault. fault) (λ risen. inr (inr (inl (has_failed _ _ fresh.1 risen)))) (λ risen. inr (inr (inr (inl (inl (has_failed _ _ start.2 risen)))))) (λ p c. c) ends.2))
-  list_fails m old before (Ok count) k input fresh start e ends = tt
+      (caused_weaker _ _ _ _ _ _ _ _ ends.0 (λ x fault. fault) (λ risen. inr (inr (inl (has_risen _ _ risen)))) (λ risen. inr (inr (inr (inl (inl (has_risen _ _ risen)))))) (λ p c. c) ends.2))
+  list_fails m old before (Ok count) k input e ends = tt
 
   pub info_fails : {T : Type 0} (digests : Bool) (old : F) (before : D) (outcome : Result T Halted) (k : Option (List Event)) (input : List ℕ) → IsFresh f old → IsFreshOut d before → l ≡ then_all k (opened input 1 (f.remaining old) ∷ screened true ∷ [])
       → IfErr outcome (λ halted. EndsFor Pbfcutz f judged_headings (old ∷ []) (now ∷ []) (Added d before [] out) (WriteFailed d before out) halted.ending)
-      → IfErr outcome (λ halted. (events : List Event) × (n ≡ then_all k events) × FailsFor (manner Pbfcutz false digests) (judging judged_headings) halted.ending events × Each Silent events)
+      → IfErr outcome (λ halted. (events : List Event) × (n ≡ then_all k events) × FailsFor (manner Pbfcutz false digests) (judging judged_headings (λ file. ⊥)) halted.ending events × Each Silent events)
   info_fails digests old before (Err halted) k input fresh start e ends =
       let took = d.has_taken out 0 in
       let failed = WriteFailed d before out in
       let first : List Event = opened input 1 (f.remaining old) ∷ screened true ∷ [] in
       let works = ends_weaker f (Added d before [] out) (took []) (λ none. none.logged 0 [] start.0) Pbfcutz judged_headings failed failed halted.ending (old ∷ []) (now ∷ []) (λ w. w) ends in
-      let tail = ends_with_out d out name kept fault took failed m n (λ w t. t) (λ risen. has_failed _ _ start.2 risen) fin in
-      let end = stop_told f false digests judged_headings took failed (IsReturned (d.taken out) kept) l m n tail Pbfcutz works.0 (old ∷ []) (now ∷ []) (fresh, tt) (m, c, refl) works.2 in
-      let why = stop_fails (manner Pbfcutz false digests) (judging judged_headings) (f.remaining old ∷ []) halted.ending end.0 works.0 works.1 end.2 in
-      (_, and_then k l n first end.0 e end.1, opened_fails (manner Pbfcutz false digests) (judging judged_headings) (f.remaining old ∷ []) halted.ending first end.0 (tt, (tt, tt)) (inl (refl, refl), tt) why, (tt, (tt, returned_silent _ end.0 end.3)))
+      let tail = ends_with_out d out name kept fault took failed ⊥ m n (λ w t. t) (λ risen. has_risen _ _ risen) (λ none. absurd none) fin in
+      let end = stop_told f false digests judged_headings (λ file. ⊥) took failed ⊥ (IsReturned (d.taken out) kept) l m n tail Pbfcutz works.0 (old ∷ []) (now ∷ []) (fresh, tt) (m, c, refl) works.2 in
+      let why = stop_fails (manner Pbfcutz false digests) (judging judged_headings (λ file. ⊥)) (f.remaining old ∷ []) halted.ending end.0 works.0 works.1 end.2 in
+      (_, and_then k l n first end.0 e end.1, opened_fails (manner Pbfcutz false digests) (judging judged_headings (λ file. ⊥)) (f.remaining old ∷ []) halted.ending first end.0 (tt, (tt, tt)) (inl (refl, refl), tt) why, (tt, (tt, returned_silent _ end.0 end.3)))
   info_fails digests old before (Ok t) k input fresh start e ends = tt

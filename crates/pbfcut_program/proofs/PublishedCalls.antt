@@ -1,33 +1,28 @@
 -- What pbfcutz's calls report of what went through their devices.
-use Rattle.std.proofs.Common.{arith, ◌≡◌, inl, ℕ, ◌<◌, List, [], ◌∷◌, Bool, true, false, Option, Some, Result, Ok, Err, IfOk, IfErr, refl, subst, sym}
-use Rattle.osm_area.specs.Area.{AreaSpec}
-use Rattle.osm_ways.specs.Selection.{Strategy, all_parents}
+use Rattle.std.proofs.Common.{arith, ◌≡◌, inl, ℕ, ◌<◌, zero, suc, List, [], ◌∷◌, ◌++◌, map, take, drop, length, Bool, true, false, Option, Some, Result, Ok, Err, IfOk, IfErr, refl, subst, sym, ap}
+use Rattle.std.proofs.lemmas.List.{map-append}
 use Rattle.pbf_frame.specs.declared.device.Feed as feed
 use Rattle.pbf_frame.specs.declared.device.Drain as drain
-use Rattle.pbf_pass.specs.Given.{Took}
 use Rattle.pbf_pass.specs.Hashing.{mark_by, raw_check}
 use Rattle.pbf_pass.specs.declared.hashing.PassCheck.{PassCheck}
 use Rattle.pbf_pass.specs.Judged.{judged_file}
 use Rattle.pbf_pass.specs.Pass.{CountsFile}
-use Rattle.pbf_pass.specs.HeaderLimit.{judged_writable}
 use Rattle.pbf_pass.specs.Stops.{Caused, FaultOf, ReadFailed, WriteFailed}
 use Rattle.pbf_unpack.specs.Unpacked.{unpacked}
-use Rattle.pbfcut.specs.Calls.{drained, fed}
-use Rattle.pbfcut.specs.Kept.{IsWritable}
-use Rattle.pbfcut.specs.Showing.{Shown}
-use Rattle.pbfcut.specs.Theorem.{IsConverted}
+use Rattle.pbfcut.specs.Calls.{TookBy, drained, supply_of, used}
+use Rattle.pbfcut.specs.Tasks.{Holds, Task, checking, spares}
 use Rattle.pbf_published.specs.declared.input.PublishedHalt.{PublishedHalt}
 use Rattle.pbf_published.specs.declared.input.PublishedInput.{PublishedInput}
-use Rattle.pbf_published.specs.Extracting.{ExtractsPublished}
-use Rattle.pbf_published.specs.Published.{ChangedOf, GaveOrNone, GavePublished, StopsPublished, raw_of}
+use Rattle.pbf_published.specs.Published.{ChangedOf, GaveEachOrNone, GaveOrNone, GavePublished, GavePublishedEach, raw_of}
+use Rattle.pbf_published.specs.PublishedTasks.{DoesPublished}
 use Rattle.pbfcut_cli.specs.declared.programs.Program.TheVariants.{Pbfcutz}
 use Rattle.pbfcut_program.specs.declared.engine.Report.{Report}
 use Rattle.pbfcut_program.specs.declared.engine.Halted.{Halted}
-use Rattle.pbfcut_program.specs.Devices.{GiveAll, AreFresh, GivesIts, GivesOrNot, Works}
+use Rattle.pbfcut_program.specs.Devices.{AreFresh, GiveLater, GivesIts, GivesOrNot, Works}
 use Rattle.pbfcut_program.specs.Manner.{AreDigests, manner}
 use Rattle.pbfcut_program.specs.Outcomes.{ReportsPublished}
-use Rattle.pbfcut_program.specs.Tasks.{Holds, Task, checking, judge_of, showing, converting, copying, extracting, spares_by}
 use Rattle.pbfcut_program.proofs.FailLemmas.{caused_weaker}
+use Rattle.pbfcut_program.proofs.RawCalls.{give_less, none_meant}
 
 -- a feed gave packed bytes, and this holds of the raw file that they mean
 record Gave {F : Type 0} (f : feed.Ghosts F) (known : List ℕ → Type 0) (old now : F) (holds : List ℕ → Type 0) : Type 0 where
@@ -53,6 +48,29 @@ module _ {F : Type 0} (f : feed.Ghosts F) (packs digests : Bool) (by : PassCheck
   gave_after : (may : ℕ) → 0 < may → {old now : F} {first : List ℕ} {holds : List ℕ → Type 0} → f.has_passed old 0 [] → GaveOrNone f old now (mark_by by input) (mark_by (raw_check by) r) (unpacked first) holds → GaveAfter f Known may first old now holds
   gave_after may some h0 h1 = grind (arith, gave)
 
+  -- the files of later feeds
+  later_gave : (first : List ℕ) (olds news : List F) (holds : List (List ℕ) → Type 0) → AreFresh f olds → length news ≡ length olds → GavePublishedEach (used f olds news) (mark_by by input) (mark_by (raw_check by) r) holds → (files : List (List ℕ)) × GiveLater f Known 0 first olds news files × holds (map unpacked files)
+  later_gave first [] [] holds fresh many given = ([], tt, given)
+  later_gave first [] (now ∷ news) holds fresh many given = (let bad : ⊥ = omega (arith, many) in absurd bad)
+  later_gave first (old ∷ olds) [] holds fresh many given = (let bad : ⊥ = omega (arith, many) in absurd bad)
+  later_gave first (old ∷ olds) (now ∷ news) holds fresh many given =
+      let one : Gave f Known old now (λ raw. GavePublishedEach (used f olds news) (mark_by by input) (mark_by (raw_check by) r) (λ raws. holds (raw ∷ raws))) = gave fresh.0.0 given in
+      let more = later_gave first olds news (λ raws. holds (unpacked one.file ∷ raws)) fresh.1 (omega (arith, many)) one.holding in
+      (one.file ∷ more.0, (inl one.gives, more.1), more.2)
+
+  -- of which so many may have been spared
+  some_gave : (may : ℕ) (first : List ℕ) (olds news : List F) (holds : (some files : List (List ℕ)) → Type 0) → AreFresh f olds → length news ≡ length olds
+      → GaveEachOrNone (take may (used f olds news)) (mark_by by input) (mark_by (raw_check by) r) (unpacked first) (λ some. GavePublishedEach (drop may (used f olds news)) (mark_by by input) (mark_by (raw_check by) r) (λ files. holds some files))
+      → (some : List (List ℕ)) × (files : List (List ℕ)) × GiveLater f Known may first olds news (some ++ files) × holds (map unpacked some) (map unpacked files)
+  some_gave zero first olds news holds fresh many given = (let l = later_gave first olds news (holds []) fresh many given in ([], l.0, l.1, l.2))
+  some_gave (suc may) first [] [] holds fresh many given = ([], [], tt, given)
+  some_gave (suc may) first [] (now ∷ news) holds fresh many given = (let bad : ⊥ = omega (arith, many) in absurd bad)
+  some_gave (suc may) first (old ∷ olds) [] holds fresh many given = (let bad : ⊥ = omega (arith, many) in absurd bad)
+  some_gave (suc may) first (old ∷ olds) (now ∷ news) holds fresh many given =
+      let one : GaveAfter f Known (suc may) first old now (λ raw. GaveEachOrNone (take may (used f olds news)) (mark_by by input) (mark_by (raw_check by) r) (unpacked first) (λ some. GavePublishedEach (drop may (used f olds news)) (mark_by by input) (mark_by (raw_check by) r) (λ files. holds (raw ∷ some) files))) = gave_after (suc may) (omega arith) fresh.0.0 given in
+      let more = some_gave may first olds news (λ some files. holds (unpacked one.file ∷ some) files) fresh.1 (omega (arith, many)) one.holding in
+      (one.file ∷ more.0, more.1, (one.gives, give_less f Known may first olds news (more.0 ++ more.1) more.2), more.3)
+
 -- ---- one pass
 
 pub check_published : {F : Type 0} (f : feed.Ghosts F) (packs digests : Bool) (by : PassCheck) (one one_now : F) → AreFresh f (one ∷ []) → (outcome : Result PublishedInput PublishedHalt) (result : Result Report Halted)
@@ -61,89 +79,37 @@ pub check_published : {F : Type 0} (f : feed.Ghosts F) (packs digests : Bool) (b
     → Works (manner Pbfcutz packs digests) by f checking (one ∷ []) (one_now ∷ []) (λ took. took ≡ []) ⊥ result
 check_published f packs digests by one one_now fresh (Ok receipt) (Ok report) given stops r =
     let first = gave f packs digests by receipt.input receipt.raw report.raw r.2 fresh.0.0 given in
-    rw (r.0, r.1) record { files = first.file ∷ []; written = []; gave = (first.gives, tt); took_them = refl; holds = first.holding }
+    rw (r.0, r.1) record { files = first.file ∷ []; written = []; gave = (first.gives, tt); took_them = refl; holds = (first.holding, none_meant packs Pbfcutz) }
 check_published f packs digests by one one_now fresh (Err halt) (Err halted) given stops r = (halt.stop, r, caused_weaker _ _ _ _ _ _ _ _ halt.stop (λ e fault. (fault, refl)) (λ failed. inl failed) (λ none. absurd none) (λ p c. c) stops)
 check_published f packs digests by one one_now fresh _ _ given stops r = absurd r
 
+-- what these feeds have to give
+pub supplies_are : {F : Type 0} (f : feed.Ghosts F) (olds news : List F) → length news ≡ length olds → map supply_of (used f olds news) ≡ map f.remaining olds
+supplies_are f [] [] many = refl
+supplies_are f [] (now ∷ news) many = (let bad : ⊥ = omega (arith, many) in absurd bad)
+supplies_are f (old ∷ olds) [] many = (let bad : ⊥ = omega (arith, many) in absurd bad)
+supplies_are f (old ∷ olds) (now ∷ news) many = ap (λ l. f.remaining old ∷ l) (supplies_are f olds news (omega (arith, many)))
+
 -- ---- more passes
 
-module _ {F D : Type 0} (f : feed.Ghosts F) (d : drain.Ghosts D) (out out_now : D) (digests : Bool) (by : PassCheck) (log : ℕ) (start : d.has_taken out log []) where
-  two_published : (task : Task) (P : PublishedInput → List ℕ → Type 0) (Q : PublishedInput → (b c w : List ℕ) → Type 0)
-      → ((receipt : PublishedInput) (b c w : List ℕ) → P receipt b → Q receipt b c w → Holds task (b ∷ c ∷ []) receipt.counts w)
-      → (one one_now two two_now : F) (outcome : Result PublishedInput PublishedHalt) (result : Result Report Halted) → AreFresh f (one ∷ two ∷ [])
-      → IfOk outcome (λ receipt. GavePublished f one one_now (mark_by by receipt.input) (mark_by (raw_check by) receipt.raw) (λ b. P receipt b × GavePublished f two two_now (mark_by by receipt.input) (mark_by (raw_check by) receipt.raw) (λ c. Took d out out_now (λ w. Q receipt b c w))))
-      → IfErr outcome (λ h. StopsPublished (judge_of task) (fed f one one_now) (fed f two two_now ∷ []) (drained d out out_now) h.stop) → ReportsPublished outcome result
-      → Works (manner Pbfcutz false digests) by f task (one ∷ two ∷ []) (one_now ∷ two_now ∷ []) (d.has_taken out_now log) (WriteFailed d out out_now) result
-  two_published task P Q meant one one_now two two_now (Ok receipt) (Ok report) fresh given stops r =
-      let first = gave f false digests by receipt.input receipt.raw report.raw r.2 fresh.0.0 given in
-      let again = gave f false digests by receipt.input receipt.raw report.raw r.2 fresh.1.0.0 first.holding.1 in
-      let took = again.holding in
-      rw (r.0, r.1) record {
-        files = first.file ∷ again.file ∷ [];
-        written = took.written;
-        gave = (first.gives, (inl again.gives, tt));
-        took_them = took.added.logged log [] start;
-        holds = meant receipt (unpacked first.file) (unpacked again.file) took.written first.holding.0 took.holding;
-      }
-  two_published task P Q meant one one_now two two_now (Err halt) (Err halted) fresh given stops r =
-      (halt.stop, r, caused_weaker _ _ _ _ _ _ _ _ halt.stop (λ e refused. (refused.0, refused.1.logged log [] start)) (λ failed. failed) (λ failed. failed) (λ p c. c) stops)
-  two_published task P Q meant one one_now two two_now _ _ fresh given stops r = absurd r
-
-  pub show_published : (dates : Bool) (one one_now two two_now : F) (outcome : Result PublishedInput PublishedHalt) (result : Result Report Halted) → AreFresh f (one ∷ two ∷ [])
-      → IfOk outcome (λ receipt. GavePublished f one one_now (mark_by by receipt.input) (mark_by (raw_check by) receipt.raw) (λ b. CountsFile (judged_file (Some b)) receipt.counts × GavePublished f two two_now (mark_by by receipt.input) (mark_by (raw_check by) receipt.raw) (λ c. Took d out out_now (Shown dates (judged_file (Some c))))))
-      → IfErr outcome (λ h. StopsPublished judged_file (fed f one one_now) (fed f two two_now ∷ []) (drained d out out_now) h.stop) → ReportsPublished outcome result
-      → Works (manner Pbfcutz false digests) by f (showing dates) (one ∷ two ∷ []) (one_now ∷ two_now ∷ []) (d.has_taken out_now log) (WriteFailed d out out_now) result
-  show_published dates = two_published (showing dates) (λ receipt b. CountsFile (judged_file (Some b)) receipt.counts) (λ receipt b c w. Shown dates (judged_file (Some c)) w) (λ receipt b c w p q. (p, q))
-
-  pub convert_published : (one one_now two two_now : F) (outcome : Result PublishedInput PublishedHalt) (result : Result Report Halted) → AreFresh f (one ∷ two ∷ [])
-      → IfOk outcome (λ receipt. GavePublished f one one_now (mark_by by receipt.input) (mark_by (raw_check by) receipt.raw) (λ b. IsWritable b × GavePublished f two two_now (mark_by by receipt.input) (mark_by (raw_check by) receipt.raw) (λ c. Took d out out_now (λ w. b ≡ c → IsConverted b receipt.counts w))))
-      → IfErr outcome (λ h. StopsPublished judged_writable (fed f one one_now) (fed f two two_now ∷ []) (drained d out out_now) h.stop) → ReportsPublished outcome result
-      → Works (manner Pbfcutz false digests) by f converting (one ∷ two ∷ []) (one_now ∷ two_now ∷ []) (d.has_taken out_now log) (WriteFailed d out out_now) result
-  convert_published = two_published converting (λ receipt b. IsWritable b) (λ receipt b c w. b ≡ c → IsConverted b receipt.counts w) (λ receipt b c w p q. (p, q))
-
-  pub copy_published : (one one_now two two_now : F) (outcome : Result PublishedInput PublishedHalt) (result : Result Report Halted) → AreFresh f (one ∷ two ∷ [])
-      → IfOk outcome (λ receipt. GavePublished f one one_now (mark_by by receipt.input) (mark_by (raw_check by) receipt.raw) (λ b. CountsFile (judged_file (Some b)) receipt.counts × GavePublished f two two_now (mark_by by receipt.input) (mark_by (raw_check by) receipt.raw) (λ c. Took d out out_now (λ w. w ≡ c))))
-      → IfErr outcome (λ h. StopsPublished judged_file (fed f one one_now) (fed f two two_now ∷ []) (drained d out out_now) h.stop) → ReportsPublished outcome result
-      → Works (manner Pbfcutz false digests) by f copying (one ∷ two ∷ []) (one_now ∷ two_now ∷ []) (d.has_taken out_now log) (WriteFailed d out out_now) result
-  copy_published = two_published copying (λ receipt b. CountsFile (judged_file (Some b)) receipt.counts) (λ receipt b c w. w ≡ c) (λ receipt b c w p q. (p, q))
-
-  -- three passes
-  pub extract_published : (strategy : Strategy) (area : AreaSpec) → spares_by strategy ≡ 1 → (one one_now two two_now three three_now : F) (outcome : Result PublishedInput PublishedHalt) (result : Result Report Halted) → AreFresh f (one ∷ two ∷ three ∷ [])
-      → ExtractsPublished strategy area (fed f one one_now) (fed f two two_now ∷ []) (fed f three three_now ∷ []) (drained d out out_now) by outcome → ReportsPublished outcome result
-      → Works (manner Pbfcutz false digests) by f (extracting strategy area) (one ∷ two ∷ three ∷ []) (one_now ∷ two_now ∷ three_now ∷ []) (d.has_taken out_now log) (WriteFailed d out out_now) result
-  extract_published strategy area one_spared one one_now two two_now three three_now (Ok receipt) (Ok report) fresh extracts r =
-      let first = gave f false digests by receipt.input receipt.raw report.raw r.2 fresh.0.0 extracts.receipt in
-      let again = gave_after f false digests by receipt.input receipt.raw report.raw r.2 1 (omega arith) fresh.1.0.0 first.holding.1 in
-      let last = gave f false digests by receipt.input receipt.raw report.raw r.2 fresh.1.1.0.0 again.holding in
-      let took = last.holding in
-      rw (r.0, r.1) record {
-        files = first.file ∷ again.file ∷ last.file ∷ [];
-        written = took.written;
-        gave = subst (λ n. GiveAll f (AreDigests (manner Pbfcutz false digests) by receipt.input report.raw) n (one ∷ two ∷ three ∷ []) (one_now ∷ two_now ∷ three_now ∷ []) (first.file ∷ again.file ∷ last.file ∷ [])) (sym one_spared) (first.gives, (again.gives, (inl last.gives, tt)));
-        took_them = took.added.logged log [] start;
-        holds = (first.holding.0, took.holding);
-      }
-  extract_published strategy area one_spared one one_now two two_now three three_now (Err halt) (Err halted) fresh extracts r =
-      (halt.stop, r, caused_weaker _ _ _ _ _ _ _ _ halt.stop (λ e refused. (refused.0, refused.1.logged log [] start)) (λ failed. failed) (λ failed. failed) (λ p c. c) extracts.stops)
-  extract_published strategy area one_spared one one_now two two_now three three_now _ _ fresh extracts r = absurd r
-
-  -- four passes
-  pub extract_parents_published : (area : AreaSpec) (one one_now two two_now three three_now four four_now : F) (outcome : Result PublishedInput PublishedHalt) (result : Result Report Halted) → AreFresh f (one ∷ two ∷ three ∷ four ∷ [])
-      → ExtractsPublished all_parents area (fed f one one_now) (fed f two two_now ∷ fed f three three_now ∷ []) (fed f four four_now ∷ []) (drained d out out_now) by outcome → ReportsPublished outcome result
-      → Works (manner Pbfcutz false digests) by f (extracting all_parents area) (one ∷ two ∷ three ∷ four ∷ []) (one_now ∷ two_now ∷ three_now ∷ four_now ∷ []) (d.has_taken out_now log) (WriteFailed d out out_now) result
-  extract_parents_published area one one_now two two_now three three_now four four_now (Ok receipt) (Ok report) fresh extracts r =
-      let first = gave f false digests by receipt.input receipt.raw report.raw r.2 fresh.0.0 extracts.receipt in
-      let again = gave_after f false digests by receipt.input receipt.raw report.raw r.2 2 (omega arith) fresh.1.0.0 first.holding.1 in
-      let third = gave_after f false digests by receipt.input receipt.raw report.raw r.2 1 (omega arith) fresh.1.1.0.0 again.holding in
-      let last = gave f false digests by receipt.input receipt.raw report.raw r.2 fresh.1.1.1.0.0 third.holding in
-      let took = last.holding in
-      rw (r.0, r.1) record {
-        files = first.file ∷ again.file ∷ third.file ∷ last.file ∷ [];
-        written = took.written;
-        gave = (first.gives, (again.gives, (third.gives, (inl last.gives, tt))));
-        took_them = took.added.logged log [] start;
-        holds = (first.holding.0, took.holding);
-      }
-  extract_parents_published area one one_now two two_now three three_now four four_now (Err halt) (Err halted) fresh extracts r =
-      (halt.stop, r, caused_weaker _ _ _ _ _ _ _ _ halt.stop (λ e refused. (refused.0, refused.1.logged log [] start)) (λ failed. failed) (λ failed. failed) (λ p c. c) extracts.stops)
-  extract_parents_published area one one_now two two_now three three_now four four_now _ _ fresh extracts r = absurd r
+pub published_works : {F D : Type 0} (f : feed.Ghosts F) (d : drain.Ghosts D) (out out_now : D) (digests : Bool) (by : PassCheck) (log : ℕ) → d.has_taken out log [] → (task : Task) (olds news : List F) (outcome : Result PublishedInput PublishedHalt) (result : Result Report Halted) → length news ≡ length olds
+    → DoesPublished task (used f olds news) (drained d out out_now) by outcome → ReportsPublished outcome result → AreFresh f olds → Works (manner Pbfcutz false digests) by f task olds news (d.has_taken out_now log) (WriteFailed d out out_now) result
+published_works f d out out_now digests by log start task [] news outcome result many does r fresh = absurd does
+published_works f d out out_now digests by log start task (old ∷ olds) [] outcome result many does r fresh = absurd does
+published_works f d out out_now digests by log start task (old ∷ olds) (now ∷ news) (Ok receipt) (Ok report) many does r fresh =
+    let took : List (List ℕ) → Type 0 = λ raws. TookBy (drained d out out_now) (λ written. Holds task raws receipt.counts written) in
+    let first : Gave f (AreDigests (manner Pbfcutz false digests) by receipt.input report.raw) old now (λ b. GaveEachOrNone (take (spares task) (used f olds news)) (mark_by by receipt.input) (mark_by (raw_check by) receipt.raw) b (λ some. GavePublishedEach (drop (spares task) (used f olds news)) (mark_by by receipt.input) (mark_by (raw_check by) receipt.raw) (λ files. took (b ∷ some ++ files)))) =
+    gave f false digests by receipt.input receipt.raw report.raw r.2 fresh.0.0 does.receipt in
+    let more = some_gave f false digests by receipt.input receipt.raw report.raw r.2 (spares task) first.file olds news (λ some files. took (unpacked first.file ∷ some ++ files)) fresh.1 (omega (arith, many)) first.holding in
+    let given = more.3 in
+    rw (r.0, r.1) record {
+      files = first.file ∷ more.0 ++ more.1;
+      written = given.written;
+      gave = (first.gives, more.2);
+      took_them = given.added.logged log [] start;
+      holds = subst (λ raws. Holds task (unpacked first.file ∷ raws) receipt.counts given.written) (sym (map-append unpacked more.0 more.1)) given.holding;
+    }
+published_works f d out out_now digests by log start task (old ∷ olds) (now ∷ news) (Err halt) (Err halted) many does r fresh =
+    (halt.stop, r, caused_weaker _ _ _ _ _ _ _ _ halt.stop (λ e refused. (refused.0, refused.1.logged log [] start)) (λ failed. failed) (λ failed. failed) (λ p c. subst (λ has. ChangedOf (f.remaining old ∷ has) p) (supplies_are f olds news (omega (arith, many))) c) does.stops)
+published_works f d out out_now digests by log start task (old ∷ olds) (now ∷ news) (Ok receipt) (Err halted) many does r fresh = absurd r
+published_works f d out out_now digests by log start task (old ∷ olds) (now ∷ news) (Err halt) (Ok report) many does r fresh = absurd r

@@ -17,7 +17,7 @@ use Rattle.pbfcut_program.specs.Events.{Event}
 use Rattle.pbfcut_program.specs.Program.{Does, Extracts, IsRun, Writes, manner_in}
 use Rattle.pbfcut_program.specs.Changes.{EndsWell}
 use Rattle.pbfcut_program.specs.Files.{Disk}
-use Rattle.pbfcut_program.specs.Tasks.{Task, converting, copying}
+use Rattle.pbfcut.specs.Tasks.{Task, converting, copying}
 
 no_zero : (how : Ending) → 0 ≡ ending_status how → ⊥
 no_zero how e = grind arith

@@ -16,7 +16,7 @@ use Rattle.pbfcut_program.specs.Manner.{Manner, of_input, of_output}
 use Rattle.pbfcut_program.specs.Program.{Extracts, Writes, WritesCounts, advice, begun, counts_text, done_lines, is_screen, prints, screen_of, strategy_of}
 use Rattle.pbfcut_program.specs.Readings.{IsWhole, IsWholeOrSpared, ReadAll, ReadLater}
 use Rattle.pbfcut_program.specs.Taking.{Happened, ReadOf, ReadsOnly, TookConversion, TookCopy, TookExtract, TookWhole}
-use Rattle.pbfcut_program.specs.Tasks.{Holds, Task, converting, copying, extracting}
+use Rattle.pbfcut.specs.Tasks.{Holds, Task, converting, copying, extracting}
 
 -- ---- events
 

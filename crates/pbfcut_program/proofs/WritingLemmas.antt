@@ -8,7 +8,7 @@ use Rattle.pbfcut_program.specs.Files.{IsKept, IsMade}
 use Rattle.pbfcut_program.specs.Manner.{check_in, manner_of}
 use Rattle.pbfcut_program.specs.Program.{WritesCounts, begun, counts_text, done_lines, is_screen, prints, screen_of}
 use Rattle.pbfcut_program.specs.Readings.{IsWork}
-use Rattle.pbfcut_program.specs.Tasks.{Task, passes_of}
+use Rattle.pbfcut.specs.Tasks.{Task, passes_of}
 use Rattle.pbfcut_program.specs.Worked.{Worked}
 
 module _ (engine : Engine) (key : ℕ) (of task : Task) (files : Files) (has : List (Option (List ℕ))) (rs : List Reading) (out : Writing) (done : Done) (makes keeps : List Event) (name : Option (List ℕ)) where

@@ -1,19 +1,20 @@
 -- What went through the devices of a command, before they are returned to the host.
-use Rattle.std.specs.Prelude.{◌≡◌, ◌⊎◌, ℕ, zero, suc, ◌+◌, ◌-◌, ◌<◌, List, [], ◌∷◌, length, map, Bool, true, false, Option, Some, None, Result, Ok, Err, IfSome, OnErr}
+use Rattle.std.specs.Prelude.{◌≡◌, ◌⊎◌, ℕ, zero, suc, ◌+◌, ◌-◌, ◌<◌, List, [], ◌∷◌, ◌++◌, length, map, Bool, true, false, Option, Some, None, Result, Ok, Err, IfSome, OnErr, OnOk}
 use Rattle.std.specs.Option.{is_some}
 use Rattle.pbf_frame.specs.declared.device.Feed as feed
 use Rattle.pbf_frame.specs.declared.device.Drain as drain
 use Rattle.pbf_frame.specs.declared.stop.Stop.{Stop}
 use Rattle.pbf_frame.specs.declared.stop.Stop.TheVariants as stop
-use Rattle.pbf_frame.specs.Devices.{IsAtEnd, IsFront}
+use Rattle.pbf_frame.specs.Devices.{IsAtEnd, IsFront, append}
 use Rattle.pbf_frame.specs.Verdict.{Verdict}
 use Rattle.pbf_pass.specs.Stops.{Caused, WriteFailed}
 use Rattle.pbf_published.specs.Published.{ChangedOf}
 use Rattle.pbf_unpack.specs.declared.drain.PackedDrain.{PackedDrain}
-use Rattle.pbf_unpack.specs.Packing.{GaveAll}
+use Rattle.pbf_unpack.specs.Packing.{GaveAll, failures_of_drain, taken_raw}
+use Rattle.pbf_unpack.specs.RawFrames.{IsNearLimit, IsRawFile}
 use Rattle.pbf_wire.specs.declared.fault.Fault.{Fault}
 use Rattle.pbf_pass.specs.declared.hashing.PassCheck.{PassCheck}
-use Rattle.pbfcut.specs.Calls.{AllSupply, AnyFailed, FeedUse, fed}
+use Rattle.pbfcut.specs.Calls.{AllSupply, AnyFailed, used}
 use Rattle.sha2.specs.Sha256.{sha256}
 use Rattle.pbfcut_cli.specs.declared.endings.Ending.{Ending}
 use Rattle.pbfcut_cli.specs.declared.endings.Ending.TheVariants as ending
@@ -23,10 +24,12 @@ use Rattle.pbfcut_program.specs.declared.engine.Report.{Report}
 use Rattle.pbfcut_program.specs.declared.engine.Halted.{Halted}
 use Rattle.pbfcut_program.specs.declared.host.FinishFault.{FinishFault}
 use Rattle.pbfcut_program.specs.Events.{Event, read, wrote, then_one}
-use Rattle.pbfcut_program.specs.Fails.{EndsAsStop, FirstFault, UnlessPacked}
-use Rattle.pbfcut_program.specs.Manner.{AreDigests, Form, Manner, meant, of_input, of_output, output_form, packed_file}
+use Rattle.pbfcut_program.specs.Fails.{CauseOfWrite, EndsAsStop, FirstFault}
+use Rattle.pbfcut_program.specs.Leaving.{IsFrontAs}
+use Rattle.pbfcut_program.specs.Manner.{AreDigests, Form, Manner, input_form, meant, of_input, of_output, packed_file, raw_file, to_raw}
 use Rattle.pbfcut_program.specs.Readings.{IsFaulty, IsOther}
-use Rattle.pbfcut_program.specs.Tasks.{Task, Holds, answer_of, judge_of, spares}
+use Rattle.pbfcut.specs.Tasks.{Task, Holds, answer_of, judge_of, spares}
+use Rattle.pbfcut_program.specs.Tasks.{GivesRaw}
 
 -- ---- devices of which nothing was read, and that took nothing
 
@@ -84,11 +87,6 @@ GiveAll f known may (old ∷ olds) (now ∷ news) (b ∷ bs) = GivesIts f known 
 GiveAll f known may _ _ _ = ⊥
 
 -- ---- why a call stops
-
--- feeds as a call finds them, and as it leaves them
-abbrev pub used : {F : Type 0} → feed.Ghosts F → (olds news : List F) → List FeedUse
-used f (old ∷ olds) (now ∷ news) = fed f old now ∷ used f olds news
-used f _ _ = []
 
 -- a feed gave faulty bytes
 pub record GivesFaulty {F : Type 0} (f : feed.Ghosts F) (judge : Option (List ℕ) → Option Verdict) (fault : Fault) (now : F) : Type 0 where
@@ -154,7 +152,7 @@ pub record Reports {F : Type 0} (f : feed.Ghosts F) (m : Manner) (by : PassCheck
 
 abbrev pub Works : {F : Type 0} → Manner → PassCheck → feed.Ghosts F → Task → (olds news : List F) → (took : List ℕ → Type 0) → (failed : Type 0) → Result Report Halted → Type 0
 Works m by f task olds news took failed (Ok report) = Reports f m by task olds news took report
-Works m by f task olds news took failed (Err halted) = EndsFor m.program f (judge_of task) olds news (took []) (UnlessPacked (output_form m.packs m.program) failed) halted.ending
+Works m by f task olds news took failed (Err halted) = EndsFor m.program f (judge_of task) olds news (took []) failed halted.ending
 
 -- if nothing was read of the feeds: by each log by which the drain had taken nothing
 abbrev pub WorksOn : {F D : Type 0} → Manner → PassCheck → feed.Ghosts F → drain.Ghosts D → Task → (olds news : List F) → (old new : D) → Result Report Halted → Type 0
@@ -164,6 +162,21 @@ WorksOn m by f d task olds news old new result = AreFresh f olds → (log : ℕ)
 abbrev pub Fronts : {A : Type 0} → Form → Task → (has : List (Option (List ℕ))) → (before after : Option (List ℕ)) → Result A Halted → Type 0
 Fronts form task has before after result = OnErr result ((bytes : List ℕ) → AllSupply bytes has → IsFront before after (answer_of task (meant form bytes)))
 
+-- what OUT took when a call stopped: if its feeds had the same bytes, a prefix of what the task makes of the raw file that they mean, in blobs of this form
+abbrev pub Leads : {A : Type 0} → Form → (input : Form) → Task → (has : List (Option (List ℕ))) → (after : Option (List ℕ)) → Result A Halted → Type 0
+Leads form input task has after result = OnErr result ((bytes : List ℕ) → AllSupply bytes has → IfSome after (IsFrontAs (form, answer_of task (meant input bytes))))
+
+-- a call of pbfcutz ended well: if its feeds had the same bytes, what the task makes of the raw file that they mean went out
+abbrev pub Wholes : {A : Type 0} → Form → Task → (has : List (Option (List ℕ))) → (before after : Option (List ℕ)) → Result A Halted → Type 0
+Wholes raw_file task has before after result = Unit {0}
+Wholes packed_file task has before after result = OnOk result ((bytes : List ℕ) → AllSupply bytes has → after ≡ append before (answer_of task (meant packed_file bytes)))
+
+-- what a call of the engine says that does a task, in raw blobs: what it reports, or why it stopped; and what went out, if its feeds had the same bytes
+pub record RunsTask {F D : Type 0} (m : Manner) (by : PassCheck) (f : feed.Ghosts F) (d : drain.Ghosts D) (task : Task) (olds news : List F) (old new : D) (result : Result Report Halted) : Type 0 where
+  pub works : WorksOn (to_raw m) by f d task olds news old new result
+  pub front : Fronts (input_form m.program) task (map f.remaining olds) (d.taken old) (d.taken new) result
+  pub whole : Wholes (input_form m.program) task (map f.remaining olds) (d.taken old) (d.taken new) result
+
 -- ---- drains between a call and OUT
 
 -- the logs of a drain that links the first two of the one below: by its first log both took the same bytes
@@ -171,11 +184,25 @@ abbrev pub HasLinked : {D : Type 0} → drain.Ghosts D → D → ℕ → List �
 HasLinked d below zero bytes = d.has_taken below 0 bytes × d.has_taken below 1 bytes
 HasLinked d below (suc log) bytes = d.has_taken below log bytes
 
+-- why a write failed of a drain that gets blobs of this form: one of its own did, or it is near the limit of a file
+abbrev pub DrainFailed : {D : Type 0} → drain.Ghosts D → Form → Task → (has : List (Option (List ℕ))) → D → Type 0
+DrainFailed d form task has out = CauseOfWrite form (GivesRaw task) has (0 < d.failures out) (IfSome (d.taken out) IsNearLimit)
+
+-- the same of one that packs, if a raw file is what it took, and these bytes after that
+abbrev pub PackingFailed : {D : Type 0} {d : drain.Ghosts D} → PackedDrain D d → (rest : List ℕ) → Type 0
+PackingFailed {d = d} p rest = IfSome (taken_raw p) (λ raw. IsRawFile (raw ++ rest)) → (0 < d.failures p.below.drain) ⊎ IfSome (d.taken p.below.drain) IsNearLimit
+
+-- an ending is shown as it is; or as refused memory, which it is if a write failed for that
+abbrev pub IsNamed : (of_drain : Option Stop) → (how shown : Ending) → Type 0
+IsNamed of_drain how shown = (shown ≡ ending.Stopped stop.Memory) ⊎ ((shown ≡ how) × (how ≡ ending.Stopped stop.Write → of_drain ≡ Some stop.Memory → ⊥))
+
 -- what a call came to, and what that comes to once its drain, which packs, is finished
 abbrev pub FinishesPacked : {D : Type 0} {d : drain.Ghosts D} → (old new : PackedDrain D d) → (returned result : Result Report Halted) → Type 0
 FinishesPacked old new (Ok report) (Ok same) = (same ≡ report) × GaveAll old new
-FinishesPacked old new (Ok report) (Err halted) = (halted.ending ≡ ending.Stopped stop.Write) ⊎ (halted.ending ≡ ending.Stopped stop.Memory)
-FinishesPacked old new (Err halted) (Err same) = (new ≡ old) × ((same.ending ≡ halted.ending) ⊎ (same.ending ≡ ending.Stopped stop.Memory))
+FinishesPacked old new (Ok report) (Err halted) = (halted.ending ≡ ending.Stopped stop.Memory) ⊎ ((halted.ending ≡ ending.Stopped stop.Write) × PackingFailed new [])
+FinishesPacked old new (Err halted) (Err same) = (new ≡ old)
+    × ((same.ending ≡ ending.Stopped stop.Memory)
+    ⊎ ((same.ending ≡ halted.ending) × (halted.ending ≡ ending.Stopped stop.Write → 0 < failures_of_drain old → (rest : List ℕ) → PackingFailed new rest)))
 FinishesPacked old new (Err halted) (Ok report) = ⊥
 
 -- ---- OUT

@@ -9,6 +9,9 @@ use Rattle.pbf_frame.specs.declared.stop.Stop.{Stop}
 use Rattle.pbf_frame.specs.declared.stop.Stop.TheVariants as stop
 use Rattle.pbf_pass.specs.Stops.{Caused, FaultOf, unchanged}
 use Rattle.pbf_published.specs.Published.{ChangedOf}
+use Rattle.pbf_unpack.specs.RawFrames.{IsNearLimit}
+use Rattle.pbf_unpack.specs.Unpacked.{unpacked}
+use Rattle.pbfcut.specs.Calls.{AllSupply}
 use Rattle.pbfcut_cli.specs.declared.endings.Ending.{Ending}
 use Rattle.pbfcut_cli.specs.declared.endings.Ending.TheVariants as ending
 use Rattle.pbfcut_cli.specs.declared.programs.Program.{Program}
@@ -22,6 +25,8 @@ use Rattle.pbfcut_program.specs.declared.host.PrintFault.TheVariants as line
 use Rattle.pbfcut_program.specs.Events.{Event, Reading, text_read, text_not_read, looked, opened, not_opened, seeded, made, not_made, linked, moved, renamed, removed, stays, not_named, not_synced, read, wrote, printed, told, advised}
 use Rattle.pbfcut_program.specs.Manner.{Form, Manner, input_form, meant_known, output_form, packed_file, raw_file}
 use Rattle.pbfcut_program.specs.Readings.{IsFaulty, IsOther}
+use Rattle.pbfcut.specs.Tasks.{Task, judge_of}
+use Rattle.pbfcut_program.specs.Tasks.{GivesRaw}
 
 -- ---- events
 
@@ -163,24 +168,35 @@ CauseOfOpening _ events = ⊥
 abbrev pub FailsOpening : Ending → List Event → Type 0
 FailsOpening how events = Each Calm events × CauseOfOpening how events
 
--- a drain that packs fails at bytes that are no raw file, too: so why it failed isn't said
-abbrev pub UnlessPacked : Form → Type 0 → Type 0
-UnlessPacked raw_file said = said
-UnlessPacked packed_file said = Unit {0}
+-- OUT has nearly as many bytes as a file may have, if it reports what it took
+abbrev pub NearsLimit : Event → Type 0
+NearsLimit (wrote w) = w.reports ≡ true → IsNearLimit w.bytes
+NearsLimit _ = ⊥
+
+-- why a write failed: one of OUT did; or zlib blobs are near the limit of a file. Of zlib blobs it is said if IN has the same bytes for each pass, and a raw file is to be written
+-- for what they mean
+abbrev pub CauseOfWrite : Form → (sound : List ℕ → Type 0) → (has : List (Option (List ℕ))) → (failed near : Type 0) → Type 0
+CauseOfWrite raw_file sound has failed near = failed
+CauseOfWrite packed_file sound has failed near = (bytes : List ℕ) → AllSupply bytes has → sound (unpacked bytes) → failed ⊎ near
 
 -- what a command does with IN until it is refused
-pub data Judging : Type 0 where
-  -- it judges it so before anything is written
-  judging : (Option (List ℕ) → Option Verdict) → Judging
+pub data Judging : Type 1 where
+  -- it judges it so before anything is written; and for these files a raw file is to be written
+  judging : (judge : Option (List ℕ) → Option Verdict) → (sound : List ℕ → Type 0) → Judging
   -- it writes the lines of frames until one has a fault
   listing : Judging
   -- `help`: it prints a text
   printing : Judging
 
+-- by what its task does
+abbrev pub judging_for : Task → Judging
+judging_for task = judging (judge_of task) (GivesRaw task)
+
 -- each stop has its cause
 abbrev pub Stops : Manner → Judging → (has : List (Option (List ℕ))) → List Event → Stop → Type 0
-Stops m (judging judge) has events s =
-    Caused (λ fault. IsRefusedBy m.program judge has fault events) (Has FailsToRead events) (UnlessPacked (output_form m.packs m.program) (Has FailsToWrite events)) (λ pass. IsChangedBy m.program has pass events) s
+Stops m (judging judge sound) has events s =
+    let unwritten = CauseOfWrite (output_form m.packs m.program) sound has (Has FailsToWrite events) (Has NearsLimit events) in
+    Caused (λ fault. IsRefusedBy m.program judge has fault events) (Has FailsToRead events) unwritten (λ pass. IsChangedBy m.program has pass events) s
 Stops m listing has events s = Caused (λ fault. FirstFault (input_form m.program) (judged_known false 0) fault has) (Has FailsToRead events) (Has FailsToWrite events) unchanged s
 Stops m printing has events s = Caused (λ fault. ⊥) ⊥ (Has FailsToWrite events) unchanged s
 

@@ -2,16 +2,36 @@
 use Rattle.std.specs.Prelude.{◌≡◌, ◌⊎◌, ℕ, List, ◌∷◌, ◌++◌, map, take, false, true, Option}
 use Rattle.pbf_block.specs.declared.counts.Counts.{Counts}
 use Rattle.pbf_pass.specs.declared.hashing.PassCheck.{PassCheck}
+use Rattle.pbf_unpack.specs.declared.below.Course.{Course}
+use Rattle.pbf_unpack.specs.Course.{HasWhole}
+use Rattle.pbf_unpack.specs.Unpacked.{unpacked}
 use Rattle.pbfcut_program.specs.Events.{Event, Reading, Writing, read, wrote}
-use Rattle.pbfcut_program.specs.Fails.{Each, Opens, UnlessPacked}
-use Rattle.pbfcut_program.specs.Manner.{Manner, of_input, output_form}
+use Rattle.pbfcut_program.specs.Fails.{Each, Opens}
+use Rattle.pbfcut_program.specs.Manner.{Form, Manner, of_input, output_form, packed_file, raw_file}
 use Rattle.pbfcut.specs.Calls.{AllSupply}
 use Rattle.pbfcut_program.specs.Readings.{IsWork}
-use Rattle.pbfcut_program.specs.Tasks.{Task, answer_of, listing_frames}
+use Rattle.pbfcut.specs.Tasks.{Task, answer_of, listing_frames}
+
+-- zlib blobs: whole frames that mean a prefix of the answer, and after them a prefix of one at most
+pub record IsPackedFront (answer bytes : List ℕ) : Type 0 where
+  pub course : Course
+  pub place : ℕ
+  pub whole : HasWhole course place bytes
+  pub count : ℕ
+  pub means : unpacked (take place bytes) ≡ take count answer
+
+-- what OUT is to take: the answer, in raw blobs or in zlib blobs
+abbrev pub Answer : Type 0
+Answer = Form × List ℕ
+
+-- these bytes are a prefix of that
+abbrev pub IsFrontAs : Answer → (bytes : List ℕ) → Type 0
+IsFrontAs (raw_file, answer) bytes = (count : ℕ) × (bytes ≡ take count answer)
+IsFrontAs (packed_file, answer) bytes = IsPackedFront answer bytes
 
 -- OUT took a prefix of the answer, if it reports what it took
-abbrev pub TookFront : (answer : List ℕ) → Event → Type 0
-TookFront answer (wrote w) = w.reports ≡ true → (count : ℕ) × (w.bytes ≡ take count answer)
+abbrev pub TookFront : Answer → Event → Type 0
+TookFront answer (wrote w) = w.reports ≡ true → IsFrontAs answer w.bytes
 TookFront answer _ = Unit {0}
 
 -- OUT isn't to be kept
@@ -37,10 +57,10 @@ pub record IsWorked (m : Manner) (task : Task) (has : List (Option (List ℕ))) 
   pub raw : Option (List ℕ)
   pub work : IsWork m by task has rs out.bytes counts digest raw
 
--- OUT isn't kept, and took a prefix of the answer, if IN has the same bytes for each pass, and raw blobs are written; or it took all of it
+-- OUT isn't kept, and took a prefix of the answer, if IN has the same bytes for each pass; or it took all of it
 abbrev pub Leaves : Manner → Task → (has : List (Option (List ℕ))) → List Event → Type 0
 Leaves m task has events =
-    (KeepsNone task events × UnlessPacked (output_form m.packs m.program) ((bytes : List ℕ) → AllSupply bytes has → Each (TookFront (answer_of task (of_input m bytes))) events))
+    (KeepsNone task events × ((bytes : List ℕ) → AllSupply bytes has → Each (TookFront (output_form m.packs m.program, answer_of task (of_input m bytes))) events))
     ⊎ IsWorked m task has events
 
 -- IN has this for the passes, and by that the command leaves such an OUT

@@ -3,6 +3,7 @@ pub mod Devices
 pub mod Events
 pub mod Fails
 pub mod Files
+pub mod Inputs
 pub mod Jobs
 pub mod Leaving
 pub mod Manner

@@ -16,8 +16,6 @@ use Rattle.pbf_block.specs.declared.counts.Counts.{Counts}
 use Rattle.pbf_frame.specs.Frames.{FrameSpec}
 use Rattle.pbf_frame.specs.Verdict.{Says, judged_known}
 use Rattle.pbf_frame.specs.declared.stop.Stop.TheVariants as stop
-use Rattle.pbf_pass.specs.HeaderLimit.{judged_writable}
-use Rattle.pbf_pass.specs.Judged.{judged_file}
 use Rattle.pbf_published.specs.Showing.{TellsInfo}
 use Rattle.pbfcut.specs.Blobs as blobs
 use Rattle.pbfcut.specs.Receipts.{judge_by}
@@ -40,12 +38,13 @@ use Rattle.pbfcut_cli.specs.declared.words.Strategy.TheVariants as strategy
 use Rattle.pbfcut_program.specs.declared.host.Screen.{Screen}
 use Rattle.pbfcut_program.specs.declared.host.Screen.TheVariants.{Output, Error}
 use Rattle.pbfcut_program.specs.Events.{Event, text_read, looked, opened, seeded, screened, read, wrote, printed, told, advised, Reading, Writing}
-use Rattle.pbfcut_program.specs.Fails.{Each, FailsFor, Judging, Quiet, judging, listing, printing}
+use Rattle.pbfcut_program.specs.Fails.{Each, FailsFor, Judging, Quiet, judging, judging_for, listing, printing}
 use Rattle.pbfcut_program.specs.Files.{IsKept, IsMade}
 use Rattle.pbfcut_program.specs.Leaving.{LeavesFor}
 use Rattle.pbfcut_program.specs.Manner.{Manner, check_of, hashes_meaning, input_form, manner, meant_known, of_output, once_check, output_form, to_raw}
 use Rattle.pbfcut_program.specs.Readings.{IsWork}
-use Rattle.pbfcut_program.specs.Tasks.{Task, checking, listing_frames, showing, converting, copying, extracting, passes_of}
+use Rattle.pbfcut.specs.Tasks.{Task, checking, listing_frames, showing, converting, copying, extracting, passes_of}
+use Rattle.pbfcut_program.specs.Tasks.{GivesRaw}
 use Rattle.pbfcut_program.specs.Telling.{IsSaid}
 
 -- ---- lines
@@ -235,16 +234,25 @@ Does m (Extract region by files) events = Extracts m region by files events
 
 -- ---- why a command fails
 
-abbrev pub judging_of : Command → Judging
-judging_of (Help text) = printing
-judging_of (Blobs input) = listing
-judging_of (Info input json) = judging judged_headings
-judging_of (Show input dates progress) = judging judged_file
-judging_of (Check input progress digests) = judging judged_file
-judging_of (Convert files) = judging judged_writable
-judging_of (Pack files) = judging judged_file
-judging_of (Unpack files) = judging judged_file
-judging_of (Extract region by files) = judging (judge_by (strategy_of by))
+-- the extract that is to be written is a raw file
+abbrev pub CutsRaw : Region → Strategy → List Event → List ℕ → Type 0
+CutsRaw cut by events file = (area : AreaSpec) (before after : List Event)
+    → events ≡ before ++ after → MeansArea cut before area → GivesRaw (extracting (strategy_of by) area) file
+
+-- how an extract of this is judged
+abbrev pub judging_cut : Region → Strategy → List Event → Judging
+judging_cut cut by events = judging (judge_by (strategy_of by)) (CutsRaw cut by events)
+
+abbrev pub judging_in : Command → List Event → Judging
+judging_in (Help text) events = printing
+judging_in (Blobs input) events = listing
+judging_in (Info input json) events = judging judged_headings (λ file. ⊥)
+judging_in (Show input dates progress) events = judging_for (showing dates)
+judging_in (Check input progress digests) events = judging_for checking
+judging_in (Convert files) events = judging_for converting
+judging_in (Pack files) events = judging_for copying
+judging_in (Unpack files) events = judging_for copying
+judging_in (Extract region by files) events = judging_cut region by events
 
 -- `info` reads as pbfcutz does, and writes a text, as `show` does
 abbrev pub reading_of : Manner → Command → Manner
@@ -271,7 +279,7 @@ LeavesIn m (Extract region by files) events = Each Quiet events ⊎ LeavesCut m 
 LeavesIn m _ events = Unit {0}
 
 abbrev pub FailsIn : Manner → Command → Ending → List Event → Type 0
-FailsIn m command how events = FailsFor (reading_of m command) (judging_of command) how events × LeavesIn m command events × IsSaid m.digests (Does m command) how events
+FailsIn m command how events = FailsFor (reading_of m command) (judging_in command events) how events × LeavesIn m command events × IsSaid m.digests (Does m command) how events
 
 -- ---- the whole run
 

@@ -8,7 +8,7 @@ use Rattle.pbf_pass.specs.declared.hashing.PassCheck.{PassCheck}
 use Rattle.pbf_wire.specs.declared.fault.Fault.{Fault}
 use Rattle.pbfcut_program.specs.Events.{Reading}
 use Rattle.pbfcut_program.specs.Manner.{AreDigests, Manner, of_input, of_output}
-use Rattle.pbfcut_program.specs.Tasks.{Task, Holds, spares}
+use Rattle.pbfcut.specs.Tasks.{Task, Holds, spares}
 
 -- a pass read this file: all of IN, of which this is known. It is what IN had when it was opened, if the host reports that
 pub record IsWhole (known : List ℕ → Type 0) (has : Option (List ℕ)) (r : Reading) (file : List ℕ) : Type 0 where

@@ -1,73 +1,8 @@
--- What a command does with IN: what holds of the files that its passes read, of the counts, and of what it writes.
-use Rattle.std.specs.Prelude.{◌≡◌, ℕ, ◌+◌, ◌&&◌, not, if◌then◌else◌, List, [], ◌∷◌, Bool, true, false, Option, Some}
-use Rattle.osm_area.specs.Area.{AreaSpec}
-use Rattle.osm_ways.specs.Selection.{Strategy}
-use Rattle.pbf_block.specs.declared.counts.Counts.{Counts}
-use Rattle.pbf_frame.specs.Verdict.{Verdict, judged, judged_known}
-use Rattle.pbf_pass.specs.HeaderLimit.{judged_writable}
-use Rattle.pbf_pass.specs.Judged.{fully, judged_file}
-use Rattle.pbf_pass.specs.Pass.{CountsFile}
-use Rattle.pbfcut.specs.Blobs.{lines}
-use Rattle.pbfcut.specs.Kept.{IsWritable, conversion_of, extract_of}
-use Rattle.pbfcut.specs.Receipts.{judge_by}
-use Rattle.pbfcut.specs.Showing.{Shown, answer_text}
-use Rattle.pbfcut.specs.Theorem.{IsConverted, IsExtraction}
+-- That what a task writes is a raw file.
+use Rattle.std.specs.Prelude.{ℕ, List}
+use Rattle.pbf_unpack.specs.RawFrames.{IsRawFile}
+use Rattle.pbfcut.specs.Tasks.{Task, answer_of}
 
-pub data Task : Type 0 where
-  checking : Task
-  -- the lines of all frames before the first fault of one, which go out as they are read
-  listing_frames : Task
-  showing : (dates : Bool) → Task
-  converting : Task
-  -- the same bytes in other blobs
-  copying : Task
-  extracting : Strategy → AreaSpec → Task
-
--- how many passes may be left out: two with all parents, otherwise one. With members a file that isn't sorted is refused
-abbrev pub spares_by : Strategy → ℕ
-spares_by by = if by.parents && not by.members then 2 else 1
-
--- how often IN is read
-abbrev pub passes_of : Task → ℕ
-passes_of checking = 1
-passes_of listing_frames = 1
-passes_of (showing dates) = 2
-passes_of converting = 2
-passes_of copying = 2
-passes_of (extracting by area) = spares_by by + 2
-
--- in so many passes after the first nothing may have been read, if the first was enough
-abbrev pub spares : Task → ℕ
-spares (extracting by area) = spares_by by
-spares _ = 0
-
--- the verdict by which the first file is refused
-abbrev pub judge_of : Task → Option (List ℕ) → Option Verdict
-judge_of checking = judged_file
-judge_of listing_frames = judged_known false 0
-judge_of (showing dates) = judged_file
-judge_of converting = judged_writable
-judge_of copying = judged_file
-judge_of (extracting by area) = judge_by by
-
--- what holds of the raw files that were read, one for each pass, and of the one that was written. The digests of what was read, by the check of the run, are the same; where a file
--- that was read later has to be the first one, that is a premise
-abbrev pub Holds : Task → List (List ℕ) → Counts → (written : List ℕ) → Type 0
-Holds checking (b ∷ []) counts written = CountsFile (judged_file (Some b)) counts
-Holds (showing dates) (b ∷ c ∷ []) counts written = CountsFile (judged_file (Some b)) counts × Shown dates (judged_file (Some c)) written
-Holds converting (b ∷ c ∷ []) counts written = IsWritable b × (b ≡ c → IsConverted b counts written)
-Holds copying (b ∷ c ∷ []) counts written = CountsFile (judged_file (Some b)) counts × (written ≡ c)
-Holds (extracting by area) (b ∷ c ∷ d ∷ []) counts written = IsWritable b
-    × (b ≡ c → b ≡ d → IsExtraction by area b counts written)
-Holds (extracting by area) (b ∷ c ∷ d ∷ e ∷ []) counts written = IsWritable b
-    × (b ≡ c → b ≡ d → b ≡ e → IsExtraction by area b counts written)
-Holds _ files counts written = ⊥
-
--- what is to be written for a raw file: nothing if it has a fault, but for lines of frames
-abbrev pub answer_of : Task → List ℕ → List ℕ
-answer_of checking file = []
-answer_of listing_frames file = lines (judged false 0 file).0
-answer_of (showing dates) file = answer_text dates (fully (judged false 0 file))
-answer_of converting file = conversion_of file
-answer_of copying file = file
-answer_of (extracting by area) file = extract_of by area file
+-- what is to be written for this raw file is one
+abbrev pub GivesRaw : Task → List ℕ → Type 0
+GivesRaw task file = IsRawFile (answer_of task file)

@@ -6,7 +6,7 @@ use Rattle.pbfcut_program.specs.Events.{Reading, Writing}
 use Rattle.pbfcut_program.specs.Manner.{check_in, hashes_meaning, manner_of, of_output, output_form}
 use Rattle.pbfcut_program.specs.Program.{digest_if_asked}
 use Rattle.pbfcut_program.specs.Readings.{IsWork}
-use Rattle.pbfcut_program.specs.Tasks.{Task}
+use Rattle.pbfcut.specs.Tasks.{Task}
 
 -- all that OUT took went out, it is the work, and this is reported of it
 pub record Worked (engine : Engine) (key : ℕ) (task : Task) (has : List (Option (List ℕ))) (rs : List Reading) (out : Writing) (done : Done) : Type 0 where

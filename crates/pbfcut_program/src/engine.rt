@@ -1,29 +1,28 @@
 //! The calls of both programs: those of pbfcut over raw files, and those of pbfcutz over published ones.
 
-ghost use Rattle.std.specs.Prelude.{◌≡◌, [], ◌∷◌, IfSome, IfErr, OnOk, false, true};
+ghost use Rattle.std.specs.Prelude.{◌≡◌, [], ◌∷◌, length, IfErr, OnOk, false, true};
 ghost use Rattle.pbf_frame.specs.Transfers.{Added};
 ghost use Rattle.pbf_pass.specs.Given.{Took};
 ghost use Rattle.pbf_pass.specs.Stops.{WriteFailed};
 ghost use Rattle.pbf_published.specs.Showing.{TellsInfo};
 ghost use Rattle.pbfcut.specs.Summary.{judged_headings};
+ghost use Rattle.pbfcut.specs.Tasks.{checking, listing_frames, passes_of};
 ghost use Rattle.pbfcut_cli.specs.declared.endings.Ending.TheVariants as ending;
 ghost use Rattle.pbfcut_cli.specs.declared.programs.Program.TheVariants.{Pbfcutz};
-ghost use Rattle.pbfcut_program.specs.Devices.{AreFresh, EndsFor, Fronts, Works, WorksOn};
+ghost use Rattle.pbfcut_program.specs.Devices.{AreFresh, EndsFor, Fronts, RunsTask, Works};
 ghost use Rattle.pbfcut_program.specs.Fails.{EndsAsStop};
-ghost use Rattle.pbfcut_program.specs.Manner.{check_in, input_form, manner_of, once_check, output_form, raw_file, to_raw};
+ghost use Rattle.pbfcut_program.specs.Inputs.{AreReady, feeds_in};
+ghost use Rattle.pbfcut_program.specs.Manner.{check_in, input_form, manner_of, once_check, output_form, raw_file};
 ghost use Rattle.pbfcut_program.specs.Outcomes.{ListsBy, ReportsPublished, ReportsRaw};
-ghost use Rattle.pbfcut_program.specs.Tasks.{checking, listing_frames, showing, converting, copying, extracting, spares_by};
-ghost use Rattle.osm_ways.specs.Selection.{all_parents};
 
 use crate::host::Seed;
-use crate::opening::{FourPasses, ThreePasses, TwoPasses};
-use osm_area::Area;
+use crate::opening::Inputs;
 use pbf_frame::{Drain, Feed, Stop};
 use pbf_pass::{Counts, Halt, InputReceipt, PassCheck, Passes, Refusal};
-use pbf_published::{PublishedHalt, PublishedInput};
+use pbf_published::{PublishedFeed, PublishedHalt, PublishedInput};
 use pbf_unpack::{Place, UnpackFault};
 use pbf_wire::{Fault, Reason};
-use pbfcut::Extraction;
+use pbfcut::FileTask;
 use pbfcut_cli::{Ending, PackedRefusal, Program};
 use std::alloc::Global;
 use std::hash::BuildHasher;
@@ -160,7 +159,7 @@ impl Engine {
     }
 
     /// How a call makes passes that have to read the same bytes: pbfcutz compares them by a keyed hash, unless their digests are printed.
-    fn many_passes(self, key: u128) -> Passes
+    pub(crate) fn many_passes(self, key: u128) -> Passes
         ensures { result.check ≡ check_in self key }
     {
         Passes {
@@ -194,157 +193,26 @@ pub(crate) fn check<F: Feed>(engine: Engine, pass: &mut F) -> Result<Report, Hal
     }
 }
 
-/// How `show` writes, and the key of its passes.
-#[derive(Clone, Copy)]
-pub(crate) struct ShowOptions {
-    pub(crate) dates: bool,
-    pub(crate) key: u128,
-}
-
-/// Writes the text of all that IN has.
-pub(crate) fn show<F: Feed, D: Drain>(
+/// Does a task with IN, which was opened for each of its passes.
+pub(crate) fn run_task<T: FileTask, F: Feed, D: Drain, S: BuildHasher + Drop>(
     engine: Engine,
-    passes: &mut TwoPasses<F>,
-    drain: &mut D,
-    options: ShowOptions,
-) -> Result<Report, Halted>
-    ensures works { WorksOn (to_raw (manner_of engine)) (check_in engine options.key)
-        F.Feed D.Drain (showing options.dates)
-        (passes.old.one ∷ passes.old.two ∷ []) (passes.new.one ∷ passes.new.two ∷ [])
-        drain.old drain.new result }
-    ensures front { Fronts (input_form engine.program) (showing options.dates)
-        (F.remaining passes.old.one ∷ F.remaining passes.old.two ∷ [])
-        (D.taken drain.old) (D.taken drain.new) result }
-{
-    let TwoPasses { one, two } = passes;
-    let ShowOptions { dates, key } = options;
-    let how = engine.many_passes(key);
-    match engine.program {
-        Program::Pbfcut => reported(pbfcut::show_with_receipt(how, one, two, drain, dates)),
-        Program::Pbfcutz => {
-            published(pbf_published::show_with_receipt(how, one, two, drain, dates))
-        }
-    }
-}
-
-/// Writes all entities of IN.
-pub(crate) fn convert<F: Feed, D: Drain, S: BuildHasher + Drop>(
-    engine: Engine,
-    passes: &mut TwoPasses<F>,
+    task: T,
+    inputs: &mut Inputs<F>,
     drain: &mut D,
     seed: Seed<S>,
 ) -> Result<Report, Halted>
-    requires { IfSome (D.taken drain.old) (λ taken. taken ≡ []) }
-    ensures works { WorksOn (to_raw (manner_of engine)) (check_in engine seed.key)
-        F.Feed D.Drain converting
-        (passes.old.one ∷ passes.old.two ∷ []) (passes.new.one ∷ passes.new.two ∷ [])
-        drain.old drain.new result }
-    ensures front { Fronts (input_form engine.program) converting
-        (F.remaining passes.old.one ∷ F.remaining passes.old.two ∷ [])
-        (D.taken drain.old) (D.taken drain.new) result }
+    requires count { length (feeds_in inputs.old) ≡ passes_of (T.task task) }
+    requires ready { AreReady F.Feed ⟦<PublishedFeed<F> as Feed>⟧ engine.program
+        (check_in engine seed.key) inputs.old }
+    ensures { RunsTask (manner_of engine) (check_in engine seed.key) F.Feed D.Drain (T.task task)
+        (feeds_in inputs.old) (feeds_in inputs.new) drain.old drain.new result }
 {
-    let TwoPasses { one, two } = passes;
     let Seed { hasher, key } = seed;
     let how = engine.many_passes(key);
-    match engine.program {
-        Program::Pbfcut => reported(pbfcut::convert_with_receipt(how, one, two, drain, hasher)),
-        Program::Pbfcutz => {
-            published(pbf_published::convert_with_receipt(how, one, two, drain, hasher))
-        }
-    }
-}
-
-/// Writes the bytes of IN unpacked, in raw blobs, or packed again.
-pub(crate) fn copy<F: Feed, D: Drain>(
-    engine: Engine,
-    passes: &mut TwoPasses<F>,
-    drain: &mut D,
-    key: u128,
-) -> Result<Report, Halted>
-    requires { IfSome (D.taken drain.old) (λ taken. taken ≡ []) }
-    ensures works { WorksOn (to_raw (manner_of engine)) (check_in engine key)
-        F.Feed D.Drain copying
-        (passes.old.one ∷ passes.old.two ∷ []) (passes.new.one ∷ passes.new.two ∷ [])
-        drain.old drain.new result }
-    ensures front { Fronts (input_form engine.program) copying
-        (F.remaining passes.old.one ∷ F.remaining passes.old.two ∷ [])
-        (D.taken drain.old) (D.taken drain.new) result }
-{
-    let TwoPasses { one, two } = passes;
-    let how = engine.many_passes(key);
-    match engine.program {
-        Program::Pbfcut => reported(pbfcut::copy_with_receipt(how, one, two, drain)),
-        Program::Pbfcutz => published(pbf_published::copy_with_receipt(how, one, two, drain)),
-    }
-}
-
-/// Writes an extract for which IN is read three times at most.
-pub(crate) fn extract<E: Extraction + Drop, F: Feed, D: Drain, S: BuildHasher + Drop>(
-    engine: Engine,
-    passes: &mut ThreePasses<F>,
-    extraction: E,
-    drain: &mut D,
-    seed: Seed<S>,
-) -> Result<Report, Halted>
-    requires fresh { IfSome (D.taken drain.old) (λ taken. taken ≡ []) }
-    requires three { spares_by (E.strategy extraction) ≡ 1 }
-    ensures works { WorksOn (to_raw (manner_of engine)) (check_in engine seed.key)
-        F.Feed D.Drain (extracting (E.strategy extraction) (E.area extraction))
-        (passes.old.one ∷ passes.old.two ∷ passes.old.three ∷ [])
-        (passes.new.one ∷ passes.new.two ∷ passes.new.three ∷ [])
-        drain.old drain.new result }
-    ensures front { Fronts (input_form engine.program)
-        (extracting (E.strategy extraction) (E.area extraction))
-        (F.remaining passes.old.one ∷ F.remaining passes.old.two ∷ F.remaining passes.old.three ∷ [])
-        (D.taken drain.old) (D.taken drain.new) result }
-{
-    let ThreePasses { one, two, three } = passes;
-    let Seed { hasher, key } = seed;
-    let how = engine.many_passes(key);
-    match engine.program {
-        Program::Pbfcut => { reported(extraction.extract(how, one, two, three, drain, hasher)) }
-        Program::Pbfcutz => {
-            published(pbf_published::extract_by(how, one, two, three, extraction, drain, hasher))
-        }
-    }
-}
-
-/// Writes what lies in an area, with all parents, for which IN is read once more.
-pub(crate) fn extract_parents<A: Area + Copy, F: Feed, D: Drain, S: BuildHasher + Drop>(
-    engine: Engine,
-    passes: &mut FourPasses<F>,
-    area: A,
-    drain: &mut D,
-    seed: Seed<S>,
-) -> Result<Report, Halted>
-    requires { IfSome (D.taken drain.old) (λ taken. taken ≡ []) }
-    ensures works { WorksOn (to_raw (manner_of engine)) (check_in engine seed.key)
-        F.Feed D.Drain (extracting all_parents (A.area area))
-        (passes.old.one ∷ passes.old.two ∷ passes.old.three ∷ passes.old.four ∷ [])
-        (passes.new.one ∷ passes.new.two ∷ passes.new.three ∷ passes.new.four ∷ [])
-        drain.old drain.new result }
-    ensures front { Fronts (input_form engine.program) (extracting all_parents (A.area area))
-        (F.remaining passes.old.one ∷ F.remaining passes.old.two ∷ F.remaining passes.old.three
-        ∷ F.remaining passes.old.four ∷ []) (D.taken drain.old) (D.taken drain.new) result }
-{
-    let FourPasses {
-        one,
-        two,
-        three,
-        four,
-    } = passes;
-    let Seed { hasher, key } = seed;
-    let how = engine.many_passes(key);
-    match engine.program {
-        Program::Pbfcut => {
-            reported(pbfcut::extract_parents_sorted_with_receipt(
-                how, one, two, three, four, area, drain, hasher,
-            ))
-        }
-        Program::Pbfcutz => {
-            published(pbf_published::extract_parents_sorted_with_receipt(
-                how, one, two, three, four, area, drain, hasher,
-            ))
+    match inputs {
+        Inputs::Raw(feeds) => reported(task.run(how, feeds, drain, hasher)),
+        Inputs::Published(feeds) => {
+            published(pbf_published::run_published(how, task, feeds, drain, hasher))
         }
     }
 }

@@ -1,28 +1,29 @@
 //! What is done with IN, opened for each pass that it takes.
 
-ghost use Rattle.std.specs.Prelude.{◌≡◌, ◌∷◌, ℕ, [], List, length, map, IfOk, IfErr, IfSome, Ok, true};
+ghost use Rattle.std.specs.Prelude.{◌≡◌, ◌∷◌, ℕ, [], List, length, map, IfOk, IfErr, Ok};
 ghost use Rattle.osm_polygon.specs.Groups.{clusters_area};
 ghost use Rattle.osm_polygon.specs.Polygon.{Rings};
 ghost use Rattle.osm_polygon.specs.Polygons.{polygons_area, polygons_of};
 ghost use Rattle.osm_polygon.specs.Texts.{polygons_of_text};
-ghost use Rattle.osm_ways.specs.Selection.{all_parents, complete_ways, smart};
-ghost use Rattle.osm_ways.specs.Whole.{is_wanted};
-ghost use Rattle.pbfcut_program.specs.Devices.{AreFresh, CloseAll, Fronts, WorksOn};
+ghost use Rattle.osm_ways.specs.Selection.{all_parents, complete_ways};
+ghost use Rattle.pbfcut.specs.Tasks.{extracting, passes_of};
+ghost use Rattle.pbfcut_program.specs.Devices.{AreFresh, CloseAll, RunsTask};
 ghost use Rattle.pbfcut_program.specs.Events.{Event, text_read, then_all};
 ghost use Rattle.pbfcut_program.specs.Fails.{FailsOpening};
-ghost use Rattle.pbfcut_program.specs.Jobs.{area_of, feeds_of, plan_of, task_of};
-ghost use Rattle.pbfcut_program.specs.Manner.{check_in, input_form, manner_of, to_raw};
+ghost use Rattle.pbfcut_program.specs.Inputs.{AreReady, feeds_in};
+ghost use Rattle.pbfcut_program.specs.Jobs.{IsReadyFor, area_of, feeds_of, plan_of, task_of};
+ghost use Rattle.pbfcut_program.specs.Manner.{check_in, manner_of};
 ghost use Rattle.pbfcut_program.specs.Program.{MeansArea, openings};
-ghost use Rattle.pbfcut_program.specs.Tasks.{extracting, passes_of};
 
-use crate::engine::{Engine, Halted, Report, convert, copy, extract, extract_parents};
+use crate::engine::{Engine, Halted, Report, run_task};
 use crate::host::{Host, Seed, TextFault};
-use crate::opening::{FourPasses, Input, ThreePasses, TwoPasses, open_four, open_three, open_two};
+use crate::opening::{Input, Inputs, close_inputs, open_passes};
 use osm_box::BoundingBox;
 use osm_polygon::{MultiPolygon, read_polygons};
 use osm_ways::WholeTypes;
 use pbf_frame::{Drain, Feed, Stop};
-use pbfcut::{CompleteWays, Smart};
+use pbf_published::PublishedFeed;
+use pbfcut::{AllParents, CompleteWays, PlainTask, Smart};
 use pbfcut_cli::{Ending, Region};
 use std::alloc::Global;
 use std::hash::BuildHasher;
@@ -84,220 +85,121 @@ pub(crate) enum Plan {
     ExtractSmart(Cut, WholeTypes),
 }
 
-/// An extract, of so many passes.
-#[derive(Drop)]
-pub(crate) struct Cutting<P> {
-    passes: P,
-    cut: Cut,
-}
-
-/// A smart extract.
-#[derive(Drop)]
-pub(crate) struct SmartCutting<F> {
-    passes: ThreePasses<F>,
-    cut: Cut,
-    types: WholeTypes,
+impl Plan {
+    /// How often IN is read.
+    fn passes(&self) -> u8
+        ensures { result ≡ passes_of (plan_of self.now) }
+    {
+        match self {
+            Plan::Convert | Plan::Copy => 2,
+            Plan::Extract(_) | Plan::ExtractSmart(_, _) => 3,
+            Plan::ExtractParents(_) => 4,
+        }
+    }
 }
 
 /// What is done with IN, opened for each pass.
 #[derive(Drop)]
-pub(crate) enum Job<F> {
-    Convert(TwoPasses<F>),
-    Copy(TwoPasses<F>),
-    Extract(Cutting<ThreePasses<F>>),
-    ExtractParents(Cutting<FourPasses<F>>),
-    ExtractSmart(SmartCutting<F>),
+pub(crate) struct Job<F> {
+    pub(crate) plan: Plan,
+    pub(crate) inputs: Inputs<F>,
 }
 
 /// Opens IN for each pass of what is to be done.
-pub(crate) fn open_job<H: Host>(
+pub(crate) fn open_plan<H: Host>(
+    alloc: Global,
     host: &mut H,
     path: &str,
     progress: bool,
-    plan: Plan,
-) -> Result<Job<H::In>, Ending>
-    ensures opened { IfOk result (λ job. H.log host.new ≡ then_all (H.log host.old)
-        (openings path.now 1 (map H.In.remaining (feeds_of job)))) }
-    ensures fresh { IfOk result (λ job. AreFresh H.In.Feed (feeds_of job)) }
-    ensures planned { IfOk result (λ job. (task_of job ≡ plan_of plan)
-        × (length (feeds_of job) ≡ passes_of (plan_of plan))) }
+    plan: &Plan,
+) -> Result<Vec<H::In>, Ending>
+    ensures opened { IfOk result (λ feeds. H.log host.new ≡ then_all (H.log host.old)
+        (openings path.now 1 (map H.In.remaining feeds.items))) }
+    ensures fresh { IfOk result (λ feeds. AreFresh H.In.Feed feeds.items) }
+    ensures count { IfOk result (λ feeds. length feeds.items ≡ passes_of (plan_of plan.now)) }
     ensures failed { IfErr result (λ how. (events : List Event)
         × (H.log host.new ≡ then_all (H.log host.old) events) × FailsOpening how events) }
 {
-    let passes = match &plan {
-        Plan::Convert | Plan::Copy => 2,
-        Plan::Extract(_) | Plan::ExtractSmart(_, _) => 3,
-        Plan::ExtractParents(_) => 4,
-    };
     let input = Input {
         path,
-        passes,
+        passes: plan.passes(),
         progress,
     };
-    match plan {
-        Plan::Convert => Ok(Job::Convert(open_two(host, &input)?)),
-        Plan::Copy => Ok(Job::Copy(open_two(host, &input)?)),
-        Plan::Extract(cut) => {
-            let passes = open_three(host, &input)?;
-            Ok(Job::Extract(Cutting { passes, cut }))
-        }
-        Plan::ExtractParents(cut) => {
-            let passes = open_four(host, &input)?;
-            Ok(Job::ExtractParents(Cutting { passes, cut }))
-        }
-        Plan::ExtractSmart(cut, types) => {
-            let passes = open_three(host, &input)?;
-            Ok(Job::ExtractSmart(SmartCutting { passes, cut, types }))
-        }
-    }
+    open_passes(alloc, host, &input)
 }
 
-/// Cuts out of IN.
+/// Writes the complete-ways extract.
 fn cut_out<F: Feed, D: Drain, S: BuildHasher + Drop>(
     engine: Engine,
-    cutting: &mut Cutting<ThreePasses<F>>,
+    cut: &Cut,
+    inputs: &mut Inputs<F>,
     drain: &mut D,
     seed: Seed<S>,
 ) -> Result<Report, Halted>
-    requires { IfSome (D.taken drain.old) (λ taken. taken ≡ []) }
-    ensures works { let old = cutting.old.passes in let now = cutting.new.passes in
-        WorksOn (to_raw (manner_of engine)) (check_in engine seed.key)
-        F.Feed D.Drain (extracting complete_ways (area_of cutting.old.cut))
-        (old.one ∷ old.two ∷ old.three ∷ []) (now.one ∷ now.two ∷ now.three ∷ [])
-        drain.old drain.new result }
-    ensures front { let old = cutting.old.passes in
-        Fronts (input_form engine.program) (extracting complete_ways (area_of cutting.old.cut))
-        (F.remaining old.one ∷ F.remaining old.two ∷ F.remaining old.three ∷ [])
-        (D.taken drain.old) (D.taken drain.new) result }
+    requires count { length (feeds_in inputs.old) ≡ 3 }
+    requires ready { AreReady F.Feed ⟦<PublishedFeed<F> as Feed>⟧ engine.program
+        (check_in engine seed.key) inputs.old }
+    ensures { RunsTask (manner_of engine) (check_in engine seed.key) F.Feed D.Drain
+        (extracting complete_ways (area_of cut.now))
+        (feeds_in inputs.old) (feeds_in inputs.new) drain.old drain.new result }
 {
-    let Cutting { passes, cut } = cutting;
-    match &*cut {
-        Cut::Box(area) => extract(engine, passes, CompleteWays { area }, drain, seed),
-        Cut::Polygon(area) => extract(engine, passes, CompleteWays { area }, drain, seed),
+    match cut {
+        Cut::Box(area) => run_task(engine, CompleteWays { area }, inputs, drain, seed),
+        Cut::Polygon(area) => run_task(engine, CompleteWays { area }, inputs, drain, seed),
     }
 }
 
-/// Writes the smart extract.
-fn cut_out_smart<F: Feed, D: Drain, S: BuildHasher + Drop>(
-    engine: Engine,
-    cutting: &mut SmartCutting<F>,
-    drain: &mut D,
-    seed: Seed<S>,
-) -> Result<Report, Halted>
-    requires { IfSome (D.taken drain.old) (λ taken. taken ≡ []) }
-    ensures works { let old = cutting.old.passes in let now = cutting.new.passes in
-        WorksOn (to_raw (manner_of engine)) (check_in engine seed.key) F.Feed D.Drain
-        (extracting (smart (is_wanted cutting.old.types)) (area_of cutting.old.cut))
-        (old.one ∷ old.two ∷ old.three ∷ []) (now.one ∷ now.two ∷ now.three ∷ [])
-        drain.old drain.new result }
-    ensures front { let old = cutting.old.passes in
-        Fronts (input_form engine.program)
-        (extracting (smart (is_wanted cutting.old.types)) (area_of cutting.old.cut))
-        (F.remaining old.one ∷ F.remaining old.two ∷ F.remaining old.three ∷ [])
-        (D.taken drain.old) (D.taken drain.new) result }
-{
-    let SmartCutting { passes, cut, types } = cutting;
-    let types = mem::replace(types, WholeTypes::none(engine.alloc));
-    match &*cut {
-        Cut::Box(area) => extract(engine, passes, Smart { area, types }, drain, seed),
-        Cut::Polygon(area) => extract(engine, passes, Smart { area, types }, drain, seed),
-    }
-}
-
-/// Cuts out of IN with all parents.
+/// Writes the extract with all parents.
 fn cut_out_parents<F: Feed, D: Drain, S: BuildHasher + Drop>(
     engine: Engine,
-    cutting: &mut Cutting<FourPasses<F>>,
+    cut: &Cut,
+    inputs: &mut Inputs<F>,
     drain: &mut D,
     seed: Seed<S>,
 ) -> Result<Report, Halted>
-    requires { IfSome (D.taken drain.old) (λ taken. taken ≡ []) }
-    ensures works { let old = cutting.old.passes in let now = cutting.new.passes in
-        WorksOn (to_raw (manner_of engine)) (check_in engine seed.key)
-        F.Feed D.Drain (extracting all_parents (area_of cutting.old.cut))
-        (old.one ∷ old.two ∷ old.three ∷ old.four ∷ [])
-        (now.one ∷ now.two ∷ now.three ∷ now.four ∷ [])
-        drain.old drain.new result }
-    ensures front { let old = cutting.old.passes in
-        Fronts (input_form engine.program) (extracting all_parents (area_of cutting.old.cut))
-        (F.remaining old.one ∷ F.remaining old.two ∷ F.remaining old.three ∷ F.remaining old.four ∷ [])
-        (D.taken drain.old) (D.taken drain.new) result }
+    requires count { length (feeds_in inputs.old) ≡ 4 }
+    requires ready { AreReady F.Feed ⟦<PublishedFeed<F> as Feed>⟧ engine.program
+        (check_in engine seed.key) inputs.old }
+    ensures { RunsTask (manner_of engine) (check_in engine seed.key) F.Feed D.Drain
+        (extracting all_parents (area_of cut.now))
+        (feeds_in inputs.old) (feeds_in inputs.new) drain.old drain.new result }
 {
-    let Cutting { passes, cut } = cutting;
-    match &*cut {
-        Cut::Box(area) => extract_parents(engine, passes, area, drain, seed),
-        Cut::Polygon(area) => extract_parents(engine, passes, area, drain, seed),
+    match cut {
+        Cut::Box(area) => run_task(engine, AllParents { area }, inputs, drain, seed),
+        Cut::Polygon(area) => run_task(engine, AllParents { area }, inputs, drain, seed),
     }
 }
 
-/// Does it, into a drain that took nothing.
+/// Does it, into a drain.
 pub(crate) fn do_job<F: Feed, D: Drain, S: BuildHasher + Drop>(
     engine: Engine,
     job: &mut Job<F>,
     drain: &mut D,
     seed: Seed<S>,
 ) -> Result<Report, Halted>
-    requires { IfSome (D.taken drain.old) (λ taken. taken ≡ []) }
-    ensures works { WorksOn (to_raw (manner_of engine)) (check_in engine seed.key)
-        F.Feed D.Drain (task_of job.old)
+    requires { IsReadyFor F.Feed ⟦<PublishedFeed<F> as Feed>⟧ engine seed.key job.old }
+    ensures { RunsTask (manner_of engine) (check_in engine seed.key) F.Feed D.Drain (task_of job.old)
         (feeds_of job.old) (feeds_of job.new) drain.old drain.new result }
-    ensures front { Fronts (input_form engine.program) (task_of job.old)
-        (map F.remaining (feeds_of job.old)) (D.taken drain.old) (D.taken drain.new) result }
 {
-    match job {
-        Job::Convert(passes) => convert(engine, passes, drain, seed),
-        Job::Copy(passes) => copy(engine, passes, drain, seed.key),
-        Job::Extract(cutting) => cut_out(engine, cutting, drain, seed),
-        Job::ExtractParents(cutting) => cut_out_parents(engine, cutting, drain, seed),
-        Job::ExtractSmart(cutting) => cut_out_smart(engine, cutting, drain, seed),
+    let Job { plan, inputs } = job;
+    match plan {
+        Plan::Convert => run_task(engine, PlainTask::Convert, inputs, drain, seed),
+        Plan::Copy => run_task(engine, PlainTask::Copy, inputs, drain, seed),
+        Plan::Extract(cut) => cut_out(engine, cut, inputs, drain, seed),
+        Plan::ExtractParents(cut) => cut_out_parents(engine, cut, inputs, drain, seed),
+        Plan::ExtractSmart(cut, types) => {
+            let types = mem::replace(types, WholeTypes::none(engine.alloc));
+            match &*cut {
+                Cut::Box(area) => run_task(engine, Smart { area, types }, inputs, drain, seed),
+                Cut::Polygon(area) => run_task(engine, Smart { area, types }, inputs, drain, seed),
+            }
+        }
     }
-}
-
-/// Hands two feeds back.
-pub(crate) fn close_two<H: Host>(host: &mut H, passes: TwoPasses<H::In>)
-    ensures { CloseAll H.In.Feed (passes.one ∷ passes.two ∷ []) (H.log host.old) (H.log host.new) }
-{
-    let TwoPasses { one, two } = passes;
-    host.close(one);
-    host.close(two);
-}
-
-/// Hands three feeds back.
-fn close_three<H: Host>(host: &mut H, passes: ThreePasses<H::In>)
-    ensures { CloseAll H.In.Feed (passes.one ∷ passes.two ∷ passes.three ∷ [])
-        (H.log host.old) (H.log host.new) }
-{
-    let ThreePasses { one, two, three } = passes;
-    host.close(one);
-    host.close(two);
-    host.close(three);
-}
-
-/// Hands four feeds back.
-fn close_four<H: Host>(host: &mut H, passes: FourPasses<H::In>)
-    ensures { CloseAll H.In.Feed (passes.one ∷ passes.two ∷ passes.three ∷ passes.four ∷ [])
-        (H.log host.old) (H.log host.new) }
-{
-    let FourPasses {
-        one,
-        two,
-        three,
-        four,
-    } = passes;
-    host.close(one);
-    host.close(two);
-    host.close(three);
-    host.close(four);
 }
 
 /// Hands all feeds of a job back.
 pub(crate) fn close_job<H: Host>(host: &mut H, job: Job<H::In>)
     ensures { CloseAll H.In.Feed (feeds_of job) (H.log host.old) (H.log host.new) }
 {
-    match job {
-        Job::Convert(passes) | Job::Copy(passes) => close_two(host, passes),
-        Job::Extract(cutting) => close_three(host, cutting.passes),
-        Job::ExtractParents(cutting) => close_four(host, cutting.passes),
-        Job::ExtractSmart(cutting) => close_three(host, cutting.passes),
-    }
+    close_inputs(host, job.inputs);
 }

@@ -1,12 +1,15 @@
 //! The laws of runs. Each is the contract of a function that does nothing: a proof that needs the law calls it, or takes the lemma of
 //! that name from this crate's `proofs/`.
 
-ghost use Rattle.std.specs.Prelude.{◌≡◌, ◌≤◌, ℕ, true, List, Some, codes, length};
+ghost use Rattle.std.specs.Prelude.{◌≡◌, ◌≤◌, ℕ, true, false, List, None, Some, codes, length};
 ghost use Rattle.clap.specs.Words.{Row, Text, subcommand_of, takes};
-ghost use Rattle.osm_area.specs.Area.{IsAreaWithin};
+ghost use Rattle.osm_area.specs.Area.{AreaSpec, IsAreaWithin};
 ghost use Rattle.osm_ways.specs.Selection.{IsWider};
 ghost use Rattle.pbf_frame.specs.declared.frame.TheConstants.{FILE_LIMIT};
-ghost use Rattle.pbfcut.specs.Kept.{extract_of};
+ghost use Rattle.pbf_frame.specs.Verdict.{judged};
+ghost use Rattle.pbf_header.specs.WrittenHeader.{EdgesTyped, edges_of};
+ghost use Rattle.pbf_pass.specs.Judged.{fully};
+ghost use Rattle.pbfcut.specs.Kept.{IsWritable, conversion_of, extract_of};
 ghost use Rattle.pbfcut_cli.specs.Joined.{normalized};
 ghost use Rattle.pbfcut_cli.specs.Words.{ReadsAs, program_app};
 ghost use Rattle.pbfcut_cli.specs.declared.programs.Program.{Program};
@@ -18,7 +21,8 @@ ghost use Rattle.pbfcut_program.specs.Events.{Event};
 ghost use Rattle.pbfcut_program.specs.Manner.{Manner, of_input, of_output};
 ghost use Rattle.pbfcut_program.specs.Program.{Extracts, IsRun, Writes, manner_in, strategy_of};
 ghost use Rattle.pbfcut_program.specs.Taking.{ReadsOnly, TookConversion, TookCopy, TookExtract};
-ghost use Rattle.pbfcut_program.specs.Tasks.{converting, copying};
+ghost use Rattle.pbfcut.specs.Tasks.{converting, copying, extracting};
+ghost use Rattle.pbfcut_program.specs.Tasks.{GivesRaw};
 
 use osm_area::Area;
 use pbfcut::laws::area_extracts_compose;
@@ -45,6 +49,18 @@ pub fn run_takes_extract()
         → (cut : Region) × (by : Strategy) × (files : Files)
         × ReadsAs (codes "extract") rows (Extract cut by files)
         × TookExtract (manner_in program (Extract cut by files)) cut by file events }
+{}
+
+/// What `convert` and `extract` write for a file that can be written is a raw file, unless it is longer than one may be; and so is a file
+/// without a fault, which `pack` and `unpack` copy.
+pub fn answers_are_raw_files()
+    ensures convert { (file : List ℕ) → IsWritable file → length (conversion_of file) ≤ FILE_LIMIT
+        → GivesRaw converting file }
+    ensures copy { (file : List ℕ) → (fully (judged false 0 file)).1 ≡ None → GivesRaw copying file }
+    ensures extract { (by : Strategy) (area : AreaSpec) (file : List ℕ)
+        → EdgesTyped (edges_of area.bounds) → IsWritable file
+        → length (extract_of (strategy_of by) area file) ≤ FILE_LIMIT
+        → GivesRaw (extracting (strategy_of by) area) file }
 {}
 
 /// Two runs compose. If a run took an extract of a file, and another one, by a strategy that is no wider and by an area that lies in that

@@ -1,37 +1,28 @@
 //! What is opened before a command begins.
 
-ghost use Rattle.std.specs.Prelude.{◌≡◌, ◌∷◌, [], ℕ, List, IfOk, IfErr, Some, true};
+ghost use Rattle.std.specs.Prelude.{◌≡◌, ◌∷◌, [], ℕ, List, length, map, IfOk, IfErr, Some, true};
+ghost use Rattle.pbf_published.specs.PublishedTasks.{below_of};
 ghost use Rattle.pbfcut_program.specs.Events.{Event, opened, screened, seeded, then_all, then_one};
-ghost use Rattle.pbfcut_program.specs.Devices.{IsFresh, IsFreshOut};
+ghost use Rattle.pbfcut_program.specs.Devices.{AreFresh, CloseAll, IsFresh, IsFreshOut};
 ghost use Rattle.pbfcut_program.specs.Fails.{FailsOpening};
-ghost use Rattle.pbfcut_program.specs.Program.{draws};
+ghost use Rattle.pbfcut_program.specs.Inputs.{AreReady, feeds_in};
+ghost use Rattle.pbfcut_program.specs.Manner.{check_in};
+ghost use Rattle.pbfcut_program.specs.Program.{draws, openings};
 
+use crate::engine::Engine;
 use crate::host::{Host, OpenFault, Seed, Turn};
-use pbf_frame::Stop;
+use pbf_frame::{Feed, Stop};
+use pbf_published::{PublishedFeed, close, open_all};
 use pbfcut_cli::{Ending, Program};
+use std::alloc::{AllocError, Global};
 
-/// IN, opened for each of two passes.
+/// IN, opened for each pass, as a program reads it.
 #[derive(Drop)]
-pub(crate) struct TwoPasses<F> {
-    pub(crate) one: F,
-    pub(crate) two: F,
-}
-
-/// IN, opened for each of three passes.
-#[derive(Drop)]
-pub(crate) struct ThreePasses<F> {
-    pub(crate) one: F,
-    pub(crate) two: F,
-    pub(crate) three: F,
-}
-
-/// IN, opened for each of four passes.
-#[derive(Drop)]
-pub(crate) struct FourPasses<F> {
-    pub(crate) one: F,
-    pub(crate) two: F,
-    pub(crate) three: F,
-    pub(crate) four: F,
+pub(crate) enum Inputs<F> {
+    /// As it is.
+    Raw(Vec<F>),
+    /// Unpacked.
+    Published(Vec<PublishedFeed<F>>),
 }
 
 /// IN, how often it is read, and whether the run reports how far it has come.
@@ -62,64 +53,77 @@ pub(crate) fn open_pass<H: Host>(host: &mut H, input: &Input<'_>, pass: u8) -> R
     }
 }
 
-/// Opens IN for the first two passes.
-pub(crate) fn open_two<H: Host>(host: &mut H, input: &Input<'_>) -> Result<TwoPasses<H::In>, Ending>
-    ensures opened { IfOk result (λ p. H.log host.new ≡ then_all (H.log host.old)
-        (opened input.now.path.now 1 (H.In.remaining p.one)
-        ∷ opened input.now.path.now 2 (H.In.remaining p.two) ∷ [])) }
-    ensures fresh { IfOk result (λ p. IsFresh H.In.Feed p.one × IsFresh H.In.Feed p.two) }
-    ensures failed { IfErr result (λ how. (events : List Event)
-        × (H.log host.new ≡ then_all (H.log host.old) events) × FailsOpening how events) }
-{
-    let one = open_pass(host, input, 1)?;
-    let two = open_pass(host, input, 2)?;
-    Ok(TwoPasses { one, two })
-}
-
-/// Opens IN for the first three passes.
-pub(crate) fn open_three<H: Host>(
+/// Opens IN for each pass.
+#[tactic(auto, using(crate::proofs::OpeningLemmas::opened_more, crate::proofs::Logging::then_none))]
+pub(crate) fn open_passes<H: Host>(
+    alloc: Global,
     host: &mut H,
     input: &Input<'_>,
-) -> Result<ThreePasses<H::In>, Ending>
-    ensures opened { IfOk result (λ p. H.log host.new ≡ then_all (H.log host.old)
-        (opened input.now.path.now 1 (H.In.remaining p.one)
-        ∷ opened input.now.path.now 2 (H.In.remaining p.two)
-        ∷ opened input.now.path.now 3 (H.In.remaining p.three) ∷ [])) }
-    ensures fresh { IfOk result (λ p. IsFresh H.In.Feed p.one × IsFresh H.In.Feed p.two
-        × IsFresh H.In.Feed p.three) }
+) -> Result<Vec<H::In>, Ending>
+    ensures opened { IfOk result (λ feeds. H.log host.new ≡ then_all (H.log host.old)
+        (openings input.now.path.now 1 (map H.In.remaining feeds.items))) }
+    ensures fresh { IfOk result (λ feeds. AreFresh H.In.Feed feeds.items) }
+    ensures count { IfOk result (λ feeds. length feeds.items ≡ input.now.passes) }
     ensures failed { IfErr result (λ how. (events : List Event)
         × (H.log host.new ≡ then_all (H.log host.old) events) × FailsOpening how events) }
 {
-    let passes = open_two(host, input)?;
-    let three = open_pass(host, input, 3)?;
-    let TwoPasses { one, two } = passes;
-    Ok(ThreePasses { one, two, three })
+    let mut feeds = Vec::with_capacity(alloc, usize::from(input.passes))?;
+    'passes: for pass in 0..input.passes {
+        let feed = open_pass(host, input, pass + 1)?;
+        let Ok(()) = feeds.push(feed) else {
+            return Err(Ending::Stopped(Stop::Memory));
+        };
+    }
+    Ok(feeds)
 }
 
-/// Opens IN for four passes.
-pub(crate) fn open_four<H: Host>(
-    host: &mut H,
-    input: &Input<'_>,
-) -> Result<FourPasses<H::In>, Ending>
-    ensures opened { IfOk result (λ p. H.log host.new ≡ then_all (H.log host.old)
-        (opened input.now.path.now 1 (H.In.remaining p.one)
-        ∷ opened input.now.path.now 2 (H.In.remaining p.two)
-        ∷ opened input.now.path.now 3 (H.In.remaining p.three)
-        ∷ opened input.now.path.now 4 (H.In.remaining p.four) ∷ [])) }
-    ensures fresh { IfOk result (λ p. IsFresh H.In.Feed p.one × IsFresh H.In.Feed p.two
-        × IsFresh H.In.Feed p.three × IsFresh H.In.Feed p.four) }
-    ensures failed { IfErr result (λ how. (events : List Event)
-        × (H.log host.new ≡ then_all (H.log host.old) events) × FailsOpening how events) }
+/// Reads these feeds as a program does.
+pub(crate) fn open_inputs<F: Feed + Drop>(
+    engine: Engine,
+    feeds: Vec<F>,
+    key: u128,
+) -> Result<Inputs<F>, AllocError>
+    ensures feeds { IfOk result (λ inputs. feeds_in inputs ≡ feeds.items) }
+    ensures ready { IfOk result (λ inputs. AreReady F.Feed ⟦<PublishedFeed<F> as Feed>⟧
+        engine.program (check_in engine key) inputs) }
 {
-    let passes = open_three(host, input)?;
-    let four = open_pass(host, input, 4)?;
-    let ThreePasses { one, two, three } = passes;
-    Ok(FourPasses {
-        one,
-        two,
-        three,
-        four,
-    })
+    match engine.program {
+        Program::Pbfcut => Ok(Inputs::Raw(feeds)),
+        Program::Pbfcutz => {
+            let check = engine.many_passes(key).check;
+            Ok(Inputs::Published(open_all(engine.alloc, feeds, check)?))
+        }
+    }
+}
+
+/// Hands raw feeds back.
+#[tactic(auto, using(crate::proofs::OpeningLemmas::closed_more))]
+fn close_raw<H: Host>(host: &mut H, feeds: Vec<H::In>)
+    ensures { CloseAll H.In.Feed feeds.items (H.log host.old) (H.log host.new) }
+{
+    'feeds: for feed in feeds {
+        host.close(feed);
+    }
+}
+
+/// Hands back the feeds below those that unpack.
+#[tactic(auto, using(crate::proofs::OpeningLemmas::closed_below))]
+fn close_published<H: Host>(host: &mut H, feeds: Vec<PublishedFeed<H::In>>)
+    ensures { CloseAll H.In.Feed (map below_of feeds.items) (H.log host.old) (H.log host.new) }
+{
+    'feeds: for feed in feeds {
+        host.close(close(feed));
+    }
+}
+
+/// Hands IN back after all passes.
+pub(crate) fn close_inputs<H: Host>(host: &mut H, inputs: Inputs<H::In>)
+    ensures { CloseAll H.In.Feed (feeds_in inputs) (H.log host.old) (H.log host.new) }
+{
+    match inputs {
+        Inputs::Raw(feeds) => close_raw(host, feeds),
+        Inputs::Published(feeds) => close_published(host, feeds),
+    }
 }
 
 /// Takes standard output to be written to as OUT is.

@@ -3,12 +3,11 @@
 ghost use Rattle.std.specs.Prelude.{◌≡◌, [], List, IfErr, IfOk, OnOk, map, string_bytes};
 ghost use Rattle.pbfcut_cli.specs.Words.{word_texts};
 ghost use Rattle.pbfcut_program.specs.Events.{Event, then_all};
-ghost use Rattle.pbfcut_program.specs.Fails.{FailsFor, judging};
+ghost use Rattle.pbfcut_program.specs.Fails.{FailsFor, judging_for};
 ghost use Rattle.pbfcut_program.specs.Jobs.{plan_of};
 ghost use Rattle.pbfcut_program.specs.Leaving.{LeavesFor};
 ghost use Rattle.pbfcut_program.specs.Manner.{manner_of};
 ghost use Rattle.pbfcut_program.specs.Settling.{RunSettles, Settles, SettlesIn};
-ghost use Rattle.pbfcut_program.specs.Tasks.{judge_of};
 ghost use Rattle.pbfcut_program.specs.Telling.{IsSaid};
 ghost use Rattle.pbfcut_program.specs.Program.{Does, FailsIn, IsRun, IsWhy, Writes, digests_of, packs_of};
 
@@ -71,7 +70,7 @@ fn run_writing<H: Host>(
         × Writes (manner_of engine) (plan_of plan) files.now events) }
     ensures err { IfErr result (λ how. (events : List Event)
         × (H.log host.new ≡ then_all (H.log host.old) events)
-        × FailsFor (manner_of engine) (judging (judge_of (plan_of plan))) how events
+        × FailsFor (manner_of engine) (judging_for (plan_of plan)) how events
         × LeavesFor (manner_of engine) (plan_of plan) events
         × IsSaid engine.digests (Writes (manner_of engine) (plan_of plan) files.now) how events) }
     ensures files { Settles engine.program files.now (H.log host.old) (H.log host.new) }

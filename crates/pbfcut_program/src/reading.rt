@@ -1,29 +1,31 @@
 //! The commands that write no file: `blobs`, `info`, `show` and `check`.
 
 ghost use Rattle.std.specs.Prelude.{◌≡◌, ◌∷◌, [], ℕ, false, List, Option, IfErr, IfOk, OnOk, is_ok, None};
-ghost use Rattle.pbf_pass.specs.Judged.{judged_file};
 ghost use Rattle.pbf_published.specs.Showing.{TellsInfo};
 ghost use Rattle.pbfcut.specs.Summary.{judged_headings};
 ghost use Rattle.pbfcut_cli.specs.declared.programs.Program.TheVariants as program;
 ghost use Rattle.pbfcut_program.specs.Devices.{Finishes};
 ghost use Rattle.pbfcut_program.specs.Events.{Event, Reading, opened, read, then_all};
-ghost use Rattle.pbfcut_program.specs.Fails.{Each, FailsFor, judging, listing};
+ghost use Rattle.pbfcut_program.specs.Fails.{Each, FailsFor, judging, judging_for, listing};
 ghost use Rattle.pbfcut_program.specs.Leaving.{LeavesFor};
 ghost use Rattle.pbfcut_program.specs.Manner.{manner, manner_of, once_check, to_raw};
 ghost use Rattle.pbfcut_program.specs.Outcomes.{EndsAs, ending_of_text};
 ghost use Rattle.pbfcut_program.specs.Program.{Checks, IsListing, Lists, Shows};
 ghost use Rattle.pbfcut_program.specs.Readings.{IsWork};
 ghost use Rattle.pbfcut_program.specs.Settling.{IsStill};
-ghost use Rattle.pbfcut_program.specs.Tasks.{checking, listing_frames, showing};
+ghost use Rattle.pbfcut.specs.Tasks.{checking, listing_frames, showing};
 ghost use Rattle.pbfcut_program.specs.Telling.{IsSaid, SaysLittle, Silent};
 
-use crate::engine::{Engine, Halted, Report, ShowOptions, check, list_blobs, show, show_info};
-use crate::host::{FinishFault, Host};
-use crate::jobs::close_two;
-use crate::opening::{Input, draw_key, open_pass, open_screen, open_two};
+use crate::engine::{Engine, Halted, Report, check, list_blobs, run_task, show_info};
+use crate::host::{FinishFault, Host, Seed};
+use crate::opening::{
+    Input, close_inputs, draw_key, open_inputs, open_pass, open_passes, open_screen,
+};
 use crate::printing::{print_checked, tell_refusal};
 use pbf_frame::Stop;
+use pbfcut::PlainTask;
 use pbfcut_cli::Ending;
+use std::hash::{BuildHasherDefault, FoldHasher};
 
 /// The one pass of `check`.
 fn read_once<H: Host>(
@@ -39,7 +41,7 @@ fn read_once<H: Host>(
         report.counts report.input report.raw) }
     ensures err { IfErr result (λ how. (events : List Event)
         × (H.log host.new ≡ then_all (H.log host.old) events)
-        × FailsFor (manner_of engine) (judging judged_file) how events
+        × FailsFor (manner_of engine) (judging_for checking) how events
         × SaysLittle engine.digests events) }
     ensures files { IsStill (H.log host.old) (H.log host.new) }
 {
@@ -69,7 +71,7 @@ pub(crate) fn run_check<H: Host>(
         × Checks (manner_of engine) path.now events) }
     ensures err { IfErr result (λ how. (events : List Event)
         × (H.log host.new ≡ then_all (H.log host.old) events)
-        × FailsFor (manner_of engine) (judging judged_file) how events
+        × FailsFor (manner_of engine) (judging_for checking) how events
         × IsSaid engine.digests (Checks (manner_of engine) path.now) how events) }
     ensures files { IsStill (H.log host.old) (H.log host.new) }
 {
@@ -116,20 +118,31 @@ pub(crate) fn run_show<H: Host>(
     input: &Input<'_>,
     dates: bool,
 ) -> Result<(), Ending>
+    requires { input.now.passes ≡ 2 }
     ensures ok { OnOk result ((events : List Event)
         × (H.log host.new ≡ then_all (H.log host.old) events)
         × Shows (manner_of engine) dates input.now.path.now events) }
     ensures err { IfErr result (λ how. (events : List Event)
         × (H.log host.new ≡ then_all (H.log host.old) events)
-        × FailsFor (to_raw (manner_of engine)) (judging judged_file) how events
+        × FailsFor (to_raw (manner_of engine)) (judging_for (showing dates)) how events
         × LeavesFor (to_raw (manner_of engine)) (showing dates) events × Each Silent events) }
     ensures files { IsStill (H.log host.old) (H.log host.new) }
 {
-    let mut passes = open_two(host, input)?;
+    let feeds = open_passes(engine.alloc, host, input)?;
     let key = draw_key(host, engine.program)?;
+    let mut inputs = open_inputs(engine, feeds, key)?;
     let mut out = open_screen(host)?;
-    let outcome = show(engine, &mut passes, &mut out, ShowOptions { dates, key });
-    close_two(host, passes);
+    // Nothing is hashed for a text.
+    let hasher: BuildHasherDefault<FoldHasher> = BuildHasherDefault::new();
+    let seed = Seed { hasher, key };
+    let outcome = run_task(
+        engine,
+        PlainTask::Show { dates },
+        &mut inputs,
+        &mut out,
+        seed,
+    );
+    close_inputs(host, inputs);
     ended(host, out, outcome)
 }
 
@@ -169,7 +182,7 @@ pub(crate) fn run_info<H: Host>(
     ensures err { IfErr result (λ how. (events : List Event)
         × (H.log host.new ≡ then_all (H.log host.old) events)
         × FailsFor (manner program.Pbfcutz false engine.digests)
-        (judging judged_headings) how events × Each Silent events) }
+        (judging judged_headings (λ file. ⊥)) how events × Each Silent events) }
     ensures files { IsStill (H.log host.old) (H.log host.new) }
 {
     let mut pass = open_pass(host, input, 1)?;

@@ -6,33 +6,34 @@ ghost use Rattle.std.specs.Option.{option_map};
 ghost use Rattle.std.specs.Result.{result_err};
 ghost use Rattle.pbf_frame.specs.declared.stop.Stop.TheVariants as stop;
 ghost use Rattle.pbfcut_cli.specs.declared.endings.Ending.TheVariants as ending;
-ghost use Rattle.pbfcut.specs.Receipts.{judge_by};
 ghost use Rattle.pbf_pass.specs.Stops.{WriteFailed};
+ghost use Rattle.pbf_unpack.specs.Packing.{taken_raw};
 ghost use Rattle.pbfcut_cli.specs.declared.programs.Program.TheVariants.{Pbfcutz};
-ghost use Rattle.pbfcut_program.specs.Devices.{AreFresh, FinishesPacked, Fronts, IsAsked, IsFreshOut, MeansBy, TakenBy, Works, WorksOn};
+ghost use Rattle.pbfcut_program.specs.Devices.{AreFresh, DrainFailed, FinishesPacked, Fronts, IsAsked, IsFreshOut, IsNamed, Leads, MeansBy, TakenBy, Wholes, Works, WorksOn};
 ghost use Rattle.pbfcut_program.specs.Events.{Event, Reading, Writing, read, wrote, then_all};
 ghost use Rattle.pbfcut_program.specs.Files.{IsKept, IsMade};
-ghost use Rattle.pbfcut_program.specs.Fails.{Each, Fails, FailsFor, FailsOpening, Quiet, UnlessPacked, judging};
-ghost use Rattle.pbfcut_program.specs.Jobs.{area_of, feeds_of, plan_of, task_of};
+ghost use Rattle.pbfcut_program.specs.Fails.{Each, Fails, FailsFor, FailsOpening, Quiet, judging_for};
+ghost use Rattle.pbfcut_program.specs.Jobs.{IsReadyFor, area_of, feeds_of, plan_of, task_of};
 ghost use Rattle.pbfcut_program.specs.Leaving.{Leaves, LeavesFor};
 ghost use Rattle.pbfcut_program.specs.Outcomes.{ending_of_file};
-ghost use Rattle.pbfcut_program.specs.Program.{Extracts, LeavesCut, Writes, WritesCounts, advice, begun, is_empty, is_screen, looks, screen_of, strategy_of};
+ghost use Rattle.pbfcut_program.specs.Program.{Extracts, LeavesCut, Writes, WritesCounts, advice, begun, is_empty, is_screen, judging_cut, looks, screen_of, strategy_of};
 ghost use Rattle.pbfcut_program.specs.Manner.{check_in, hashes_meaning, input_form, manner_of, output_form, packed_file, to_raw};
 ghost use Rattle.pbfcut_program.specs.Settling.{Returns, Settles};
 ghost use Rattle.pbfcut_program.specs.Worked.{Worked};
-ghost use Rattle.pbfcut_program.specs.Tasks.{extracting, judge_of, passes_of};
+ghost use Rattle.pbfcut.specs.Tasks.{extracting, passes_of};
 ghost use Rattle.pbfcut_program.specs.Telling.{IsSaid, SaysLittle};
 
 use crate::engine::{Engine, Halted, Report};
 use crate::host::{FinishFault, Host, Screen, Seed};
-use crate::jobs::{Cut, Job, Plan, close_job, do_job, open_job, read_region};
+use crate::jobs::{Cut, Job, Plan, close_job, do_job, open_plan, read_region};
 use crate::linked::LinkedDrain;
-use crate::opening::draw_seed;
+use crate::opening::{draw_seed, open_inputs};
 use crate::output::{Output, Place, drop_out, keep_out, make_out};
 use crate::printing::{Done, print_done, tell_refusal};
 use osm_ways::WholeTypes;
 use pbf_frame::{Drain, Feed, Stop};
 use pbf_pass::{Counts, HashedDrain};
+use pbf_published::PublishedFeed;
 use pbf_unpack::{Deflater, PackedDrain};
 use pbfcut_cli::{Ending, Files, Program, Region, Strategy};
 use std::alloc::{AllocError, Global};
@@ -109,19 +110,23 @@ fn prepare<H: Host>(
         × IsFreshOut H.Out.Drain r.out.drain) }
     ensures planned { IfOk result (λ r. (task_of r.job ≡ plan_of plan)
         × (length (feeds_of r.job) ≡ passes_of (plan_of plan))) }
+    ensures ready { IfOk result (λ r. IsReadyFor H.In.Feed ⟦<PublishedFeed<H::In> as Feed>⟧
+        engine r.seed.key r.job) }
     ensures err { IfErr result (λ how. (events : List Event)
         × (H.log host.new ≡ then_all (H.log host.old) events) × FailsOpening how events) }
 {
     let to_screen = is_screen(engine.program, files.output);
     refuse_existing(host, to_screen, files)?;
-    let job = open_job(host, files.input, progress, plan)?;
+    let feeds = open_plan(engine.alloc, host, files.input, progress, &plan)?;
     let seed = draw_seed(host)?;
+    let inputs = open_inputs(engine, feeds, seed.key)?;
     let out = make_out(
         engine.alloc,
         host,
         to_screen,
         place_of(engine.program, files),
     )?;
+    let job = Job { plan, inputs };
     Ok(Ready { job, out, seed })
 }
 
@@ -142,11 +147,13 @@ fn run_raw<F: Feed, D: Drain + Drop, S: BuildHasher + Drop>(
     out: D,
     seed: Seed<S>,
 ) -> Ran<D>
-    requires { IfSome (D.taken out) (λ taken. taken ≡ []) }
+    requires { IsReadyFor F.Feed ⟦<PublishedFeed<F> as Feed>⟧ engine seed.key job.old }
     ensures works { WorksOn (to_raw (manner_of engine)) (check_in engine seed.key)
         F.Feed D.Drain (task_of job.old)
         (feeds_of job.old) (feeds_of job.new) out result.out result.result }
     ensures front { Fronts (input_form engine.program) (task_of job.old)
+        (map F.remaining (feeds_of job.old)) (D.taken out) (D.taken result.out) result.result }
+    ensures whole { Wholes (input_form engine.program) (task_of job.old)
         (map F.remaining (feeds_of job.old)) (D.taken out) (D.taken result.out) result.result }
     ensures unhashed { (result.output ≡ None) × (result.meaning ≡ None) }
 {
@@ -167,11 +174,15 @@ fn run_raw_hashed<F: Feed, D: Drain + Drop, S: BuildHasher + Drop>(
     out: D,
     seed: Seed<S>,
 ) -> Ran<D>
-    requires { IfSome (D.taken out) (λ taken. taken ≡ []) }
+    requires { IsReadyFor F.Feed ⟦<PublishedFeed<F> as Feed>⟧ engine seed.key job.old }
     ensures works { AreFresh F.Feed (feeds_of job.old) → D.has_taken out 0 []
         → Works (to_raw (manner_of engine)) (check_in engine seed.key) F.Feed (task_of job.old)
         (feeds_of job.old) (feeds_of job.new) (TakenBy D.Drain result.out result.output)
         (WriteFailed D.Drain out result.out) result.result }
+    ensures front { Fronts (input_form engine.program) (task_of job.old)
+        (map F.remaining (feeds_of job.old)) (D.taken out) (D.taken result.out) result.result }
+    ensures whole { Wholes (input_form engine.program) (task_of job.old)
+        (map F.remaining (feeds_of job.old)) (D.taken out) (D.taken result.out) result.result }
     ensures hashed { IsAsked true result.output }
 {
     let linked = LinkedDrain::new(HashedDrain::new(out));
@@ -193,11 +204,15 @@ fn run_raw_into<F: Feed, D: Drain + Drop, S: BuildHasher + Drop>(
     out: D,
     seed: Seed<S>,
 ) -> Ran<D>
-    requires { IfSome (D.taken out) (λ taken. taken ≡ []) }
+    requires { IsReadyFor F.Feed ⟦<PublishedFeed<F> as Feed>⟧ engine seed.key job.old }
     ensures works { AreFresh F.Feed (feeds_of job.old) → D.has_taken out 0 []
         → Works (to_raw (manner_of engine)) (check_in engine seed.key) F.Feed (task_of job.old)
         (feeds_of job.old) (feeds_of job.new) (TakenBy D.Drain result.out result.output)
         (WriteFailed D.Drain out result.out) result.result }
+    ensures front { Fronts (input_form engine.program) (task_of job.old)
+        (map F.remaining (feeds_of job.old)) (D.taken out) (D.taken result.out) result.result }
+    ensures whole { Wholes (input_form engine.program) (task_of job.old)
+        (map F.remaining (feeds_of job.old)) (D.taken out) (D.taken result.out) result.result }
     ensures hashed { IsAsked engine.digests result.output }
 {
     if engine.digests {
@@ -207,9 +222,9 @@ fn run_raw_into<F: Feed, D: Drain + Drop, S: BuildHasher + Drop>(
     }
 }
 
-/// How a call halted whose drain packs; or, if it failed to write for want of memory, that.
+/// The halt of a call whose drain packs. If that drain stopped because memory was refused, a failed write is reported as that.
 fn named(halted: Halted, of_drain: Option<Stop>) -> Halted
-    ensures { (result.ending ≡ halted.ending) ⊎ (result.ending ≡ ending.Stopped stop.Memory) }
+    ensures { IsNamed of_drain halted.ending result.ending }
 {
     let is_write = matches!(&halted.ending, Ending::Stopped(Stop::Write));
     if is_write && of_drain == Some(Stop::Memory) {
@@ -218,29 +233,20 @@ fn named(halted: Halted, of_drain: Option<Stop>) -> Halted
     halted
 }
 
-/// How a call ends whose drain couldn't give OUT the rest.
-fn lost(of_drain: Option<Stop>) -> Halted
-    ensures { (result.ending ≡ ending.Stopped stop.Write) ⊎ (result.ending ≡ ending.Stopped stop.Memory) }
-{
-    match of_drain {
-        Some(Stop::Memory) => Halted::from(Stop::Memory),
-        _ => Halted::from(Stop::Write),
-    }
-}
-
 /// Gives OUT the rest of what a drain packs, once a call has ended.
 fn finish<D: Drain>(
     returned: Result<Report, Halted>,
     drain: &mut PackedDrain<D>,
 ) -> Result<Report, Halted>
-    ensures { FinishesPacked drain.old drain.new returned result }
+    ensures ends { FinishesPacked drain.old drain.new returned result }
+    ensures taken { taken_raw drain.new ≡ taken_raw drain.old }
 {
     let report = match returned {
         Ok(report) => report,
         Err(halted) => return Err(named(halted, drain.stop())),
     };
     if drain.finish().is_err() {
-        return Err(lost(drain.stop()));
+        return Err(named(Halted::from(Stop::Write), drain.stop()));
     }
     Ok(report)
 }
@@ -254,11 +260,15 @@ fn run_packed<F: Feed, D: Drain + Drop, S: BuildHasher + Drop>(
 ) -> Ran<D>
     requires fresh { IfSome (D.taken out) (λ taken. taken ≡ []) }
     requires packs { (engine.program ≡ Pbfcutz) × (engine.packs ≡ true) }
+    requires ready { IsReadyFor F.Feed ⟦<PublishedFeed<F> as Feed>⟧ engine seed.key job.old }
     ensures works { AreFresh F.Feed (feeds_of job.old) → D.has_taken out 0 []
         → Works (manner_of engine) (check_in engine seed.key) F.Feed (task_of job.old)
         (feeds_of job.old) (feeds_of job.new)
         (λ w. D.has_taken result.out 0 w × MeansBy packed_file result.meaning w)
-        (WriteFailed D.Drain out result.out) result.result }
+        (DrainFailed D.Drain packed_file (task_of job.old)
+        (map F.remaining (feeds_of job.old)) result.out) result.result }
+    ensures front { Leads packed_file (input_form engine.program) (task_of job.old)
+        (map F.remaining (feeds_of job.old)) (D.taken result.out) result.result }
     ensures hashed { IfOk result.result (λ _. IsAsked engine.digests result.meaning) }
     ensures unhashed { result.output ≡ None }
 {
@@ -289,16 +299,17 @@ fn run_unhashed<F: Feed, D: Drain + Drop, S: BuildHasher + Drop>(
     out: D,
     seed: Seed<S>,
 ) -> Ran<D>
-    requires { IfSome (D.taken out) (λ taken. taken ≡ []) }
+    requires fresh { IfSome (D.taken out) (λ taken. taken ≡ []) }
+    requires ready { IsReadyFor F.Feed ⟦<PublishedFeed<F> as Feed>⟧ engine seed.key job.old }
     ensures works { AreFresh F.Feed (feeds_of job.old) → D.has_taken out 0 []
         → Works (manner_of engine) (check_in engine seed.key) F.Feed (task_of job.old)
         (feeds_of job.old) (feeds_of job.new)
         (λ w. D.has_taken result.out 0 w
         × MeansBy (output_form engine.packs engine.program) result.meaning w)
-        (WriteFailed D.Drain out result.out) result.result }
-    ensures front { UnlessPacked (output_form engine.packs engine.program)
-        (Fronts (input_form engine.program) (task_of job.old) (map F.remaining (feeds_of job.old))
-        (D.taken out) (D.taken result.out) result.result) }
+        (DrainFailed D.Drain (output_form engine.packs engine.program) (task_of job.old)
+        (map F.remaining (feeds_of job.old)) result.out) result.result }
+    ensures front { Leads (output_form engine.packs engine.program) (input_form engine.program)
+        (task_of job.old) (map F.remaining (feeds_of job.old)) (D.taken result.out) result.result }
     ensures hashed { IfOk result.result (λ _. IsAsked
         (hashes_meaning (output_form engine.packs engine.program) engine.digests) result.meaning) }
     ensures unhashed { result.output ≡ None }
@@ -317,15 +328,16 @@ fn run_hashed<F: Feed, D: Drain + Drop, S: BuildHasher + Drop>(
     out: D,
     seed: Seed<S>,
 ) -> Ran<D>
-    requires { IsFreshOut D.Drain out }
+    requires fresh { IsFreshOut D.Drain out }
+    requires ready { IsReadyFor F.Feed ⟦<PublishedFeed<F> as Feed>⟧ engine seed.key job.old }
     ensures works { AreFresh F.Feed (feeds_of job.old)
         → Works (manner_of engine) (check_in engine seed.key) F.Feed (task_of job.old) (feeds_of job.old) (feeds_of job.new)
         (λ w. TakenBy D.Drain result.out result.output w
         × MeansBy (output_form engine.packs engine.program) result.meaning w)
-        (0 < D.failures result.out) result.result }
-    ensures front { UnlessPacked (output_form engine.packs engine.program)
-        (Fronts (input_form engine.program) (task_of job.old) (map F.remaining (feeds_of job.old))
-        (D.taken out) (D.taken result.out) result.result) }
+        (DrainFailed D.Drain (output_form engine.packs engine.program) (task_of job.old)
+        (map F.remaining (feeds_of job.old)) result.out) result.result }
+    ensures front { Leads (output_form engine.packs engine.program) (input_form engine.program)
+        (task_of job.old) (map F.remaining (feeds_of job.old)) (D.taken result.out) result.result }
     ensures hashed { IsAsked true result.output }
     ensures meaning { IfOk result.result (λ _. IsAsked
         (hashes_meaning (output_form engine.packs engine.program) engine.digests) result.meaning) }
@@ -349,15 +361,16 @@ fn run_into<F: Feed, D: Drain + Drop, S: BuildHasher + Drop>(
     out: D,
     seed: Seed<S>,
 ) -> Ran<D>
-    requires { IsFreshOut D.Drain out }
+    requires fresh { IsFreshOut D.Drain out }
+    requires ready { IsReadyFor F.Feed ⟦<PublishedFeed<F> as Feed>⟧ engine seed.key job.old }
     ensures works { AreFresh F.Feed (feeds_of job.old)
         → Works (manner_of engine) (check_in engine seed.key) F.Feed (task_of job.old) (feeds_of job.old) (feeds_of job.new)
         (λ w. TakenBy D.Drain result.out result.output w
         × MeansBy (output_form engine.packs engine.program) result.meaning w)
-        (0 < D.failures result.out) result.result }
-    ensures front { UnlessPacked (output_form engine.packs engine.program)
-        (Fronts (input_form engine.program) (task_of job.old) (map F.remaining (feeds_of job.old))
-        (D.taken out) (D.taken result.out) result.result) }
+        (DrainFailed D.Drain (output_form engine.packs engine.program) (task_of job.old)
+        (map F.remaining (feeds_of job.old)) result.out) result.result }
+    ensures front { Leads (output_form engine.packs engine.program) (input_form engine.program)
+        (task_of job.old) (map F.remaining (feeds_of job.old)) (D.taken result.out) result.result }
     ensures hashed { IsAsked engine.digests result.output }
     ensures meaning { IfOk result.result (λ _. IsAsked
         (hashes_meaning (output_form engine.packs engine.program) engine.digests) result.meaning) }
@@ -390,6 +403,8 @@ fn run_job<H: Host>(
     files: &Files<'_>,
 ) -> Result<Done, Ending>
     requires fresh { AreFresh H.In.Feed (feeds_of ready.job) × IsFreshOut H.Out.Drain ready.out.drain }
+    requires ready { IsReadyFor H.In.Feed ⟦<PublishedFeed<H::In> as Feed>⟧ engine ready.seed.key
+        ready.job }
     ensures ok { IfOk result (λ done. (rs : List Reading) × (out : Writing) × (keeps : List Event)
         × (H.log host.new ≡ then_all (H.log host.old) (map read rs ++ wrote out ∷ keeps))
         × Worked engine ready.seed.key (task_of ready.job)
@@ -398,7 +413,7 @@ fn run_job<H: Host>(
         × IsKept engine.program files.now.overwrite files.now.output.now out.name keeps) }
     ensures err { IfErr result (λ how. (events : List Event)
         × (H.log host.new ≡ then_all (H.log host.old) events)
-        × Fails (manner_of engine) (judging (judge_of (task_of ready.job)))
+        × Fails (manner_of engine) (judging_for (task_of ready.job))
         (map H.In.remaining (feeds_of ready.job)) how events
         × Leaves (manner_of engine) (task_of ready.job)
         (map H.In.remaining (feeds_of ready.job)) events
@@ -446,7 +461,7 @@ pub(crate) fn write<H: Host>(
         × WritesCounts (manner_of engine) (plan_of plan) files.now counts events) }
     ensures err { IfErr result (λ how. (events : List Event)
         × (H.log host.new ≡ then_all (H.log host.old) events)
-        × FailsFor (manner_of engine) (judging (judge_of (plan_of plan))) how events
+        × FailsFor (manner_of engine) (judging_for (plan_of plan)) how events
         × LeavesFor (manner_of engine) (plan_of plan) events
         × IsSaid engine.digests (Writes (manner_of engine) (plan_of plan) files.now) how events) }
     ensures files { Settles engine.program files.now (H.log host.old) (H.log host.new) }
@@ -502,7 +517,7 @@ pub(crate) fn run_extract<H: Host>(
         × Extracts (manner_of engine) region.now strategy.entry files.now events) }
     ensures err { IfErr result (λ how. (events : List Event)
         × (H.log host.new ≡ then_all (H.log host.old) events)
-        × FailsFor (manner_of engine) (judging (judge_by (strategy_of strategy.entry))) how events
+        × FailsFor (manner_of engine) (judging_cut region.now strategy.entry events) how events
         × (Each Quiet events ⊎ LeavesCut (manner_of engine) region.now strategy.entry events)
         × IsSaid engine.digests
         (Extracts (manner_of engine) region.now strategy.entry files.now) how events) }

@@ -7,6 +7,8 @@ mod blobs;
 mod check;
 #[cfg(test)]
 mod disk;
+#[cfg(test)]
+mod extracts;
 mod happened;
 #[cfg(test)]
 mod later_pass;
@@ -27,6 +29,8 @@ mod sorted;
 #[cfg(test)]
 mod steps;
 mod tape;
+#[cfg(test)]
+mod tasks;
 #[cfg(test)]
 mod words;
 #[cfg(test)]

@@ -11,7 +11,7 @@ use std::alloc::{AllocError, Global};
 use std::test::Fail;
 
 /// A box south of [`AREA`]: of the dense nodes it has the node 11.
-const SOUTH: BoundingBox = BoundingBox {
+pub(crate) const SOUTH: BoundingBox = BoundingBox {
     left: 0,
     bottom: -1_000,
     right: 1_000,
@@ -19,7 +19,7 @@ const SOUTH: BoundingBox = BoundingBox {
 };
 
 /// A box in the east, which has none of the nodes.
-const EAST: BoundingBox = BoundingBox {
+pub(crate) const EAST: BoundingBox = BoundingBox {
     left: 5_000,
     bottom: -1_000,
     right: 6_000,

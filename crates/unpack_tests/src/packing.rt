@@ -113,7 +113,7 @@ fn a_file_that_is_cut(rt: HostRuntime) -> Result<(), Fail> {
     )?;
     assert!(rt; drain.stop().is_none());
     assert!(rt; drain.finish().is_err());
-    assert!(rt; drain.stop() == Some(Stop::Write));
+    assert!(rt; drain.stop().is_none());
     // The first frame went out before.
     assert!(rt; drain.into_inner().bytes().len() == PACKED_HEADER);
     Ok(())

@@ -4,6 +4,7 @@
 pub mod any_area;
 pub mod area;
 pub mod block;
+pub mod config;
 pub mod dense;
 pub mod engine;
 pub mod entity;
@@ -13,6 +14,7 @@ pub mod ids;
 pub mod pack;
 pub mod pass;
 pub mod polygon;
+pub mod published;
 pub mod strings;
 pub mod text;
 pub mod unpack;

@@ -53,6 +53,11 @@ returns-in_err-gather_rest-2-clause-ends g c =
       feeds = search rules;
     })
 
+pub returns-in_err-end_relations-clause-ends : goal.returns-in_err-end_relations-clause-ends
+returns-in_err-end_relations-clause-ends g c =
+    let p = err_from_is_err_and c.from_residual-in_err-end_relations.result c.from_residual-in_err-end_relations.ensures.1 in
+    rw (p.1, p.2) (record { next = tt; halts = record { refused = search rules; stops = tt; changed = tt }; feeds = search rules })
+
 pub returns-clause-chosen : goal.returns-clause-chosen
 returns-clause-chosen g c =
     let one = c.in_ok-begun.ensures.begun in

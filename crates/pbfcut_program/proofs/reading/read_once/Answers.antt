@@ -1,38 +1,42 @@
-use Rattle.std.proofs.Common.{[], ◌∷◌, ◌++◌, ◌≡◌, List, inl, refl}
+use Rattle.std.proofs.Common.{[], ◌∷◌, ◌++◌, ◌≡◌, Err, List, inl, refl}
 use Rattle.std.proofs.lemmas.Result.{err_from_is_err_and}
-use Rattle.pbf_pass.specs.Judged.{judged_file}
 use Rattle.pbfcut_program.specs.Events.{Event, opened, read}
-use Rattle.pbfcut_program.specs.Fails.{judging}
-use Rattle.pbfcut_program.specs.Manner.{manner_of, once_check}
-use Rattle.pbfcut_program.specs.Tasks.{checking}
+use Rattle.pbfcut_program.specs.Fails.{CauseOfWrite, judging_for}
+use Rattle.pbfcut_program.specs.Manner.{manner_of, once_check, output_form}
+use Rattle.pbfcut.specs.Tasks.{checking}
+use Rattle.pbfcut_program.specs.Tasks.{GivesRaw}
 use Rattle.pbfcut_program.proofs.Closing.{ends_with_none, work_fails, work_read_once}
 use Rattle.pbfcut_program.proofs.FailLemmas.{opened_fails, opening_fails, told_fails}
 use Rattle.pbfcut_program.proofs.LeavingLemmas.{returned_silent}
 use Rattle.pbfcut_program.proofs.Logging.{and_then}
 use Rattle.pbfcut_program.proofs.SayingLemmas.{little_after, opening_little, refusal_still}
 use Rattle.pbfcut_program.proofs.SettlingLemmas.{calm_done, one_still, still_then}
+use Rattle.pbfcut_program.proofs.Weaker.{works_weaker}
 use Rattle.pbfcut_program.proofs.reading.read_once.Goals as goal
 
 pub returns-in_err-pass-clause-err : goal.returns-in_err-pass-clause-err
 returns-in_err-pass-clause-err g c =
     let p = err_from_is_err_and c.from_residual.result c.from_residual.ensures.1 in
     let f = c.in_err-pass.ensures.failed in
-    rw (p.1, p.2) (f.0 ∷ [], f.1, opening_fails (manner_of c.args.engine) (judging judged_file) c.in_err-pass.field-0.0 (f.0 ∷ []) f.2, opening_little c.args.engine.digests c.in_err-pass.field-0.0 (f.0 ∷ []) f.2)
+    rw (p.1, p.2) (f.0 ∷ [], f.1, opening_fails (manner_of c.args.engine) (judging_for checking) c.in_err-pass.field-0.0 (f.0 ∷ []) f.2, opening_little c.args.engine.digests c.in_err-pass.field-0.0 (f.0 ∷ []) f.2)
 
 pub returns-in-Err-clause-err : goal.returns-in-Err-clause-err
 returns-in-Err-clause-err g c =
     let log = g.H.Host.log in
     let one = c.in_ok-pass.pass in
     let now = c.check-outcome.new.pass in
-    let fail = work_fails c.args.engine.program c.args.engine.packs c.args.engine.digests (once_check c.args.engine.digests) g.H.In.Feed checking (λ took. took ≡ []) ⊥ (λ w. ⊥) (log c.open_pass.new.host) (log c.close.new.self) (log c.close.new.self)
-    (one ∷ []) (now ∷ []) c.in-Err.halted (ends_with_none (log c.close.new.self) (λ took. took ≡ [])) (c.in_ok-pass.ensures.fresh, tt) (log c.close.new.self, (c.close.ensures.some, c.close.ensures.logged), refl) (c.in-Err.ensures (c.in_ok-pass.ensures.fresh, tt)) in
     let has = g.H.In.Feed.remaining one in
+    let engine = c.args.engine in
+    let unwritten : Type 0 = CauseOfWrite (output_form engine.packs engine.program) (GivesRaw checking) (has ∷ []) ⊥ ⊥ in
+    let works = works_weaker engine.program engine.packs engine.digests (once_check engine.digests) g.H.In.Feed checking (one ∷ []) (now ∷ []) (λ took. took ≡ []) (λ took. took ≡ []) ⊥ unwritten (Err c.in-Err.halted) (λ w t. t) (λ none. absurd none) (c.in-Err.ensures (c.in_ok-pass.ensures.fresh, tt)) in
+    let fail = work_fails c.args.engine.program c.args.engine.packs c.args.engine.digests (once_check c.args.engine.digests) g.H.In.Feed checking (λ took. took ≡ []) ⊥ ⊥ (λ w. ⊥) (log c.open_pass.new.host) (log c.close.new.self) (log c.close.new.self)
+    (one ∷ []) (now ∷ []) c.in-Err.halted (ends_with_none (log c.close.new.self) (λ took. took ≡ [])) (c.in_ok-pass.ensures.fresh, tt) (log c.close.new.self, (c.close.ensures.some, c.close.ensures.logged), refl) works in
     let m = manner_of c.args.engine in
-    let told = told_fails m (judging judged_file) (has ∷ []) c.in-Err.halted.ending c.tell_refusal.result (log c.open_pass.new.host) (log c.close.new.self) (log c.tell_refusal.new.host) fail.0 fail.1 fail.2 c.tell_refusal.ensures in
+    let told = told_fails m (judging_for checking) (has ∷ []) c.in-Err.halted.ending c.tell_refusal.result (log c.open_pass.new.host) (log c.close.new.self) (log c.tell_refusal.new.host) fail.0 fail.1 fail.2 c.tell_refusal.ensures in
     let begun : List Event = opened c.args.path.now 1 has ∷ [] in (
       begun ++ told.0,
       and_then (log c.args.host.now) (log c.open_pass.new.host) (log c.tell_refusal.new.host) begun told.0 c.in_ok-pass.ensures.opened told.1,
-      opened_fails m (judging judged_file) (has ∷ []) c.tell_refusal.result begun told.0 (tt, tt) (inl (refl, refl), tt) told.2,
+      opened_fails m (judging_for checking) (has ∷ []) c.tell_refusal.result begun told.0 (tt, tt) (inl (refl, refl), tt) told.2,
       little_after c.args.engine.digests begun told.0 (tt, tt) (told.3 (returned_silent (λ w. ⊥) fail.0 fail.3)),
     )
 

@@ -5,7 +5,7 @@ use Rattle.pbfcut_program.specs.Fails.{Each, FailsFor, listing}
 use Rattle.pbfcut_program.specs.Manner.{manner_of, to_raw}
 use Rattle.pbfcut_program.specs.Leaving.{LeavesFor}
 use Rattle.pbfcut_program.specs.Program.{IsListing}
-use Rattle.pbfcut_program.specs.Tasks.{listing_frames}
+use Rattle.pbfcut.specs.Tasks.{listing_frames}
 use Rattle.pbfcut_program.specs.Telling.{Silent}
 use Rattle.pbfcut_program.proofs.FailLemmas.{opening_after, opening_fails, text_err, text_ok}
 use Rattle.pbfcut_program.proofs.LeavingLemmas.{opening_leaves}
@@ -53,7 +53,7 @@ returns-clause-err g c =
     let left = list_front g.H.In.Feed g.H.Out.Drain c.list_blobs-outcome.new.pass c.list_blobs-outcome.new.drain None (is_ok c.list_blobs-outcome.result) e.0 (log c.open_screen.new.host) (log c.close.new.self) (log c.ended.new.host) (c.close.ensures.some, c.close.ensures.logged) e.1 c.args.engine.program c.in_ok-pass.pass c.in_ok-out.out c.list_blobs-outcome.result c.in_ok-out.ensures.opened.1 c.list_blobs-outcome.ensures.lists c.list_blobs-outcome.ensures.front in
     text_err e.0 c.list_blobs-outcome.result c.ended.result (λ how. (events : List Event) × (log c.ended.new.host ≡ then_all (log c.args.host.now) events) × FailsFor (manner_of c.args.engine) listing how events × LeavesFor (to_raw (manner_of c.args.engine)) listing_frames events × Each Silent events) e.2
     (λ why gone. (let f = listing_lost g.H.In.Feed g.H.Out.Drain c.list_blobs-outcome.new.pass c.list_blobs-outcome.new.drain None (is_ok c.list_blobs-outcome.result) e.0 (log c.open_screen.new.host) (log c.close.new.self) (log c.ended.new.host) (c.close.ensures.some, c.close.ensures.logged) e.1 (manner_of c.args.engine) listing (log c.args.host.now) input has begun why gone in (f.0, f.1, f.2, f.3 left, f.4)))
-    (IfErr-weaker c.list_blobs-outcome.result _ _ (λ halted f. (f.0, f.1, f.2, f.3 left, f.4)) (list_fails g.H.In.Feed g.H.Out.Drain c.list_blobs-outcome.new.pass c.list_blobs-outcome.new.drain None (is_ok c.list_blobs-outcome.result) e.0 (log c.open_screen.new.host) (log c.close.new.self) (log c.ended.new.host) (c.close.ensures.some, c.close.ensures.logged) e.1 (manner_of c.args.engine) c.in_ok-pass.pass c.in_ok-out.out c.list_blobs-outcome.result (log c.args.host.now) input c.in_ok-pass.ensures.fresh c.in_ok-out.ensures.opened.1 begun c.list_blobs-outcome.ensures.lists))
+    (IfErr-weaker c.list_blobs-outcome.result _ _ (λ halted f. (f.0, f.1, f.2, f.3 left, f.4)) (list_fails g.H.In.Feed g.H.Out.Drain c.list_blobs-outcome.new.pass c.list_blobs-outcome.new.drain None (is_ok c.list_blobs-outcome.result) e.0 (log c.open_screen.new.host) (log c.close.new.self) (log c.ended.new.host) (c.close.ensures.some, c.close.ensures.logged) e.1 (manner_of c.args.engine) c.in_ok-pass.pass c.in_ok-out.out c.list_blobs-outcome.result (log c.args.host.now) input begun c.list_blobs-outcome.ensures.lists))
 
 pub returns-in_err-pass-clause-files : goal.returns-in_err-pass-clause-files
 returns-in_err-pass-clause-files g c =

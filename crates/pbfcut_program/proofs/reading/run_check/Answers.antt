@@ -1,11 +1,11 @@
 use Rattle.std.proofs.Common.{[], ◌∷◌, ◌++◌, List, inl, inr, refl}
 use Rattle.std.proofs.lemmas.Result.{IfErr-weaker, err_from_is_err_and, on_ok_weaker}
-use Rattle.pbf_pass.specs.Judged.{judged_file}
 use Rattle.pbfcut_program.specs.declared.host.Screen.TheVariants.{Output}
 use Rattle.pbfcut_program.specs.Program.{Checks, check_lines, counts_text, prints}
 use Rattle.pbfcut_program.specs.Events.{Event, opened, read}
-use Rattle.pbfcut_program.specs.Fails.{judging}
+use Rattle.pbfcut_program.specs.Fails.{judging_for}
 use Rattle.pbfcut_program.specs.Manner.{manner_of}
+use Rattle.pbfcut.specs.Tasks.{checking}
 use Rattle.pbfcut_program.proofs.FailLemmas.{print_fails, tells_err, tells_ok}
 use Rattle.pbfcut_program.proofs.Logging.{and_then}
 use Rattle.pbfcut_program.proofs.Printed.{still_prints}
@@ -34,7 +34,7 @@ returns-clause-err g c =
     let path = c.args.path.now in
     let lines = prints Output (counts_text r.counts ∷ check_lines m.digests r.input r.raw path) in
     let done : Checks m path (first ++ lines) = record { has = d.0; first = d.1; counts = r.counts; digest = r.input; raw = r.raw; happened = refl; work = d.3 } in
-    IfErr-weaker c.print_checked.result _ _ (λ how f. (let p = print_fails m (judging judged_file) how (log c.args.host.now) _ _ (Checks m path) first lines d.2 done f in (p.0, p.1, p.2, inr p.3))) (tells_err _ _ _ c.print_checked.result c.print_checked.ensures)
+    IfErr-weaker c.print_checked.result _ _ (λ how f. (let p = print_fails m (judging_for checking) how (log c.args.host.now) _ _ (Checks m path) first lines d.2 done f in (p.0, p.1, p.2, inr p.3))) (tells_err _ _ _ c.print_checked.result c.print_checked.ensures)
 
 pub returns-in_err-report-clause-err : goal.returns-in_err-report-clause-err
 returns-in_err-report-clause-err g c =

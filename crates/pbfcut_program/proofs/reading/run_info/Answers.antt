@@ -18,7 +18,7 @@ pub returns-in_err-pass-clause-err : goal.returns-in_err-pass-clause-err
 returns-in_err-pass-clause-err g c =
     let p = err_from_is_err_and c.from_residual.result c.from_residual.ensures.1 in
     let f = c.in_err-pass.ensures.failed in
-    rw (p.1, p.2) (f.0 ∷ [], f.1, opening_fails (manner Pbfcutz false c.args.engine.digests) (judging judged_headings) c.in_err-pass.field-0.0 (f.0 ∷ []) f.2, silent_of (f.0 ∷ []) f.2.0)
+    rw (p.1, p.2) (f.0 ∷ [], f.1, opening_fails (manner Pbfcutz false c.args.engine.digests) (judging judged_headings (λ file. ⊥)) c.in_err-pass.field-0.0 (f.0 ∷ []) f.2, silent_of (f.0 ∷ []) f.2.0)
 
 pub returns-in_err-out-clause-err : goal.returns-in_err-out-clause-err
 returns-in_err-out-clause-err g c =
@@ -27,7 +27,7 @@ returns-in_err-out-clause-err g c =
     let first : List Event = opened c.args.input.now.path.now 1 (g.H.In.Feed.remaining c.in_ok-pass.pass) ∷ [] in
     let how = c.in_err-out.field-0.0 in
     let fails = opening_after how first f.0 (tt, tt) f.2 in
-    rw (p.1, p.2) (first ++ f.0, and_then (g.H.Host.log c.args.host.now) _ _ first f.0 c.in_ok-pass.ensures.opened f.1, opening_fails (manner Pbfcutz false c.args.engine.digests) (judging judged_headings) how (first ++ f.0) fails, silent_of (first ++ f.0) fails.0)
+    rw (p.1, p.2) (first ++ f.0, and_then (g.H.Host.log c.args.host.now) _ _ first f.0 c.in_ok-pass.ensures.opened f.1, opening_fails (manner Pbfcutz false c.args.engine.digests) (judging judged_headings (λ file. ⊥)) how (first ++ f.0) fails, silent_of (first ++ f.0) fails.0)
 
 pub returns-clause-ok : goal.returns-clause-ok
 returns-clause-ok g c =
@@ -48,8 +48,8 @@ returns-clause-err g c =
     let has = g.H.In.Feed.remaining c.in_ok-pass.pass in
     let begun = and_then (log c.args.host.now) _ _ (opened input 1 has ∷ []) (screened true ∷ []) c.in_ok-pass.ensures.opened c.in_ok-out.ensures.opened.0 in
     let e = c.ended.ensures in
-    text_err e.0 c.show_info-outcome.result c.ended.result (λ how. (events : List Event) × (log c.ended.new.host ≡ then_all (log c.args.host.now) events) × FailsFor (manner Pbfcutz false c.args.engine.digests) (judging judged_headings) how events × Each Silent events) e.2
-    (λ why gone. let f = listing_lost g.H.In.Feed g.H.Out.Drain c.show_info-outcome.new.pass c.show_info-outcome.new.drain None (is_ok c.show_info-outcome.result) e.0 (log c.open_screen.new.host) (log c.close.new.self) (log c.ended.new.host) (c.close.ensures.some, c.close.ensures.logged) e.1 (manner Pbfcutz false c.args.engine.digests) (judging judged_headings) (log c.args.host.now) input has begun why gone in (f.0, f.1, f.2, f.4))
+    text_err e.0 c.show_info-outcome.result c.ended.result (λ how. (events : List Event) × (log c.ended.new.host ≡ then_all (log c.args.host.now) events) × FailsFor (manner Pbfcutz false c.args.engine.digests) (judging judged_headings (λ file. ⊥)) how events × Each Silent events) e.2
+    (λ why gone. let f = listing_lost g.H.In.Feed g.H.Out.Drain c.show_info-outcome.new.pass c.show_info-outcome.new.drain None (is_ok c.show_info-outcome.result) e.0 (log c.open_screen.new.host) (log c.close.new.self) (log c.ended.new.host) (c.close.ensures.some, c.close.ensures.logged) e.1 (manner Pbfcutz false c.args.engine.digests) (judging judged_headings (λ file. ⊥)) (log c.args.host.now) input has begun why gone in (f.0, f.1, f.2, f.4))
     (info_fails g.H.In.Feed g.H.Out.Drain c.show_info-outcome.new.pass c.show_info-outcome.new.drain None (is_ok c.show_info-outcome.result) e.0 (log c.open_screen.new.host) (log c.close.new.self) (log c.ended.new.host) (c.close.ensures.some, c.close.ensures.logged) e.1 c.args.engine.digests c.in_ok-pass.pass c.in_ok-out.out c.show_info-outcome.result (log c.args.host.now) input c.in_ok-pass.ensures.fresh c.in_ok-out.ensures.opened.1 begun c.show_info-outcome.ensures.ends)
 
 pub returns-in_err-pass-clause-files : goal.returns-in_err-pass-clause-files

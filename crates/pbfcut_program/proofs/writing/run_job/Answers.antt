@@ -1,14 +1,15 @@
 use Rattle.std.proofs.Common.{◌∙◌, ◌<◌, ◌++◌, ◌∷◌, [], List, ℕ, inr, map, refl, false, true, ap, subst, sym, append_assoc, string_bytes}
 use Rattle.std.proofs.lemmas.Result.{IfErr-weaker, IfOk-weaker}
 use Rattle.std.specs.Option.{is_some, option_map}
-use Rattle.pbfcut_program.specs.Devices.{MeansBy, TakenBy}
+use Rattle.std.specs.Prelude.{IfSome}
+use Rattle.pbf_unpack.specs.RawFrames.{IsNearLimit}
+use Rattle.pbfcut_program.specs.Devices.{DrainFailed, MeansBy, TakenBy}
 use Rattle.pbfcut_program.specs.Events.{Event, Writing, read, then_all, wrote}
-use Rattle.pbfcut_program.specs.Fails.{judging}
+use Rattle.pbfcut_program.specs.Fails.{judging_for}
 use Rattle.pbfcut_program.specs.Files.{IsKept}
 use Rattle.pbfcut_program.specs.Jobs.{feeds_of, task_of}
 use Rattle.pbfcut_program.specs.Leaving.{IsUnkept, TookFront}
 use Rattle.pbfcut_program.specs.Manner.{check_in, hashes_meaning, manner_of, of_output, output_form}
-use Rattle.pbfcut_program.specs.Tasks.{judge_of}
 use Rattle.pbfcut_program.specs.Telling.{Silent}
 use Rattle.pbfcut_program.proofs.Closing.{close_rest, ends_with_out, hashed_as, stops_leaving, work_done, work_fails}
 use Rattle.pbfcut_program.proofs.EventLemmas.{each_both, each_quiet, has_after}
@@ -32,7 +33,7 @@ returns-in-Ok-clause-ok g c =
     let closes = ends_at _ engine.program at.0 _ c.args.files.now.overwrite at.2 _ c.args.files.now.output.now (ap (λ b. b.now) at.1) name k.0 c.keep_out.result k.3 k.5 in
     let form = output_form engine.packs engine.program in
     let works = rw c.in-Ok.is at (c.run_into-result.ensures.works c.requires.fresh.0) in
-    let done = work_done g.H.In.Feed g.H.Out.Drain ran.out name true k.0 (manner_of engine) (check_in engine c.args.ready.seed.key) (task_of job) (λ w. TakenBy g.H.Out.Drain ran.out ran.output w × MeansBy form ran.meaning w) (0 < g.H.Out.Drain.failures ran.out)
+    let done = work_done g.H.In.Feed g.H.Out.Drain ran.out name true k.0 (manner_of engine) (check_in engine c.args.ready.seed.key) (task_of job) (λ w. TakenBy g.H.Out.Drain ran.out ran.output w × MeansBy form ran.meaning w) (DrainFailed g.H.Out.Drain form (task_of job) (map g.H.In.Feed.remaining (feeds_of job)) ran.out)
     (log c.args.host.now) (log c.close_job.new.host) k.1 (feeds_of job) (feeds_of c.run_into-result.new.job) c.in-Ok.report c.requires.fresh.0 c.close_job.ensures k.2 (λ w t. t.0.0) works in
     let hashed = hashed_as engine.digests ran.output done.1.bytes done.4.0.1 c.run_into-result.ensures.hashed in
     let meaning = hashed_as (hashes_meaning form engine.digests) ran.meaning (of_output (manner_of engine) done.1.bytes) done.4.1 (rw c.in-Ok.is at c.run_into-result.ensures.meaning) in
@@ -56,7 +57,7 @@ returns-in-Ok-clause-err g c =
     let closes = ends_at _ engine.program at.0 _ c.args.files.now.overwrite at.2 _ c.args.files.now.output.now (ap (λ b. b.now) at.1) name k.0 c.keep_out.result k.3 k.5 in
     let form = output_form engine.packs engine.program in
     let works = rw c.in-Ok.is at (c.run_into-result.ensures.works c.requires.fresh.0) in
-    let done = work_done g.H.In.Feed g.H.Out.Drain ran.out name true k.0 (manner_of engine) (check_in engine c.args.ready.seed.key) (task_of job) (λ w. TakenBy g.H.Out.Drain ran.out ran.output w × MeansBy form ran.meaning w) (0 < g.H.Out.Drain.failures ran.out)
+    let done = work_done g.H.In.Feed g.H.Out.Drain ran.out name true k.0 (manner_of engine) (check_in engine c.args.ready.seed.key) (task_of job) (λ w. TakenBy g.H.Out.Drain ran.out ran.output w × MeansBy form ran.meaning w) (DrainFailed g.H.Out.Drain form (task_of job) (map g.H.In.Feed.remaining (feeds_of job)) ran.out)
     (log c.args.host.now) (log c.close_job.new.host) k.1 (feeds_of job) (feeds_of c.run_into-result.new.job) report c.requires.fresh.0 c.close_job.ensures k.2 (λ w t. t.0.0) works in
     let rs : List Event = map (λ r. read r) done.0 in
     let all = and_then (log c.args.host.now) k.1 (log c.keep_out.new.host) (rs ++ wrote done.1 ∷ []) k.3 done.2 k.4 ∙ ap (λ es. then_all (log c.args.host.now) es) (append_assoc rs (wrote done.1 ∷ []) k.3) in
@@ -65,7 +66,7 @@ returns-in-Ok-clause-err g c =
     let lost = ends_told engine.program c.args.files.now.overwrite c.args.files.now.output.now done.1 name k.0 c.keep_out.result k.3 e.0 done.7 done.3 closes e.1 in (
       rs ++ last,
       all,
-      rw e.2 (file_stops (manner_of engine) (judging (judge_of (task_of job))) (map g.H.In.Feed.remaining (feeds_of job)) e.0 (rs ++ last) (has_after _ rs last lost)),
+      rw e.2 (file_stops (manner_of engine) (judging_for (task_of job)) (map g.H.In.Feed.remaining (feeds_of job)) e.0 (rs ++ last) (has_after _ rs last lost)),
       inr (record { before = []; rs = done.0; out = done.1; after = k.3; happened = refl; by = check_in engine c.args.ready.seed.key; counts = report.counts; digest = report.input; raw = report.raw; work = done.5 }),
       silent_little engine.digests (rs ++ last) (each_both Silent rs last (returned_silent (λ w. Unit {0}) rs (reads_return (λ w. Unit {0}) done.0)) (tt, ends_silent engine.program c.args.files.now.overwrite c.args.files.now.output.now name k.0 c.keep_out.result k.3 closes)),
     )) c.kept.ensures.err
@@ -83,21 +84,22 @@ returns-in-Err-clause-err g c =
     let form = output_form engine.packs engine.program in
     let took : List ℕ → Type 0 = λ w. TakenBy g.H.Out.Drain ran.out ran.output w × MeansBy form ran.meaning w in
     let failed : Type 0 = 0 < g.H.Out.Drain.failures ran.out in
+    let near : Type 0 = IfSome (taken ran.out) IsNearLimit in
     let gone = c.drop_out.ensures in
     let works = rw c.in-Err.is at (c.run_into-result.ensures.works c.requires.fresh.0) in
     let front = rw c.in-Err.is at c.run_into-result.ensures.front in
     let known = taken ran.out in
-    let tail = ends_with_out g.H.Out.Drain ran.out name false gone.0 took failed (log c.close_job.new.host) gone.1 (λ w t. t.0.0) (λ risen. risen) gone.2 in
-    let fail = work_fails engine.program engine.packs engine.digests (check_in engine c.args.ready.seed.key) g.H.In.Feed (task_of job) took failed (IsReturned known false)
+    let tail = ends_with_out g.H.Out.Drain ran.out name false gone.0 took failed near (log c.close_job.new.host) gone.1 (λ w t. t.0.0) (λ risen. risen) (λ full. full) gone.2 in
+    let fail = work_fails engine.program engine.packs engine.digests (check_in engine c.args.ready.seed.key) g.H.In.Feed (task_of job) took failed near (IsReturned known false)
     (log c.args.host.now) (log c.close_job.new.host) gone.1 (feeds_of job) (feeds_of c.run_into-result.new.job) c.in-Err.halted tail c.requires.fresh.0 c.close_job.ensures works in
     let quiet = dropped_quiet engine.program name gone.3 gone.5 in
     let dropped = and_then (log c.args.host.now) gone.1 (log c.drop_out.new.host) fail.0 gone.3 fail.1 gone.4 in
-    let fails = fails_before m (judging (judge_of (task_of job))) has c.in-Err.halted.ending fail.0 gone.3 quiet fail.2 in
-    let told = told_fails m (judging (judge_of (task_of job))) has c.in-Err.halted.ending c.tell_refusal.result (log c.args.host.now) (log c.drop_out.new.host) (log c.tell_refusal.new.host) (fail.0 ++ gone.3) dropped fails c.tell_refusal.ensures in (
+    let fails = fails_before m (judging_for (task_of job)) has c.in-Err.halted.ending fail.0 gone.3 quiet fail.2 in
+    let told = told_fails m (judging_for (task_of job)) has c.in-Err.halted.ending c.tell_refusal.result (log c.args.host.now) (log c.drop_out.new.host) (log c.tell_refusal.new.host) (fail.0 ++ gone.3) dropped fails c.tell_refusal.ensures in (
       told.0,
       told.1,
       told.2,
-      stops_leaving m (task_of job) has (taken c.args.ready.out.drain) known told.0 c.requires.fresh.1.1
+      stops_leaving m (task_of job) has known told.0
           (told.4 IsUnkept quiet_unkept (each_both IsUnkept fail.0 gone.3 (returned_unkept known fail.0 fail.3) (each_quiet IsUnkept quiet_unkept gone.3 quiet)))
           (λ answer x. told.4 (TookFront answer) (quiet_front answer) (each_both _ fail.0 gone.3 (returned_front known false answer x fail.0 fail.3) (each_quiet _ (quiet_front answer) gone.3 quiet))) front,
       told.3 (each_both Silent fail.0 gone.3 (returned_silent (IsReturned known false) fail.0 fail.3) (dropped_silent engine.program name gone.3 gone.5)),

@@ -2,13 +2,12 @@ use Rattle.std.proofs.Common.{◌≡◌, ◌∙◌, [], ◌∷◌, ◌++◌, Lis
 use Rattle.std.proofs.lemmas.Result.{err_from_is_err_and}
 use Rattle.pbfcut_program.specs.declared.host.Screen.{Screen}
 use Rattle.pbfcut_program.specs.Events.{Event, read, wrote, then_all}
-use Rattle.pbfcut_program.specs.Fails.{Fails, judging}
+use Rattle.pbfcut_program.specs.Fails.{Fails, judging_for}
 use Rattle.pbfcut_program.specs.Jobs.{feeds_of, plan_of, task_of}
 use Rattle.pbfcut_program.specs.Leaving.{Leaves}
 use Rattle.pbfcut_program.specs.Program.{Writes, begun, counts_text, done_lines, is_screen, prints, screen_of}
 use Rattle.pbfcut_program.specs.Manner.{check_of, manner_of}
 use Rattle.pbfcut_program.specs.Readings.{IsWork}
-use Rattle.pbfcut_program.specs.Tasks.{judge_of}
 use Rattle.pbfcut_program.proofs.Beginning.{length_has, opens_begun, quiet_begun, quiet_makes, silent_begun, silent_makes}
 use Rattle.pbfcut_program.proofs.FailLemmas.{broken_fails, opened_fails, opening_fails, opens_before}
 use Rattle.pbfcut_program.proofs.LeavingLemmas.{leaves_after, opening_leaves}
@@ -25,7 +24,7 @@ returns-in_err-ready-clause-err g c =
     let f = c.in_err-ready.ensures.err in
     let m = manner_of c.args.engine in
     let how = c.in_err-ready.field-0.0 in
-    rw (p.1, p.2) (f.0, f.1, opening_fails m (judging (judge_of (plan_of c.args.plan))) how f.0 f.2, opening_leaves m (plan_of c.args.plan) how f.0 f.2, inl (opening_little m.digests how f.0 f.2))
+    rw (p.1, p.2) (f.0, f.1, opening_fails m (judging_for (plan_of c.args.plan)) how f.0 f.2, opening_leaves m (plan_of c.args.plan) how f.0 f.2, inl (opening_little m.digests how f.0 f.2))
 
 pub returns-in_err-done-clause-err : goal.returns-in_err-done-clause-err
 returns-in_err-done-clause-err g c =
@@ -40,7 +39,7 @@ returns-in_err-done-clause-err g c =
     let key = c.in_ok-ready.ready.seed.key in
     let ready = c.in_ok-ready.ensures.ok in
     let m = manner_of c.args.engine in
-    let fails = subst (λ t. Fails m (judging (judge_of t)) has how f.0) c.in_ok-ready.ensures.planned.0 f.2 in
+    let fails = subst (λ t. Fails m (judging_for t) has how f.0) c.in_ok-ready.ensures.planned.0 f.2 in
     let leaves = subst (λ t. Leaves m t has f.0) c.in_ok-ready.ensures.planned.0 f.3 in
     let first = begun is files has key ready.0 in
     let quiet = quiet_begun is files has key ready.0 (quiet_makes program is files.output.now _ ready.0 ready.2) in
@@ -49,7 +48,7 @@ returns-in_err-done-clause-err g c =
     rw (p.1, p.2) (
       first ++ f.0,
       and_then log _ _ first f.0 ready.1 f.1,
-      opened_fails m (judging (judge_of (plan_of c.args.plan))) has how first f.0 quiet opens fails,
+      opened_fails m (judging_for (plan_of c.args.plan)) has how first f.0 quiet opens fails,
       record { has = has; opens = opens_before 1 has first f.0 opens; leaves = leaves_after m (plan_of c.args.plan) has first f.0 quiet leaves },
       inl (little_after m.digests first f.0 silent f.4),
     )
@@ -70,7 +69,7 @@ returns-in_err-print_done-clause-err g c =
     let done = and_then log _ _ first (rs ++ out) ready.1 d.3 in
     let m = manner_of c.args.engine in
     let how = c.in_err-print_done.field-0.0 in
-    let j = judging (judge_of (plan_of c.args.plan)) in
+    let j = judging_for (plan_of c.args.plan) in
     let before : List Event = first ++ (rs ++ out) in
     let r = c.in_ok-done.done in
     let report = r.report in

@@ -1,0 +1,4 @@
+pub mod NameLemmas
+pub mod OutputLemmas
+pub mod ConfigLemmas
+pub mod DistinctOutputs

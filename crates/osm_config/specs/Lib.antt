@@ -1,0 +1,6 @@
+pub mod Faults
+pub mod Members
+pub mod Edges
+pub mod Areas
+pub mod Configs
+pub mod Readings

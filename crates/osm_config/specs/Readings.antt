@@ -1,0 +1,50 @@
+-- A reading, as the text's definition sees it.
+use Rattle.std.specs.Prelude.{◌≡◌, map, option_map, Result, Ok, Err}
+use Rattle.std.specs.String.{string_bytes}
+use Rattle.osm_config.specs.declared.config.Config.{Config}
+use Rattle.osm_config.specs.declared.config.ConfiguredArea.{ConfiguredArea}
+use Rattle.osm_config.specs.declared.config.ConfiguredArea.TheVariants.{InBox, InPolygons, InFile}
+use Rattle.osm_config.specs.declared.config.ConfiguredExtract.{ConfiguredExtract}
+use Rattle.osm_config.specs.declared.fault.ConfigError.{ConfigError}
+use Rattle.osm_config.specs.declared.fault.ConfigError.TheVariants as error
+use Rattle.osm_config.specs.declared.fault.ConfigFault.{ConfigFault}
+use Rattle.osm_config.specs.declared.fault.ConfigStop.{ConfigStop}
+use Rattle.osm_config.specs.declared.fault.ConfigStop.TheVariants as stop
+use Rattle.osm_polygon.specs.RingPlaces.{rings_of}
+use Rattle.osm_config.specs.Areas.{AreaSpec, in_box, in_polygons, in_file}
+use Rattle.osm_config.specs.Configs.{ConfigSpec, ExtractSpec}
+use Rattle.osm_config.specs.Faults.{FaultSpec, OrFault}
+
+abbrev pub fault_of : ConfigFault → FaultSpec
+fault_of f = record { extract = f.extract; member = string_bytes f.member; reason = f.reason }
+
+abbrev pub area_of : ConfiguredArea → AreaSpec
+area_of (InBox bounds) = in_box bounds
+area_of (InPolygons polygons) = in_polygons (map rings_of polygons.items)
+area_of (InFile name) = in_file (string_bytes name)
+
+abbrev pub extract_of : ConfiguredExtract → ExtractSpec
+extract_of e = record { output = string_bytes e.output; area = area_of e.area }
+
+abbrev pub config_of : Config → ConfigSpec
+config_of c = record {
+  directory = option_map string_bytes c.directory;
+  extracts = map extract_of c.extracts.items;
+}
+
+-- what was read is what the text has, or its fault, or memory was refused
+abbrev pub Reads : {A : Type 0} → OrFault A → Result A ConfigStop → Type 0
+Reads text (Ok found) = text ≡ Ok found
+Reads text (Err (stop.Refused extract name reason)) =
+    text ≡ Err (record { extract = extract; member = name.now; reason = reason })
+Reads text (Err stop.Memory) = Unit {0}
+
+-- the same of what a caller is given
+abbrev pub ReadsConfig : OrFault ConfigSpec → Result ConfigSpec ConfigError → Type 0
+ReadsConfig text (Ok found) = text ≡ Ok found
+ReadsConfig text (Err (error.Refused f)) = text ≡ Err (fault_of f)
+ReadsConfig text (Err error.Memory) = Unit {0}
+
+-- the error says what the stop says, or memory was refused
+abbrev pub IsNamed : ConfigStop → ConfigError → Type 0
+IsNamed stop error = (text : OrFault ConfigSpec) → Reads text (Err stop) → ReadsConfig text (Err error)

@@ -1,0 +1,20 @@
+use Rattle.std.proofs.Common.{rules, subst, sym, ap, ◌∙◌}
+use Rattle.osm_box.specs.declared.bounding_box.BoundingBox.{BoundingBox}
+use Rattle.pbf_header.specs.Header.{header_of}
+use Rattle.pbf_header.specs.WrittenHeader.{EdgesTyped, edges_of, header_out_for_box}
+use Rattle.pbfcut.proofs.ExtractingLemmas.{edges_typed}
+use Rattle.pbfcut.proofs.choosing_parents_each.end_taking_all.Goals as goal
+
+pub returns : goal.returns
+returns g c =
+    let bounds = c.bounds.result in
+    record {
+      ends = record {
+        ways = c.in_ok-gathering.ensures.ways;
+        done = c.has_all_ways-is_done.ensures;
+        header_is = c.in_ok-header.ensures ∙ ap (λ (area : BoundingBox). header_out_for_box area (header_of c.args.header.now)) c.bounds.ensures;
+        typed = subst (λ (area : BoundingBox). EdgesTyped (edges_of area)) c.bounds.ensures (edges_typed bounds (search rules) (search rules) (search rules) (search rules));
+      };
+      found_is = c.in_ok-gathering.ensures.found;
+      takes_all = c.in_ok-gathering.ensures.takes;
+    }
