@@ -11,9 +11,9 @@ _pbfcut_words() {
 }
 
 _pbfcut() {
-  local word=${COMP_WORDS[COMP_CWORD]} command=${COMP_WORDS[1]-} commands="extract convert check show blobs" raw= files=
+  local word=${COMP_WORDS[COMP_CWORD]} command=${COMP_WORDS[1]-} commands="extract convert check show blobs" raw= files= areas=
   if [ "${COMP_WORDS[0]##*/}" = pbfcutz ]; then
-    commands="extract convert pack unpack check show info blobs" raw=--raw files="--output= --overwrite"
+    commands="extract convert pack unpack check show info blobs" raw=--raw files="--output= --overwrite" areas="--config= --directory="
   fi
   if [ "$COMP_CWORD" -eq 1 ]; then
     _pbfcut_words "$word" "$commands help --help --version"
@@ -32,13 +32,18 @@ _pbfcut() {
       _pbfcut_words "$word" "complete_ways smart"
       return
       ;;
+    extract:--directory | extract:-d)
+      mapfile -t COMPREPLY < <(compgen -d -- "$word")
+      compopt -o filenames 2>/dev/null
+      return
+      ;;
     extract:--types)
       _pbfcut_words "$word" "multipolygon multipolygon,boundary any"
       return
       ;;
   esac
   case $command:$word in
-    extract:-*) _pbfcut_words "$word" "--box= --polygon= --parents --strategy= --types= --progress --digests $raw $files --help" ;;
+    extract:-*) _pbfcut_words "$word" "--box= --polygon= $areas --parents --strategy= --types= --progress --digests $raw $files --help" ;;
     convert:-*) _pbfcut_words "$word" "--progress --digests $raw $files --help" ;;
     pack:-* | unpack:-*) _pbfcut_words "$word" "--progress --digests $files --help" ;;
     check:-*) _pbfcut_words "$word" "--progress --digests --help" ;;

@@ -7,6 +7,8 @@ if test $program = pbfcutz
     complete -c $program -n "not __fish_seen_subcommand_from $commands" -f -a unpack -d "decompress the blobs of a file"
     complete -c $program -n "not __fish_seen_subcommand_from $commands" -f -a info -d "print the header of a file"
     complete -c $program -n "__fish_seen_subcommand_from info" -l json -d "print a JSON object"
+    complete -c $program -n "__fish_seen_subcommand_from extract" -s c -l config -r -d "cut out the areas of a JSON file"
+    complete -c $program -n "__fish_seen_subcommand_from extract" -s d -l directory -x -a "(__fish_complete_directories)" -d "the folder of the files that --config names"
     complete -c $program -n "__fish_seen_subcommand_from extract convert" -l raw -d "write raw blobs"
     complete -c $program -n "__fish_seen_subcommand_from extract convert pack unpack" -s o -l output -r -d "the file to write"
     complete -c $program -n "__fish_seen_subcommand_from extract convert pack unpack" -s O -l overwrite -d "replace OUT if it exists"

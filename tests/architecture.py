@@ -120,7 +120,7 @@ CALLS_OF_LAYERS = {
 }
 # this many other names stand in two files or more, most of them short words such as `State`, `Place` and `put`
 MOST_SHARED_NAMES = 23
-OF_EXAMPLES = {"digest_pass", "pbf_examples", "pbf_vectors", "zlib_examples", "zlib_streams"}
+OF_EXAMPLES = {"digest_pass", "pbf_examples", "pbf_vectors", "run_examples", "zlib_examples", "zlib_streams"}
 ITEM = re.compile(r"(?:pub(?:\([a-z]+\))? )?(?:const )?(?:fn|struct|enum|trait|const|static|type) (\w+)")
 
 

@@ -30,6 +30,7 @@ README_LINES, README_WORDS, USING_WORDS = 81, 860, 2720
 GIVEN = ["IN", "RAW", "OUT"]
 BOX = "9.997,49.999,10.003,50.003"
 POLYGON = "london\n1\n9.997 49.999\n10.003 49.999\n10 50.003\nEND\nEND\n"
+AREAS = '{"extracts": [{"output": "a.osm.pbf", "bbox": [%s]}, {"output": "b.osm.pbf", "polygon": {"file_name": "london.poly"}}]}' % BOX
 HISTORY = """n1 v1 dV c1 t2010-01-01T00:00:00Z i1 ua x0.5 y0.5
 n1 v2 dV c2 t2011-01-01T00:00:00Z i1 ua x0.6 y0.5
 n2 v1 dV c1 t2010-01-01T00:00:00Z i1 ua x0.5 y0.5
@@ -189,6 +190,8 @@ def inputs(pages: Pages):
     pages.make("cp sample/town.osm.pbf given.raw.osm.pbf")
     with open(os.path.join(pages.model, "london.poly"), "w", encoding="utf-8") as file:
         file.write(POLYGON)
+    with open(os.path.join(pages.model, "areas.json"), "w", encoding="utf-8") as file:
+        file.write(AREAS)
     if shutil.which("osmium"):
         with open(os.path.join(pages.model, "history.opl"), "w", encoding="utf-8") as file:
             file.write(HISTORY)

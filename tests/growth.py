@@ -502,6 +502,53 @@ def polygon_files(shape: str, size: int) -> dict:
     return {"pbfcut": (raw, edges * EDGE + asked), "ring": (text, 0)}
 
 
+# ---- several areas in one run
+
+
+def overlapping(count: int) -> bytes:
+    """So many areas, boxes and polygons in turn, each with all of that square, into a folder."""
+    square = "[[[0, 0], [1, 0], [1, 1], [0, 1], [0, 0]]]"
+    kinds = '"bbox": [0, 0, 1, 1]', f'"polygon": {square}'
+    return configuration([f'{{"output": "out{number}", {kinds[number % 2]}}}' for number in range(count)])
+
+
+def side_by_side(count: int) -> bytes:
+    """So many areas, each with its part of that square."""
+    return configuration([f'{{"output": "out{number}", "bbox": [{number / count:.9f}, 0, {(number + 1) / count:.9f}, 1]}}' for number in range(count)])
+
+
+def configuration(extracts: list) -> bytes:
+    return ('{"extracts": [%s]}' % ",\n".join(extracts)).encode()
+
+
+def numbered(count: int, area: str, last: str) -> bytes:
+    """So many extracts of one area, and a last one of another."""
+    return configuration([f'{{"output": "out{number}", {area}}}' for number in range(count)] + [f'{{"output": "last", {last}}}'])
+
+
+GOOD_BOX, BAD_BOX = '"bbox": [0, 0, 1, 1]', '"bbox": [0, 0, 1, 91]'
+RING_FILE, NO_FILE = '"polygon": {"file_name": "ring"}', '"polygon": {"file_name": "nowhere"}'
+TRIANGLE, OPEN_RING = '"polygon": [[[0, 0], [1, 0], [0, 1], [0, 0]]]', '"polygon": [[[0, 0], [1, 0], [0, 1], [1, 1]]]'
+
+# by the size: the nodes, the configuration, how many bytes as it costs to cut out its areas may be hashed meanwhile, and the exit status. A
+# configuration is refused for its last extract, which says how long it takes to read all of it
+CONFIGURATIONS = {
+    "areas that overlap": (lambda size: scattered(20_000), overlapping, lambda size: 40_000 * size, 0),
+    "areas side by side": (lambda size: scattered(40_000), side_by_side, lambda size: 40_000 * size, 0),
+    "areas with more nodes": (lambda size: scattered(5_000 * size), lambda size: overlapping(8), lambda size: 80_000 * size, 0),
+    "extracts of which the last is wrong": (lambda size: [block(nodes(1))], lambda size: numbered(8_000 * size, GOOD_BOX, BAD_BOX), lambda size: 0, 2),
+    "polygons of which the last is wrong": (lambda size: [block(nodes(1))], lambda size: numbered(4_000 * size, TRIANGLE, OPEN_RING), lambda size: 0, 2),
+    "files of polygons of which the last is missing": (lambda size: [block(nodes(1))], lambda size: numbered(1_000 * size, RING_FILE, NO_FILE),
+                                                       lambda size: 300_000 * size, 3),
+}
+
+
+def configured_files(shape: str, size: int) -> dict:
+    make_nodes, make_configuration, cost, _ = CONFIGURATIONS[shape]
+    text = make_configuration(size)
+    return {"pbfcutz": (zlib_file(make_nodes(size)), len(text) + cost(size)), "areas": (text, 0), "ring": (ring(8, 0.4), 0)}
+
+
 # ---- the runs
 
 # what follows the program, and how often it reads IN at most
@@ -513,6 +560,7 @@ COMMANDS = {
     "extract --parents": (["extract", "--parents", "--box=0,0,1,1", "in", "out"], 4),
     "extract -s smart": (["extract", "-s", "smart", "--box=0,0,1,1", "in", "out"], 3),
     "extract --polygon": (["extract", "--polygon=ring", "in", "out"], 3),
+    "extract --config": (["extract", "--config=areas", "--directory=outs", "in"], 3),
     "pack": (["pack", "in", "out"], 2),
     "unpack": (["unpack", "in", "out"], 2),
     "info": (["info", "in"], 1),
@@ -532,6 +580,8 @@ def files_of(shape, size: int) -> dict:
     """The files of a shape, each with how many bytes it unpacks to: for pbfcut and for pbfcutz, or for pbfcutz alone and in the usual form."""
     if shape in POLYGONS:
         return polygon_files(shape, size)
+    if shape in CONFIGURATIONS:
+        return configured_files(shape, size)
     if callable(shape):
         frames = shape(size)
         raw = raw_file(frames)
@@ -567,7 +617,7 @@ def made_apart(make) -> dict:
 
 
 class Failed(Exception):
-    """A run that did not end with status 0."""
+    """A run that ended with another status than it has to."""
 
 
 def number_in(spelling: bytes) -> int:
@@ -589,20 +639,25 @@ def packed_bytes(path: str) -> int:
     return total
 
 
-def run(program: str, words: list, file: str) -> tuple:
+def run(program: str, words: list, file: str, wanted: int = 0) -> tuple:
     """The seconds of a processor, the greatest memory in KB, and how many bytes were printed and written, with what packing takes beside."""
     for name in ("out", "said"):
         open(name, "wb").close()
     os.unlink("out")
+    shutil.rmtree("outs", ignore_errors=True)
+    os.mkdir("outs")
     actions = [(os.POSIX_SPAWN_OPEN, 0, os.devnull, os.O_RDONLY, 0), (os.POSIX_SPAWN_OPEN, 1, "said", os.O_WRONLY, 0)]
+    if wanted:
+        actions.append((os.POSIX_SPAWN_OPEN, 2, os.devnull, os.O_WRONLY, 0))
     words = [program, *(file if word == "in" else word for word in words)]
     pid = os.posix_spawn(program, words, os.environ, file_actions=actions)
     _, status, usage = os.wait4(pid, 0)
-    if status:
+    if os.waitstatus_to_exitcode(status) != wanted:
         raise Failed(f"{words}: status {os.waitstatus_to_exitcode(status)}")
-    written = sum(os.path.getsize(name) for name in ("out", "said") if os.path.exists(name))
-    if program == "pbfcutz" and os.path.exists("out"):
-        written += packed_bytes("out")
+    outs = [name for name in ("out", *(os.path.join("outs", name) for name in os.listdir("outs"))) if os.path.exists(name)]
+    written = sum(os.path.getsize(name) for name in ("said", *outs))
+    if program == "pbfcutz":
+        written += sum(map(packed_bytes, outs))
     return usage.ru_utime + usage.ru_stime, usage.ru_maxrss, written
 
 
@@ -612,6 +667,7 @@ class Row:
 
     def __init__(self, name: str, file: str, command: str, read: dict):
         self.name, self.file, self.read = f"{file} {command}: {name}", file, read
+        self.status = CONFIGURATIONS[name][3] if name in CONFIGURATIONS else 0
         self.words, self.passes = COMMANDS[command]
         self.has_usual = f"usual.{SIZES[0]}" in read
         self.seconds, self.memory = {}, {}
@@ -626,9 +682,10 @@ class Row:
         second_per_byte = run("pbfcut", ["check", "--digests", "in"], "passed.over")[0] / PASSED_OVER
         took, held = {}, {}
         for size in SIZES:
-            if "--polygon=ring" in self.words:
-                shutil.copyfile(f"ring.{size}", "ring")
-            seconds, memory, written = run(self.file, self.words, f"{self.file}.{size}")
+            for name in ("ring", "areas"):
+                if f"{name}.{size}" in self.read:
+                    shutil.copyfile(f"{name}.{size}", name)
+            seconds, memory, written = run(self.file, self.words, f"{self.file}.{size}", self.status)
             self.least(self.seconds, size, seconds)
             self.least(self.memory, size, memory)
             most = MOST_PASSES * second_per_byte * (self.read[f"{self.file}.{size}"] * self.passes + written)
@@ -664,6 +721,8 @@ def commands_of(shape, program: str) -> list:
     """The commands that a program runs over a shape."""
     if shape in POLYGONS:
         return ["extract --polygon"]
+    if shape in CONFIGURATIONS:
+        return ["extract --config"]
     if shape in OF_MEMBERS:
         return ["extract --parents", "extract -s smart"]
     found = [command for command in ANY if not (shape in NOT_SHOWN and command == "show")]
@@ -699,7 +758,7 @@ def main():
         for name in ("pbfcut", "pbfcutz"):
             os.symlink(program, name)
         made_apart(lambda: {"passed.over": (EMPTY_HEADER + framed(b"Other", bytes(PASSED_OVER)), 0)})
-        for shape in SHAPES + list(ZLIB_SHAPES) + list(POLYGONS):
+        for shape in SHAPES + list(ZLIB_SHAPES) + list(POLYGONS) + list(CONFIGURATIONS):
             if names and not (shape.__name__ if callable(shape) else shape).startswith(names):
                 continue
             try:

@@ -69,6 +69,16 @@ def files(folder: str):
     write("long.geojson", b'{"type": "Polygon", "coordinates": [[[179, -20], [-179, -20], [-179, -15], [179, -20]]]}')
     write("nameless.poly", b"1\n 9.997 49.999\n 10.003 49.999\n 10.003 50.003\nEND\nEND\n")
     write("metres.geojson", b'{"type": "Polygon", "coordinates": [[[900000, 49], [10, 49], [10, 50], [900000, 49]]]}')
+    write("misspelt.json", b'{"extracts": [{"ouput": "one.osm.pbf", "bbox": [9, 49, 10, 50]}]}')
+    write("none.json", b'{"extracts": []}')
+    write("twice.json", b'{"extracts": [%s, %s]}' % ((b'{"output": "one.osm.pbf", "bbox": [9, 49, 10, 50]}',) * 2))
+    write("north.json", b'{"extracts": [{"output": "one.osm.pbf", "bbox": [9, 49, 10, 95]}]}')
+    write("lost.json", b'{"extracts": [{"output": "one.osm.pbf", "polygon": {"file_name": "nowhere.poly"}}]}')
+    write("far.json", b'{"extracts": [{"output": "one.osm.pbf", "polygon": {"file_name": "far.poly"}}]}')
+    one = b'{"output": "one.osm.pbf", "bbox": [9.997, 49.999, 10.003, 50.003]}'
+    for name, output in [("both", "two.osm.pbf"), ("taken", "second"), ("itself", "town"), ("inside", "folder"), ("homeless", "nowhere/two.osm.pbf"),
+                         ("again", "./one.osm.pbf"), ("screen", "/dev/stdout"), ("form", "two.osm.bz2")]:
+        write(f"{name}.json", b'{"extracts": [%s, %s]}' % (one, one.replace(b"one.osm.pbf", output.encode())))
     os.mkdir(os.path.join(folder, "folder"))
     os.mkfifo(os.path.join(folder, "pipe"))
     os.symlink("nowhere", os.path.join(folder, "link"))

@@ -59,7 +59,8 @@ UNIONS = [features(WHOLE, WHOLE), multi(WEST, EAST), features(EAST, WEST), featu
 # Other programs, and how each prints what it reads.
 READERS = {"osmium": ["cat", "--no-progress", "-f", "opl", "FILE"], "ogrinfo": ["-ro", "-al", "FILE"],
            "osmosis": ["-q", "--read-pbf", "FILE", "--write-xml", "-"]}
-COMMANDS = {"extract": ["--box", "--polygon", "--parents", "--strategy", "--types", "--progress", "--digests", "--raw", "--output", "--overwrite"],
+COMMANDS = {"extract": ["--box", "--polygon", "--parents", "--strategy", "--types", "--progress", "--digests", "--raw", "--output", "--overwrite",
+                        "--config", "--directory"],
             "convert": ["--progress", "--digests", "--raw", "--output", "--overwrite"],
             "pack": ["--progress", "--digests", "--output", "--overwrite"], "unpack": ["--progress", "--digests", "--output", "--overwrite"],
             "check": ["--progress", "--digests"], "show": ["--dates", "--progress"], "info": ["--json"], "blobs": []}
@@ -74,7 +75,7 @@ def shown(value) -> str:
 
 def expect(what: str, wanted, found):
     if wanted != found:
-        sys.exit(f"tests/outputs.py: {what}: expected {shown(wanted)}, found {shown(found)}")
+        sys.exit(f"tests/{os.path.basename(sys.argv[0])}: {what}: expected {shown(wanted)}, found {shown(found)}")
 
 
 class Bench(Folder):

@@ -22,7 +22,7 @@ from statement import Scope, read
 
 PAGE = "PROMISES.md"
 # crates for examples and uses, and one whose calls are only safe; those of tests, too, have no page
-WITHOUT = ["pbf_examples", "zlib_examples", "uses", "pbfcut_files"]
+WITHOUT = ["pbf_examples", "run_examples", "zlib_examples", "uses", "pbfcut_files"]
 HEAD = "| In words | Call | Clause |\n|---|---|---|"
 MARK = re.compile(r"^<!-- calls:(.*) -->\n", re.M)
 FUNCTION = re.compile(r"^ *(pub |pub\(crate\) )?fn (\w+)")

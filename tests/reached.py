@@ -15,7 +15,7 @@ TOP = os.path.dirname(os.path.dirname(os.path.abspath(__file__)))
 CRATES = os.path.join(TOP, "crates")
 FUNCTION = re.compile(r"^( *)((?:#\[[^\n]*\]\n *)*)(?:pub(?:\(crate\))? )?fn (\w+)", re.M)
 TRAIT = re.compile(r"^(?:impl\b[^{;]*?\bfor\b|(?:pub(?:\(crate\))? )?trait\b)[^{;]*\{.*?^\}", re.M | re.S)
-EXAMPLES = {"uses", "pbf_examples", "zlib_examples"}
+EXAMPLES = {"uses", "pbf_examples", "run_examples", "zlib_examples"}
 
 
 class Function:

@@ -3,9 +3,10 @@
 
 usage: tests/scale.py PROGRAM
 
-They are the same bytes: by each strategy, and if the larger cut is by a wider strategy than the smaller one. A cut that was interrupted is made again, and
-a box that leaves the one around it is refused. The script of docs/SCALE.md, one cut after another as a job array runs it, makes the same cuts. Without
-bash, GNU make, awk or cmp the test has nothing to run, and its status is 77.
+They are the same bytes: by each strategy, and if the larger cut is by a wider strategy than the smaller one. One run makes all cuts of an extract, except by
+-s smart. A cut that isn't there is made again, the others of its run aren't, and a box that leaves the one around it is refused. The script of
+sample/slurm/, one task after another as a job array runs it, makes the same cuts. Without bash, GNU make 4.3, awk or cmp the test has nothing to run, and
+its status is 77.
 """
 
 import os
@@ -15,18 +16,15 @@ import subprocess
 import sys
 import tempfile
 
-sys.dont_write_bytecode = True
-sys.path.insert(0, os.path.dirname(os.path.abspath(__file__)))
-
-from published import unpacked
-
 TOP = os.path.dirname(os.path.dirname(os.path.abspath(__file__)))
 TREE = os.path.join("sample", "tree.mk")
+ARRAY = os.path.join(TOP, "sample", "slurm")
+LEVELS = ["level-1", "level-2", "level-3"]
 TOWN = os.path.join("sample", "town.osm.pbf")
 # each is wider than those before it
 STRATEGIES = {"complete ways": [], "all parents": ["--parents"], "smart": ["-s", "smart", "--types=multipolygon,boundary"],
               "smart of all types": ["-s", "smart", "--types=any"]}
-NEEDED = ["bash", "make", "awk", "cmp"]
+NEEDED = ["bash", "make", "awk", "cmp", "find", "paste"]
 NOTHING_TO_RUN = 77
 SECONDS = 900
 
@@ -42,10 +40,11 @@ def run(words: list, folder: str = TOP, **variables):
                           timeout=SECONDS, check=False)
 
 
-def succeed(words: list, folder: str = TOP, **variables):
+def succeed(words: list, folder: str = TOP, **variables) -> str:
     done = run(words, folder, **variables)
     if done.returncode:
         fail(f"'{' '.join(words)}' ends with {done.returncode}: {done.stdout.decode()}")
+    return done.stdout.decode()
 
 
 def read(name: str) -> str:
@@ -84,17 +83,24 @@ class Tree:
         os.remove(direct)
         return contents(self.file(name))
 
+    def make(self, *options: str) -> int:
+        """Makes what isn't there, and returns how many runs that took."""
+        return succeed([*self.words(), *options]).count(self.program + " extract ")
+
     def compare_all(self) -> dict:
-        succeed(self.words())
         cuts = {name: self.compare(name, box) for name, box in listed("box").items()}
-        if len(set(cuts.values())) != len(cuts) or any(name.endswith(".part") for name in os.listdir(self.folder)):
-            fail(f"{self.folder} has two cuts of the same bytes, or a part of one")
+        if len(set(cuts.values())) != len(cuts) or len(os.listdir(self.folder)) != len(cuts):
+            fail(f"{self.folder} has two cuts of the same bytes, or something else")
         return cuts
 
+    def times(self) -> dict:
+        return {name: os.stat(self.file(name)).st_mtime_ns for name in listed("box")}
+
     def interrupt(self, name: str):
-        """Leaves what a run leaves that ended within a cut: a part of it, under another name."""
-        with open(self.file(name) + ".part", "wb") as part:
-            part.write(contents(self.file(name))[:100])
+        """Leaves what a run leaves that is killed before it has made this cut: a part of it, the configuration, and the other cuts."""
+        for path in [self.file(name) + ".123.0.part", os.path.join(self.folder, listed("from")[name] + ".json")]:
+            with open(path, "wb") as part:
+                part.write(contents(self.file(name))[:100])
         os.remove(self.file(name))
 
 
@@ -117,6 +123,10 @@ def cut_out_of_wider(wide: Tree, strategy: str, cuts: dict) -> int:
 
 def compare_strategies(trees: list) -> tuple:
     """The cuts of the first tree, and how many cuts were compared. A wider strategy keeps more, and a cut by it may need what a narrower one drops."""
+    parents = {listed("from").get(name, "IN") for name in listed("box")}
+    for tree in trees:
+        if (count := tree.make()) != len(listed("box") if "smart" in tree.options else parents):
+            fail(f"a tree by {tree.strategy} takes {count} runs")
     cuts = [tree.compare_all() for tree in trees]
     count = sum(map(len, cuts))
     if any(cuts[0][name] == cuts[1][name] for name in cuts[0]):
@@ -128,50 +138,69 @@ def compare_strategies(trees: list) -> tuple:
     return cuts[0], count
 
 
+def makes_again(tree: Tree, cuts: dict):
+    """A cut that isn't there is made again with all below it, and no other."""
+    before = tree.times()
+    tree.interrupt("town")
+    if (count := tree.make()) != 2 or tree.compare_all() != cuts:
+        fail(f"after {count} runs a cut that was made again has other bytes")
+    made = {name for name, time in tree.times().items() if before[name] != time}
+    if made != {"town", *(name for name, parent in listed("from").items() if parent == "town")}:
+        fail(f"with one cut there were made {', '.join(sorted(made))}")
+    before = tree.times()
+    if tree.make() or not tree.make("-B") or tree.compare_all() != cuts or any(tree.times()[name] == before[name] for name in before):
+        fail("make makes all again, or by -B not all")
+
+
 def refuses_box(program: str, folder: str):
     """A box that leaves the one around it is no part of the tree."""
-    done = run([*Tree(program, folder, "complete ways").words(), "box.town=9.9,49.997,10.004,50.004"])
-    if not done.returncode or b"the box of town isn't in that of region" not in done.stdout:
-        fail(f"a box that leaves the one around it ends with {done.returncode}: {done.stdout.decode()}")
+    for number, strategy in enumerate(STRATEGIES):
+        done = run([*Tree(program, f"{folder}_{number}", strategy).words(), "box.town=9.9,49.997,10.004,50.004"])
+        if not done.returncode or b"the box of town is not in that of region" not in done.stdout:
+            fail(f"a box that leaves the one around it ends with {done.returncode}: {done.stdout.decode()}")
 
 
-def run_as_array(program: str, folder: str) -> dict:
-    """The cuts by the script of the page, level by level, line by line."""
+def run_as_array(program: str, folder: str, options: list) -> dict:
+    """The cuts by the script of sample/slurm/, level by level, task by task."""
     os.mkdir(folder)
-    os.symlink(program, os.path.join(folder, "pbfcutz"))
     shutil.copy(os.path.join(TOP, TOWN), os.path.join(folder, "planet.osm.pbf"))
-    script = re.search(r"^```bash\n(#!/bin/bash\n.*?)^```$", read("docs/SCALE.md"), re.M | re.S)
-    with open(os.path.join(folder, "cut.sh"), "w", encoding="utf-8") as file:
-        file.write(script[1])
-    above, left, path = {"planet"}, listed("box"), os.pathsep.join([folder, os.environ["PATH"]])
-    while left:
-        level = [name for name in left if listed("from").get(name, "planet") in above]
-        with open(os.path.join(folder, "level"), "w", encoding="utf-8") as file:
-            file.writelines(f"{name} {listed('from').get(name, 'planet')} {left[name]}\n" for name in level)
+    path = os.pathsep.join([os.path.dirname(program), os.environ["PATH"]])
+    found = {}
+    for level in LEVELS:
+        lines = [line.split() for line in read(os.path.join(ARRAY, level)).splitlines()]
+        found.update({name: (parent, box) for parent, name, box in lines})
+        count = len({parent for parent, _, _ in lines})
         # the last one again: it is there
-        for line in [*range(1, len(level) + 1), len(level)]:
-            succeed(["bash", "cut.sh", "level"], folder, SLURM_ARRAY_TASK_ID=str(line), PATH=path)
-        above, left = set(level), {name: box for name, box in left.items() if name not in level}
-    # pbfcutz compresses them
-    return {name: unpacked(contents(os.path.join(folder, f"{name}.osm.pbf"))) for name in listed("box")}
+        for task in [*range(1, count + 1), count]:
+            succeed(["bash", os.path.join(ARRAY, "cut.sh"), os.path.join(ARRAY, level)], folder, SLURM_ARRAY_TASK_ID=str(task), PATH=path,
+                    OPTIONS=" ".join(options))
+    if found != {name: (listed("from").get(name, "planet"), box) for name, box in listed("box").items()}:
+        fail("the lists of sample/slurm/ aren't those of sample/tree.mk")
+    return {name: contents(os.path.join(folder, f"{name}.osm.pbf")) for name in found}
+
+
+def lacks() -> str:
+    """What isn't installed here."""
+    lacking = [name for name in NEEDED if not shutil.which(name)]
+    version = None if lacking else re.match(r"GNU Make (\d+)\.(\d+)", run(["make", "--version"]).stdout.decode())
+    return ", ".join(lacking) or ("" if version and (int(version[1]), int(version[2])) >= (4, 3) else "GNU make 4.3")
 
 
 def main():
     if len(sys.argv) != 2 or not os.access(sys.argv[1], os.X_OK):
         sys.exit(__doc__)
-    lacking = [name for name in NEEDED if not shutil.which(name)]
-    if lacking or b"GNU Make" not in run(["make", "--version"]).stdout:
-        print(f"tests/scale.py: skipped: {', '.join(lacking) or 'GNU make'} isn't installed")
+    if lacking := lacks():
+        print(f"tests/scale.py: skipped: {lacking} isn't installed")
         sys.exit(NOTHING_TO_RUN)
-    program = os.path.abspath(sys.argv[1])
     with tempfile.TemporaryDirectory(prefix="pbfcut-scale-") as folder:
+        program = os.path.join(folder, "pbfcutz")
+        os.symlink(os.path.abspath(sys.argv[1]), program)
         trees = [Tree(program, os.path.join(folder, strategy.replace(" ", "_")), strategy) for strategy in STRATEGIES]
         cuts, count = compare_strategies(trees)
-        trees[0].interrupt("town")
-        if trees[0].compare_all() != cuts:
-            fail("a cut that was made again has other bytes")
-        if run_as_array(program, os.path.join(folder, "array")) != cuts:
-            fail("the script of docs/SCALE.md makes other cuts")
+        makes_again(trees[0], cuts)
+        for tree in trees[:2]:
+            if run_as_array(program, f"{tree.folder}_array", tree.options) != {name: contents(tree.file(name)) for name in cuts}:
+                fail(f"the script of sample/slurm/ makes other cuts by {tree.strategy}")
         refuses_box(program, os.path.join(folder, "refused"))
     print(f"tests/scale.py: {count} cuts out of cuts are the cuts of the whole town")
 

@@ -4,6 +4,8 @@
 #[cfg(test)]
 mod config;
 #[cfg(test)]
+mod config_paths;
+#[cfg(test)]
 mod geojson;
 #[cfg(test)]
 mod poly_file;

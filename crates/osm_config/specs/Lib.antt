@@ -3,4 +3,5 @@ pub mod Members
 pub mod Edges
 pub mod Areas
 pub mod Configs
+pub mod Paths
 pub mod Readings

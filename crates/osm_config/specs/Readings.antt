@@ -40,11 +40,14 @@ Reads text (Err (stop.Refused extract name reason)) =
 Reads text (Err stop.Memory) = Unit {0}
 
 -- the same of what a caller is given
-abbrev pub ReadsConfig : OrFault ConfigSpec → Result ConfigSpec ConfigError → Type 0
+abbrev pub ReadsConfig : {A : Type 0} → OrFault A → Result A ConfigError → Type 0
 ReadsConfig text (Ok found) = text ≡ Ok found
 ReadsConfig text (Err (error.Refused f)) = text ≡ Err (fault_of f)
 ReadsConfig text (Err error.Memory) = Unit {0}
 
 -- the error says what the stop says, or memory was refused
 abbrev pub IsNamed : ConfigStop → ConfigError → Type 0
-IsNamed stop error = (text : OrFault ConfigSpec) → Reads text (Err stop) → ReadsConfig text (Err error)
+IsNamed (stop.Refused extract name reason) (error.Refused f) =
+    fault_of f ≡ record { extract = extract; member = name.now; reason = reason }
+IsNamed stop.Memory (error.Refused f) = ⊥
+IsNamed stop error.Memory = Unit {0}

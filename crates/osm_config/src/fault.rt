@@ -1,6 +1,7 @@
 //! What is wrong with a configuration.
 
 ghost use Rattle.std.specs.Prelude.{◌≡◌};
+ghost use Rattle.osm_config.specs.declared.fault.ConfigError.TheVariants as error;
 ghost use Rattle.osm_config.specs.declared.fault.ConfigStop.TheVariants as stop;
 ghost use Rattle.osm_config.specs.Readings.{IsNamed};
 
@@ -71,6 +72,14 @@ pub enum ConfigError {
     Refused(ConfigFault),
     /// Memory was refused.
     Memory,
+}
+
+impl From<AllocError> for ConfigError {
+    ghost from_gives = { λ _ e. e ≡ error.Memory };
+
+    fn from(_error: AllocError) -> ConfigError {
+        ConfigError::Memory
+    }
 }
 
 /// The same while the text is read: a fault has the extract's number, the member's name and the reason.

@@ -9,8 +9,10 @@ pub mod laws;
 mod member;
 mod names;
 mod outputs;
+mod paths;
 mod reading;
 
 pub use config::{Config, ConfiguredArea, ConfiguredExtract};
 pub use fault::{ConfigError, ConfigFault, ConfigReason};
+pub use paths::read_extracts;
 pub use reading::read_config;

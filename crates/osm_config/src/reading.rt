@@ -19,7 +19,7 @@ use osm_polygon::without_mark;
 use std::alloc::{AllocError, Global};
 
 /// The extracts, if there is one, and if no two have the same output.
-fn if_some_and_distinct<'v>(
+pub(crate) fn if_some_and_distinct<'v>(
     alloc: Global,
     extracts: Vec<ConfiguredExtract>,
 ) -> Result<Vec<ConfiguredExtract>, ConfigStop<'v>>

@@ -66,7 +66,7 @@ module _ {F U : Type 0} (f : feed.Ghosts F) (u : feed.Ghosts U) (below : U → F
   changed_packed (old ∷ olds) (now ∷ news) first nothing number pass is opened (inr c) = inr (changed_packed olds news first nothing (number + 1) pass is opened.1 c)
 
   -- what unpacking feeds supply if those below have bytes that mean it
-  supply_above : (olds news : List U) (b : List ℕ) → AreOpened f u below check olds → AllSupply b (map raw_of (map supply_of (packed olds news))) → AllSupply b (map supply_of (used u olds news))
+  pub supply_above : (olds news : List U) (b : List ℕ) → AreOpened f u below check olds → AllSupply b (map raw_of (map supply_of (packed olds news))) → AllSupply b (map supply_of (used u olds news))
   supply_above [] news b opened all = tt
   supply_above (old ∷ olds) [] b opened all = tt
   supply_above (old ∷ olds) (now ∷ news) b opened all = (opened.0.remaining ∙ all.0, supply_above olds news b opened.1 all.1)

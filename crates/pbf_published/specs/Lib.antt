@@ -1,3 +1,4 @@
 pub mod Published
 pub mod Showing
 pub mod PublishedTasks
+pub mod PublishedEach

@@ -13,7 +13,6 @@ use Rattle.pbf_pass.specs.Hashing.{Holds as HoldsBytes, IsDigestOf, Mark, below_
 use Rattle.pbf_pass.specs.declared.hashed.PassFeed.{PassFeed}
 use Rattle.pbf_pass.specs.declared.hashing.PassCheck.{PassCheck}
 use Rattle.pbf_pass.specs.declared.receipt.Halt.{Halt}
-use Rattle.pbf_pass.specs.declared.receipt.InputReceipt.{InputReceipt}
 use Rattle.pbf_pass.specs.Refused.{stop_of}
 use Rattle.pbf_pass.specs.Stops.{Caused, FaultOf}
 use Rattle.pbf_unpack.specs.Unpacked.{unpacked}
@@ -165,7 +164,7 @@ told_by true Read = Memory
 told_by true s = s
 
 -- what a call over raw files returns, as it is reported of published ones
-abbrev pub ReportsOutcome : (lacks : Bool) → Result InputReceipt Halt → Result InputReceipt PublishedHalt → Type 0
+abbrev pub ReportsOutcome : {R : Type 0} → (lacks : Bool) → Result R Halt → Result R PublishedHalt → Type 0
 ReportsOutcome lacks (Ok receipt) (Ok reported) = reported ≡ receipt
 ReportsOutcome lacks (Err halt) (Err reported) = reported.stop ≡ told_by lacks (stop_of halt)
 ReportsOutcome lacks (Ok receipt) (Err reported) = ⊥

@@ -8,7 +8,7 @@ ghost use Rattle.pbf_published.specs.PublishedTasks.{below_of};
 use crate::traced::TracedFeed;
 use pbf_block::Counts;
 use pbf_frame::{Feed, Stop};
-use pbf_pass::{Halt, InputReceipt, PassCheck, PassFeed, Refusal};
+use pbf_pass::{Halt, PassCheck, PassFeed, Refusal};
 use pbf_unpack::{DigestFeed, Inflater, Place, UnpackFault, UnpackedFeed};
 use std::alloc::{AllocError, Global};
 
@@ -150,11 +150,11 @@ pub(crate) fn stopped<F: Feed>(
 
 /// What a call over raw files returns, as it is reported of the published ones: of the first of them, and of a feed that was refused
 /// memory.
-pub(crate) fn published_outcome<F: Feed>(
-    outcome: Result<InputReceipt, Halt>,
+pub(crate) fn published_outcome<R, F: Feed>(
+    outcome: Result<R, Halt>,
     first: &PublishedFeed<F>,
     lacks_memory: bool,
-) -> Result<InputReceipt, PublishedHalt>
+) -> Result<R, PublishedHalt>
     ensures { ReportsOutcome lacks_memory outcome result }
 {
     match outcome {

@@ -5,11 +5,13 @@
 mod checking;
 mod input;
 mod running;
+mod running_each;
 mod showing;
 mod traced;
 
 pub use checking::check_with_receipt;
 pub use input::{PublishedFeed, PublishedHalt, PublishedInput, close, open};
 pub use running::{open_all, run_published};
+pub use running_each::{PublishedDigests, run_published_each};
 pub use showing::{list_blobs, show_info};
 pub use traced::TracedFeed;

@@ -34,7 +34,7 @@ pub fn open_all<F: Feed + Drop>(
 }
 
 /// Whether one of the feeds was refused memory. If none was, the reads that failed are those of the feeds below.
-fn lacks_any<F: Feed>(feeds: &[PublishedFeed<F>]) -> bool
+pub(crate) fn lacks_any<F: Feed>(feeds: &[PublishedFeed<F>]) -> bool
     ensures { result ≡ false
         → FailBelow F.Feed ⟦<PublishedFeed<F> as Feed>⟧ below_of feeds.now }
 {
@@ -45,7 +45,7 @@ fn lacks_any<F: Feed>(feeds: &[PublishedFeed<F>]) -> bool
 }
 
 /// How many feeds after the first aren't compared with it: if passes were spared, all but the last.
-fn skipped_of(spared: bool, feeds: usize) -> usize
+pub(crate) fn skipped_of(spared: bool, feeds: usize) -> usize
     ensures { result ≡ skipped_of spared (feeds - 2) }
 {
     if spared { feeds.saturating_sub(2) } else { 0 }
@@ -76,7 +76,10 @@ fn compare_later<F: Feed>(
 }
 
 /// The digest of the first feed. The later ones have it too, except the first `skipped`.
-fn shared_digest<F: Feed>(feeds: &mut [PublishedFeed<F>], skipped: usize) -> Result<[u8; 32], Stop>
+pub(crate) fn shared_digest<F: Feed>(
+    feeds: &mut [PublishedFeed<F>],
+    skipped: usize,
+) -> Result<[u8; 32], Stop>
     requires { 1 + length feeds.old < 256 }
     ensures below { map below_of feeds.new ≡ map below_of feeds.old }
     ensures same { IfOk result (λ digest. ShareDigest F.Feed ⟦<PublishedFeed<F> as Feed>⟧ below_of

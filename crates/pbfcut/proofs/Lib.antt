@@ -26,3 +26,4 @@ pub mod ManyLemmas
 pub mod CopyingLemmas
 pub mod SmartLemmas
 pub mod TaskLemmas
+pub mod EachTaskLemmas

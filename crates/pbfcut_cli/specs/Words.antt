@@ -1,5 +1,5 @@
 -- The program's commands, as `clap` sees them.
-use Rattle.std.specs.Prelude.{◌≡◌, ◌⊎◌, ◌&&◌, ℕ, Bool, true, false, codes, List, [], ◌∷◌, Option, Some, None, Result, Ok, Err, IsSome, IsSomeAnd, MatchResult, map, unwrap_or}
+use Rattle.std.specs.Prelude.{◌≡◌, ◌⊎◌, ◌&&◌, ◌||◌, ℕ, Bool, true, false, codes, List, [], ◌∷◌, Option, Some, None, Result, Ok, Err, IsSome, IsSomeAnd, MatchResult, map, is_some, option_map, unwrap_or}
 use Rattle.std.specs.Borrow.{Bor}
 use Rattle.std.specs.Option.{option_map_or}
 use Rattle.std.specs.Str.{bytes_eq}
@@ -7,15 +7,16 @@ use Rattle.clap.specs.Words.{App, Row, Rule, Shape, Text, first_of, new_app, new
 use Rattle.clap.specs.Simple.{on_top}
 use Rattle.clap.specs.declared.builder.ArgAction.TheVariants.{SetTrue}
 use Rattle.osm_box.specs.Degrees.{box_of_text}
+use Rattle.pbfcut_cli.specs.declared.words.ConfigFiles.{ConfigFiles}
 use Rattle.pbfcut_cli.specs.declared.words.Files.{Files}
 use Rattle.pbfcut_cli.specs.declared.words.Region.{Region}
 use Rattle.pbfcut_cli.specs.declared.words.Region.TheVariants as region
 use Rattle.pbfcut_cli.specs.declared.words.Strategy.{Strategy}
 use Rattle.pbfcut_cli.specs.declared.words.Strategy.TheVariants as strategy
 use Rattle.pbfcut_cli.specs.declared.words.Command.{Command}
-use Rattle.pbfcut_cli.specs.declared.words.Command.TheVariants.{Blobs, Info, Show, Check, Convert, Pack, Unpack, Extract, Help}
+use Rattle.pbfcut_cli.specs.declared.words.Command.TheVariants.{Blobs, Info, Show, Check, Convert, Pack, Unpack, Extract, ExtractEach, Help}
 use Rattle.pbfcut_cli.specs.declared.words.ChoiceFault.{ChoiceFault}
-use Rattle.pbfcut_cli.specs.declared.words.ChoiceFault.TheVariants.{NoRegion, TwoRegions, NoOutput, TwoOutputs, OtherFormat, OtherStrategy, TypesAlone}
+use Rattle.pbfcut_cli.specs.declared.words.ChoiceFault.TheVariants.{NoRegion, TwoRegions, NoOutput, TwoOutputs, OtherFormat, OtherStrategy, TypesAlone, ConfigAndRegion, ConfigAndOutput, ConfigAndSmart, DirectoryAlone}
 use Rattle.pbfcut_cli.specs.declared.programs.Program.{Program}
 use Rattle.pbfcut_cli.specs.declared.programs.Program.TheVariants.{Pbfcut, Pbfcutz}
 use Rattle.pbfcut_cli.specs.declared.words.CliFault.{CliFault}
@@ -155,8 +156,13 @@ with_region app = with_rule (with_rule app box_rule) polygon_rule
 abbrev pub with_strategy : App → App
 with_strategy app = with_rule (with_rule (with_rule app (flag_rule (codes "set-bounds"))) (named_rule (codes "strategy") 115)) types_rule
 
+-- `--config` or `-c`, and `--directory` or `-d`, which only pbfcutz has
+abbrev pub with_config : Program → App → App
+with_config Pbfcut app = app
+with_config Pbfcutz app = with_rule (with_rule app (named_rule (codes "config") 99)) (named_rule (codes "directory") 100)
+
 abbrev pub extract_app : Program → App
-extract_app program = with_files program (with_strategy (with_region (with_raw program options_app)))
+extract_app program = with_files program (with_strategy (with_config program (with_region (with_raw program options_app))))
 
 abbrev pub versioned : Shape → Shape
 versioned s = record s { has_version = true }
@@ -217,6 +223,18 @@ names_complete_ways rows = is_or_absent (codes "complete_ways") (first_of (codes
 abbrev pub names_smart : List Row → Bool
 names_smart rows = option_map_or (λ text. bytes_eq text (codes "smart")) (first_of (codes "strategy") rows) false
 
+-- the argument is there
+abbrev pub is_given : Text → List Row → Bool
+is_given id rows = is_some (first_of id rows)
+
+-- there is a box or a polygon
+abbrev pub names_region : List Row → Bool
+names_region rows = is_given (codes "box") rows || is_given (codes "polygon") rows
+
+-- there is an OUT, as the last argument or as an option
+abbrev pub names_output : List Row → Bool
+names_output rows = is_given (codes "OUT") rows || is_given (codes "output") rows
+
 -- the path of OUT: one of the two arguments that may have it
 abbrev pub ReadsOutput : List Row → Bor Text → Type 0
 ReadsOutput rows path = ((first_of (codes "OUT") rows ≡ Some path.now) × (first_of (codes "output") rows ≡ None))
@@ -229,12 +247,15 @@ ReadsRegion rows (region.Box area) = (first_of (codes "polygon") rows ≡ None)
 ReadsRegion rows (region.Polygon path) = (first_of (codes "box") rows ≡ None)
     × (first_of (codes "polygon") rows ≡ Some path.now)
 
+-- ways are complete, and parents are kept or not
+abbrev pub ReadsParents : List Row → Bool → Type 0
+ReadsParents rows parents = (names_complete_ways rows ≡ true)
+    × (first_of (codes "types") rows ≡ None) × ReadsFlag parents (codes "parents") rows
+
 -- which strategy the rows name; the types of `smart` are `multipolygon` if none are given
 abbrev pub ReadsStrategy : List Row → Strategy → Type 0
-ReadsStrategy rows strategy.CompleteWays = (names_complete_ways rows ≡ true)
-    × (first_of (codes "types") rows ≡ None) × ReadsFlag false (codes "parents") rows
-ReadsStrategy rows strategy.AllParents = (names_complete_ways rows ≡ true)
-    × (first_of (codes "types") rows ≡ None) × ReadsFlag true (codes "parents") rows
+ReadsStrategy rows strategy.CompleteWays = ReadsParents rows false
+ReadsStrategy rows strategy.AllParents = ReadsParents rows true
 ReadsStrategy rows (strategy.Smart types) = (names_smart rows ≡ true)
     × (types.now ≡ unwrap_or (first_of (codes "types") rows) (codes "multipolygon"))
 
@@ -243,6 +264,20 @@ pub record ReadsFiles (rows : List Row) (files : Files) : Type 0 where
   pub formats : names_pbf rows ≡ true
   pub input : files.input.now ≡ argument_value (codes "IN") rows
   pub output : ReadsOutput rows files.output
+  pub overwrite : ReadsFlag files.overwrite (codes "overwrite") rows
+  pub raw : ReadsFlag files.raw (codes "raw") rows
+  pub progress : ReadsFlag files.progress (codes "progress") rows
+  pub quiet : ReadsFlag files.quiet (codes "no-progress") rows
+  pub digests : ReadsFlag files.digests (codes "digests") rows
+
+-- the same of a command that writes a file for each area of a configuration, which is neither given an area nor an OUT
+pub record ReadsConfigFiles (rows : List Row) (files : ConfigFiles) : Type 0 where
+  pub no_region : names_region rows ≡ false
+  pub no_output : names_output rows ≡ false
+  pub formats : names_pbf rows ≡ true
+  pub input : files.input.now ≡ argument_value (codes "IN") rows
+  pub config : first_of (codes "config") rows ≡ Some files.config.now
+  pub directory : option_map (λ s. s.now) files.directory ≡ first_of (codes "directory") rows
   pub overwrite : ReadsFlag files.overwrite (codes "overwrite") rows
   pub raw : ReadsFlag files.raw (codes "raw") rows
   pub progress : ReadsFlag files.progress (codes "progress") rows
@@ -264,7 +299,10 @@ ReadsAs name rows (Convert files) = (name ≡ codes "convert") × ReadsFiles row
 ReadsAs name rows (Pack files) = (name ≡ codes "pack") × ReadsFiles rows files
 ReadsAs name rows (Unpack files) = (name ≡ codes "unpack") × ReadsFiles rows files
 ReadsAs name rows (Extract region by files) = (name ≡ codes "extract")
+    × (is_given (codes "config") rows ≡ false) × (is_given (codes "directory") rows ≡ false)
     × ReadsStrategy rows by × ReadsRegion rows region × ReadsFiles rows files
+ReadsAs name rows (ExtractEach parents files) = (name ≡ codes "extract")
+    × ReadsParents rows parents × ReadsConfigFiles rows files
 ReadsAs name rows (Help text) = ⊥
 
 abbrev pub IsRead : Option (Text × List Row) → Command → Type 0
@@ -278,21 +316,49 @@ HasOutputFault rows TwoOutputs = IsSome (first_of (codes "OUT") rows) × IsSome 
 HasOutputFault rows OtherFormat = names_pbf rows ≡ false
 HasOutputFault rows _ = ⊥
 
--- there is neither a box nor a polygon, or both, or the box has this fault, or the strategy is another one, or there are types for one that
--- takes none
+-- the strategy is another one, or there are types for one that takes none
+abbrev pub HasStrategyFault : List Row → CliFault → Type 0
+HasStrategyFault rows (fault.Choice OtherStrategy) = (names_complete_ways rows ≡ false) × (names_smart rows ≡ false)
+HasStrategyFault rows (fault.Choice TypesAlone) = IsSome (first_of (codes "types") rows) × (names_smart rows ≡ false)
+HasStrategyFault rows _ = ⊥
+
+-- there is neither a box nor a polygon, or both, or the box has this fault
 abbrev pub HasRegionFault : List Row → CliFault → Type 0
 HasRegionFault rows (fault.Box f) = IsSomeAnd (first_of (codes "box") rows) (λ text. box_of_text text ≡ Err f)
 HasRegionFault rows (fault.Choice NoRegion) = (first_of (codes "box") rows ≡ None) × (first_of (codes "polygon") rows ≡ None)
 HasRegionFault rows (fault.Choice TwoRegions) = IsSome (first_of (codes "box") rows) × IsSome (first_of (codes "polygon") rows)
-HasRegionFault rows (fault.Choice OtherStrategy) = (names_complete_ways rows ≡ false) × (names_smart rows ≡ false)
-HasRegionFault rows (fault.Choice TypesAlone) = IsSome (first_of (codes "types") rows) × (names_smart rows ≡ false)
 HasRegionFault rows _ = ⊥
+
+-- the same of the files of a command
+abbrev pub HasFilesFault : List Row → CliFault → Type 0
+HasFilesFault rows f = (choice : ChoiceFault) × (f ≡ fault.Choice choice) × HasOutputFault rows choice
+
+-- without a configuration there is a folder for its files, or a fault in what is cut out, or in the files
+abbrev pub HasAreaFault : List Row → CliFault → Type 0
+HasAreaFault rows f = ((f ≡ fault.Choice DirectoryAlone) × (is_given (codes "directory") rows ≡ true))
+    ⊎ (HasRegionFault rows f ⊎ HasFilesFault rows f)
+
+-- with one there is an area or an OUT too, or it is for `smart`, or a format is another one
+abbrev pub HasConfigFault : List Row → CliFault → Type 0
+HasConfigFault rows (fault.Choice ConfigAndSmart) = names_smart rows ≡ true
+HasConfigFault rows (fault.Choice ConfigAndRegion) = names_region rows ≡ true
+HasConfigFault rows (fault.Choice ConfigAndOutput) = names_output rows ≡ true
+HasConfigFault rows (fault.Choice OtherFormat) = names_pbf rows ≡ false
+HasConfigFault rows _ = ⊥
+
+abbrev pub HasExtractFault : List Row → CliFault → Type 0
+HasExtractFault rows f = HasStrategyFault rows f
+    ⊎ (((is_given (codes "config") rows ≡ true) × HasConfigFault rows f)
+    ⊎ ((is_given (codes "config") rows ≡ false) × HasAreaFault rows f))
+
+-- another command that writes a file
+abbrev pub IsWriter : Text → Type 0
+IsWriter name = (name ≡ codes "convert") ⊎ ((name ≡ codes "pack") ⊎ (name ≡ codes "unpack"))
 
 -- `clap` takes the words, but they have this fault: one of what `extract` cuts out, or of a file that is written
 abbrev pub HasFault : Option (Text × List Row) → CliFault → Type 0
 HasFault None f = ⊥
-HasFault (Some p) f = ((p.0 ≡ codes "extract") × HasRegionFault p.1 f)
-    ⊎ ((choice : ChoiceFault) × (f ≡ fault.Choice choice) × HasOutputFault p.1 choice)
+HasFault (Some p) f = ((p.0 ≡ codes "extract") × HasExtractFault p.1 f) ⊎ (IsWriter p.0 × HasFilesFault p.1 f)
 
 -- the name is that of a command
 abbrev pub IsOffered : Option (Text × List Row) → Type 0

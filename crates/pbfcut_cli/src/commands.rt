@@ -37,6 +37,7 @@ ghost use Rattle.pbfcut_cli.specs.Words.{
   with_accepted,
   with_any_files,
   with_both_files,
+  with_config,
   with_file_options,
   with_files,
   with_formats,
@@ -177,6 +178,28 @@ fn polygon<'a>(alloc: Global) -> Arg<'a>
         .short('p')
         .value_name("FILE")
         .help(help::POLYGON)
+}
+
+/// The areas of several extracts, as the path of the configuration.
+fn config<'a>(alloc: Global) -> Arg<'a>
+    ensures { IsArgument (named_rule (codes "config") 99) result }
+{
+    Arg::new(alloc, "config")
+        .long("config")
+        .short('c')
+        .value_name("FILE")
+        .help(help::CONFIG)
+}
+
+/// The folder of the files that a configuration names.
+fn directory<'a>(alloc: Global) -> Arg<'a>
+    ensures { IsArgument (named_rule (codes "directory") 100) result }
+{
+    Arg::new(alloc, "directory")
+        .long("directory")
+        .short('d')
+        .value_name("FOLDER")
+        .help(help::DIRECTORY)
 }
 
 /// What is kept besides what lies inside.
@@ -410,6 +433,20 @@ fn with_region<'a>(command: Made<'a>, alloc: Global) -> Made<'a>
     with_arg(command, polygon(alloc))
 }
 
+/// The command with a configuration and its folder, if the program takes one.
+fn with_config<'a>(command: Made<'a>, alloc: Global, program: Program) -> Made<'a>
+    requires local { IfOk command HasNoGlobals }
+    ensures { IfOk result (IsWith (with_config program) command.entry) }
+{
+    match program {
+        Program::Pbfcut => command,
+        Program::Pbfcutz => {
+            let command = with_arg(command, config(alloc));
+            with_arg(command, directory(alloc))
+        }
+    }
+}
+
 /// The command with what is kept besides what lies inside; `--set-bounds` is done anyway.
 fn with_strategy<'a>(command: Made<'a>, alloc: Global) -> Made<'a>
     requires local { IfOk command HasNoGlobals }
@@ -423,8 +460,8 @@ fn with_strategy<'a>(command: Made<'a>, alloc: Global) -> Made<'a>
 fn extract<'a>(alloc: Global, program: Program, help: &'a Help) -> Made<'a>
     ensures { IfOk result (IsCommand (extract_app program)) }
 {
-    let command = with_raw(options(alloc, help), alloc, program);
-    let command = with_strategy(with_region(command, alloc), alloc);
+    let command = with_region(with_raw(options(alloc, help), alloc, program), alloc);
+    let command = with_strategy(with_config(command, alloc, program), alloc);
     with_files(command, alloc, program, help)
 }
 

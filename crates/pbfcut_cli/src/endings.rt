@@ -3,12 +3,14 @@
 ghost use Rattle.std.specs.Prelude.{◌≡◌, ◌++◌, IfOk, codes, string_bytes};
 ghost use Rattle.pbf_frame.specs.declared.stop.Stop.TheVariants as stop;
 ghost use Rattle.pbfcut_cli.specs.declared.endings.Ending.TheVariants as ending;
-ghost use Rattle.pbfcut_cli.specs.Endings.{box_fault_name, ending_of, ending_of_polygon, ending_status, field_text, ending_line, message_of, not_text, plain_text, program_name, reason_text, refused_text, status_of};
+ghost use Rattle.pbfcut_cli.specs.Endings.{box_fault_name, ending_of, ending_of_config, ending_of_polygon, ending_status, field_text, ending_line, message_of, not_text, plain_text, program_name, reason_text, refused_text, status_of};
 
+use crate::config_faults::config_message;
 use crate::faults::{choice_message, polygon_message};
 use crate::packed::{PackedRefusal, packed_line};
 use crate::programs::Program;
 use crate::words::{ChoiceFault, CliFault};
+use osm_config::{ConfigError, ConfigFault};
 use osm_entity::BoxFault;
 use osm_polygon::{PolyError, PolyFault};
 use pbf_frame::Stop;
@@ -116,6 +118,8 @@ pub enum Ending {
     Choice(ChoiceFault),
     /// The file of the polygon isn't in its format.
     Polygon(PolyFault),
+    /// The configuration of several extracts has a fault.
+    Config(ConfigFault),
     /// IN can't be opened, there is no seed for the hasher, or OUT can't be created.
     CannotOpen,
     /// IN is a pipe, which the command would have to read more than once.
@@ -154,6 +158,17 @@ impl From<PolyError> for Ending {
     }
 }
 
+impl From<ConfigError> for Ending {
+    ghost from_gives = { λ error e. e ≡ ending_of_config error };
+
+    fn from(error: ConfigError) -> Ending {
+        match error {
+            ConfigError::Refused(fault) => Ending::Config(fault),
+            ConfigError::Memory => Ending::Stopped(Stop::Memory),
+        }
+    }
+}
+
 impl From<Stop> for Ending {
     ghost from_gives = { λ s e. e ≡ ending.Stopped s };
 
@@ -170,7 +185,8 @@ impl From<AllocError> for Ending {
     }
 }
 
-fn fault_name(fault: &BoxFault) -> &'static str
+/// The name of a fault of a box.
+pub(crate) fn fault_name(fault: &BoxFault) -> &'static str
     ensures { result.now ≡ box_fault_name fault.now }
 {
     match fault {
@@ -214,14 +230,14 @@ fn not_text(alloc: Global, program: &str) -> Result<String, AllocError>
 }
 
 impl Ending {
-    /// The exit status: 2 for a command line, a box or a polygon, 3 if a file can't be used, 141 if nobody reads standard output any
-    /// more, and otherwise that of the stop.
+    /// The exit status: 2 for a command line, a box, a polygon or a configuration, 3 if a file can't be used, 141 if nobody reads standard
+    /// output any more, and otherwise that of the stop.
     pub fn status(&self) -> u8
         ensures { result ≡ ending_status self.now }
     {
         match self {
             Ending::Words(_) | Ending::NotText | Ending::Box(_) => 2,
-            Ending::Choice(_) | Ending::Polygon(_) => 2,
+            Ending::Choice(_) | Ending::Polygon(_) | Ending::Config(_) => 2,
             Ending::CannotOpen | Ending::IsPipe | Ending::OutExists => 3,
             Ending::Closed => CLOSED,
             Ending::Stopped(stop) => status(stop),
@@ -245,6 +261,7 @@ impl Ending {
             Ending::Box(fault) => box_message(alloc, name, fault),
             Ending::Choice(fault) => choice_message(alloc, name, *fault),
             Ending::Polygon(fault) => polygon_message(alloc, name, *fault),
+            Ending::Config(fault) => config_message(alloc, name, fault),
             Ending::CannotOpen => format!(in alloc; "{name}: cannot open\n"),
             Ending::IsPipe => format!(in alloc; "{name}: IN must be a file, not a pipe\n"),
             Ending::OutExists => format!(in alloc; "{name}: OUT exists\n"),

@@ -29,6 +29,18 @@ fn choice_error(fault: ChoiceFault) -> &'static str
         ChoiceFault::TypesAlone => {
             "the argument '--types <LIST>' cannot be used without '--strategy smart'"
         }
+        ChoiceFault::ConfigAndRegion => {
+            "the argument '--config <FILE>' cannot be used with '--box <WEST,SOUTH,EAST,NORTH>' or '--polygon <FILE>'"
+        }
+        ChoiceFault::ConfigAndOutput => {
+            "the argument '--config <FILE>' cannot be used with '[OUT]'\n\n  tip: leave it out: the configuration names the files that are written"
+        }
+        ChoiceFault::ConfigAndSmart => {
+            "the argument '--config <FILE>' cannot be used with '--strategy smart'\n\n  tip: a run makes one smart extract: start a run for each area"
+        }
+        ChoiceFault::DirectoryAlone => {
+            "the argument '--directory <FOLDER>' cannot be used without '--config <FILE>'"
+        }
     }
 }
 
@@ -46,6 +58,10 @@ fn choice_usage(fault: ChoiceFault) -> &'static str
         ChoiceFault::NoOutput | ChoiceFault::TwoOutputs | ChoiceFault::OtherFormat => {
             "<COMMAND> [OPTIONS] <IN> <OUT>"
         }
+        ChoiceFault::ConfigAndRegion
+        | ChoiceFault::ConfigAndOutput
+        | ChoiceFault::ConfigAndSmart
+        | ChoiceFault::DirectoryAlone => "extract [OPTIONS] --config=FILE <IN>",
     }
 }
 
@@ -72,7 +88,7 @@ pub(crate) fn choice_message(
 }
 
 /// A reason's number and name.
-fn poly_reason(reason: PolyReason) -> &'static str
+pub(crate) fn poly_reason(reason: PolyReason) -> &'static str
     ensures { result.now ≡ poly_reason_text reason }
 {
     match reason {
@@ -105,7 +121,7 @@ fn ring_words(alloc: Global, ring: usize, position: usize) -> Result<String, All
 }
 
 /// The words for the place of a fault; none for the text as a whole.
-fn place_words(alloc: Global, place: PolyPlace) -> Result<String, AllocError>
+pub(crate) fn place_words(alloc: Global, place: PolyPlace) -> Result<String, AllocError>
     ensures { IfOk result (λ text. string_bytes text ≡ poly_place_text place) }
 {
     match place {

@@ -232,6 +232,10 @@ pub(crate) const BOX: &str = "Edges of the box, in degrees; also --bbox";
 
 pub(crate) const POLYGON: &str = "Cut out a polygon: a .poly or GeoJSON file";
 
+pub(crate) const CONFIG: &str = "Cut out several areas: a JSON file names them";
+
+pub(crate) const DIRECTORY: &str = "Where the files are that --config names";
+
 pub(crate) const ANY_OUTPUT: &str = "The file to write, or - for standard output";
 
 pub(crate) const OPTION: &str = "The file to write, instead of the last argument";
@@ -333,7 +337,13 @@ pub(crate) const OF_PBFCUTZ: Help = Help {
     ),
     extract: after_extract!(
         "IN has zlib or raw blobs, and OUT has zlib blobs; with --raw it has raw ones.\n\
-        If a run stops early there is no OUT.\n",
+        If a run stops early there is no OUT.\n\
+        \n\
+        'pbfcutz extract --config=FILE IN' cuts several areas in one run, each into a\n\
+        file of its own. They are named in a JSON file, as for 'osmium extract -c':\n  \
+          {\"extracts\": [{\"output\": \"a.osm.pbf\", \"bbox\": [-0.5, 51.25, 0.3, 51.7]},\n                \
+                        {\"output\": \"b.osm.pbf\", \"polygon\": {\"file_name\": \"b.poly\"}}]}\n\
+        The outputs are in the folder of -d, or in the \"directory\" that the file names.\n",
         "Example, which cuts London out of a published file of England:\n  \
           pbfcutz extract --box=-0.5,51.25,0.3,51.7 england.osm.pbf london.osm.pbf\n"
     ),

@@ -2,6 +2,7 @@
 #![tactic(auto)]
 
 mod commands;
+mod config_faults;
 mod endings;
 mod faults;
 mod help;
@@ -15,4 +16,4 @@ pub use endings::{Ending, line, status};
 pub use joined::normalize_words;
 pub use packed::PackedRefusal;
 pub use programs::Program;
-pub use words::{ChoiceFault, CliFault, Command, Files, Region, Strategy, read_words};
+pub use words::{ChoiceFault, CliFault, Command, ConfigFiles, Files, Region, Strategy, read_words};

@@ -95,10 +95,18 @@ fn is_of_output(option: &str) -> bool {
         || option == "--overwrite"
 }
 
+/// Whether an option names a configuration, or its folder.
+fn is_of_config(option: &str) -> bool {
+    option == "-c" || option == "--config" || option == "-d" || option == "--directory"
+}
+
 /// What to do without an argument that `clap` did not expect, in a command that is used so.
 fn tip_of(argument: &str, usage: &str) -> Option<&'static str> {
     if is_of_output(argument) && !usage.contains("OUT") {
         return Some("leave it out: this command writes no file");
+    }
+    if is_of_config(argument) && usage.starts_with("Usage: pbfcutz ") {
+        return Some("only 'extract' has this option");
     }
     if let Some(tip) = tip_of_area(argument) {
         return Some(tip);

@@ -1,28 +1,39 @@
 //! The words of the command line, read into a command.
 
-ghost use Rattle.std.specs.Prelude.{◌≡◌, ◌⊎◌, Err, IfErr, IfOk, MatchResult, true};
+ghost use Rattle.std.specs.Prelude.{◌≡◌, ◌⊎◌, Err, IfErr, IfOk, MatchResult, Some, codes, false, true};
 ghost use Rattle.std.specs.Option.{option_map};
 ghost use Rattle.clap.specs.Words.{first_of, found_of, kind_of, rows_of, subcommand_rows_of, takes};
 ghost use Rattle.pbfcut_cli.specs.Words.{
   FitsFault,
+  HasAreaFault,
+  HasConfigFault,
+  HasExtractFault,
   HasFault,
+  HasFilesFault,
   HasOutputFault,
   HasRegionFault,
+  HasStrategyFault,
   IsHelp,
   IsOffered,
   IsOfWords,
   IsRead,
   IsTaken,
+  ReadsAs,
+  ReadsConfigFiles,
   ReadsFiles,
   ReadsFlag,
   ReadsOutput,
+  ReadsParents,
   ReadsRegion,
   ReadsStrategy,
   argument_value,
   command_words,
+  is_given,
   is_or_absent,
   names_complete_ways,
+  names_output,
   names_pbf,
+  names_region,
   names_smart,
   program_app,
   word_texts,
@@ -72,6 +83,24 @@ pub struct Files<'a> {
     pub digests: bool,
 }
 
+/// The files of a command that writes one for each area of a configuration, and how it is run. Paths are as they were given.
+#[derive(Clone, Copy, Debug)]
+pub struct ConfigFiles<'a> {
+    pub input: &'a str,
+    /// The configuration, which names the areas and the files that are written.
+    pub config: &'a str,
+    /// The folder in which the files are that are written, instead of the one that the configuration names.
+    pub directory: Option<&'a str>,
+    /// Whether files that are there are replaced.
+    pub overwrite: bool,
+    /// Whether the blobs that are written are raw ones.
+    pub raw: bool,
+    pub progress: bool,
+    /// Whether no progress is shown, not even on a terminal.
+    pub quiet: bool,
+    pub digests: bool,
+}
+
 /// A command with its arguments. Paths are as they were given.
 #[derive(Debug, Drop)]
 pub enum Command<'a> {
@@ -108,6 +137,12 @@ pub enum Command<'a> {
         strategy: Strategy<'a>,
         files: Files<'a>,
     },
+    /// `extract [--parents] --config=FILE [--directory=FOLDER] IN`: cut each area of a configuration out of IN, into a file of its own.
+    ExtractEach {
+        /// Whether all relations are kept that contain kept ones.
+        parents: bool,
+        files: ConfigFiles<'a>,
+    },
     /// Help or the version is wanted: its text, with its line ends, for standard output.
     Help(String),
 }
@@ -129,6 +164,14 @@ pub enum ChoiceFault {
     OtherStrategy,
     /// Types of relations, for a strategy other than `smart`.
     TypesAlone,
+    /// A configuration, and a box or a polygon.
+    ConfigAndRegion,
+    /// A configuration, which names the files that are written, and an OUT.
+    ConfigAndOutput,
+    /// A configuration, for the strategy `smart`.
+    ConfigAndSmart,
+    /// A folder for the files of a configuration, without one.
+    DirectoryAlone,
 }
 
 /// Why the command line is no command.
@@ -189,6 +232,27 @@ fn flag(matches: &ArgMatches<'_>, id: &str) -> bool
     matches.get_flag(id)
 }
 
+/// Whether the argument is there.
+fn is_given(matches: &ArgMatches<'_>, id: &str) -> bool
+    ensures { result ≡ is_given id.now (rows_of (found_of matches.now)) }
+{
+    value_of(matches, id).is_some()
+}
+
+/// Whether there is a box or a polygon.
+fn names_region(matches: &ArgMatches<'_>) -> bool
+    ensures { result ≡ names_region (rows_of (found_of matches.now)) }
+{
+    is_given(matches, "box") || is_given(matches, "polygon")
+}
+
+/// Whether there is an OUT.
+fn names_output(matches: &ArgMatches<'_>) -> bool
+    ensures { result ≡ names_output (rows_of (found_of matches.now)) }
+{
+    is_given(matches, "OUT") || is_given(matches, "output")
+}
+
 /// Whether an argument is absent, or has this value.
 fn is_or_absent(matches: &ArgMatches<'_>, id: &str, value: &str) -> bool
     ensures { result ≡ is_or_absent value.now (first_of id.now (rows_of (found_of matches.now))) }
@@ -219,7 +283,7 @@ fn names_smart(matches: &ArgMatches<'_>) -> bool
 /// What is kept besides what lies inside.
 fn strategy_in<'a>(matches: &ArgMatches<'a>) -> Result<Strategy<'a>, CliFault>
     ensures { MatchResult result (ReadsStrategy (rows_of (found_of matches.now)))
-        (HasRegionFault (rows_of (found_of matches.now))) }
+        (HasStrategyFault (rows_of (found_of matches.now))) }
 {
     let types = value_of(matches, "types");
     if names_smart(matches) {
@@ -284,6 +348,97 @@ fn region_in<'a>(matches: &ArgMatches<'a>) -> Result<Region<'a>, CliFault>
     }
 }
 
+/// An extract of one area, without a configuration.
+fn one_area_in<'a>(matches: &ArgMatches<'a>) -> Result<Command<'a>, CliFault>
+    requires { is_given (codes "config") (rows_of (found_of matches.now)) ≡ false }
+    ensures { MatchResult result (ReadsAs (codes "extract") (rows_of (found_of matches.now)))
+        (HasExtractFault (rows_of (found_of matches.now))) }
+{
+    if is_given(matches, "directory") {
+        return Err(CliFault::Choice(ChoiceFault::DirectoryAlone));
+    }
+    let strategy = strategy_in(matches)?;
+    let region = region_in(matches)?;
+    let files = files_in(matches)?;
+    Ok(Command::Extract {
+        region,
+        strategy,
+        files,
+    })
+}
+
+/// Whether all parents are kept in an extract with a configuration.
+fn parents_in(matches: &ArgMatches<'_>) -> Result<bool, CliFault>
+    ensures { MatchResult result (ReadsParents (rows_of (found_of matches.now)))
+        (λ f. HasStrategyFault (rows_of (found_of matches.now)) f
+        ⊎ HasConfigFault (rows_of (found_of matches.now)) f) }
+{
+    match strategy_in(matches)? {
+        Strategy::CompleteWays => Ok(false),
+        Strategy::AllParents => Ok(true),
+        Strategy::Smart(_) => Err(CliFault::Choice(ChoiceFault::ConfigAndSmart)),
+    }
+}
+
+/// The files of an extract with this configuration.
+fn config_files_in<'a>(
+    matches: &ArgMatches<'a>,
+    config: &'a str,
+) -> Result<ConfigFiles<'a>, CliFault>
+    requires { first_of (codes "config") (rows_of (found_of matches.now)) ≡ Some config.now }
+    ensures { MatchResult result (ReadsConfigFiles (rows_of (found_of matches.now)))
+        (HasConfigFault (rows_of (found_of matches.now))) }
+{
+    if names_region(matches) {
+        return Err(CliFault::Choice(ChoiceFault::ConfigAndRegion));
+    }
+    if names_output(matches) {
+        return Err(CliFault::Choice(ChoiceFault::ConfigAndOutput));
+    }
+    if !names_pbf(matches) {
+        return Err(CliFault::Choice(ChoiceFault::OtherFormat));
+    }
+    let input = value(matches, "IN");
+    let directory = value_of(matches, "directory");
+    let overwrite = flag(matches, "overwrite");
+    let raw = flag(matches, "raw");
+    let progress = flag(matches, "progress");
+    let quiet = flag(matches, "no-progress");
+    let digests = flag(matches, "digests");
+    Ok(ConfigFiles {
+        input,
+        config,
+        directory,
+        overwrite,
+        raw,
+        progress,
+        quiet,
+        digests,
+    })
+}
+
+/// An extract of each area of this configuration.
+fn each_area_in<'a>(matches: &ArgMatches<'a>, config: &'a str) -> Result<Command<'a>, CliFault>
+    requires { first_of (codes "config") (rows_of (found_of matches.now)) ≡ Some config.now }
+    ensures { MatchResult result (ReadsAs (codes "extract") (rows_of (found_of matches.now)))
+        (HasExtractFault (rows_of (found_of matches.now))) }
+{
+    let parents = parents_in(matches)?;
+    let files = config_files_in(matches, config)?;
+    Ok(Command::ExtractEach { parents, files })
+}
+
+/// The extract that the matches name: of one area, or of each area of a configuration.
+fn extract_command_in<'a>(matches: &ArgMatches<'a>) -> Result<Command<'a>, CliFault>
+    ensures { MatchResult result (ReadsAs (codes "extract") (rows_of (found_of matches.now)))
+        (HasExtractFault (rows_of (found_of matches.now))) }
+{
+    match value_of(matches, "config") {
+        Some(config) => each_area_in(matches, config),
+        None => one_area_in(matches),
+    }
+}
+
 /// The command that the matches name.
 fn command_in<'a>(matches: &ArgMatches<'a>) -> Result<Command<'a>, CliFault>
     requires { IsOffered (subcommand_rows_of matches.now) }
@@ -321,16 +476,7 @@ fn command_in<'a>(matches: &ArgMatches<'a>) -> Result<Command<'a>, CliFault>
         "convert" => Ok(Command::Convert(files_in(inner)?)),
         "pack" => Ok(Command::Pack(files_in(inner)?)),
         "unpack" => Ok(Command::Unpack(files_in(inner)?)),
-        _ => {
-            let strategy = strategy_in(inner)?;
-            let region = region_in(inner)?;
-            let files = files_in(inner)?;
-            Ok(Command::Extract {
-                region,
-                strategy,
-                files,
-            })
-        }
+        _ => extract_command_in(inner),
     }
 }
 
@@ -357,8 +503,8 @@ fn refused<'a>(alloc: Global, error: &Error) -> Result<Command<'a>, CliFault>
 /// # Errors
 ///
 /// `Line` if `clap` refuses the words, `Box` with the fault of the box of an `extract`, `Choice` if one of two arguments is needed and there
-/// is none or both, or if a format or a strategy is unknown, or there are types for a strategy that takes none, `Memory` if a request for
-/// memory was refused. Words that `clap` takes give neither `Line` nor `Help`.
+/// is none or both, or if a format or a strategy is unknown, or there are types for a strategy that takes none, or an area, an OUT or `smart`
+/// besides a configuration, or a folder without one, `Memory` if a request for memory was refused. Words that `clap` takes give neither `Line` nor `Help`.
 pub fn read_words<'a>(
     alloc: Global,
     program: Program,

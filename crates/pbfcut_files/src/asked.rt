@@ -8,18 +8,30 @@ use std::os::unix::fs::{FileTypeExt, MetadataExt};
 /// How many bytes of IN are read to see what it is.
 const GLANCE: usize = 96;
 
-/// The files that a command names, and the program that runs.
+/// The files that a command names, the program that runs, and what is known of the run.
 #[derive(Clone, Copy)]
-pub struct Asked<'a> {
+pub struct Asked<'a, 'b> {
     pub(crate) program: Program,
     pub(crate) input: &'a str,
-    pub(crate) output: Option<&'a str>,
+    output: Option<&'a str>,
     pub(crate) region: Option<Region<'a>>,
+    /// The text that the run read last, or tried to: a configuration, or the file of a polygon.
+    text: Option<&'b str>,
+    /// Of several OUTs the one that the run came to last.
+    last_output: Option<&'b str>,
+    /// Whether a configuration names the OUTs.
+    pub(crate) is_several: bool,
 }
 
-impl<'a> Asked<'a> {
-    /// The files of a command that isn't help, and the program.
-    pub fn of(program: Program, command: &Command<'a>) -> Option<Asked<'a>> {
+impl<'a, 'b> Asked<'a, 'b> {
+    /// The files of a command that isn't help, the program, and what is known of the run: the path of the text that it read last, and that of the
+    /// OUT that it came to last.
+    pub fn of(
+        program: Program,
+        command: &Command<'a>,
+        text: Option<&'b str>,
+        last_output: Option<&'b str>,
+    ) -> Option<Asked<'a, 'b>> {
         let (input, output, region) = match command {
             Command::Help(_) => return None,
             Command::Blobs { input } => (*input, None, None),
@@ -32,27 +44,49 @@ impl<'a> Asked<'a> {
             Command::Extract { region, files, .. } => {
                 (files.input, Some(files.output), Some(*region))
             }
+            Command::ExtractEach { files, .. } => (files.input, None, None),
         };
         Some(Asked {
             program,
             input,
             output,
             region,
+            text,
+            last_output,
+            is_several: matches!(command, Command::ExtractEach { .. }),
         })
     }
 
-    /// The path of the polygon's file, if the area is one.
-    pub(crate) fn polygon(&self) -> Option<&'a str> {
-        match self.region {
-            Some(Region::Polygon(path)) => Some(path),
-            _ => None,
+    /// OUT; of several the one that the run failed for, if that is known.
+    pub(crate) fn output(&self) -> Option<&str> {
+        if !self.is_several {
+            return match self.output {
+                Some(path) => Some(path),
+                None => None,
+            };
+        }
+        match self.last_output {
+            Some(path) => Some(path),
+            None => None,
+        }
+    }
+
+    /// The path of the polygon's file if the area is one, otherwise of the text that was read last.
+    pub(crate) fn text(&self) -> Option<&str> {
+        if let Some(Region::Polygon(path)) = self.region {
+            return Some(path);
+        }
+        match self.text {
+            Some(path) => Some(path),
+            None => None,
         }
     }
 
     /// OUT, if it is a file and not standard output.
-    pub(crate) fn output_file(&self) -> Option<&'a str> {
-        let output = self.output?;
+    pub(crate) fn output_file(&self) -> Option<&str> {
+        let output = self.output()?;
         let is_screen = self.program == Program::Pbfcutz
+            && !self.is_several
             && (output == "-" || output == "/dev/stdout");
         if is_screen { None } else { Some(output) }
     }
@@ -80,8 +114,8 @@ fn is_same_file(one: &Metadata, other: &Metadata) -> bool {
 }
 
 /// What is there by OUT's name, if there is something.
-pub(crate) fn what_exists(rt: &HostRuntime, asked: Asked<'_>) -> Option<Existing> {
-    let there = fs::metadata(rt, asked.output?).ok()?;
+pub(crate) fn what_exists(rt: &HostRuntime, asked: Asked<'_, '_>) -> Option<Existing> {
+    let there = fs::metadata(rt, asked.output()?).ok()?;
     if there.is_dir() {
         return Some(Existing::Folder);
     }

@@ -1,5 +1,6 @@
 //! What is at a path, looked up without opening it: to open a pipe waits for its other end, and to open some devices does something.
 
+use crate::disk::parent_folder;
 use std::fs::{self, File, Metadata};
 use std::os::unix::fs::MetadataExt;
 
@@ -24,6 +25,33 @@ pub fn plain_file_at(rt: &HostRuntime, path: &str) -> Option<Identity> {
     match fs::metadata(rt, path) {
         Ok(metadata) if metadata.is_file() => Some(Identity::of(&metadata)),
         _ => None,
+    }
+}
+
+/// A name in a folder, by whatever path the folder is reached.
+#[derive(Drop)]
+pub struct Entry {
+    folder: Identity,
+    name: String,
+}
+
+impl Entry {
+    /// What this path is in its folder, if that is there, and there is memory for it.
+    pub fn at(rt: &HostRuntime, path: &str) -> Option<Entry> {
+        let folder = fs::metadata(rt, parent_folder(path)).ok()?;
+        let name = match path.rsplit_once('/') {
+            Some((_, name)) => name,
+            None => path,
+        };
+        Some(Entry {
+            folder: Identity::of(&folder),
+            name: String::from_str(rt.alloc(), name).ok()?,
+        })
+    }
+
+    /// Whether both are one.
+    pub fn is(&self, other: &Entry) -> bool {
+        self.folder == other.folder && self.name.as_str() == other.name.as_str()
     }
 }
 
@@ -59,6 +87,16 @@ fn is_there(rt: &HostRuntime, path: &str) -> bool {
         Ok(metadata) if metadata.is_file() || metadata.is_dir() => File::open(rt, path).is_ok(),
         Ok(_) => true,
         Err(_) => false,
+    }
+}
+
+/// The system's number of the reason, if two files more can't be open now: OUT, and one that it replaces. The root folder can be opened everywhere.
+pub fn fault_of_any_file(rt: &HostRuntime) -> Option<i32> {
+    let first = File::open(rt, "/");
+    let second = File::open(rt, "/");
+    match (first, second) {
+        (Ok(_), Ok(_)) => None,
+        (Err(error), _) | (_, Err(error)) => error.raw_os_error(),
     }
 }
 

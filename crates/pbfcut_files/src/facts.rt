@@ -6,7 +6,7 @@ use crate::disk::parent_folder;
 use crate::failure::{FailedWrite, Target};
 use crate::formats::form_of;
 use crate::polygon_text::is_no_file;
-use crate::reasons::{words_of, words_of_polygon, words_of_zlib};
+use crate::reasons::{words_of, words_of_config, words_of_polygon, words_of_zlib};
 use pbf_frame::Stop;
 use pbf_unpack::{Place, UnpackReason};
 use pbf_wire::Reason;
@@ -47,14 +47,14 @@ pub(crate) fn refusal_of(ending: &Ending) -> Option<Refused> {
 }
 
 /// Writes the line: the file, and what is said of it.
-pub(crate) fn tell(rt: &HostRuntime, asked: Asked<'_>, path: &str, words: &str) {
+pub(crate) fn tell(rt: &HostRuntime, asked: Asked<'_, '_>, path: &str, words: &str) {
     let name = asked.program.name();
     let path = if path.is_empty() { "''" } else { path };
     let _ = eprintln!(rt; "{name}: {path}: {words}");
 }
 
 /// The same with what the system says.
-fn tell_error(rt: &HostRuntime, asked: Asked<'_>, path: &str, error: &io::Error) {
+fn tell_error(rt: &HostRuntime, asked: Asked<'_, '_>, path: &str, error: &io::Error) {
     let name = asked.program.name();
     let path = if path.is_empty() { "''" } else { path };
     let _ = eprintln!(rt; "{name}: {path}: {error}");
@@ -75,9 +75,20 @@ pub(crate) fn words_of_unmade(rt: &HostRuntime, output: &str) -> &'static str {
     }
 }
 
-/// Which file could not be opened, and why.
-fn tell_unopened(rt: &HostRuntime, asked: Asked<'_>) {
-    if let Some(path) = asked.polygon() {
+/// Which file could not be opened, and why. What the system said of OUT is known if no more files could be opened.
+fn tell_unopened(rt: &HostRuntime, asked: Asked<'_, '_>, failed: Option<FailedWrite>) {
+    if let (Some(failed), Some(output)) = (failed, asked.output()) {
+        if failed.is_of_many_files() {
+            tell_error(
+                rt,
+                asked,
+                output,
+                &io::Error::from_raw_os_error(failed.code),
+            );
+            return;
+        }
+    }
+    if let Some(path) = asked.text() {
         if is_no_file(rt, path) {
             tell(
                 rt,
@@ -96,14 +107,14 @@ fn tell_unopened(rt: &HostRuntime, asked: Asked<'_>) {
         tell_error(rt, asked, asked.input, &error);
         return;
     }
-    if let Some(output) = asked.output {
+    if let Some(output) = asked.output() {
         tell(rt, asked, output, words_of_unmade(rt, output));
     }
 }
 
 /// What is there by OUT's name.
-fn tell_existing(rt: &HostRuntime, asked: Asked<'_>) {
-    let Some(output) = asked.output else {
+fn tell_existing(rt: &HostRuntime, asked: Asked<'_, '_>) {
+    let Some(output) = asked.output() else {
         return;
     };
     let name = asked.program.name();
@@ -132,7 +143,7 @@ pub(crate) fn feature_of(bytes: &[u8]) -> Option<&str> {
 }
 
 /// Which feature IN requires, if that can be seen.
-fn tell_feature(rt: &HostRuntime, asked: Asked<'_>, offset: u64) -> bool {
+fn tell_feature(rt: &HostRuntime, asked: Asked<'_, '_>, offset: u64) -> bool {
     let Some(seen) = glance_at(rt, asked.input, offset) else {
         return false;
     };
@@ -147,7 +158,11 @@ fn tell_feature(rt: &HostRuntime, asked: Asked<'_>, offset: u64) -> bool {
 }
 
 /// What IN is, if it does not begin as a PBF file does.
-fn words_of_start(rt: &HostRuntime, asked: Asked<'_>, refused: Refused) -> Option<&'static str> {
+fn words_of_start(
+    rt: &HostRuntime,
+    asked: Asked<'_, '_>,
+    refused: Refused,
+) -> Option<&'static str> {
     if refused.offset != Some(0) {
         return None;
     }
@@ -160,7 +175,7 @@ fn words_of_start(rt: &HostRuntime, asked: Asked<'_>, refused: Refused) -> Optio
 }
 
 /// Why IN is refused.
-fn tell_refused(rt: &HostRuntime, asked: Asked<'_>, refused: Refused) {
+fn tell_refused(rt: &HostRuntime, asked: Asked<'_, '_>, refused: Refused) {
     if let (Reason::Feature, Some(offset)) = (refused.reason, refused.offset) {
         if tell_feature(rt, asked, offset) {
             return;
@@ -175,7 +190,7 @@ fn tell_refused(rt: &HostRuntime, asked: Asked<'_>, refused: Refused) {
 }
 
 /// Which read failed.
-fn tell_read(rt: &HostRuntime, asked: Asked<'_>) {
+fn tell_read(rt: &HostRuntime, asked: Asked<'_, '_>) {
     let is_folder = match fs::metadata(rt, asked.input) {
         Ok(metadata) => metadata.is_dir(),
         Err(_) => false,
@@ -189,13 +204,18 @@ fn tell_read(rt: &HostRuntime, asked: Asked<'_>) {
 }
 
 /// Which write failed, and the system's reason.
-fn tell_write(rt: &HostRuntime, asked: Asked<'_>, failed: FailedWrite) {
+fn tell_write(rt: &HostRuntime, asked: Asked<'_, '_>, failed: FailedWrite) {
     let (name, error) = (
         asked.program.name(),
         io::Error::from_raw_os_error(failed.code),
     );
     match (failed.target, asked.output_file()) {
         (Target::Out, Some(output)) => tell_error(rt, asked, output, &error),
+        (Target::StandardOutput, _) if asked.is_several => {
+            let _ = eprintln!(rt;
+                "{name}: each OUT is complete; the counts could not be printed: {error}"
+            );
+        }
         (Target::StandardOutput, Some(output)) => {
             let _ = eprintln!(rt;
                 "{name}: {output}: OUT is complete; the counts could not be printed: {error}"
@@ -208,7 +228,7 @@ fn tell_write(rt: &HostRuntime, asked: Asked<'_>, failed: FailedWrite) {
 /// Writes which file a run failed for, and why, unless its own line says all.
 pub(crate) fn tell_fact(
     rt: &HostRuntime,
-    asked: Asked<'_>,
+    asked: Asked<'_, '_>,
     ending: &Ending,
     failed: Option<FailedWrite>,
 ) {
@@ -218,10 +238,14 @@ pub(crate) fn tell_fact(
     }
     match ending {
         Ending::Polygon(fault) => {
-            let path = asked.polygon().unwrap_or("polygon");
+            let path = asked.text().unwrap_or("polygon");
             tell(rt, asked, path, words_of_polygon(fault.reason));
         }
-        Ending::CannotOpen => tell_unopened(rt, asked),
+        Ending::Config(fault) => {
+            let path = asked.text().unwrap_or("config");
+            tell(rt, asked, path, words_of_config(fault.reason));
+        }
+        Ending::CannotOpen => tell_unopened(rt, asked, failed),
         Ending::IsPipe => tell(
             rt,
             asked,

@@ -5,6 +5,9 @@ use std::io::{self, Write};
 /// The system's number for a pipe that nobody reads any more.
 pub const BROKEN_PIPE: i32 = 32;
 
+/// The system's numbers for too many open files, of the process and of the machine.
+const MANY_FILES: [i32; 2] = [24, 23];
+
 /// What is written to.
 #[derive(Clone, Copy, PartialEq, Eq)]
 pub enum Target {
@@ -17,6 +20,13 @@ pub enum Target {
 pub struct FailedWrite {
     pub target: Target,
     pub code: i32,
+}
+
+impl FailedWrite {
+    /// Whether no more files could be opened.
+    pub(crate) fn is_of_many_files(&self) -> bool {
+        MANY_FILES.contains(&self.code)
+    }
 }
 
 /// A writer that notes why the first write to it failed.

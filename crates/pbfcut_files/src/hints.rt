@@ -8,6 +8,7 @@ use crate::failure::{BROKEN_PIPE, FailedWrite, Target};
 use crate::formats::{Form, form_of, osmium_target};
 use crate::polygon_text::is_no_file;
 use osm_box::BoxFault;
+use osm_config::ConfigReason;
 use osm_polygon::{PolyFault, PolyPlace, PolyReason};
 use pbf_frame::Stop;
 use pbf_unpack::{InflateFault, UnpackReason};
@@ -24,7 +25,7 @@ fn text(rt: &HostRuntime, hint: &str) -> Option<String> {
 }
 
 /// What to do with a file that requires what pbfcut does not know, by the place of the feature if that is a byte of IN.
-fn of_feature(rt: &HostRuntime, asked: Asked<'_>, offset: Option<u64>) -> &'static str {
+fn of_feature(rt: &HostRuntime, asked: Asked<'_, '_>, offset: Option<u64>) -> &'static str {
     let Some(offset) = offset else {
         return "if IN has history, this takes the state of now out of it: osmium time-filter IN -o NOW.osm.pbf";
     };
@@ -50,7 +51,7 @@ fn of_zlib(detail: Option<UnpackReason>) -> &'static str {
 }
 
 /// What to do with a file whose blobs the program doesn't read, or with damaged ones.
-fn of_blobs(asked: Asked<'_>, refused: Refused) -> &'static str {
+fn of_blobs(asked: Asked<'_, '_>, refused: Refused) -> &'static str {
     match (refused.reason, asked.region) {
         (Reason::Zlib, _) if asked.program == Program::Pbfcutz => of_zlib(refused.detail),
         (Reason::Zlib, Some(Region::Box(_))) => "this cuts it: pbfcutz extract --box=BOX IN NEW",
@@ -84,7 +85,7 @@ fn of_blobs(asked: Asked<'_>, refused: Refused) -> &'static str {
 }
 
 /// What to do with a file that is another form of a map, or no map.
-fn of_form(rt: &HostRuntime, asked: Asked<'_>, form: Form) -> Option<String> {
+fn of_form(rt: &HostRuntime, asked: Asked<'_, '_>, form: Form) -> Option<String> {
     let target = osmium_target(asked.program);
     if let Some(name) = form.of_osmium() {
         return format!(in rt.alloc();
@@ -99,7 +100,7 @@ fn of_form(rt: &HostRuntime, asked: Asked<'_>, form: Form) -> Option<String> {
 }
 
 /// What to do with a file that is refused.
-fn of_refusal(rt: &HostRuntime, asked: Asked<'_>, refused: Refused) -> Option<String> {
+fn of_refusal(rt: &HostRuntime, asked: Asked<'_, '_>, refused: Refused) -> Option<String> {
     match (refused.reason, refused.offset) {
         (Reason::PrefixCut | Reason::HeaderCut | Reason::BlobCut, _) => text(
             rt,
@@ -118,10 +119,10 @@ fn of_refusal(rt: &HostRuntime, asked: Asked<'_>, refused: Refused) -> Option<St
 }
 
 /// What to do about a name under which there is no file that can be read.
-fn of_missing(asked: Asked<'_>, path: &str, error: &io::Error) -> &'static str {
+fn of_missing(asked: Asked<'_, '_>, path: &str, error: &io::Error) -> &'static str {
     if error.kind() == ErrorKind::PermissionDenied {
         "'ls -l' shows who may read it"
-    } else if path == "-" && asked.output.is_none() {
+    } else if path == "-" && asked.output().is_none() && !asked.is_several {
         "standard input is /dev/stdin"
     } else if path == "-" {
         "IN is read more than once: write standard input to a file first"
@@ -136,11 +137,27 @@ fn of_missing(asked: Asked<'_>, path: &str, error: &io::Error) -> &'static str {
     }
 }
 
+/// What to do if no more files can be opened.
+fn of_many_files(asked: Asked<'_, '_>) -> &'static str {
+    if asked.is_several {
+        "each OUT is open until the run ends: allow more open files, as by ulimit -n 4096, or cut fewer areas in a run"
+    } else {
+        "allow more open files, as by ulimit -n 1024"
+    }
+}
+
 /// What to do about the file that could not be opened.
-fn of_files(rt: &HostRuntime, asked: Asked<'_>) -> Option<String> {
-    if let Some(path) = asked.polygon() {
+fn of_files(rt: &HostRuntime, asked: Asked<'_, '_>, failed: Option<FailedWrite>) -> Option<String> {
+    if failed.is_some_and(|failed| failed.is_of_many_files()) {
+        return text(rt, of_many_files(asked));
+    }
+    if let Some(path) = asked.text() {
         if is_no_file(rt, path) {
-            return text(rt, "write the polygon to a file first");
+            let hint = match asked.region {
+                Some(_) => "write the polygon to a file first",
+                None => "write the text to a file first",
+            };
+            return text(rt, hint);
         }
         if let Some(error) = error_of(rt, path) {
             return text(rt, of_missing(asked, path, &error));
@@ -149,21 +166,39 @@ fn of_files(rt: &HostRuntime, asked: Asked<'_>) -> Option<String> {
     if let Some(error) = error_of(rt, asked.input) {
         return text(rt, of_missing(asked, asked.input, &error));
     }
-    let output = asked.output?;
+    let output = asked.output()?;
     let folder = parent_folder(output);
     if !output.is_empty() && fs::metadata(rt, folder).is_err() {
         return format!(in rt.alloc(); "make its folder first: mkdir -p {folder}").ok();
     }
-    text(rt, "name another OUT")
+    let hint = if asked.is_several {
+        "give this extract another output"
+    } else {
+        "name another OUT"
+    };
+    text(rt, hint)
+}
+
+/// What to do about a file that has the name of one of several OUTs.
+fn of_existing_output(existing: Option<Existing>) -> &'static str {
+    match existing {
+        Some(Existing::Input) => "IN is never changed: give this extract another output",
+        Some(Existing::Pipe | Existing::Device) => {
+            "each OUT is a new file: give this extract another output"
+        }
+        _ =>
+            "only new files are written: give this extract another output, or let -O replace the files that are there",
+    }
 }
 
 /// What to do about a file that has OUT's name.
-fn of_existing(rt: &HostRuntime, asked: Asked<'_>) -> Option<String> {
-    let output = asked.output?;
+fn of_existing(rt: &HostRuntime, asked: Asked<'_, '_>) -> Option<String> {
+    let output = asked.output()?;
     let hint = match (what_exists(rt, asked), asked.program) {
         (Some(Existing::Folder), _) => {
             return format!(in rt.alloc(); "name a file in it, as {output}/cut.osm.pbf").ok();
         }
+        (existing, _) if asked.is_several => of_existing_output(existing),
         (Some(Existing::Input), _) => "IN is never changed: name another OUT",
         (Some(Existing::Pipe | Existing::Device), Program::Pbfcut) => {
             "OUT is a new file: name one; 'check' counts without one"
@@ -184,7 +219,7 @@ fn of_existing(rt: &HostRuntime, asked: Asked<'_>) -> Option<String> {
 }
 
 /// What to do about a read that failed.
-fn of_read(rt: &HostRuntime, asked: Asked<'_>) -> Option<String> {
+fn of_read(rt: &HostRuntime, asked: Asked<'_, '_>) -> Option<String> {
     let input = asked.input;
     if fs::metadata(rt, input).ok()?.is_dir() {
         return format!(in rt.alloc(); "name a file in it: ls {input}").ok();
@@ -193,15 +228,21 @@ fn of_read(rt: &HostRuntime, asked: Asked<'_>) -> Option<String> {
 }
 
 /// What to do about a write that failed.
-fn of_write(asked: Asked<'_>, failed: FailedWrite) -> Option<&'static str> {
+fn of_write(asked: Asked<'_, '_>, failed: FailedWrite) -> Option<&'static str> {
     match (failed.target, failed.code) {
         (Target::StandardOutput, BROKEN_PIPE) => {
             Some("the program that read standard output has ended")
+        }
+        (Target::StandardOutput, _) if asked.is_several => {
+            Some("each OUT can be used; 'check' counts it again")
         }
         (Target::StandardOutput, _) if asked.output_file().is_some() => {
             Some("OUT can be used; 'check' counts it again")
         }
         (_, NO_SPACE) => Some("make room: df -h shows how much is left"),
+        (Target::Out, _) if asked.is_several => {
+            Some("write to another folder, maybe on another disk: -d names it")
+        }
         (Target::Out, _) => Some("write to another OUT, maybe on another disk"),
         _ => None,
     }
@@ -231,10 +272,37 @@ fn of_polygon_fault(fault: &PolyFault) -> &'static str {
     }
 }
 
+/// What a configuration should be.
+fn of_config_fault(reason: ConfigReason) -> &'static str {
+    match reason {
+        ConfigReason::Json => "'python3 -m json.tool FILE' says where",
+        ConfigReason::Unknown | ConfigReason::Repeated => {
+            "an extract may have output, output_format, description, and one of bbox, polygon and multipolygon"
+        }
+        ConfigReason::FileName => {
+            "output and file_name are paths of files; - is none, since each extract has a file"
+        }
+        ConfigReason::Format => "leave output_format out; 'osmium cat' writes other formats",
+        ConfigReason::FileType => {
+            "leave file_type out: the text of the file shows whether it is GeoJSON or .poly"
+        }
+        ConfigReason::BadBox(_) => {
+            "a bbox is [west, south, east, north] in degrees, as [-0.5, 51.25, 0.3, 51.7]"
+        }
+        ConfigReason::BadPolygon(_) => {
+            "inline polygons are the coordinates of a Polygon or MultiPolygon of GeoJSON; a file is {\"file_name\": \"area.poly\"}"
+        }
+        ConfigReason::SameOutput => "give each extract an output of its own",
+        ConfigReason::Shape | ConfigReason::Missing | ConfigReason::Empty | ConfigReason::Area => {
+            "as {\"extracts\": [{\"output\": \"london.osm.pbf\", \"bbox\": [-0.5, 51.25, 0.3, 51.7]}]}"
+        }
+    }
+}
+
 /// What to do next after a run that ended so; the last write that failed, if one did.
 fn hint(
     rt: &HostRuntime,
-    asked: Asked<'_>,
+    asked: Asked<'_, '_>,
     ending: &Ending,
     failed: Option<FailedWrite>,
 ) -> Option<String> {
@@ -243,7 +311,8 @@ fn hint(
     }
     match ending {
         Ending::Polygon(fault) => text(rt, of_polygon_fault(fault)),
-        Ending::CannotOpen => of_files(rt, asked),
+        Ending::Config(fault) => text(rt, of_config_fault(fault.reason)),
+        Ending::CannotOpen => of_files(rt, asked, failed),
         Ending::IsPipe => text(
             rt,
             "IN is read more than once: write what the pipe has to a file first; 'check' and 'blobs' read a pipe",
@@ -253,6 +322,9 @@ fn hint(
         Ending::Stopped(Stop::Memory) if asked.region.is_some() => {
             text(rt, "a smaller area takes less memory")
         }
+        Ending::Stopped(Stop::Memory) if asked.is_several => {
+            text(rt, "smaller areas, or fewer in a run, take less memory")
+        }
         Ending::Stopped(Stop::Read) => of_read(rt, asked),
         Ending::Stopped(Stop::Write) => text(rt, of_write(asked, failed?)?),
         _ => None,
@@ -260,13 +332,13 @@ fn hint(
 }
 
 /// Whether this run made OUT, and left it: only pbfcut does, and only if it stopped after it had looked for OUT.
-fn may_leave(asked: Asked<'_>, ending: &Ending) -> bool {
+fn may_leave(asked: Asked<'_, '_>, ending: &Ending) -> bool {
     if asked.program == Program::Pbfcutz {
         return false;
     }
     match ending {
         // The file of a polygon is read, and may be too long for the memory, before it is known whether there is an OUT.
-        Ending::Stopped(Stop::Memory) => asked.polygon().is_none(),
+        Ending::Stopped(Stop::Memory) => asked.text().is_none(),
         Ending::Stopped(_) => true,
         _ => false,
     }
@@ -275,7 +347,7 @@ fn may_leave(asked: Asked<'_>, ending: &Ending) -> bool {
 /// What is to be done about the OUT that this run left, if it did. After counts that could not be printed it is whole.
 fn of_leaving(
     rt: &HostRuntime,
-    asked: Asked<'_>,
+    asked: Asked<'_, '_>,
     ending: &Ending,
     failed: Option<FailedWrite>,
 ) -> Option<&'static str> {
@@ -297,7 +369,12 @@ fn of_leaving(
 }
 
 /// Writes which file a run failed for, and why; and on a terminal what to do next.
-pub fn tell_hint(rt: &HostRuntime, asked: Asked<'_>, ending: &Ending, failed: Option<FailedWrite>) {
+pub fn tell_hint(
+    rt: &HostRuntime,
+    asked: Asked<'_, '_>,
+    ending: &Ending,
+    failed: Option<FailedWrite>,
+) {
     tell_fact(rt, asked, ending, failed);
     if !rt.stderr().is_terminal() {
         return;
@@ -354,7 +431,7 @@ pub fn tell_form(rt: &HostRuntime, program: Program, output: &str) {
     ];
     if other.iter().any(|end| output.ends_with(*end)) {
         let _ = eprintln!(rt;
-            "hint: OUT is written as PBF, whatever its name is; 'osmium cat' writes other formats"
+            "hint: {output} is written as PBF, whatever its name is; 'osmium cat' writes other formats"
         );
     }
     if program == Program::Pbfcut && output == "-" {

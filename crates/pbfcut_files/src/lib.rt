@@ -20,7 +20,9 @@ mod spoiled;
 
 pub use asked::Asked;
 pub use disk::sync_name;
-pub use existing::{Identity, is_plain, is_taken, plain_file_at, plain_screen};
+pub use existing::{
+    Entry, Identity, fault_of_any_file, is_plain, is_taken, plain_file_at, plain_screen,
+};
 pub use failure::{BROKEN_PIPE, FailedWrite, Target};
 pub use files::{is_long, open_input};
 pub use hints::{tell_box, tell_empty, tell_form, tell_hint};

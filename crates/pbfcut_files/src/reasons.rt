@@ -1,6 +1,8 @@
 //! What the reasons of refusals mean, in words. The manual page has the same list. The numbers in them are those of `HEADER_LIMIT`, `LARGEST_SIZE`,
 //! `RAW_LIMIT` and `MOST_TEXTS`, spelled once more: no constant text can be made of a constant number.
 
+use osm_box::BoxFault;
+use osm_config::ConfigReason;
 use osm_polygon::PolyReason;
 use pbf_unpack::{InflateFault, UnpackReason};
 use pbf_wire::Reason;
@@ -93,5 +95,37 @@ pub(crate) fn words_of_polygon(reason: PolyReason) -> &'static str {
         PolyReason::Open => "a ring does not end as it begins",
         PolyReason::Long => "an edge goes round more than half of the earth",
         PolyReason::Name => "a name is missing here: this line has numbers",
+    }
+}
+
+/// What is wrong with a box.
+fn words_of_box(fault: BoxFault) -> &'static str {
+    match fault {
+        BoxFault::Shape => "a box has four numbers",
+        BoxFault::Digit => {
+            "a number of a box has no letters or signs but -, and up to nine digits after the point"
+        }
+        BoxFault::Range => "a longitude or latitude of a box is out of range",
+        BoxFault::LeftOverRight => "the west edge of a box is east of its east edge",
+        BoxFault::BottomOverTop => "the south edge of a box is north of its north edge",
+    }
+}
+
+/// What is wrong with a configuration.
+pub(crate) fn words_of_config(reason: ConfigReason) -> &'static str {
+    match reason {
+        ConfigReason::Json => "it is not JSON",
+        ConfigReason::Shape => "this value is of another kind than the one it has to be",
+        ConfigReason::Unknown => "there is no such member",
+        ConfigReason::Repeated => "this member comes twice",
+        ConfigReason::Missing => "this member is missing",
+        ConfigReason::Empty => "it has no extract",
+        ConfigReason::FileName => "this is no name of a file",
+        ConfigReason::Format => "the only format is pbf",
+        ConfigReason::FileType => "the types of files are poly and geojson",
+        ConfigReason::Area => "an extract has one of bbox, polygon and multipolygon",
+        ConfigReason::BadBox(fault) => words_of_box(fault),
+        ConfigReason::BadPolygon(fault) => words_of_polygon(fault.reason),
+        ConfigReason::SameOutput => "an earlier extract has the same output",
     }
 }

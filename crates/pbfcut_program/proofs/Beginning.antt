@@ -5,10 +5,10 @@ use Rattle.pbf_block.specs.declared.counts.Counts.{Counts}
 use Rattle.pbfcut_cli.specs.declared.programs.Program.{Program}
 use Rattle.pbfcut_cli.specs.declared.words.Files.{Files}
 use Rattle.pbfcut_cli.specs.declared.words.Region.{Region}
-use Rattle.pbfcut_program.specs.Events.{Event, advised, made, opened, seeded, then_all}
+use Rattle.pbfcut_program.specs.Events.{Event, advised, made, opened, seeded, then_all, openings}
 use Rattle.pbfcut_program.specs.Fails.{Calm, Each, Opens, Quiet}
 use Rattle.pbfcut_program.specs.Files.{IsMade, Misses, Still}
-use Rattle.pbfcut_program.specs.Program.{MeansArea, advice, begun, draws, is_empty, looks, openings}
+use Rattle.pbfcut_program.specs.Program.{MeansArea, advice, begun, draws, is_empty, looks}
 use Rattle.pbfcut_program.proofs.EventLemmas.{each_both, quiet_of}
 use Rattle.pbfcut_program.proofs.FailLemmas.{opens_after, opens_before}
 use Rattle.pbfcut_program.proofs.SayingLemmas.{silent_of}

@@ -25,7 +25,7 @@ use Rattle.pbfcut_program.specs.Events.{Event, Reading, Writing, read, wrote, th
 use Rattle.pbfcut_program.specs.Fails.{Each, Fails, FailsToFinish, FailsToRead, FailsToWrite, Has, NearsLimit, Stops, TookNothing, CauseOfWrite, judging, judging_for, readings}
 use Rattle.pbfcut_program.specs.Manner.{AreDigests, Manner, input_form, manner, of_input, output_form}
 use Rattle.pbfcut_program.specs.Outcomes.{EndsAs}
-use Rattle.pbfcut_program.specs.Program.{digest_if_asked}
+use Rattle.pbfcut_program.specs.Lines.{digest_if_asked}
 use Rattle.pbfcut_program.specs.Readings.{IsOther, IsWholeOrSpared, IsWork, ReadAll, ReadLater}
 use Rattle.pbfcut_program.specs.Leaving.{Answer, IsUnkept, Leaves, TookFront}
 use Rattle.pbfcut.specs.Tasks.{Task, answer_of, judge_of, spares}
@@ -112,11 +112,15 @@ module _ {F : Type 0} (f : feed.Ghosts F) where
 
 -- ---- what comes after the feeds
 
--- OUT, or nothing, is returned: whatever it took, and if it took nothing
+-- what follows the feeds: whatever was taken, and if nothing was
+abbrev pub EndsWith : (took : List ℕ → Type 0) → (failed near : Type 0) → (closes : List Event → Type 0) → Option (List Event) → Option (List Event) → Type 0
+EndsWith took failed near closes m n =
+    ((es : List Event) × (n ≡ then_all m es) × (readings es ≡ []) × ((failed → Has FailsToWrite es) × (near → Has NearsLimit es)) × closes es)
+    × (took [] → (es : List Event) × (n ≡ then_all m es) × (readings es ≡ []) × Each TookNothing es × closes es)
+
+-- OUT, or nothing, is returned
 abbrev pub Ends : (took : List ℕ → Type 0) → (failed near : Type 0) → (is : Writing → Type 0) → Option (List Event) → Option (List Event) → Type 0
-Ends took failed near is m n =
-    ((es : List Event) × (n ≡ then_all m es) × (readings es ≡ []) × ((failed → Has FailsToWrite es) × (near → Has NearsLimit es)) × Each (IsReturn is) es)
-    × (took [] → (es : List Event) × (n ≡ then_all m es) × (readings es ≡ []) × Each TookNothing es × Each (IsReturn is) es)
+Ends took failed near is m n = EndsWith took failed near (Each (IsReturn is)) m n
 
 pub ends_with_none : (m : Option (List Event)) (took : List ℕ → Type 0) → Ends took ⊥ ⊥ (λ w. ⊥) m m
 ends_with_none m took = (([], then_none m, refl, ((λ x. absurd x), λ x. absurd x), tt), λ t. ([], then_none m, refl, tt, tt))
@@ -137,17 +141,17 @@ none_left : (rs : List Reading) (n at : ℕ) → n ≡ at + 1 → n ≡ length r
 none_left [] n at e h = refl
 none_left (r ∷ rs) n at e h = grind arith
 
-module _ {F : Type 0} (f : feed.Ghosts F) (packs digests : Bool) (judge : Option (List ℕ) → Option Verdict) (sound : List ℕ → Type 0) (took : List ℕ → Type 0) (failed near : Type 0) (is : Writing → Type 0) (l m n : Option (List Event)) (tail : Ends took failed near is m n) where
-  -- only that is returned
+module _ {F : Type 0} (f : feed.Ghosts F) (packs digests : Bool) (judge : Option (List ℕ) → Option Verdict) (sound : List ℕ → Type 0) (took : List ℕ → Type 0) (failed near : Type 0) (closes : List Event → Type 0) (l m n : Option (List Event)) (tail : EndsWith took failed near closes m n) where
+  -- the feeds are returned, and then that follows
   abbrev Returned : List Event → Type 0
-  Returned events = Each (IsReturn is) events
+  Returned events = (rs : List Reading) × (es : List Event) × (events ≡ reads rs ++ es) × closes es
 
   -- what is said, as events, of how a call of a program stopped, by what its feeds had
   abbrev StopFails : Program → Stop → List F → Type 0
   StopFails program s olds = (events : List Event) × (n ≡ then_all l events) × Stops (manner program packs digests) (judging judge sound) (map f.remaining olds) events s × Returned events
 
-  returned_after : (rs : List Reading) (es : List Event) → Returned es → Returned (reads rs ++ es)
-  returned_after rs es x = each_both (IsReturn is) (reads rs) es (reads_return is rs) x
+  returned_after : (rs : List Reading) (es : List Event) → closes es → Returned (reads rs ++ es)
+  returned_after rs es x = (rs, es, refl, x)
 
   -- whatever happened
   abbrev some : (news : List F) → CloseAll f news l m → List Event
@@ -218,13 +222,18 @@ module _ {F : Type 0} (f : feed.Ghosts F) (packs digests : Bool) (judge : Option
   stop_told Pbfcut (stop.Changed pass) _ _ fresh c stops = absurd stops
   stop_told Pbfcutz (stop.Changed pass) olds news fresh c stops = (some news c, some_log news c, stops, some_returned news c)
 
+-- the feeds, and OUT after them
+pub returned_all : (is : Writing → Type 0) (rs : List Reading) (es events : List Event) → events ≡ reads rs ++ es → Each (IsReturn is) es → Each (IsReturn is) events
+returned_all is rs es events same x = subst (Each (IsReturn is)) (sym same) (each_both (IsReturn is) (reads rs) es (reads_return is rs) x)
+
 -- a call stopped, and all devices were returned
 pub work_fails : (program : Program) (packs digests : Bool) (check : PassCheck) {F : Type 0} (f : feed.Ghosts F) (task : Task) (took : List ℕ → Type 0) (failed near : Type 0) (is : Writing → Type 0) (l m n : Option (List Event)) (olds news : List F) (halted : Halted)
     → Ends took failed near is m n → AreFresh f olds → CloseAll f news l m → Works (manner program packs digests) check f task olds news took (CauseOfWrite (output_form packs program) (GivesRaw task) (map f.remaining olds) failed near) (Err halted)
     → (events : List Event) × (n ≡ then_all l events) × Fails (manner program packs digests) (judging_for task) (map f.remaining olds) halted.ending events × Each (IsReturn is) events
 work_fails program packs digests check f task took failed near is l m n olds news halted tail fresh c works =
-    let told = stop_told f packs digests (judge_of task) (GivesRaw task) took failed near is l m n tail program works.0 olds news fresh c works.2 in
-    (told.0, told.1, stop_fails (manner program packs digests) (judging_for task) (map f.remaining olds) halted.ending told.0 works.0 works.1 told.2, told.3)
+    let told = stop_told f packs digests (judge_of task) (GivesRaw task) took failed near (Each (IsReturn is)) l m n tail program works.0 olds news fresh c works.2 in
+    let gone = told.3 in
+    (told.0, told.1, stop_fails (manner program packs digests) (judging_for task) (map f.remaining olds) halted.ending told.0 works.0 works.1 told.2, returned_all is gone.0 gone.1 told.0 gone.2 gone.3)
 
 -- ---- what it does
 

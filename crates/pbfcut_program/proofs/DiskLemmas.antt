@@ -23,7 +23,7 @@ other_name a b differ = of (bytes_eq a b) refl where
   of false e = e
 
 -- a name is this one, or isn't
-which : (p q : List ℕ) → (p ≡ q) ⊎ (p ≡ q → ⊥)
+pub which : (p q : List ℕ) → (p ≡ q) ⊎ (p ≡ q → ⊥)
 which p q = of (bytes_eq p q) refl where
   of : (t : Bool) → bytes_eq p q ≡ t → (p ≡ q) ⊎ (p ≡ q → ⊥)
   of true e = inl ((bytes_eq-Decides p q).0 e)
@@ -31,12 +31,12 @@ which p q = of (bytes_eq p q) refl where
     true_false : true ≡ false → ⊥
     true_false h = cc
 
-some_same : {A : Type 0} {a b : A} → Some a ≡ Some b → a ≡ b
+pub some_same : {A : Type 0} {a b : A} → Some a ≡ Some b → a ≡ b
 some_same e = cc
 
 -- ---- one change
 
-put_same : (name : List ℕ) (b : Option (List ℕ)) (disk : Disk) → put name b disk name ≡ b
+pub put_same : (name : List ℕ) (b : Option (List ℕ)) (disk : Disk) → put name b disk name ≡ b
 put_same name b disk = rw (same_name name) refl
 
 pub put_other : (name p : List ℕ) (b : Option (List ℕ)) (disk : Disk) → (p ≡ name → ⊥) → put name b disk p ≡ disk p
@@ -60,14 +60,14 @@ after_still [] disk s = refl
 after_still (x ∷ xs) disk s = ap (λ d. after xs d) (still_one x disk s.0) ∙ after_still xs disk s.1
 
 -- the first events leave the file system to the later ones as it is
-past_still : (xs ys : List Event) (disk : Disk) → Each Still xs → after (xs ++ ys) disk ≡ after ys disk
+pub past_still : (xs ys : List Event) (disk : Disk) → Each Still xs → after (xs ++ ys) disk ≡ after ys disk
 past_still xs ys disk s = after_both xs ys disk ∙ ap (λ d. after ys d) (after_still xs disk s)
 
 pub allows_first : (xs ys : List Event) (disk : Disk) → AllowsAll disk (xs ++ ys) → AllowsAll disk xs
 allows_first [] ys disk a = tt
 allows_first (x ∷ xs) ys disk a = (a.0, allows_first xs ys (changed x disk) a.1)
 
-allows_last : (xs ys : List Event) (disk : Disk) → AllowsAll disk (xs ++ ys) → AllowsAll (after xs disk) ys
+pub allows_last : (xs ys : List Event) (disk : Disk) → AllowsAll disk (xs ++ ys) → AllowsAll (after xs disk) ys
 allows_last [] ys disk a = a
 allows_last (x ∷ xs) ys disk a = allows_last xs ys (changed x disk) a.1
 
@@ -90,16 +90,16 @@ misnames_still (x ∷ xs) m = (misname_still x m.0, misnames_still xs m.1)
 
 -- ---- what has happened
 
-happened_after : (e : Event) (xs ys : List Event) → Happened e ys → Happened e (xs ++ ys)
+pub happened_after : (e : Event) (xs ys : List Event) → Happened e ys → Happened e (xs ++ ys)
 happened_after e [] ys h = h
 happened_after e (x ∷ xs) ys h = inr (happened_after e xs ys h)
 
-happened_before : (e : Event) (xs ys : List Event) → Happened e xs → Happened e (xs ++ ys)
+pub happened_before : (e : Event) (xs ys : List Event) → Happened e xs → Happened e (xs ++ ys)
 happened_before e [] ys h = absurd h
 happened_before e (x ∷ xs) ys (inl h) = inl h
 happened_before e (x ∷ xs) ys (inr h) = inr (happened_before e xs ys h)
 
-happened_either : (e : Event) (xs ys : List Event) → Happened e (xs ++ ys) → Happened e xs ⊎ Happened e ys
+pub happened_either : (e : Event) (xs ys : List Event) → Happened e (xs ++ ys) → Happened e xs ⊎ Happened e ys
 happened_either e [] ys h = inr h
 happened_either e (x ∷ xs) ys (inl h) = inl (inl h)
 happened_either e (x ∷ xs) ys (inr h) = of (happened_either e xs ys h) where
@@ -117,19 +117,19 @@ none_stays name (x ∷ xs) s (inl h) = stays_not_still name x h s.0
 none_stays name (x ∷ xs) s (inr h) = none_stays name xs s.1 h
 
 -- the event of a part that stays is none of the first or the last, which change nothing
-stays_later : (p : List ℕ) (xs ys : List Event) → Each Still xs → Happened (stays p) (xs ++ ys) → Happened (stays p) ys
+pub stays_later : (p : List ℕ) (xs ys : List Event) → Each Still xs → Happened (stays p) (xs ++ ys) → Happened (stays p) ys
 stays_later p xs ys s h = of (happened_either (stays p) xs ys h) where
   of : Happened (stays p) xs ⊎ Happened (stays p) ys → Happened (stays p) ys
   of (inl k) = absurd (none_stays p xs s k)
   of (inr k) = k
 
-stays_earlier : (p : List ℕ) (xs ys : List Event) → Each Still ys → Happened (stays p) (xs ++ ys) → Happened (stays p) xs
+pub stays_earlier : (p : List ℕ) (xs ys : List Event) → Each Still ys → Happened (stays p) (xs ++ ys) → Happened (stays p) xs
 stays_earlier p xs ys s h = of (happened_either (stays p) xs ys h) where
   of : Happened (stays p) xs ⊎ Happened (stays p) ys → Happened (stays p) xs
   of (inl k) = k
   of (inr k) = absurd (none_stays p ys s k)
 
-stays_among : (p : List ℕ) (xs ys zs : List Event) → Each Still xs → Each Still zs → Happened (stays p) (xs ++ (ys ++ zs)) → Happened (stays p) ys
+pub stays_among : (p : List ℕ) (xs ys zs : List Event) → Each Still xs → Each Still zs → Happened (stays p) (xs ++ (ys ++ zs)) → Happened (stays p) ys
 stays_among p xs ys zs s t h = stays_earlier p ys zs t (stays_later p xs (ys ++ zs) s h)
 
 stays_inside : (p : List ℕ) (xs ys zs : List Event) → Happened (stays p) ys → Happened (stays p) (xs ++ (ys ++ zs))

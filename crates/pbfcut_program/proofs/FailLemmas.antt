@@ -59,7 +59,7 @@ memory_stops m j has events = grind arith
 write_caused : (m : Manner) (j : Judging) (has : List (Option (List ℕ))) (events : List Event) → Has FailsToWrite events → Stops m j has events stop.Write
 write_caused m j has events h4 = grind (arith, write_failed)
 
-memory_fails : (m : Manner) (j : Judging) (has : List (Option (List ℕ))) (events : List Event) → Fails m j has (ending.Stopped stop.Memory) events
+pub memory_fails : (m : Manner) (j : Judging) (has : List (Option (List ℕ))) (events : List Event) → Fails m j has (ending.Stopped stop.Memory) events
 memory_fails m j has events = (stop.Memory, refl, memory_stops m j has events)
 
 pub write_stops : (m : Manner) (j : Judging) (has : List (Option (List ℕ))) (events : List Event) → Has FailsToWrite events → Fails m j has (ending.Stopped stop.Write) events
@@ -96,6 +96,7 @@ opening_fails m j how events f = fails_early m j how events (of how f) where
   of ending.IsPipe f = (f.1, nothing_in events (quiet_of events f.0))
   of ending.OutExists f = inl (f.1, nothing_in events (quiet_of events f.0))
   of (ending.Polygon e) f = (f.1, nothing_in events (quiet_of events f.0))
+  of (ending.Config e) f = (f.1, nothing_in events (quiet_of events f.0))
   of (ending.Stopped stop.Memory) f = memory_fails m j [] events
   of _ f = absurd f.1
 

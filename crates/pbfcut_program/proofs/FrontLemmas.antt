@@ -56,7 +56,7 @@ meant_is form known bytes h3 = grind arith
 raw_is : (known : Option (List ℕ)) (bytes : List ℕ) → known ≡ Some bytes → raw_of known ≡ Some (unpacked bytes)
 raw_is known bytes e = ap raw_of e
 
-raws_are : (bytes : List ℕ) (has : List (Option (List ℕ))) → AllSupply bytes has → AllSupply (unpacked bytes) (map raw_of has)
+pub raws_are : (bytes : List ℕ) (has : List (Option (List ℕ))) → AllSupply bytes has → AllSupply (unpacked bytes) (map raw_of has)
 raws_are bytes [] all = tt
 raws_are bytes (one ∷ more) all = (raw_is one bytes all.0, raws_are bytes more all.1)
 

@@ -8,11 +8,12 @@ use Rattle.pbfcut_cli.specs.declared.words.Region.{Region}
 use Rattle.pbfcut_cli.specs.declared.words.Region.TheVariants as region
 use Rattle.pbfcut_cli.specs.declared.words.Strategy.{Strategy}
 use Rattle.pbfcut_program.specs.Changes.{GivesConversion, GivesCopy, GivesExtract, GivesFile, KeepsFile}
-use Rattle.pbfcut_program.specs.Events.{Event, Reading, read, seeded, stays, wrote}
+use Rattle.pbfcut_program.specs.Events.{Event, Reading, read, seeded, stays, wrote, openings}
 use Rattle.pbfcut_program.specs.Fails.{Each}
 use Rattle.pbfcut_program.specs.Files.{AllowsAll, Disk, IsKept, IsMade, Still, after}
 use Rattle.pbfcut_program.specs.Manner.{Manner}
-use Rattle.pbfcut_program.specs.Program.{Extracts, MeansArea, Writes, WritesCounts, advice, counts_text, done_lines, is_empty, is_screen, looks, openings, prints, screen_of, strategy_of}
+use Rattle.pbfcut_program.specs.Program.{Extracts, MeansArea, Writes, WritesCounts, advice, is_empty, is_screen, looks, screen_of, strategy_of}
+use Rattle.pbfcut_program.specs.Lines.{counts_text, done_lines, prints}
 use Rattle.pbfcut_program.specs.Taking.{Happened}
 use Rattle.pbfcut.specs.Tasks.{Task, converting, copying, extracting}
 use Rattle.pbfcut_program.specs.declared.host.Screen.{Screen}
@@ -26,11 +27,11 @@ looks_still : (is : Bool) (files : Files) → Each Still (looks is files)
 looks_still true files = tt
 looks_still false files = (tt, tt)
 
-openings_still : (input : List ℕ) (pass : ℕ) (has : List (Option (List ℕ))) → Each Still (openings input pass has)
+pub openings_still : (input : List ℕ) (pass : ℕ) (has : List (Option (List ℕ))) → Each Still (openings input pass has)
 openings_still input pass [] = tt
 openings_still input pass (h ∷ hs) = (tt, openings_still input (pass + 1) hs)
 
-reads_still : (rs : List Reading) → Each Still (map (λ r. read r) rs)
+pub reads_still : (rs : List Reading) → Each Still (map (λ r. read r) rs)
 reads_still [] = tt
 reads_still (r ∷ rs) = (tt, reads_still rs)
 
@@ -50,7 +51,7 @@ area_still (region.Polygon path) events area m = subst (λ (es : List Event). Ea
 
 -- ---- what was opened
 
-openings_had : (file input : List ℕ) (pass : ℕ) (has : List (Option (List ℕ))) (disk : Disk) → AllowsAll disk (openings input pass has) → disk input ≡ Some file → AllHad file has
+pub openings_had : (file input : List ℕ) (pass : ℕ) (has : List (Option (List ℕ))) (disk : Disk) → AllowsAll disk (openings input pass has) → disk input ≡ Some file → AllHad file has
 openings_had file input pass [] disk a there = tt
 openings_had file input pass (h ∷ hs) disk a there = (a.0 ∙ there, openings_had file input (pass + 1) hs disk a.1 there)
 

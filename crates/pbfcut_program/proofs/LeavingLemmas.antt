@@ -95,7 +95,7 @@ module _ (task : Task) (has : List (Option (List ℕ))) where
 abbrev pub IsReturned : (known : Option (List ℕ)) → (kept : Bool) → Writing → Type 0
 IsReturned known kept w = ((w.bytes ≡ []) ⊎ IfSome known (λ taken. w.bytes ≡ taken)) × (w.reports ≡ is_some known) × (w.kept ≡ kept)
 
-front_returned : (known : Option (List ℕ)) (kept : Bool) (answer : Answer) → TakenFront known answer → (w : Writing) → IsReturned known kept w → TookFront answer (wrote w)
+pub front_returned : (known : Option (List ℕ)) (kept : Bool) (answer : Answer) → TakenFront known answer → (w : Writing) → IsReturned known kept w → TookFront answer (wrote w)
 front_returned known kept answer x w (inl none, reported, unkept) reports = subst (IsFrontAs answer) (sym none) (nothing_is_front answer)
 front_returned known kept answer x w (inr same, reported, unkept) reports = taken_is (IsFrontAs answer) w.bytes known same x (sym reported ∙ reports)
 

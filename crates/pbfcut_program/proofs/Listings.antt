@@ -25,11 +25,11 @@ use Rattle.pbfcut_program.specs.Program.{IsListing}
 use Rattle.pbfcut_program.specs.Leaving.{IsFrontAs, LeavesFor}
 use Rattle.pbfcut.specs.Tasks.{answer_of, listing_frames}
 use Rattle.pbfcut_program.specs.Telling.{Silent}
-use Rattle.pbfcut_program.proofs.Closing.{ends_with_out, reading, stop_told}
+use Rattle.pbfcut_program.proofs.Closing.{ends_with_out, reading, returned_all, stop_told}
 use Rattle.pbfcut_program.proofs.EventLemmas.{has_risen}
 use Rattle.pbfcut_program.proofs.FailLemmas.{caused_weaker, opened_fails, stop_fails, text_stops}
 use Rattle.pbfcut_program.proofs.FrontLemmas.{meant_is}
-use Rattle.pbfcut_program.proofs.LeavingLemmas.{IsReturned, TakenFront, returned_silent, taken_front, taken_is}
+use Rattle.pbfcut_program.proofs.LeavingLemmas.{IsReturn, IsReturned, TakenFront, returned_silent, taken_front, taken_is}
 use Rattle.pbfcut_program.proofs.Logging.{and_then}
 use Rattle.pbfcut_program.proofs.Weaker.{ends_weaker}
 
@@ -106,7 +106,8 @@ module _ {F D : Type 0} (f : feed.Ghosts F) (d : drain.Ghosts D) (now : F) (out 
       let first : List Event = opened input 1 (f.remaining old) ∷ screened true ∷ [] in
       let works = ends_weaker f (Added d before [] out) (took []) (λ none. none.logged 0 [] start.0) Pbfcutz judged_headings failed failed halted.ending (old ∷ []) (now ∷ []) (λ w. w) ends in
       let tail = ends_with_out d out name kept fault took failed ⊥ m n (λ w t. t) (λ risen. has_risen _ _ risen) (λ none. absurd none) fin in
-      let end = stop_told f false digests judged_headings (λ file. ⊥) took failed ⊥ (IsReturned (d.taken out) kept) l m n tail Pbfcutz works.0 (old ∷ []) (now ∷ []) (fresh, tt) (m, c, refl) works.2 in
+      let end = stop_told f false digests judged_headings (λ file. ⊥) took failed ⊥ (Each (IsReturn (IsReturned (d.taken out) kept))) l m n tail Pbfcutz works.0 (old ∷ []) (now ∷ []) (fresh, tt) (m, c, refl) works.2 in
       let why = stop_fails (manner Pbfcutz false digests) (judging judged_headings (λ file. ⊥)) (f.remaining old ∷ []) halted.ending end.0 works.0 works.1 end.2 in
-      (_, and_then k l n first end.0 e end.1, opened_fails (manner Pbfcutz false digests) (judging judged_headings (λ file. ⊥)) (f.remaining old ∷ []) halted.ending first end.0 (tt, (tt, tt)) (inl (refl, refl), tt) why, (tt, (tt, returned_silent _ end.0 end.3)))
+      let gone = end.3 in
+      (_, and_then k l n first end.0 e end.1, opened_fails (manner Pbfcutz false digests) (judging judged_headings (λ file. ⊥)) (f.remaining old ∷ []) halted.ending first end.0 (tt, (tt, tt)) (inl (refl, refl), tt) why, (tt, (tt, returned_silent _ end.0 (returned_all _ gone.0 gone.1 end.0 gone.2 gone.3))))
   info_fails digests old before (Ok t) k input fresh start e ends = tt

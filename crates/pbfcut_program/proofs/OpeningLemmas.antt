@@ -3,8 +3,7 @@ use Rattle.std.proofs.Common.{◌≡◌, arith, ℕ, ◌+◌, List, [], ◌∷�
 use Rattle.std.proofs.lemmas.List.{map_push}
 use Rattle.pbf_frame.specs.declared.device.Feed as feed
 use Rattle.pbfcut_program.specs.Devices.{AreFresh, CloseAll, Closes, IsFresh}
-use Rattle.pbfcut_program.specs.Events.{Event, opened, then_all, then_one}
-use Rattle.pbfcut_program.specs.Program.{openings}
+use Rattle.pbfcut_program.specs.Events.{Event, opened, then_all, then_one, openings}
 use Rattle.pbfcut_program.proofs.Beginning.{length_has}
 use Rattle.pbfcut_program.proofs.Logging.{then_more}
 

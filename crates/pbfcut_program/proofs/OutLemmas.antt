@@ -117,6 +117,16 @@ dropped_quiet program None events d = subst (λ es. Each Quiet es) (sym d) tt
 dropped_quiet Pbfcut (Some name) events d = subst (λ es. Each Quiet es) (sym d) tt
 dropped_quiet Pbfcutz (Some name) events d = subst (λ es. Each Quiet es) (sym d.2) (each_both Quiet d.0 (d.1 ∷ []) (misnamed_quiet d.0 d.3) (end_quiet name d.1 d.4, tt))
 
+named_quiet : (overwrite : Bool) (output name : List ℕ) (names : List Event) → Names overwrite output name names → Each Quiet names
+named_quiet overwrite output name names (inl n) = subst (λ es. Each Quiet es) (sym n.2) (tt, (end_quiet name n.0 n.1, tt))
+named_quiet overwrite output name names (inr (inl e)) = subst (λ es. Each Quiet es) (sym e) (tt, tt)
+named_quiet overwrite output name names (inr (inr n)) = subst (λ es. Each Quiet es) (sym n.1) (tt, tt)
+
+pub kept_quiet : (program : Program) (overwrite : Bool) (output : List ℕ) (name : Option (List ℕ)) (events : List Event) → IsKept program overwrite output name events → Each Quiet events
+kept_quiet program overwrite output None events k = subst (λ es. Each Quiet es) (sym k) tt
+kept_quiet Pbfcut overwrite output (Some name) events k = subst (λ es. Each Quiet es) (sym k) tt
+kept_quiet Pbfcutz overwrite output (Some name) events k = subst (λ es. Each Quiet es) (sym k.3) (each_both Quiet k.0 (k.1 ++ k.2) (misnamed_quiet k.0 k.4) (each_both Quiet k.1 k.2 (named_quiet overwrite output name k.1 k.5) (misnamed_quiet k.2 k.6)))
+
 -- ---- and nothing is said
 
 misname_silent : (e : Event) → Misnames e → Silent e
@@ -140,7 +150,7 @@ named_silent overwrite output name names (inl n) = subst (λ es. Each Silent es)
 named_silent overwrite output name names (inr (inl e)) = subst (λ es. Each Silent es) (sym e) (tt, tt)
 named_silent overwrite output name names (inr (inr n)) = subst (λ es. Each Silent es) (sym n.1) (tt, tt)
 
-kept_silent : (program : Program) (overwrite : Bool) (output : List ℕ) (name : Option (List ℕ)) (events : List Event) → IsKept program overwrite output name events → Each Silent events
+pub kept_silent : (program : Program) (overwrite : Bool) (output : List ℕ) (name : Option (List ℕ)) (events : List Event) → IsKept program overwrite output name events → Each Silent events
 kept_silent program overwrite output None events k = subst (λ es. Each Silent es) (sym k) tt
 kept_silent Pbfcut overwrite output (Some name) events k = subst (λ es. Each Silent es) (sym k) tt
 kept_silent Pbfcutz overwrite output (Some name) events k = subst (λ es. Each Silent es) (sym k.3) (each_both Silent k.0 (k.1 ++ k.2) (misnamed_silent k.0 k.4) (each_both Silent k.1 k.2 (named_silent overwrite output name k.1 k.5) (misnamed_silent k.2 k.6)))

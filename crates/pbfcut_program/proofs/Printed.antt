@@ -6,7 +6,7 @@ use Rattle.pbfcut_program.specs.declared.host.Screen.{Screen}
 use Rattle.pbfcut_program.specs.Events.{Event}
 use Rattle.pbfcut_program.specs.Fails.{Each}
 use Rattle.pbfcut_program.specs.Files.{Still}
-use Rattle.pbfcut_program.specs.Program.{file_lines, prints, unpacked_text}
+use Rattle.pbfcut_program.specs.Lines.{file_lines, prints, unpacked_text}
 use Rattle.pbfcut_program.proofs.FailLemmas.{TellsSome, printing_first}
 
 pub prints_both : (screen : Screen) (xs ys : List (List ℕ)) → prints screen (xs ++ ys) ≡ prints screen xs ++ prints screen ys

@@ -1,21 +1,25 @@
 -- What a run did that ended with 0, of words that are taken as a command that writes.
-use Rattle.std.proofs.Common.{arith, ◌≡◌, inl, inr, ℕ, List, true, false, Some, codes, refl, subst, sym, ◌∙◌}
+use Rattle.std.proofs.Common.{arith, ◌≡◌, inl, inr, ℕ, Bool, List, true, false, Some, codes, refl, ap, subst, sym, ◌∙◌}
 use Rattle.std.specs.Str.{bytes_eq}
+use Rattle.std.proofs.lemmas.Bool.{false≢true}
 use Rattle.std.proofs.lemmas.Slice.Eq.{bytes_eq-Decides}
+use Rattle.std.specs.Option.{is_some}
 use Rattle.clap.specs.Words.{Row, Text, subcommand_of, takes}
 use Rattle.pbfcut_cli.specs.Endings.{ending_status}
 use Rattle.pbfcut_cli.specs.Joined.{normalized}
-use Rattle.pbfcut_cli.specs.Words.{IsRead, ReadsAs, program_app}
+use Rattle.pbfcut_cli.specs.Words.{IsRead, ReadsAs, is_given, program_app}
 use Rattle.pbfcut_cli.specs.declared.endings.Ending.{Ending}
 use Rattle.pbfcut_cli.specs.declared.programs.Program.{Program}
 use Rattle.pbfcut_cli.specs.declared.words.Command.{Command}
-use Rattle.pbfcut_cli.specs.declared.words.Command.TheVariants.{Blobs, Info, Show, Check, Convert, Pack, Unpack, Extract, Help}
+use Rattle.pbfcut_cli.specs.declared.words.Command.TheVariants.{Blobs, Info, Show, Check, Convert, Pack, Unpack, Extract, ExtractEach, Help}
+use Rattle.pbfcut_cli.specs.declared.words.ConfigFiles.{ConfigFiles}
 use Rattle.pbfcut_cli.specs.declared.words.Files.{Files}
 use Rattle.pbfcut_cli.specs.declared.words.Region.{Region}
 use Rattle.pbfcut_cli.specs.declared.words.Strategy.{Strategy}
 use Rattle.pbfcut_program.specs.Events.{Event}
 use Rattle.pbfcut_program.specs.Program.{Does, Extracts, IsRun, Writes, manner_in}
 use Rattle.pbfcut_program.specs.Changes.{EndsWell}
+use Rattle.pbfcut_program.specs.SeveralWrites.{ExtractsEach, strategy_with}
 use Rattle.pbfcut_program.specs.Files.{Disk}
 use Rattle.pbfcut.specs.Tasks.{Task, converting, copying}
 
@@ -36,6 +40,13 @@ pub record RunsExtract (program : Program) (rows : List Row) (events : List Even
   pub reads : ReadsAs (codes "extract") rows (Extract cut by files)
   pub extracts : Extracts (manner_in program (Extract cut by files)) cut by files events
 
+-- the same of a configuration
+pub record RunsConfigured (program : Program) (rows : List Row) (events : List Event) : Type 0 where
+  pub parents : Bool
+  pub files : ConfigFiles
+  pub reads : ReadsAs (codes "extract") rows (ExtractEach parents files)
+  pub extracts : ExtractsEach (manner_in program (ExtractEach parents files)) (strategy_with parents) files events
+
 -- the same of one that converts or copies
 pub record RunsWriting (program : Program) (name : List ℕ) (rows : List Row) (events : List Event) (command : Files → Command) (task : Task) : Type 0 where
   pub files : Files
@@ -43,20 +54,34 @@ pub record RunsWriting (program : Program) (name : List ℕ) (rows : List Row) (
   pub writes : Writes (manner_in program (command files)) task files events
 
 module _ (program : Program) (rows : List Row) (events : List Event) where
-  extract_done : (command : Command) → ReadsAs (codes "extract") rows command → Does (manner_in program command) command events → RunsExtract program rows events
-  extract_done (Extract cut by files) r d = record { cut = cut; by = by; files = files; reads = r; extracts = d }
-  extract_done (Blobs input) r d = absurd (differ (codes "extract") (codes "blobs") refl r.0)
-  extract_done (Info input json) r d = absurd (differ (codes "extract") (codes "info") refl r.0)
-  extract_done (Show input dates progress) r d = absurd (differ (codes "extract") (codes "show") refl r.0)
-  extract_done (Check input progress digests) r d = absurd (differ (codes "extract") (codes "check") refl r.0)
-  extract_done (Convert files) r d = absurd (differ (codes "extract") (codes "convert") refl r.0)
-  extract_done (Pack files) r d = absurd (differ (codes "extract") (codes "pack") refl r.0)
-  extract_done (Unpack files) r d = absurd (differ (codes "extract") (codes "unpack") refl r.0)
-  extract_done (Help text) r d = absurd r
+  extract_done : is_given (codes "config") rows ≡ false → (command : Command) → ReadsAs (codes "extract") rows command → Does (manner_in program command) command events → RunsExtract program rows events
+  extract_done plain (Extract cut by files) r d = record { cut = cut; by = by; files = files; reads = r; extracts = d }
+  extract_done plain (ExtractEach parents files) r d = absurd (false≢true (sym plain ∙ ap (λ o. is_some o) r.2.config))
+  extract_done plain (Blobs input) r d = absurd (differ (codes "extract") (codes "blobs") refl r.0)
+  extract_done plain (Info input json) r d = absurd (differ (codes "extract") (codes "info") refl r.0)
+  extract_done plain (Show input dates progress) r d = absurd (differ (codes "extract") (codes "show") refl r.0)
+  extract_done plain (Check input progress digests) r d = absurd (differ (codes "extract") (codes "check") refl r.0)
+  extract_done plain (Convert files) r d = absurd (differ (codes "extract") (codes "convert") refl r.0)
+  extract_done plain (Pack files) r d = absurd (differ (codes "extract") (codes "pack") refl r.0)
+  extract_done plain (Unpack files) r d = absurd (differ (codes "extract") (codes "unpack") refl r.0)
+  extract_done plain (Help text) r d = absurd r
+
+  configured_done : is_given (codes "config") rows ≡ true → (command : Command) → ReadsAs (codes "extract") rows command → Does (manner_in program command) command events → RunsConfigured program rows events
+  configured_done given (ExtractEach parents files) r d = record { parents = parents; files = files; reads = r; extracts = d }
+  configured_done given (Extract cut by files) r d = absurd (false≢true (sym r.1 ∙ given))
+  configured_done given (Blobs input) r d = absurd (differ (codes "extract") (codes "blobs") refl r.0)
+  configured_done given (Info input json) r d = absurd (differ (codes "extract") (codes "info") refl r.0)
+  configured_done given (Show input dates progress) r d = absurd (differ (codes "extract") (codes "show") refl r.0)
+  configured_done given (Check input progress digests) r d = absurd (differ (codes "extract") (codes "check") refl r.0)
+  configured_done given (Convert files) r d = absurd (differ (codes "extract") (codes "convert") refl r.0)
+  configured_done given (Pack files) r d = absurd (differ (codes "extract") (codes "pack") refl r.0)
+  configured_done given (Unpack files) r d = absurd (differ (codes "extract") (codes "unpack") refl r.0)
+  configured_done given (Help text) r d = absurd r
 
   convert_done : (command : Command) → ReadsAs (codes "convert") rows command → Does (manner_in program command) command events → RunsWriting program (codes "convert") rows events Convert converting
   convert_done (Convert files) r d = record { files = files; reads = r; writes = d }
   convert_done (Extract cut by files) r d = absurd (differ (codes "convert") (codes "extract") refl r.0)
+  convert_done (ExtractEach parents files) r d = absurd (differ (codes "convert") (codes "extract") refl r.0)
   convert_done (Blobs input) r d = absurd (differ (codes "convert") (codes "blobs") refl r.0)
   convert_done (Info input json) r d = absurd (differ (codes "convert") (codes "info") refl r.0)
   convert_done (Show input dates progress) r d = absurd (differ (codes "convert") (codes "show") refl r.0)
@@ -68,6 +93,7 @@ module _ (program : Program) (rows : List Row) (events : List Event) where
   pack_done : (command : Command) → ReadsAs (codes "pack") rows command → Does (manner_in program command) command events → RunsWriting program (codes "pack") rows events Pack copying
   pack_done (Pack files) r d = record { files = files; reads = r; writes = d }
   pack_done (Extract cut by files) r d = absurd (differ (codes "pack") (codes "extract") refl r.0)
+  pack_done (ExtractEach parents files) r d = absurd (differ (codes "pack") (codes "extract") refl r.0)
   pack_done (Blobs input) r d = absurd (differ (codes "pack") (codes "blobs") refl r.0)
   pack_done (Info input json) r d = absurd (differ (codes "pack") (codes "info") refl r.0)
   pack_done (Show input dates progress) r d = absurd (differ (codes "pack") (codes "show") refl r.0)
@@ -79,6 +105,7 @@ module _ (program : Program) (rows : List Row) (events : List Event) where
   unpack_done : (command : Command) → ReadsAs (codes "unpack") rows command → Does (manner_in program command) command events → RunsWriting program (codes "unpack") rows events Unpack copying
   unpack_done (Unpack files) r d = record { files = files; reads = r; writes = d }
   unpack_done (Extract cut by files) r d = absurd (differ (codes "unpack") (codes "extract") refl r.0)
+  unpack_done (ExtractEach parents files) r d = absurd (differ (codes "unpack") (codes "extract") refl r.0)
   unpack_done (Blobs input) r d = absurd (differ (codes "unpack") (codes "blobs") refl r.0)
   unpack_done (Info input json) r d = absurd (differ (codes "unpack") (codes "info") refl r.0)
   unpack_done (Show input dates progress) r d = absurd (differ (codes "unpack") (codes "show") refl r.0)
@@ -94,12 +121,15 @@ module _ (program : Program) (rows : List Row) (events : List Event) where
   ran name words done t s (inl (z, (command, inl h, d))) = absurd (h.1 t)
   ran name words done t s (inl (z, (command, inr r, d))) = done command (subst (λ x. IsRead x command) s r) d
 
-  pub run_extracts : (words : List Text) → takes (program_app program) (normalized words) ≡ true → subcommand_of (program_app program) (normalized words) ≡ Some (codes "extract", rows) → IsRun program words events 0 → RunsExtract program rows events
-  run_extracts words = ran (codes "extract") words extract_done
+  pub run_extracts : (words : List Text) → is_given (codes "config") rows ≡ false → takes (program_app program) (normalized words) ≡ true → subcommand_of (program_app program) (normalized words) ≡ Some (codes "extract", rows) → IsRun program words events 0 → RunsExtract program rows events
+  run_extracts words plain = ran (codes "extract") words (extract_done plain)
 
   module _ (words : List Text) (disk : Disk) (file : List ℕ) where
-    pub extract_ran : EndsWell program words (codes "extract") rows events disk file → RunsExtract program rows events
-    extract_ran e = run_extracts words e.taken e.command e.run
+    pub extract_ran : is_given (codes "config") rows ≡ false → EndsWell program words (codes "extract") rows events disk file → RunsExtract program rows events
+    extract_ran plain e = run_extracts words plain e.taken e.command e.run
+
+    pub configured_ran : is_given (codes "config") rows ≡ true → EndsWell program words (codes "extract") rows events disk file → RunsConfigured program rows events
+    configured_ran given e = ran (codes "extract") words (configured_done given) e.taken e.command e.run
 
     pub convert_ran : EndsWell program words (codes "convert") rows events disk file → RunsWriting program (codes "convert") rows events Convert converting
     convert_ran e = ran (codes "convert") words convert_done e.taken e.command e.run

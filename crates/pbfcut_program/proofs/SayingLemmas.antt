@@ -1,5 +1,5 @@
 -- What is said, put together.
-use Rattle.std.proofs.Common.{arith, ◌≡◌, ◌∙◌, inl, inr, ℕ, List, [], ◌∷◌, ◌++◌, Bool, None, Some, refl, ap, sym, subst, append_assoc}
+use Rattle.std.proofs.Common.{arith, ◌≡◌, ◌∙◌, inl, inr, ℕ, List, [], ◌∷◌, ◌++◌, Bool, Option, None, Some, refl, ap, sym, subst, append_assoc}
 use Rattle.std.proofs.lemmas.List.{append-nil}
 use Rattle.pbf_frame.specs.declared.stop.Stop.TheVariants as stop
 use Rattle.pbfcut_cli.specs.declared.endings.Ending.{Ending}
@@ -48,14 +48,22 @@ refusal_still digests es (inr (digest, name, asked, e)) = subst (λ xs. Each Sti
 
 -- ---- a line that isn't printed
 
-unprinted_still : (screen : Screen) (text : List ℕ) (how : Ending) (es : List Event) → IsUnprinted screen text how es → Each Still es
-unprinted_still screen text how es (inl (fault, e, is)) = subst (λ xs. Each Still xs) (sym e) (tt, tt)
-unprinted_still screen text how es (inr (none, is)) = subst (λ xs. Each Still xs) (sym none) tt
+-- what holds of each line, whether it is printed whole or not, holds of what happened
+module _ (p : Event → Type 0) (line : (screen : Screen) (text : List ℕ) (fault : Option PrintFault) → p (printed screen text fault)) where
+  unprinted_each : (screen : Screen) (text : List ℕ) (how : Ending) (es : List Event) → IsUnprinted screen text how es → Each p es
+  unprinted_each screen text how es (inl (fault, e, is)) = subst (λ xs. Each p xs) (sym e) (line screen text (Some fault), tt)
+  unprinted_each screen text how es (inr (none, is)) = subst (λ xs. Each p xs) (sym none) tt
+
+  pub broken_each : (xs : List Event) (how : Ending) (es : List Event) → Each p xs → BreaksOff (λ all. all ≡ xs) how es → Each p es
+  broken_each xs how es s b =
+      let first = each_front p b.before (printed b.screen b.text None ∷ b.after) (subst (λ ys. Each p ys) (sym b.ends_well) s) in
+      subst (λ ys. Each p ys) (sym b.happened) (each_both p b.before b.last first (unprinted_each b.screen b.text how b.last b.unprinted))
 
 pub broken_still : (xs : List Event) (how : Ending) (es : List Event) → Each Still xs → BreaksOff (λ all. all ≡ xs) how es → Each Still es
-broken_still xs how es s b =
-    let first = each_front Still b.before (printed b.screen b.text None ∷ b.after) (subst (λ ys. Each Still ys) (sym b.ends_well) s) in
-    subst (λ ys. Each Still ys) (sym b.happened) (each_both Still b.before b.last first (unprinted_still b.screen b.text how b.last b.unprinted))
+broken_still xs how es s b = broken_each Still (λ screen text fault. tt) xs how es s b
+
+pub broken_quiet : (xs : List Event) (how : Ending) (es : List Event) → Each Quiet xs → BreaksOff (λ all. all ≡ xs) how es → Each Quiet es
+broken_quiet xs how es s b = broken_each Quiet (λ screen text fault. tt) xs how es s b
 
 -- among more events, which are those of more that ends well
 pub breaks_in : (well also : List Event → Type 0) (xs : List Event) (how : Ending) (es : List Event) → ((all : List Event) → well all → (ys : List Event) × also (xs ++ (all ++ ys))) → BreaksOff well how es → BreaksOff also how (xs ++ es)

@@ -6,16 +6,17 @@ use Rattle.pbf_frame.specs.declared.device.Feed as feed
 use Rattle.pbfcut_cli.specs.declared.endings.Ending.{Ending}
 use Rattle.pbfcut_cli.specs.declared.programs.Program.{Program}
 use Rattle.pbfcut_cli.specs.declared.words.Command.{Command}
-use Rattle.pbfcut_cli.specs.declared.words.Command.TheVariants.{Blobs, Check, Convert, Extract, Help, Info, Pack, Show, Unpack}
+use Rattle.pbfcut_cli.specs.declared.words.Command.TheVariants.{Blobs, Check, Convert, Extract, ExtractEach, Help, Info, Pack, Show, Unpack}
+use Rattle.pbfcut_cli.specs.declared.words.ConfigFiles.{ConfigFiles}
 use Rattle.pbfcut_cli.specs.declared.words.Files.{Files}
 use Rattle.pbfcut_program.specs.declared.host.FinishFault.{FinishFault}
 use Rattle.pbfcut_program.specs.Changes.{DropsFile, HasOneFile, KeepsFile}
 use Rattle.pbfcut_program.specs.Devices.{CloseAll, Finishes}
-use Rattle.pbfcut_program.specs.Events.{Event, Reading, Writing, read, seeded, then_all, then_one, wrote}
+use Rattle.pbfcut_program.specs.Events.{Event, Reading, Writing, read, seeded, then_all, then_one, wrote, openings}
 use Rattle.pbfcut_program.specs.Fails.{Calm, Each}
 use Rattle.pbfcut_program.specs.Files.{Disk, EndsOut, IsDropped, IsKept, IsMade, Still, after}
-use Rattle.pbfcut_program.specs.Program.{IsMeant, begun, is_screen, looks, openings}
-use Rattle.pbfcut_program.specs.Settling.{HandlesIn, HandlesOut, IsEnded, IsStill, Returns, RunSettles, Settles, SettlesIn}
+use Rattle.pbfcut_program.specs.Program.{IsMeant, begun, is_screen, looks}
+use Rattle.pbfcut_program.specs.Settling.{HandlesConfigured, HandlesIn, HandlesOut, IsEnded, IsStill, Returns, RunSettles, Settles, SettlesEach, SettlesIn}
 use Rattle.pbfcut_program.specs.Telling.{Tells}
 use Rattle.pbfcut_program.proofs.Beginning.{calm_looks, calm_openings}
 use Rattle.pbfcut_program.proofs.Closing.{close_rest}
@@ -23,6 +24,7 @@ use Rattle.pbfcut_program.proofs.DiskLemmas.{after_still}
 use Rattle.pbfcut_program.proofs.EventLemmas.{each_both}
 use Rattle.pbfcut_program.proofs.Logging.{and_then, then_none}
 use Rattle.pbfcut_program.proofs.SayingLemmas.{broken_still}
+use Rattle.pbfcut_program.proofs.SeveralSettling.{each_before}
 
 calm_still : (e : Event) → Calm e → Still e
 calm_still e h1 = grind arith
@@ -63,7 +65,7 @@ screen_still d out kept fault l m fin = one_still l m _ fin.0.2 refl
 
 -- ---- OUT is kept, or dropped
 
-kept_or_dropped : {A : Type 0} (program : Program) (overwrite : Bool) (output : List ℕ) (name : Option (List ℕ)) (fault : Option FinishFault) (result : Result A FinishFault) (ends : List Event) → EndsOut program overwrite output name fault result ends
+pub kept_or_dropped : {A : Type 0} (program : Program) (overwrite : Bool) (output : List ℕ) (name : Option (List ℕ)) (fault : Option FinishFault) (result : Result A FinishFault) (ends : List Event) → EndsOut program overwrite output name fault result ends
     → ((fault ≡ None) × IsKept program overwrite output name ends) ⊎ IsDropped program name ends
 kept_or_dropped program overwrite output name (Some why) (Ok a) ends e = absurd e
 kept_or_dropped program overwrite output name (Some why) (Err told) ends e = inr e.1
@@ -190,6 +192,7 @@ settles_in_before program (Convert files) l m n t s = settles_before program fil
 settles_in_before program (Pack files) l m n t s = settles_before program files l m n t s
 settles_in_before program (Unpack files) l m n t s = settles_before program files l m n t s
 settles_in_before program (Extract region by files) l m n t s = settles_before program files l m n t s
+settles_in_before program (ExtractEach parents files) l m n t s = each_before program files l m n t s
 settles_in_before program (Help text) l m n t s = still_then l m n t s
 settles_in_before program (Blobs input) l m n t s = still_then l m n t s
 settles_in_before program (Info input json) l m n t s = still_then l m n t s
@@ -217,11 +220,16 @@ settles_same : (program : Program) (files : Files) (events : List Event) (disk :
 settles_same program files events disk (mine, e, inl s) = inl (still_same events disk (mine, e, s))
 settles_same program files events disk (mine, e, inr h) = inr (subst (λ es. HandlesOut program files es) (sym (same_events events mine e)) h)
 
+configured_same : (program : Program) (files : ConfigFiles) (events : List Event) (disk : Disk) → SettlesEach program files (Some []) (Some events) → IsSame events disk ⊎ HandlesConfigured program files events
+configured_same program files events disk (mine, e, inl s) = inl (still_same events disk (mine, e, s))
+configured_same program files events disk (mine, e, inr h) = inr (subst (λ es. HandlesConfigured program files es) (sym (same_events events mine e)) h)
+
 command_same : (program : Program) (command : Command) (events : List Event) (disk : Disk) → SettlesIn program command (Some []) (Some events) → IsSame events disk ⊎ HandlesIn program command events
 command_same program (Convert files) events disk s = settles_same program files events disk s
 command_same program (Pack files) events disk s = settles_same program files events disk s
 command_same program (Unpack files) events disk s = settles_same program files events disk s
 command_same program (Extract region by files) events disk s = settles_same program files events disk s
+command_same program (ExtractEach parents files) events disk s = configured_same program files events disk s
 command_same program (Help text) events disk s = inl (still_same events disk s)
 command_same program (Blobs input) events disk s = inl (still_same events disk s)
 command_same program (Info input json) events disk s = inl (still_same events disk s)

@@ -13,7 +13,8 @@ use Rattle.pbfcut_cli.specs.declared.words.Strategy.{Strategy}
 use Rattle.pbfcut_program.specs.Events.{Event, Reading, Writing, read, wrote}
 use Rattle.pbfcut_program.specs.Fails.{Each}
 use Rattle.pbfcut_program.specs.Manner.{Manner, of_input, of_output}
-use Rattle.pbfcut_program.specs.Program.{Extracts, Writes, WritesCounts, advice, begun, counts_text, done_lines, is_screen, prints, screen_of, strategy_of}
+use Rattle.pbfcut_program.specs.Program.{Extracts, Writes, WritesCounts, advice, begun, is_screen, screen_of, strategy_of}
+use Rattle.pbfcut_program.specs.Lines.{counts_text, done_lines, prints}
 use Rattle.pbfcut_program.specs.Readings.{IsWhole, IsWholeOrSpared, ReadAll, ReadLater}
 use Rattle.pbfcut_program.specs.Taking.{Happened, ReadOf, ReadsOnly, TookConversion, TookCopy, TookExtract, TookWhole}
 use Rattle.pbfcut.specs.Tasks.{Holds, Task, converting, copying, extracting}
@@ -93,7 +94,7 @@ module _ (file : List ℕ) where
   later_had known may first (h ∷ hs) (r ∷ rs) (b ∷ bs) same (inr s, l) t = (s.2 ∙ same, later_had known (may - 1) first hs rs bs same l t.1)
   later_had known may first _ _ _ same l t = absurd l
 
-  all_had : (known : List ℕ → Type 0) (may : ℕ) (has : List (Option (List ℕ))) (rs : List Reading) (bs : List (List ℕ)) → ReadAll known may has rs bs → AllHad has → AllAre bs
+  pub all_had : (known : List ℕ → Type 0) (may : ℕ) (has : List (Option (List ℕ))) (rs : List Reading) (bs : List (List ℕ)) → ReadAll known may has rs bs → AllHad has → AllAre bs
   all_had known may (h ∷ hs) (r ∷ rs) (b ∷ bs) w t =
       let same = opened_is known h r b w.0 t.0 in
       (same, later_had known may b hs rs bs same w.1 t.1)
@@ -101,7 +102,7 @@ module _ (file : List ℕ) where
 
   -- ---- what holds of the files that were read holds of the one
 
-  holds_extract : (m : Manner) (by : selection.Strategy) (area : AreaSpec) (bs : List (List ℕ)) (counts : Counts) (written : List ℕ) → AllAre bs → Holds (extracting by area) (map (of_input m) bs) counts written → IsExtraction by area (of_input m file) counts written
+  pub holds_extract : (m : Manner) (by : selection.Strategy) (area : AreaSpec) (bs : List (List ℕ)) (counts : Counts) (written : List ℕ) → AllAre bs → Holds (extracting by area) (map (of_input m) bs) counts written → IsExtraction by area (of_input m file) counts written
   holds_extract m by area (b ∷ c ∷ d ∷ []) counts written are h =
       let one = ap (of_input m) are.0 in
       subst (λ (f : List ℕ). IsExtraction by area f counts written) one (h.1 (one ∙ sym (ap (of_input m) are.1.0)) (one ∙ sym (ap (of_input m) are.1.1.0)))

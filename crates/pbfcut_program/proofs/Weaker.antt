@@ -11,7 +11,7 @@ use Rattle.pbf_frame.specs.Verdict.{Verdict}
 use Rattle.pbf_pass.specs.Stops.{WriteFailed}
 use Rattle.pbf_pass.specs.declared.hashing.PassCheck.{PassCheck}
 use Rattle.pbf_unpack.specs.declared.drain.PackedDrain.{PackedDrain}
-use Rattle.pbf_unpack.specs.Packing.{HasPacked, failures_of_drain, frame_held, taken_raw}
+use Rattle.pbf_unpack.specs.Packing.{GaveAll, HasPacked, failures_of_drain, frame_held, taken_raw}
 use Rattle.pbf_unpack.specs.RawFrames.{IsRawFile}
 use Rattle.pbf_unpack.specs.Unpacked.{Unpacked, unpacked}
 use Rattle.pbf_unpack.proofs.PackingLemmas.{packed_means}
@@ -72,7 +72,14 @@ goes_on before known part rest all fresh is whole p holds = subst (λ k. IfSome 
   by None none = tt
   by (Some taken) none = subst p (sym (ap (λ (l : List ℕ). (l ++ part) ++ rest) none ∙ whole)) holds
 
-module _ (digests : Bool) (by : PassCheck) {F D : Type 0} (f : feed.Ghosts F) {d : drain.Ghosts D} (mid new : PackedDrain D d) (digest : Option (List ℕ)) (task : Task) (olds news : List F) (failed : Type 0) where
+-- what a call came to, and what that comes to once its drain, which packs, is finished; and why a write failed then
+abbrev pub Finished : {A D : Type 0} {d : drain.Ghosts D} → (mid new : PackedDrain D d) → (failed lost : Type 0) → (returned result : Result A Halted) → Type 0
+Finished mid new failed lost (Ok report) (Ok same) = (same ≡ report) × GaveAll mid new
+Finished mid new failed lost (Ok report) (Err halted) = (halted.ending ≡ ending.Stopped stop.Memory) ⊎ ((halted.ending ≡ ending.Stopped stop.Write) × lost)
+Finished mid new failed lost (Err halted) (Err same) = (new ≡ mid) × ((same.ending ≡ ending.Stopped stop.Memory) ⊎ ((same.ending ≡ halted.ending) × (halted.ending ≡ ending.Stopped stop.Write → failed → lost)))
+Finished mid new failed lost (Err halted) (Ok report) = ⊥
+
+module _ (digests : Bool) (by : PassCheck) {F D : Type 0} (f : feed.Ghosts F) {d : drain.Ghosts D} (mid new : PackedDrain D d) (digest : Option (List ℕ)) (task : Task) (olds news : List F) (failed lost : Type 0) where
   -- what a drain took that packs, and what OUT took once it was finished
   abbrev Above : List ℕ → Type 0
   Above w = HasPacked mid 0 w × IfSome digest (λ known. known ≡ sha256 w)
@@ -83,63 +90,79 @@ module _ (digests : Bool) (by : PassCheck) {F D : Type 0} (f : feed.Ghosts F) {d
   nothing_below : new ≡ mid → Above [] → Below []
   nothing_below same t = grind (arith, none_packed mid 0 t.0, nothing_more 0)
 
-  -- why OUT failed
-  abbrev Lost : Type 0
-  Lost = DrainFailed d packed_file task (map f.remaining olds) new.below.drain
-
   abbrev PackedEnds : Ending → Type 0
-  PackedEnds how = EndsFor Pbfcutz f (judge_of task) olds news (Below []) Lost how
+  PackedEnds how = EndsFor Pbfcutz f (judge_of task) olds news (Below []) lost how
 
   memory_packed : (how : Ending) → how ≡ ending.Stopped stop.Memory → PackedEnds how
   memory_packed how e = subst PackedEnds (sym e) (stop.Memory, refl, tt)
 
-  write_packed : (how : Ending) → how ≡ ending.Stopped stop.Write → Lost → PackedEnds how
-  write_packed how e lost = subst PackedEnds (sym e) (stop.Write, refl, lost)
+  write_packed : (how : Ending) → how ≡ ending.Stopped stop.Write → lost → PackedEnds how
+  write_packed how e why = subst PackedEnds (sym e) (stop.Write, refl, why)
 
   written : (how : Ending) → EndsAsStop Pbfcutz stop.Write how → how ≡ ending.Stopped stop.Write
   written how e = grind arith
 
   -- an ending that may be a failed write
-  lost_packed : (how : Ending) → (how ≡ ending.Stopped stop.Write → failed → Lost) → EndsFor Pbfcutz f (judge_of task) olds news (Above []) failed how → EndsFor Pbfcutz f (judge_of task) olds news (Above []) Lost how
-  lost_packed how lost (stop.Refused e, is, c) = (stop.Refused e, is, c)
-  lost_packed how lost (stop.Read, is, c) = (stop.Read, is, c)
-  lost_packed how lost (stop.Write, is, c) = (stop.Write, is, lost (written how is) c)
-  lost_packed how lost (stop.Memory, is, c) = (stop.Memory, is, c)
-  lost_packed how lost (stop.Changed pass, is, c) = (stop.Changed pass, is, c)
+  lost_packed : (how : Ending) → (how ≡ ending.Stopped stop.Write → failed → lost) → EndsFor Pbfcutz f (judge_of task) olds news (Above []) failed how → EndsFor Pbfcutz f (judge_of task) olds news (Above []) lost how
+  lost_packed how why (stop.Refused e, is, c) = (stop.Refused e, is, c)
+  lost_packed how why (stop.Read, is, c) = (stop.Read, is, c)
+  lost_packed how why (stop.Write, is, c) = (stop.Write, is, why (written how is) c)
+  lost_packed how why (stop.Memory, is, c) = (stop.Memory, is, c)
+  lost_packed how why (stop.Changed pass, is, c) = (stop.Changed pass, is, c)
 
-  same_packed : (how same : Ending) → new ≡ mid → EndsFor Pbfcutz f (judge_of task) olds news (Above []) failed how → same ≡ how → (how ≡ ending.Stopped stop.Write → failed → Lost) → PackedEnds same
-  same_packed how same kept ends is lost = subst PackedEnds (sym is) (ends_weaker f (Above []) (Below []) (nothing_below kept) Pbfcutz (judge_of task) Lost Lost how olds news (λ x. x) (lost_packed how lost ends))
+  same_packed : (how same : Ending) → new ≡ mid → EndsFor Pbfcutz f (judge_of task) olds news (Above []) failed how → same ≡ how → (how ≡ ending.Stopped stop.Write → failed → lost) → PackedEnds same
+  same_packed how same kept ends is why = subst PackedEnds (sym is) (ends_weaker f (Above []) (Below []) (nothing_below kept) Pbfcutz (judge_of task) lost lost how olds news (λ x. x) (lost_packed how why ends))
 
-  module _ (before : Option (List ℕ)) (fresh : IfSome before (λ taken. taken ≡ [])) (taken : taken_raw new ≡ taken_raw mid) (risen : failed → 0 < failures_of_drain mid) where
-    -- it was given the whole answer
-    whole_lost : ((bytes : List ℕ) → AllSupply bytes (map f.remaining olds) → taken_raw mid ≡ append before (answer_of task (unpacked bytes))) → PackingFailed new [] → Lost
-    whole_lost whole fails = λ bytes all sound.
-        let answer = answer_of task (unpacked bytes) in
-        fails (goes_on before (taken_raw new) answer [] answer fresh (taken ∙ whole bytes all) (append-nil answer) IsRawFile sound)
+  -- zlib blobs are what OUT gets, by a drain that was finished
+  pub works_finished : (packs : Bool) (returned result : Result Report Halted) → packs ≡ true → Finished mid new failed lost returned result
+      → Works (manner Pbfcutz false digests) by f task olds news Above failed returned → Works (manner Pbfcutz packs digests) by f task olds news Below lost result
+  works_finished false returned result is fin works = (let bad : ⊥ = cc in absurd bad)
+  works_finished true (Ok report) (Ok same) is fin works =
+      let p = fin.1.logged 0 works.written works.took_them.0 in
+      let means = ap (λ (u : Unpacked). u.0) p.means in
+      rw fin.0 record {
+        files = works.files;
+        written = p.packed;
+        gave = works.gave;
+        took_them = (p.has_them, subst (λ w. IfSome digest (λ known. known ≡ sha256 w)) (sym means) works.took_them.1);
+        holds = subst (λ w. Holds task (map (of_input (manner Pbfcutz true digests)) works.files) report.counts w) (sym means) works.holds;
+      }
+  works_finished true (Ok report) (Err halted) is (inl none) works = memory_packed halted.ending none
+  works_finished true (Ok report) (Err halted) is (inr (wrote, why)) works = write_packed halted.ending wrote why
+  works_finished true (Err halted) (Err same) is (kept, inl none) works = memory_packed same.ending none
+  works_finished true (Err halted) (Err same) is (kept, inr (shown, why)) works = same_packed halted.ending same.ending kept works shown why
+  works_finished true (Err halted) (Ok report) is fin works = absurd fin
 
-    -- or the beginning
-    front_lost : ((bytes : List ℕ) → AllSupply bytes (map f.remaining olds) → IsFront before (taken_raw mid) (answer_of task (unpacked bytes))) → ((rest : List ℕ) → PackingFailed new rest) → Lost
-    front_lost front fails = λ bytes all sound.
-        let part = front bytes all in
-        let answer = answer_of task (unpacked bytes) in
-        fails (drop part.count answer) (goes_on before (taken_raw new) (take part.count answer) (drop part.count answer) answer fresh (taken ∙ part.taken) (take-append-drop part.count answer) IsRawFile sound)
+-- why OUT failed, by a drain that packs and had taken nothing
+module _ {D : Type 0} {d : drain.Ghosts D} (mid new : PackedDrain D d) (task : Task) (has : List (Option (List ℕ))) (before : Option (List ℕ)) (fresh : IfSome before (λ taken. taken ≡ [])) (taken : taken_raw new ≡ taken_raw mid) where
+  abbrev Lost : Type 0
+  Lost = DrainFailed d packed_file task has new.below.drain
 
-    -- zlib blobs are what OUT gets, by a drain that was finished
-    pub works_packed : (packs : Bool) (returned result : Result Report Halted) → packs ≡ true → FinishesPacked mid new returned result → Fronts packed_file task (map f.remaining olds) before (taken_raw mid) returned → Wholes packed_file task (map f.remaining olds) before (taken_raw mid) returned
-        → Works (manner Pbfcutz false digests) by f task olds news Above failed returned → Works (manner Pbfcutz packs digests) by f task olds news Below Lost result
-    works_packed false returned result is fin front whole works = (let bad : ⊥ = cc in absurd bad)
-    works_packed true (Ok report) (Ok same) is fin front whole works =
-        let p = fin.1.logged 0 works.written works.took_them.0 in
-        let means = ap (λ (u : Unpacked). u.0) p.means in
-        rw fin.0 record {
-          files = works.files;
-          written = p.packed;
-          gave = works.gave;
-          took_them = (p.has_them, subst (λ w. IfSome digest (λ known. known ≡ sha256 w)) (sym means) works.took_them.1);
-          holds = subst (λ w. Holds task (map (of_input (manner Pbfcutz true digests)) works.files) report.counts w) (sym means) works.holds;
-        }
-    works_packed true (Ok report) (Err halted) is (inl none) front whole works = memory_packed halted.ending none
-    works_packed true (Ok report) (Err halted) is (inr (wrote, fails)) front whole works = write_packed halted.ending wrote (whole_lost whole fails)
-    works_packed true (Err halted) (Err same) is (kept, inl none) front whole works = memory_packed same.ending none
-    works_packed true (Err halted) (Err same) is (kept, inr (shown, fails)) front whole works = same_packed halted.ending same.ending kept works shown (λ wrote f. front_lost front (fails wrote (risen f)))
-    works_packed true (Err halted) (Ok report) is fin front whole works = absurd fin
+  -- it was given the whole answer
+  pub whole_lost : ((bytes : List ℕ) → AllSupply bytes has → taken_raw mid ≡ append before (answer_of task (unpacked bytes))) → PackingFailed new [] → Lost
+  whole_lost whole fails = λ bytes all sound.
+      let answer = answer_of task (unpacked bytes) in
+      fails (goes_on before (taken_raw new) answer [] answer fresh (taken ∙ whole bytes all) (append-nil answer) IsRawFile sound)
+
+  -- or the beginning
+  pub front_lost : ((bytes : List ℕ) → AllSupply bytes has → IsFront before (taken_raw mid) (answer_of task (unpacked bytes))) → ((rest : List ℕ) → PackingFailed new rest) → Lost
+  front_lost front fails = λ bytes all sound.
+      let part = front bytes all in
+      let answer = answer_of task (unpacked bytes) in
+      fails (drop part.count answer) (goes_on before (taken_raw new) (take part.count answer) (drop part.count answer) answer fresh (taken ∙ part.taken) (take-append-drop part.count answer) IsRawFile sound)
+
+  module _ (failed : Type 0) (risen : failed → 0 < failures_of_drain mid) where
+    finished : (returned result : Result Report Halted) → FinishesPacked mid new returned result → Fronts packed_file task has before (taken_raw mid) returned → Wholes packed_file task has before (taken_raw mid) returned → Finished mid new failed Lost returned result
+    finished (Ok report) (Ok same) fin front whole = fin
+    finished (Ok report) (Err halted) (inl none) front whole = inl none
+    finished (Ok report) (Err halted) (inr (wrote, fails)) front whole = inr (wrote, whole_lost whole fails)
+    finished (Err halted) (Err same) (kept, inl none) front whole = (kept, inl none)
+    finished (Err halted) (Err same) (kept, inr (shown, fails)) front whole = (kept, inr (shown, λ wrote f. front_lost front (fails wrote (risen f))))
+    finished (Err halted) (Ok report) fin front whole = fin
+
+    -- zlib blobs are what OUT gets
+    pub works_packed : (digests : Bool) (by : PassCheck) {F : Type 0} (f : feed.Ghosts F) (digest : Option (List ℕ)) (olds news : List F) (packs : Bool) (returned result : Result Report Halted) → packs ≡ true → FinishesPacked mid new returned result
+        → Fronts packed_file task has before (taken_raw mid) returned → Wholes packed_file task has before (taken_raw mid) returned
+        → Works (manner Pbfcutz false digests) by f task olds news (λ w. HasPacked mid 0 w × IfSome digest (λ known. known ≡ sha256 w)) failed returned
+        → Works (manner Pbfcutz packs digests) by f task olds news (λ w. d.has_taken new.below.drain 0 w × MeansBy packed_file digest w) Lost result
+    works_packed digests by f digest olds news packs returned result is fin front whole works = works_finished digests by f mid new digest task olds news failed Lost packs returned result is (finished returned result fin front whole) works

@@ -6,7 +6,8 @@ use Rattle.pbfcut_program.specs.declared.printing.Done.{Done}
 use Rattle.pbfcut_program.specs.Events.{Event, Reading, Writing, read, wrote}
 use Rattle.pbfcut_program.specs.Files.{IsKept, IsMade}
 use Rattle.pbfcut_program.specs.Manner.{check_in, manner_of}
-use Rattle.pbfcut_program.specs.Program.{WritesCounts, begun, counts_text, done_lines, is_screen, prints, screen_of}
+use Rattle.pbfcut_program.specs.Program.{WritesCounts, begun, is_screen, screen_of}
+use Rattle.pbfcut_program.specs.Lines.{counts_text, done_lines, prints}
 use Rattle.pbfcut_program.specs.Readings.{IsWork}
 use Rattle.pbfcut.specs.Tasks.{Task, passes_of}
 use Rattle.pbfcut_program.specs.Worked.{Worked}

@@ -197,7 +197,7 @@ abbrev pub IsNamed : (of_drain : Option Stop) → (how shown : Ending) → Type 
 IsNamed of_drain how shown = (shown ≡ ending.Stopped stop.Memory) ⊎ ((shown ≡ how) × (how ≡ ending.Stopped stop.Write → of_drain ≡ Some stop.Memory → ⊥))
 
 -- what a call came to, and what that comes to once its drain, which packs, is finished
-abbrev pub FinishesPacked : {D : Type 0} {d : drain.Ghosts D} → (old new : PackedDrain D d) → (returned result : Result Report Halted) → Type 0
+abbrev pub FinishesPacked : {A D : Type 0} {d : drain.Ghosts D} → (old new : PackedDrain D d) → (returned result : Result A Halted) → Type 0
 FinishesPacked old new (Ok report) (Ok same) = (same ≡ report) × GaveAll old new
 FinishesPacked old new (Ok report) (Err halted) = (halted.ending ≡ ending.Stopped stop.Memory) ⊎ ((halted.ending ≡ ending.Stopped stop.Write) × PackingFailed new [])
 FinishesPacked old new (Err halted) (Err same) = (new ≡ old)

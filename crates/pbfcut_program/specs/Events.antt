@@ -1,5 +1,5 @@
 -- What a program does with its host, and what came of it, in order.
-use Rattle.std.specs.Prelude.{ℕ, List, [], ◌∷◌, ◌++◌, Bool, Option}
+use Rattle.std.specs.Prelude.{ℕ, ◌+◌, List, [], ◌∷◌, ◌++◌, Bool, Option}
 use Rattle.std.specs.Option.{option_map}
 use Rattle.pbfcut_program.specs.declared.host.CreateFault.{CreateFault}
 use Rattle.pbfcut_program.specs.declared.host.FinishFault.{FinishFault}
@@ -68,3 +68,8 @@ then_all before events = option_map (λ past. past ++ events) before
 
 abbrev pub then_one : Option (List Event) → Event → Option (List Event)
 then_one before event = then_all before (event ∷ [])
+
+-- IN is opened for each pass, from this one on
+abbrev pub openings : (input : List ℕ) → ℕ → List (Option (List ℕ)) → List Event
+openings input pass [] = []
+openings input pass (has ∷ more) = opened input pass has ∷ openings input (pass + 1) more

@@ -1,5 +1,8 @@
 -- Why a command fails, by what happened.
 use Rattle.std.specs.Prelude.{◌≡◌, ◌⊎◌, ℕ, ◌+◌, ◌<◌, List, [], ◌∷◌, ◌++◌, length, true, false, Option, None, Some, Err}
+use Rattle.osm_config.specs.Paths.{extracts_of_text}
+use Rattle.osm_config.specs.Readings.{fault_of}
+use Rattle.osm_config.specs.declared.fault.ConfigFault.{ConfigFault}
 use Rattle.osm_polygon.specs.declared.fault.PolyFault.{PolyFault}
 use Rattle.osm_polygon.specs.Texts.{polygons_of_text}
 use Rattle.pbf_wire.specs.declared.fault.Fault.{Fault}
@@ -86,6 +89,11 @@ abbrev pub FailsAsPolygon : PolyFault → Event → Type 0
 FailsAsPolygon fault (text_read path text) = polygons_of_text text ≡ Err fault
 FailsAsPolygon fault _ = ⊥
 
+-- the text that was read is no configuration, by this fault, for some folder
+abbrev pub FailsAsConfig : ConfigFault → Event → Type 0
+FailsAsConfig fault (text_read path text) = (folder : Option (List ℕ)) × (extracts_of_text path folder text ≡ Err (fault_of fault))
+FailsAsConfig fault _ = ⊥
+
 abbrev pub FailsToRead : Event → Type 0
 FailsToRead (read r) = 0 < r.failures
 FailsToRead _ = ⊥
@@ -162,6 +170,7 @@ CauseOfOpening ending.CannotOpen events = Has FailsToOpen events
 CauseOfOpening ending.IsPipe events = Has FailsAsPipe events
 CauseOfOpening ending.OutExists events = Has FailsAsThere events
 CauseOfOpening (ending.Polygon fault) events = Has (FailsAsPolygon fault) events
+CauseOfOpening (ending.Config fault) events = Has (FailsAsConfig fault) events
 CauseOfOpening (ending.Stopped stop.Memory) events = Unit {0}
 CauseOfOpening _ events = ⊥
 
@@ -213,6 +222,7 @@ Fails m j has ending.IsPipe events = Has FailsAsPipe events × Each TookNothing 
 Fails m j has ending.OutExists events = (Has FailsAsThere events × Each TookNothing events) ⊎ Has (FailsToFinish finishing.Exists) events
 Fails m j has ending.Closed events = Has FailsAsClosed events
 Fails m j has (ending.Polygon fault) events = Has (FailsAsPolygon fault) events × Each TookNothing events
+Fails m j has (ending.Config fault) events = Has (FailsAsConfig fault) events × Each TookNothing events
 Fails m j has how events = (s : Stop) × EndsAsStop m.program s how × Stops m j has events s
 
 -- IN is opened for this pass, and has this, if the host reports it

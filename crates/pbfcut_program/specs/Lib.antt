@@ -1,4 +1,6 @@
 pub mod Changes
+pub mod Configured
+pub mod ConfiguredCuts
 pub mod Devices
 pub mod Events
 pub mod Fails
@@ -6,11 +8,19 @@ pub mod Files
 pub mod Inputs
 pub mod Jobs
 pub mod Leaving
+pub mod Lines
 pub mod Manner
 pub mod Outcomes
 pub mod Program
 pub mod Readings
 pub mod Settling
+pub mod Several
+pub mod SeveralChanges
+pub mod SeveralEnds
+pub mod SeveralFiles
+pub mod SeveralGives
+pub mod SeveralOuts
+pub mod SeveralWrites
 pub mod Taking
 pub mod Tasks
 pub mod Telling

@@ -1,17 +1,11 @@
 -- What a run of the program is: its words, what happened, and its exit status. To be read from the end upwards.
-use Rattle.std.specs.Prelude.{◌≡◌, ◌⊎◌, ℕ, ◌+◌, List, [], ◌∷◌, ◌++◌, length, map, Bool, true, false, ◌||◌, ◌&&◌, ◌==◌, not, if◌then◌else◌, Option, Some, None, Ok, codes, decimal}
-use Rattle.std.specs.List.{flat_map}
+use Rattle.std.specs.Prelude.{◌≡◌, ◌⊎◌, ℕ, ◌+◌, List, [], ◌∷◌, ◌++◌, length, map, Bool, true, false, ◌||◌, ◌&&◌, ◌==◌, not, if◌then◌else◌, Option, Some, None, Ok, codes}
 use Rattle.std.specs.Str.{bytes_eq}
 use Rattle.std.specs.String.{string_bytes}
 use Rattle.clap.specs.Words.{Text, subcommand_of, takes}
 use Rattle.osm_area.specs.Area.{AreaSpec, box_area}
 use Rattle.osm_ways.specs.Selection as selection
 use Rattle.osm_ways.specs.Whole.{is_wanted_by}
-use Rattle.osm_polygon.specs.Polygon.{Rings}
-use Rattle.osm_polygon.specs.Polygons.{polygons_area, polygons_of}
-use Rattle.osm_polygon.specs.Texts.{polygons_of_text}
-use Rattle.osm_text.specs.Digests.{digest_line, hex_byte}
-use Rattle.sha2.specs.Sha256.{sha256}
 use Rattle.pbf_block.specs.declared.counts.Counts.{Counts}
 use Rattle.pbf_frame.specs.Frames.{FrameSpec}
 use Rattle.pbf_frame.specs.Verdict.{Says, judged_known}
@@ -29,7 +23,7 @@ use Rattle.pbfcut_cli.specs.declared.programs.Program.{Program}
 use Rattle.pbfcut_cli.specs.declared.programs.Program.TheVariants.{Pbfcut, Pbfcutz}
 use Rattle.pbfcut_cli.specs.declared.words.CliFault.TheVariants as fault
 use Rattle.pbfcut_cli.specs.declared.words.Command.{Command}
-use Rattle.pbfcut_cli.specs.declared.words.Command.TheVariants.{Blobs, Info, Show, Check, Convert, Pack, Unpack, Extract, Help}
+use Rattle.pbfcut_cli.specs.declared.words.Command.TheVariants.{Blobs, Info, Show, Check, Convert, Pack, Unpack, Extract, ExtractEach, Help}
 use Rattle.pbfcut_cli.specs.declared.words.Files.{Files}
 use Rattle.pbfcut_cli.specs.declared.words.Region.{Region}
 use Rattle.pbfcut_cli.specs.declared.words.Region.TheVariants as region
@@ -37,52 +31,20 @@ use Rattle.pbfcut_cli.specs.declared.words.Strategy.{Strategy}
 use Rattle.pbfcut_cli.specs.declared.words.Strategy.TheVariants as strategy
 use Rattle.pbfcut_program.specs.declared.host.Screen.{Screen}
 use Rattle.pbfcut_program.specs.declared.host.Screen.TheVariants.{Output, Error}
-use Rattle.pbfcut_program.specs.Events.{Event, text_read, looked, opened, seeded, screened, read, wrote, printed, told, advised, Reading, Writing}
+use Rattle.pbfcut_program.specs.Configured.{MeansFile}
+use Rattle.pbfcut_program.specs.Events.{Event, looked, opened, openings, seeded, screened, read, wrote, printed, told, advised, Reading, Writing}
 use Rattle.pbfcut_program.specs.Fails.{Each, FailsFor, Judging, Quiet, judging, judging_for, listing, printing}
 use Rattle.pbfcut_program.specs.Files.{IsKept, IsMade}
 use Rattle.pbfcut_program.specs.Leaving.{LeavesFor}
+use Rattle.pbfcut_program.specs.Lines.{check_lines, counts_text, digest_if_asked, done_lines, prints}
 use Rattle.pbfcut_program.specs.Manner.{Manner, check_of, hashes_meaning, input_form, manner, meant_known, of_output, once_check, output_form, to_raw}
 use Rattle.pbfcut_program.specs.Readings.{IsWork}
+use Rattle.pbfcut_program.specs.SeveralWrites.{ExtractsEach, LeavesEach, judging_each, strategy_with}
 use Rattle.pbfcut.specs.Tasks.{Task, checking, listing_frames, showing, converting, copying, extracting, passes_of}
 use Rattle.pbfcut_program.specs.Tasks.{GivesRaw}
 use Rattle.pbfcut_program.specs.Telling.{IsSaid}
 
--- ---- lines
-
-abbrev pub counts_text : Counts → List ℕ
-counts_text c = codes "nodes " ++ decimal c.nodes ++ codes " ways " ++ decimal c.ways ++ codes " relations " ++ decimal c.relations ++ codes "\n"
-
-abbrev pub unpacked_text : List ℕ → List ℕ
-unpacked_text digest = codes "# unpacked " ++ flat_map hex_byte digest ++ codes "\n"
-
--- the digest of a file, and that of the file unpacked, if it is
-abbrev pub file_lines : (digest : List ℕ) → (raw : Option (List ℕ)) → (path : List ℕ) → List (List ℕ)
-file_lines digest None path = digest_line digest path ∷ []
-file_lines digest (Some raw) path = digest_line digest path ∷ unpacked_text raw ∷ []
-
--- with `--digests`
-abbrev pub check_lines : Bool → (digest : List ℕ) → Option (List ℕ) → (input : List ℕ) → List (List ℕ)
-check_lines true digest raw input = file_lines digest raw input
-check_lines false digest raw input = []
-
--- the same, and those of what OUT took, if it was hashed
-abbrev pub done_lines : (known meaning : Option (List ℕ)) → (digest : List ℕ) → Option (List ℕ) → (input output : List ℕ) → List (List ℕ)
-done_lines (Some known) meaning digest raw input output = file_lines digest raw input ++ file_lines known meaning output
-done_lines None meaning digest raw input output = []
-
-abbrev pub digest_if_asked : Bool → (written : List ℕ) → Option (List ℕ)
-digest_if_asked true written = Some (sha256 written)
-digest_if_asked false written = None
-
-abbrev pub prints : Screen → List (List ℕ) → List Event
-prints screen lines = map (λ line. printed screen line None) lines
-
 -- ---- what a command does that ends well
-
--- IN is opened for each pass, from this one on
-abbrev pub openings : (input : List ℕ) → ℕ → List (Option (List ℕ)) → List Event
-openings input pass [] = []
-openings input pass (has ∷ more) = opened input pass has ∷ openings input (pass + 1) more
 
 -- `check`: one pass was made, and the counts were printed; with `--digests` also the digests
 pub record Checks (m : Manner) (input : List ℕ) (events : List Event) : Type 0 where
@@ -179,8 +141,7 @@ Writes m task files events = (counts : Counts) × WritesCounts m task files coun
 -- what is cut out: a box, or the polygons of a text that was read
 abbrev pub MeansArea : Region → List Event → AreaSpec → Type 0
 MeansArea (region.Box box) events area = (events ≡ []) × (area ≡ box_area box)
-MeansArea (region.Polygon path) events area = (text : List ℕ) × (polygons : List Rings)
-    × (events ≡ text_read path.now text ∷ []) × (polygons_of_text text ≡ Ok polygons) × (area ≡ polygons_area (polygons_of polygons))
+MeansArea (region.Polygon path) events area = MeansFile path.now events area
 
 -- what is kept besides what lies in it
 abbrev pub strategy_of : Strategy → selection.Strategy
@@ -208,6 +169,7 @@ digests_of (Convert files) = files.digests
 digests_of (Pack files) = files.digests
 digests_of (Unpack files) = files.digests
 digests_of (Extract region by files) = files.digests
+digests_of (ExtractEach parents files) = files.digests
 digests_of _ = false
 
 -- OUT gets zlib blobs, if it is pbfcutz that writes it
@@ -215,6 +177,7 @@ abbrev pub packs_of : Command → Bool
 packs_of (Convert files) = not files.raw
 packs_of (Pack files) = true
 packs_of (Extract region by files) = not files.raw
+packs_of (ExtractEach parents files) = not files.raw
 packs_of _ = false
 
 abbrev pub manner_in : Program → Command → Manner
@@ -231,6 +194,7 @@ Does m (Convert files) events = Writes m converting files events
 Does m (Pack files) events = Writes m copying files events
 Does m (Unpack files) events = Writes m copying files events
 Does m (Extract region by files) events = Extracts m region by files events
+Does m (ExtractEach parents files) events = ExtractsEach m (strategy_with parents) files events
 
 -- ---- why a command fails
 
@@ -253,6 +217,7 @@ judging_in (Convert files) events = judging_for converting
 judging_in (Pack files) events = judging_for copying
 judging_in (Unpack files) events = judging_for copying
 judging_in (Extract region by files) events = judging_cut region by events
+judging_in (ExtractEach parents files) events = judging_each (strategy_with parents) files events
 
 -- `info` reads as pbfcutz does, and writes a text, as `show` does
 abbrev pub reading_of : Manner → Command → Manner
@@ -276,6 +241,7 @@ LeavesIn m (Convert files) events = LeavesFor m converting events
 LeavesIn m (Pack files) events = LeavesFor m copying events
 LeavesIn m (Unpack files) events = LeavesFor m copying events
 LeavesIn m (Extract region by files) events = Each Quiet events ⊎ LeavesCut m region by events
+LeavesIn m (ExtractEach parents files) events = Each Quiet events ⊎ LeavesEach m (strategy_with parents) files events
 LeavesIn m _ events = Unit {0}
 
 abbrev pub FailsIn : Manner → Command → Ending → List Event → Type 0

@@ -4,7 +4,7 @@ use Rattle.pbfcut_program.specs.declared.engine.Engine.{Engine}
 use Rattle.pbfcut_program.specs.declared.printing.Done.{Done}
 use Rattle.pbfcut_program.specs.Events.{Reading, Writing}
 use Rattle.pbfcut_program.specs.Manner.{check_in, hashes_meaning, manner_of, of_output, output_form}
-use Rattle.pbfcut_program.specs.Program.{digest_if_asked}
+use Rattle.pbfcut_program.specs.Lines.{digest_if_asked}
 use Rattle.pbfcut_program.specs.Readings.{IsWork}
 use Rattle.pbfcut.specs.Tasks.{Task}
 

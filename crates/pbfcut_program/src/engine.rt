@@ -3,6 +3,7 @@
 ghost use Rattle.std.specs.Prelude.{◌≡◌, [], ◌∷◌, length, IfErr, OnOk, false, true};
 ghost use Rattle.pbf_frame.specs.Transfers.{Added};
 ghost use Rattle.pbf_pass.specs.Given.{Took};
+ghost use Rattle.pbf_pass.specs.Refused.{stop_of};
 ghost use Rattle.pbf_pass.specs.Stops.{WriteFailed};
 ghost use Rattle.pbf_published.specs.Showing.{TellsInfo};
 ghost use Rattle.pbfcut.specs.Summary.{judged_headings};
@@ -55,6 +56,21 @@ impl From<Stop> for Halted {
     }
 }
 
+impl From<Halt> for Halted {
+    ghost from_gives = { λ halt e. e.ending ≡ ending.Stopped (stop_of halt) };
+
+    fn from(halt: Halt) -> Halted {
+        let refusal = match halt {
+            Halt::Refused(refusal) => Some(refusal),
+            Halt::Stopped(_) => None,
+        };
+        Halted {
+            ending: Ending::Stopped(Stop::from(halt)),
+            refusal,
+        }
+    }
+}
+
 /// What a call over raw files came to.
 fn reported(outcome: Result<InputReceipt, Halt>) -> Result<Report, Halted>
     ensures { ReportsRaw outcome result }
@@ -68,16 +84,7 @@ fn reported(outcome: Result<InputReceipt, Halt>) -> Result<Report, Halted>
                 raw: None,
             })
         }
-        Err(halt) => {
-            let refusal = match halt {
-                Halt::Refused(refusal) => Some(refusal),
-                Halt::Stopped(_) => None,
-            };
-            Err(Halted {
-                ending: Ending::Stopped(Stop::from(halt)),
-                refusal,
-            })
-        }
+        Err(halt) => Err(Halted::from(halt)),
     }
 }
 

@@ -2,13 +2,15 @@
 //! Names count as they are written: nothing is said of two spellings of one name. Like the laws of runs, each is the contract of a
 //! function that does nothing.
 
-ghost use Rattle.std.specs.Prelude.{[], ◌≡◌, ◌⊎◌, ◌++◌, ℕ, List, Bool, true, false, Some, None, codes};
+ghost use Rattle.std.specs.Prelude.{[], ◌≡◌, ◌⊎◌, ◌++◌, ◌∷◌, ℕ, List, Bool, true, false, Some, None, codes};
+ghost use Rattle.std.specs.List.{AllByRecursion};
 ghost use Rattle.clap.specs.Words.{Row, Text};
-ghost use Rattle.pbfcut_cli.specs.Words.{ReadsAs};
+ghost use Rattle.pbfcut_cli.specs.Words.{ReadsAs, is_given};
 ghost use Rattle.pbfcut_cli.specs.declared.programs.Program.{Program};
 ghost use Rattle.pbfcut_cli.specs.declared.programs.Program.TheVariants.{Pbfcut, Pbfcutz};
 ghost use Rattle.pbfcut_cli.specs.declared.words.Command.{Command};
-ghost use Rattle.pbfcut_cli.specs.declared.words.Command.TheVariants.{Convert, Extract, Pack, Unpack};
+ghost use Rattle.pbfcut_cli.specs.declared.words.Command.TheVariants.{Convert, Extract, ExtractEach, Pack, Unpack};
+ghost use Rattle.pbfcut_cli.specs.declared.words.ConfigFiles.{ConfigFiles};
 ghost use Rattle.pbfcut_cli.specs.declared.words.Files.{Files};
 ghost use Rattle.pbfcut_cli.specs.declared.words.Region.{Region};
 ghost use Rattle.pbfcut_cli.specs.declared.words.Strategy.{Strategy};
@@ -17,6 +19,9 @@ ghost use Rattle.pbfcut_program.specs.Events.{Event, Writing, stays};
 ghost use Rattle.pbfcut_program.specs.Files.{AllowsAll, Disk, after};
 ghost use Rattle.pbfcut_program.specs.Program.{IsMeant, manner_in};
 ghost use Rattle.pbfcut_program.specs.Settling.{HandlesIn, RunSettles};
+ghost use Rattle.pbfcut_program.specs.SeveralChanges.{HandlesFiles, IsApart, IsDroppedFile, IsKeptWhole, OneFile, Pairwise};
+ghost use Rattle.pbfcut_program.specs.SeveralGives.{GivesEach};
+ghost use Rattle.pbfcut_program.specs.SeveralWrites.{strategy_with};
 ghost use Rattle.pbfcut_program.specs.Taking.{Happened};
 
 /// What a user finds after a run that keeps OUT: OUT has all that was written to it, and every other file is as it was. pbfcutz writes OUT
@@ -77,8 +82,40 @@ pub fn always_whole()
         → disk path ≡ Some bytes → after started disk path ≡ Some bytes }
 {}
 
+/// What a user finds after a run of pbfcutz that writes several OUTs, if they have different paths, and none has the name that another's file
+/// has until it is whole: each OUT that is kept has all that was written to it, and each one that is dropped has what it had. Every other
+/// file is as it was. A part that couldn't be removed is left, but it is a new file, so no other one is lost by it. Without `--overwrite`
+/// there was nothing by the names of those that are kept. The names of parts are a premise (`IsApart`): nothing keeps a user from giving an
+/// OUT the very name that the part of another one gets, which has the number of the process in it.
+pub fn writes_several()
+    ensures kept { (overwrite : Bool) (before later : List OneFile) (one : OneFile)
+        (events : List Event) (disk : Disk)
+        → HandlesFiles Pbfcutz overwrite (before ++ one ∷ later) events
+        → Pairwise IsApart (before ++ one ∷ later) → AllowsAll disk events
+        → IsKeptWhole Pbfcutz overwrite one → after events disk one.output ≡ Some one.out.bytes }
+    ensures dropped { (overwrite : Bool) (before later : List OneFile) (one : OneFile)
+        (events : List Event) (disk : Disk)
+        → HandlesFiles Pbfcutz overwrite (before ++ one ∷ later) events
+        → Pairwise IsApart (before ++ one ∷ later) → IsDroppedFile Pbfcutz one
+        → after events disk one.output ≡ disk one.output }
+    ensures others { (overwrite : Bool) (files : List OneFile) (events : List Event) (disk : Disk)
+        → HandlesFiles Pbfcutz overwrite files events → Pairwise IsApart files → AllowsAll disk events
+        → (path : List ℕ)
+        → AllByRecursion (λ one. path ≡ one.output → ⊥) files
+        → (Happened (stays path) events → ⊥) → after events disk path ≡ disk path }
+    ensures fresh { (overwrite : Bool) (before later : List OneFile) (one : OneFile)
+        (events : List Event) (disk : Disk)
+        → HandlesFiles Pbfcutz overwrite (before ++ one ∷ later) events
+        → Pairwise IsApart (before ++ one ∷ later) → AllowsAll disk events
+        → IsKeptWhole Pbfcutz overwrite one → overwrite ≡ false → disk one.output ≡ None }
+    ensures parts { (overwrite : Bool) (files : List OneFile) (events : List Event) (disk : Disk)
+        → HandlesFiles Pbfcutz overwrite files events → Pairwise IsApart files → AllowsAll disk events
+        → (path : List ℕ) → Happened (stays path) events
+        → AllByRecursion (λ one. path ≡ one.output → ⊥) files × (disk path ≡ None) }
+{}
+
 /// What any run does to a user's files, however it ends: no file has changed; or OUT was made, and was kept or dropped, as `writes_out` and
-/// `drops_out` say. Only a command that writes a file does that.
+/// `drops_out` say; or the OUTs of a configuration were, as `writes_several` says. Only a command that writes files does that.
 pub fn any_run()
     ensures { (program : Program) (words : List Text) (events : List Event) (disk : Disk)
         → RunSettles program words (Some []) (Some events)
@@ -89,13 +126,27 @@ pub fn any_run()
 
 /// What status 0 of `extract` says of a user's files: OUT has bytes that mean exactly the extract of those that IN has on the disk, by the area
 /// and the strategy of the words. Every other file is as it was, but a part may be left, which is new. Without `--overwrite` there was
-/// nothing by OUT's name before. If OUT is standard output, it took the extract, and no file has changed.
+/// nothing by OUT's name before. If OUT is standard output, it took the extract, and no file has changed. The words name no configuration.
 pub fn run_of_extract()
     ensures { (program : Program) (words : List Text) (rows : List Row) (events : List Event)
-        (disk : Disk) (file : List ℕ) → EndsWell program words (codes "extract") rows events disk file
+        (disk : Disk) (file : List ℕ) → is_given (codes "config") rows ≡ false
+        → EndsWell program words (codes "extract") rows events disk file
         → (cut : Region) × (by : Strategy) × (files : Files)
         × ReadsAs (codes "extract") rows (Extract cut by files)
         × GivesExtract (manner_in program (Extract cut by files)) cut by files file events disk }
+{}
+
+/// What status 0 of `extract --config` says of them: each OUT has bytes that mean exactly the extract of those that IN has on the disk, by the
+/// area that the configuration gives it. Without `--overwrite` none was there before. Every other file is as it was, but a part may be
+/// left, which is new. Two OUTs have two paths, and no OUT has the name that another one has until it is whole.
+pub fn run_of_extracts()
+    ensures { (words : List Text) (rows : List Row) (events : List Event) (disk : Disk)
+        (file : List ℕ) → is_given (codes "config") rows ≡ true
+        → EndsWell Pbfcutz words (codes "extract") rows events disk file
+        → (parents : Bool) × (files : ConfigFiles)
+        × ReadsAs (codes "extract") rows (ExtractEach parents files)
+        × GivesEach (manner_in Pbfcutz (ExtractEach parents files)) (strategy_with parents) files
+        file events disk }
 {}
 
 /// What status 0 of `convert` says of them: OUT has bytes that mean a conversion of what those of IN mean. The rest is as after

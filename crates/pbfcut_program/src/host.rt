@@ -112,7 +112,7 @@ pub trait Host {
     type Out: Drain + Drop;
 
     /// What hashes by a seed.
-    type Hasher: BuildHasher + Drop;
+    type Hasher: BuildHasher + Copy + Drop;
 
     /// What happened so far, if the host reports it.
     ghost log: { Self → Option (List Event) };

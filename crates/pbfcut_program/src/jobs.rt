@@ -8,12 +8,12 @@ ghost use Rattle.osm_polygon.specs.Texts.{polygons_of_text};
 ghost use Rattle.osm_ways.specs.Selection.{all_parents, complete_ways};
 ghost use Rattle.pbfcut.specs.Tasks.{extracting, passes_of};
 ghost use Rattle.pbfcut_program.specs.Devices.{AreFresh, CloseAll, RunsTask};
-ghost use Rattle.pbfcut_program.specs.Events.{Event, text_read, then_all};
+ghost use Rattle.pbfcut_program.specs.Events.{Event, text_read, then_all, openings};
 ghost use Rattle.pbfcut_program.specs.Fails.{FailsOpening};
 ghost use Rattle.pbfcut_program.specs.Inputs.{AreReady, feeds_in};
 ghost use Rattle.pbfcut_program.specs.Jobs.{IsReadyFor, area_of, feeds_of, plan_of, task_of};
 ghost use Rattle.pbfcut_program.specs.Manner.{check_in, manner_of};
-ghost use Rattle.pbfcut_program.specs.Program.{MeansArea, openings};
+ghost use Rattle.pbfcut_program.specs.Program.{MeansArea};
 
 use crate::engine::{Engine, Halted, Report, run_task};
 use crate::host::{Host, Seed, TextFault};
@@ -37,7 +37,11 @@ pub(crate) enum Cut {
 }
 
 /// The polygons of a file: GeoJSON or a `.poly` file.
-fn read_area<H: Host>(alloc: Global, host: &mut H, path: &str) -> Result<MultiPolygon, Ending>
+pub(crate) fn read_area<H: Host>(
+    alloc: Global,
+    host: &mut H,
+    path: &str,
+) -> Result<MultiPolygon, Ending>
     ensures ok { IfOk result (λ area. (text : List ℕ) × (polygons : List Rings)
         × (H.log host.new ≡ then_all (H.log host.old) (text_read path.now text ∷ []))
         × (polygons_of_text text ≡ Ok polygons)

@@ -11,7 +11,7 @@ ghost use Rattle.pbf_header.specs.WrittenHeader.{EdgesTyped, edges_of};
 ghost use Rattle.pbf_pass.specs.Judged.{fully};
 ghost use Rattle.pbfcut.specs.Kept.{IsWritable, conversion_of, extract_of};
 ghost use Rattle.pbfcut_cli.specs.Joined.{normalized};
-ghost use Rattle.pbfcut_cli.specs.Words.{ReadsAs, program_app};
+ghost use Rattle.pbfcut_cli.specs.Words.{ReadsAs, is_given, program_app};
 ghost use Rattle.pbfcut_cli.specs.declared.programs.Program.{Program};
 ghost use Rattle.pbfcut_cli.specs.declared.words.Command.TheVariants.{Extract};
 ghost use Rattle.pbfcut_cli.specs.declared.words.Files.{Files};
@@ -39,11 +39,12 @@ pub fn commands_take()
         → Writes m copying files events → ReadsOnly file events → TookCopy m file events }
 {}
 
-/// A run that ended with status 0, of words that `clap` takes as `extract`, each pass of which read the same file: OUT took the extract of
-/// what the file means, by the area and the strategy of the words.
+/// A run that ended with status 0, of words that `clap` takes as `extract` without a configuration, each pass of which read the same file: OUT
+/// took the extract of what the file means, by the area and the strategy of the words.
 pub fn run_takes_extract()
     ensures { (program : Program) (words : List Text) (rows : List Row) (events : List Event)
-        (file : List ℕ) → takes (program_app program) (normalized words) ≡ true
+        (file : List ℕ) → is_given (codes "config") rows ≡ false
+        → takes (program_app program) (normalized words) ≡ true
         → subcommand_of (program_app program) (normalized words) ≡ Some (codes "extract", rows)
         → IsRun program words events 0 → ReadsOnly file events
         → (cut : Region) × (by : Strategy) × (files : Files)

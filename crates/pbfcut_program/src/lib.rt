@@ -1,6 +1,7 @@
 //! The program: what a command does to its host, for every host.
 #![tactic(auto)]
 
+mod configured;
 mod ending;
 mod engine;
 pub mod file_laws;
@@ -13,6 +14,12 @@ mod output;
 mod printing;
 mod program;
 mod reading;
+mod several;
+mod several_files;
+mod several_into;
+mod several_outs;
+mod several_packed;
+mod several_writing;
 mod writing;
 
 pub use ending::report;

@@ -2,12 +2,12 @@
 
 ghost use Rattle.std.specs.Prelude.{◌≡◌, ◌∷◌, [], ℕ, List, length, map, IfOk, IfErr, Some, true};
 ghost use Rattle.pbf_published.specs.PublishedTasks.{below_of};
-ghost use Rattle.pbfcut_program.specs.Events.{Event, opened, screened, seeded, then_all, then_one};
+ghost use Rattle.pbfcut_program.specs.Events.{Event, opened, screened, seeded, then_all, then_one, openings};
 ghost use Rattle.pbfcut_program.specs.Devices.{AreFresh, CloseAll, IsFresh, IsFreshOut};
 ghost use Rattle.pbfcut_program.specs.Fails.{FailsOpening};
 ghost use Rattle.pbfcut_program.specs.Inputs.{AreReady, feeds_in};
 ghost use Rattle.pbfcut_program.specs.Manner.{check_in};
-ghost use Rattle.pbfcut_program.specs.Program.{draws, openings};
+ghost use Rattle.pbfcut_program.specs.Program.{draws};
 
 use crate::engine::Engine;
 use crate::host::{Host, OpenFault, Seed, Turn};

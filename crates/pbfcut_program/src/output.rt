@@ -278,7 +278,7 @@ pub(crate) fn make_out<H: Host>(
 // ---- OUT is whole, or not
 
 /// A file that isn't whole, and won't be: pbfcut leaves it to its user, pbfcutz removes it.
-fn forget<H: Host>(host: &mut H, program: Program, name: &str)
+pub(crate) fn forget<H: Host>(host: &mut H, program: Program, name: &str)
     ensures { (events : List Event) × (H.log host.new ≡ then_all (H.log host.old) events)
         × Drops program name.now events }
 {
@@ -409,7 +409,11 @@ fn name_part<H: Host>(host: &mut H, name: &str, place: Place<'_>) -> Result<(), 
 }
 
 /// A whole file, which is on the disk, has OUT's name or gets it.
-fn name_whole<H: Host>(host: &mut H, name: &str, place: Place<'_>) -> Result<(), FinishFault>
+pub(crate) fn name_whole<H: Host>(
+    host: &mut H,
+    name: &str,
+    place: Place<'_>,
+) -> Result<(), FinishFault>
     ensures { (events : List Event) × (H.log host.new ≡ then_all (H.log host.old) events)
         × EndsOut place.entry.program place.entry.overwrite place.entry.path.now (Some name.now) None result events }
 {

@@ -2,7 +2,7 @@
 
 ghost use Rattle.std.specs.Prelude.{◌≡◌, ◌∷◌, [], ℕ, List, IfOk, None, string_bytes};
 ghost use Rattle.osm_text.specs.Digests.{digest_line};
-ghost use Rattle.pbfcut_program.specs.Program.{check_lines, counts_text, done_lines, file_lines, prints, unpacked_text};
+ghost use Rattle.pbfcut_program.specs.Lines.{check_lines, counts_text, done_lines, file_lines, prints, unpacked_text};
 ghost use Rattle.pbfcut_program.specs.declared.host.Screen.TheVariants as screen;
 ghost use Rattle.pbfcut_program.specs.Telling.{Tells, TellsQuietly};
 
@@ -113,7 +113,7 @@ pub(crate) struct Digested<'a> {
 }
 
 /// Prints the digest of a file, and that of the file unpacked, if it is.
-fn print_file<H: Host>(
+pub(crate) fn print_file<H: Host>(
     alloc: Global,
     host: &mut H,
     screen: Screen,

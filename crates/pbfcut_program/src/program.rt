@@ -1,6 +1,7 @@
 //! The whole run of a command.
 
 ghost use Rattle.std.specs.Prelude.{◌≡◌, [], List, IfErr, IfOk, OnOk, map, string_bytes};
+ghost use Rattle.pbfcut.specs.EachReceipts.{each_strategy};
 ghost use Rattle.pbfcut_cli.specs.Words.{word_texts};
 ghost use Rattle.pbfcut_program.specs.Events.{Event, then_all};
 ghost use Rattle.pbfcut_program.specs.Fails.{FailsFor, judging_for};
@@ -8,6 +9,7 @@ ghost use Rattle.pbfcut_program.specs.Jobs.{plan_of};
 ghost use Rattle.pbfcut_program.specs.Leaving.{LeavesFor};
 ghost use Rattle.pbfcut_program.specs.Manner.{manner_of};
 ghost use Rattle.pbfcut_program.specs.Settling.{RunSettles, Settles, SettlesIn};
+ghost use Rattle.pbfcut_program.specs.SeveralWrites.{strategy_with};
 ghost use Rattle.pbfcut_program.specs.Telling.{IsSaid};
 ghost use Rattle.pbfcut_program.specs.Program.{Does, FailsIn, IsRun, IsWhy, Writes, digests_of, packs_of};
 
@@ -18,8 +20,10 @@ use crate::jobs::Plan;
 use crate::opening::Input;
 use crate::printing::print_text;
 use crate::reading::{run_blobs, run_check, run_info, run_show};
+use crate::several_writing::{EachRun, run_extract_each};
 use crate::writing::{run_extract, write};
-use pbfcut_cli::{Command, Ending, Files, Program, normalize_words, read_words};
+use pbfcut::EachStrategy;
+use pbfcut_cli::{Command, ConfigFiles, Ending, Files, Program, normalize_words, read_words};
 use std::alloc::{AllocError, Global};
 
 /// Whether a command prints the digests of what it reads.
@@ -30,6 +34,7 @@ fn prints_digests(command: &Command<'_>) -> bool
         Command::Check { digests, .. } => *digests,
         Command::Convert(files) | Command::Pack(files) | Command::Unpack(files) => files.digests,
         Command::Extract { files, .. } => files.digests,
+        Command::ExtractEach { files, .. } => files.digests,
         Command::Help(_) | Command::Blobs { .. } | Command::Info { .. } | Command::Show { .. } => {
             false
         }
@@ -43,6 +48,7 @@ fn packs(command: &Command<'_>) -> bool
     match command {
         Command::Convert(files) => !files.raw,
         Command::Extract { files, .. } => !files.raw,
+        Command::ExtractEach { files, .. } => !files.raw,
         Command::Pack(_) => true,
         _ => false,
     }
@@ -56,6 +62,22 @@ fn shows_progress<H: Host>(host: &H, program: Program, asked: bool, path: &str) 
 /// The same of a command that writes a file, which `--no-progress` may forbid.
 fn shows_writing<H: Host>(host: &H, program: Program, files: &Files<'_>) -> bool {
     !files.quiet && shows_progress(host, program, files.progress, files.input)
+}
+
+/// The same of a command that writes several.
+fn shows_each<H: Host>(host: &H, program: Program, files: &ConfigFiles<'_>) -> bool {
+    !files.quiet && shows_progress(host, program, files.progress, files.input)
+}
+
+/// What is kept besides what lies in each of several areas.
+fn strategy_with(parents: bool) -> EachStrategy
+    ensures { each_strategy result ≡ strategy_with parents }
+{
+    if parents {
+        EachStrategy::AllParents
+    } else {
+        EachStrategy::CompleteWays
+    }
 }
 
 /// Converts or copies.
@@ -139,6 +161,15 @@ fn run_command<H: Host>(engine: Engine, host: &mut H, command: &Command<'_>) -> 
         } => {
             let progress = shows_writing(&*host, engine.program, files);
             run_extract(engine, host, region, *strategy, files, progress)
+        }
+        Command::ExtractEach { parents, files } => {
+            let progress = shows_each(&*host, engine.program, files);
+            let run = EachRun {
+                strategy: strategy_with(*parents),
+                files: *files,
+                progress,
+            };
+            run_extract_each(engine, host, run)
         }
     }
 }

@@ -234,10 +234,10 @@ fn named(halted: Halted, of_drain: Option<Stop>) -> Halted
 }
 
 /// Gives OUT the rest of what a drain packs, once a call has ended.
-fn finish<D: Drain>(
-    returned: Result<Report, Halted>,
+pub(crate) fn finish<T: Drop, D: Drain>(
+    returned: Result<T, Halted>,
     drain: &mut PackedDrain<D>,
-) -> Result<Report, Halted>
+) -> Result<T, Halted>
     ensures ends { FinishesPacked drain.old drain.new returned result }
     ensures taken { taken_raw drain.new ≡ taken_raw drain.old }
 {
@@ -382,6 +382,16 @@ fn run_into<F: Feed, D: Drain + Drop, S: BuildHasher + Drop>(
     }
 }
 
+/// How a command ends of whose OUT not all went out, or which can't be named.
+pub(crate) fn ending_of_file(fault: FinishFault) -> Ending
+    ensures { result ≡ ending_of_file fault }
+{
+    match fault {
+        FinishFault::Failed | FinishFault::Closed => Ending::Stopped(Stop::Write),
+        FinishFault::Exists => Ending::OutExists,
+    }
+}
+
 /// What is reported once OUT was returned.
 fn kept(finished: Result<(), FinishFault>, done: Done) -> Result<Done, Ending>
     ensures ok { IfOk result (λ d. (d ≡ done) × (result_err finished ≡ None)) }
@@ -390,8 +400,7 @@ fn kept(finished: Result<(), FinishFault>, done: Done) -> Result<Done, Ending>
 {
     match finished {
         Ok(()) => Ok(done),
-        Err(FinishFault::Failed | FinishFault::Closed) => Err(Ending::Stopped(Stop::Write)),
-        Err(FinishFault::Exists) => Err(Ending::OutExists),
+        Err(fault) => Err(ending_of_file(fault)),
     }
 }
 

@@ -6,10 +6,10 @@ use crate::out_file::OutFile;
 use pbf_frame::FromRead;
 use pbfcut_cli::{Command, Ending, Program, Region};
 use pbfcut_files::{
-    Asked, BROKEN_PIPE, FailedWrite, Identity, OutStream, Spoiled, Target, Watched, is_long,
-    is_plain, is_taken, make_file, move_new, open_input, open_standard_output, plain_file_at,
-    plain_screen, read_polygon_text, replaces, sync_name, tell_box, tell_empty, tell_form,
-    tell_hint, tell_left, tell_spoiled,
+    Asked, BROKEN_PIPE, Entry, FailedWrite, Identity, OutStream, Spoiled, Target, Watched,
+    fault_of_any_file, is_long, is_plain, is_taken, make_file, move_new, open_input,
+    open_standard_output, plain_file_at, plain_screen, read_polygon_text, replaces, sync_name,
+    tell_box, tell_empty, tell_form, tell_hint, tell_left, tell_spoiled,
 };
 use pbfcut_program::{
     CreateFault, FinishFault, Host, NameFault, NotDone, OpenFault, PrintFault, Screen, Seed,
@@ -25,11 +25,15 @@ use std::process;
 pub(crate) struct Os<'a> {
     rt: &'a HostRuntime,
     program: Program,
-    /// The file of the polygon and IN, if the run has read them and they are plain files.
-    area: Option<Identity>,
+    /// The texts that the run has read, and IN, as far as they are plain files.
+    texts: Vec<Identity>,
     input: Option<Identity>,
-    /// The path of an OUT that gets its name late, for a hint.
+    /// The path of the text that was read last, for a hint.
+    text: Option<String>,
+    /// The path of the OUT that the run came to last, for a hint.
     output: Option<String>,
+    /// The OUTs that the run may make, as far as they could be noted.
+    outputs: Vec<Entry>,
     /// What the run would have spoiled, for a hint.
     spoiled: Option<Spoiled>,
     /// The last write that failed, for a hint.
@@ -41,9 +45,11 @@ impl<'a> Os<'a> {
         Os {
             rt,
             program,
-            area: None,
+            texts: Vec::new(rt.alloc()),
             input: None,
+            text: None,
             output: None,
+            outputs: Vec::new(rt.alloc()),
             spoiled: None,
             failed: None,
         }
@@ -51,8 +57,27 @@ impl<'a> Os<'a> {
 
     /// Whether the plain file at this path is one that the run reads.
     fn is_read(&self, path: &str) -> bool {
-        let file = plain_file_at(self.rt, path);
-        file.is_some() && (file == self.input || file == self.area)
+        match plain_file_at(self.rt, path) {
+            Some(file) => self.input == Some(file) || self.texts.contains(&file),
+            None => false,
+        }
+    }
+
+    /// Whether this OUT has another one's folder and name. If it hasn't, it is noted, and so is its path.
+    fn is_repeated(&mut self, path: &str) -> bool {
+        self.note_output(path);
+        let Some(entry) = Entry::at(self.rt, path) else {
+            return false;
+        };
+        let is_repeated = self.outputs.iter().any(|other| other.is(&entry));
+        // If there is no memory for it, it isn't compared.
+        let _ = self.outputs.push(entry);
+        is_repeated
+    }
+
+    /// Notes the OUT that the run is at.
+    fn note_output(&mut self, path: &str) {
+        self.output = String::from_str(self.rt.alloc(), path).ok();
     }
 
     /// Notes the system's number of the reason why a write failed, if there is one.
@@ -76,6 +101,12 @@ impl<'a> Os<'a> {
             Ok(()) => Ok(()),
             Err(_) => Err(FinishFault::Failed),
         }
+    }
+
+    /// Notes the system's number of the reason, if no file can be opened any more.
+    fn note_any_file(&mut self) {
+        let code = fault_of_any_file(self.rt);
+        self.note(Target::Out, code);
     }
 
     /// Why OUT can't be made: there may be a file that was made since OUT was looked for.
@@ -121,7 +152,12 @@ impl Host for Os<'_> {
     }
 
     fn read_text(&mut self, path: &str) -> Result<String, TextFault> {
-        self.area = plain_file_at(self.rt, path);
+        self.text = String::from_str(self.rt.alloc(), path).ok();
+        if let Some(file) = plain_file_at(self.rt, path) {
+            if self.texts.push(file).is_err() {
+                return Err(TextFault::Memory);
+            }
+        }
         match read_polygon_text(self.rt, path) {
             Ok(text) => Ok(text),
             Err(error) if error.kind() == io::ErrorKind::OutOfMemory => Err(TextFault::Memory),
@@ -130,7 +166,11 @@ impl Host for Os<'_> {
     }
 
     fn exists(&mut self, path: &str, overwrite: bool) -> bool {
-        is_taken(self.rt, path, overwrite)
+        let is_taken = is_taken(self.rt, path, overwrite);
+        if is_taken {
+            self.note_output(path);
+        }
+        is_taken
     }
 
     fn open(&mut self, path: &str, turn: Turn) -> Result<Watched<FromRead<File>>, OpenFault> {
@@ -175,15 +215,21 @@ impl Host for Os<'_> {
     }
 
     fn replaces(&mut self, path: &str, overwrite: bool) -> Result<bool, CreateFault> {
+        if self.is_repeated(path) {
+            self.spoiled = Some(Spoiled::Repeated);
+            return Err(CreateFault::Exists);
+        }
         if overwrite && self.is_read(path) {
             self.spoiled = Some(Spoiled::Source);
             return Err(CreateFault::Failed);
         }
         tell_form(self.rt, self.program, path);
-        self.output = String::from_str(self.rt.alloc(), path).ok();
         match replaces(self.rt, path, overwrite) {
             Some(is_there) => Ok(is_there),
-            None => Err(self.unmade(path, overwrite)),
+            None => {
+                self.note_any_file();
+                Err(self.unmade(path, overwrite))
+            }
         }
     }
 
@@ -193,24 +239,32 @@ impl Host for Os<'_> {
         }
         match make_file(self.rt, name, replaced) {
             Ok(output) => {
-                if let Some(output) = &self.output {
-                    tell_left(self.rt, output.as_str());
-                }
-                Ok(OutFile::new(output))
+                let path = match &self.output {
+                    Some(path) => {
+                        tell_left(self.rt, path.as_str());
+                        String::from_str(self.rt.alloc(), path.as_str()).ok()
+                    }
+                    None => None,
+                };
+                Ok(OutFile::new(output, path))
             }
-            Err(error) => Err(self.create_fault(name, &error)),
+            Err(error) => {
+                self.note_any_file();
+                Err(self.create_fault(name, &error))
+            }
         }
     }
 
     fn screen(&mut self) -> Result<OutFile, NotDone> {
         match open_standard_output(self.rt) {
-            Ok(output) => Ok(OutFile::new(output)),
+            Ok(output) => Ok(OutFile::new(output, None)),
             Err(_) => Err(NotDone),
         }
     }
 
     fn sync(&mut self, name: &str, out: OutFile) -> Result<(), FinishFault> {
-        let mut output = out.into_inner();
+        let (mut output, path) = out.into_parts();
+        self.output = path;
         self.flush(&mut output)?;
         match output.sync(self.rt, name) {
             Ok(()) => Ok(()),
@@ -222,12 +276,19 @@ impl Host for Os<'_> {
     }
 
     fn close_out(&mut self, _name: &str, out: OutFile) {
+        let (mut output, path) = out.into_parts();
+        // Of several OUTs it is the first to which a write failed that the run failed for.
+        if self.failed.is_none() && output.code().is_some() {
+            self.note(output.target(), output.code());
+            self.output = path;
+        }
         // What comes of it says nothing of OUT, which isn't whole.
-        let _ = self.flush(&mut out.into_inner());
+        let _ = output.flush();
     }
 
     fn finish_screen(&mut self, out: OutFile, _whole: bool) -> Result<(), FinishFault> {
-        self.flush(&mut out.into_inner())
+        let (mut output, _) = out.into_parts();
+        self.flush(&mut output)
     }
 
     fn is_plain(&self, path: &str) -> bool {
@@ -237,7 +298,10 @@ impl Host for Os<'_> {
     fn link(&mut self, from: &str, to: &str) -> Result<(), NameFault> {
         match fs::hard_link(self.rt, from, to) {
             Ok(()) => Ok(()),
-            Err(error) => Err(name_fault(&error)),
+            Err(error) => {
+                self.note_output(to);
+                Err(name_fault(&error))
+            }
         }
     }
 
@@ -255,6 +319,7 @@ impl Host for Os<'_> {
         match fs::rename(self.rt, from, to) {
             Ok(()) => Ok(()),
             Err(error) => {
+                self.note_output(to);
                 self.note_error(&error);
                 Err(NotDone)
             }
@@ -311,7 +376,15 @@ impl Host for Os<'_> {
     }
 
     fn advise(&mut self, command: &Command<'_>, ending: &Ending) {
-        let Some(asked) = Asked::of(self.program, command) else {
+        let text = match &self.text {
+            Some(path) => Some(path.as_str()),
+            None => None,
+        };
+        let output = match &self.output {
+            Some(path) => Some(path.as_str()),
+            None => None,
+        };
+        let Some(asked) = Asked::of(self.program, command, text, output) else {
             return;
         };
         match self.spoiled {

@@ -9,22 +9,26 @@ use pbfcut_files::OutStream;
 #[derive(Drop)]
 pub(crate) struct OutFile {
     output: OutStream,
+    /// OUT's path, for a hint: none of standard output, or if there was no memory for it.
+    path: Option<String>,
     failures: u64,
 }
 
 impl OutFile {
-    pub(crate) fn new(output: OutStream) -> OutFile
+    pub(crate) fn new(output: OutStream, path: Option<String>) -> OutFile
         ensures { result.failures ≡ 0 }
     {
         OutFile {
             output,
+            path,
             failures: 0,
         }
     }
 
-    /// What it writes to.
-    pub(crate) fn into_inner(self) -> OutStream {
-        self.output
+    /// What it writes to, and OUT's path.
+    pub(crate) fn into_parts(self) -> (OutStream, Option<String>) {
+        let OutFile { output, path, .. } = self;
+        (output, path)
     }
 }
 

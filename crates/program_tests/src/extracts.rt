@@ -6,6 +6,7 @@ use crate::steps::{AREA, SMALL};
 use osm_entity::BoundingBox;
 use pbf_frame::{Pieces, Sink};
 use pbf_pass::{Halt, InputReceipt, PassCheck, Passes};
+use pbf_published::{open_all, run_published_each};
 use pbfcut::{
     AreaOutput, EachStrategy, extract_each, extract_parents_sorted_with_receipt,
     extract_sorted_with_receipt,
@@ -111,24 +112,28 @@ fn are_in_order(outputs: &[AreaOutput<BoundingBox, Sink>]) -> bool {
     alike
 }
 
-/// Whether a call for so many areas succeeds, and each drain has what a call for only its area writes.
-fn are_as_alone(
+/// These bytes, for each pass of a strategy.
+fn feeds_of<'a>(
     alloc: Global,
     strategy: EachStrategy,
-    bytes: &[u8],
-    count: usize,
-) -> Result<bool, AllocError> {
+    bytes: &'a [u8],
+) -> Result<Vec<Pieces<'a>>, AllocError> {
     let mut feeds = Vec::new(alloc);
     for _ in 0..strategy.pass_count() {
         feeds.push(Pieces::new(bytes, &[], None))?;
     }
-    if feeds.len() != strategy.pass_count() {
-        return Ok(false);
-    }
-    let outputs = outputs(alloc, count, [4_096; 3])?;
-    let (ended, outcome) = strategy.extract(passes(alloc), &mut feeds, outputs, hasher());
-    let mut alike = outcome.is_ok() && ended.len() == count && are_in_order(&ended);
-    for output in &ended {
+    Ok(feeds)
+}
+
+/// Whether each of these drains has what a call for only its area writes.
+fn has_each_as_alone(
+    alloc: Global,
+    strategy: EachStrategy,
+    bytes: &[u8],
+    outputs: &[AreaOutput<BoundingBox, Sink>],
+) -> Result<bool, AllocError> {
+    let mut alike = true;
+    for output in outputs {
         let is_alike = match strategy {
             EachStrategy::CompleteWays => is_as_alone(alloc, bytes, output)?,
             EachStrategy::AllParents => is_as_alone_with_parents(alloc, bytes, output)?,
@@ -136,6 +141,52 @@ fn are_as_alone(
         alike = alike && is_alike;
     }
     Ok(alike)
+}
+
+/// Whether a call for so many areas succeeds, and each drain has what a call for only its area writes.
+fn are_as_alone(
+    alloc: Global,
+    strategy: EachStrategy,
+    bytes: &[u8],
+    count: usize,
+) -> Result<bool, AllocError> {
+    let mut feeds = feeds_of(alloc, strategy, bytes)?;
+    if feeds.len() != strategy.pass_count() {
+        return Ok(false);
+    }
+    let outputs = outputs(alloc, count, [4_096; 3])?;
+    let (ended, outcome) = strategy.extract(passes(alloc), &mut feeds, outputs, hasher());
+    let ends_well = outcome.is_ok() && ended.len() == count && are_in_order(&ended);
+    Ok(ends_well && has_each_as_alone(alloc, strategy, bytes, &ended)?)
+}
+
+/// The same of three areas and a published file: these have no zlib blobs, so they are the raw files that they mean.
+fn are_as_alone_published(
+    alloc: Global,
+    strategy: EachStrategy,
+    bytes: &[u8],
+) -> Result<bool, AllocError> {
+    let feeds = feeds_of(alloc, strategy, bytes)?;
+    let how = passes(alloc);
+    let mut feeds = open_all(alloc, feeds, how.check)?;
+    if feeds.len() != strategy.pass_count() {
+        return Ok(false);
+    }
+    let outputs = outputs(alloc, 3, [4_096; 3])?;
+    let (ended, outcome) = run_published_each(how, strategy, &mut feeds, outputs, hasher());
+    let ends_well = outcome.is_ok() && ended.len() == 3 && are_in_order(&ended);
+    Ok(ends_well && has_each_as_alone(alloc, strategy, bytes, &ended)?)
+}
+
+#[test]
+fn several_extracts_of_a_published_file_are_those_of_calls_alone(
+    rt: HostRuntime,
+) -> Result<(), Fail> {
+    for strategy in [EachStrategy::CompleteWays, EachStrategy::AllParents] {
+        assert!(rt; are_as_alone_published(rt.alloc(), strategy, &THREE_DENSE_NODES)?);
+        assert!(rt; are_as_alone_published(rt.alloc(), strategy, &SMALL)?);
+    }
+    Ok(())
 }
 
 fn are_all_as_alone(rt: &(impl Abort + AllocGlobal), strategy: EachStrategy) -> Result<(), Fail> {

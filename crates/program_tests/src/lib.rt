@@ -6,6 +6,8 @@ mod blobs;
 #[cfg(test)]
 mod check;
 #[cfg(test)]
+mod config_words;
+#[cfg(test)]
 mod disk;
 #[cfg(test)]
 mod extracts;

@@ -5,6 +5,6 @@ use Rattle.pbfcut_program.proofs.TakingLemmas.{extracts_take}
 use Rattle.pbfcut_program.proofs.laws.run_takes_extract.Goals as goal
 
 pub returns : goal.returns
-returns c program words rows events file t s run given =
-    let x = run_extracts program rows events words t s run in
+returns c program words rows events file plain t s run given =
+    let x = run_extracts program rows events words plain t s run in
     (x.cut, x.by, x.files, x.reads, extracts_take file (manner_in program (Extract x.cut x.by x.files)) x.cut x.by x.files events x.extracts given)

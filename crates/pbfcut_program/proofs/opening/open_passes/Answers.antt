@@ -1,8 +1,7 @@
 use Rattle.std.proofs.Common.{◌≡◌, [], ◌∷◌, ◌++◌, ◌+◌, arith, length, length-append, List, map}
 use Rattle.std.proofs.lemmas.Result.{err_from_is_err_and}
-use Rattle.pbfcut_program.specs.Events.{Event, opened}
+use Rattle.pbfcut_program.specs.Events.{Event, opened, openings}
 use Rattle.pbfcut_program.specs.Fails.{Calm}
-use Rattle.pbfcut_program.specs.Program.{openings}
 use Rattle.pbfcut_program.proofs.Beginning.{calm_openings}
 use Rattle.pbfcut_program.proofs.EventLemmas.{each_both}
 use Rattle.pbfcut_program.proofs.FailLemmas.{opening_after}

@@ -1,7 +1,6 @@
 use Rattle.std.proofs.Common.{◌≡◌, length, map}
 use Rattle.pbfcut_program.specs.Devices.{AreFresh}
-use Rattle.pbfcut_program.specs.Events.{then_all}
-use Rattle.pbfcut_program.specs.Program.{openings}
+use Rattle.pbfcut_program.specs.Events.{then_all, openings}
 use Rattle.pbfcut_program.proofs.opening.open_passes.Given as goal
 
 abbrev pub invariant-passes : goal.invariant-passes

@@ -1,7 +1,7 @@
 use Rattle.std.proofs.Common.{[], ◌∷◌}
 use Rattle.std.proofs.lemmas.Result.{err_from_is_err_and}
 use Rattle.pbfcut_program.specs.declared.host.Screen.TheVariants.{Output}
-use Rattle.pbfcut_program.specs.Program.{check_lines, counts_text, file_lines, prints}
+use Rattle.pbfcut_program.specs.Lines.{check_lines, counts_text, file_lines, prints}
 use Rattle.pbfcut_program.proofs.FailLemmas.{printing_first, tells_more}
 use Rattle.pbfcut_program.proofs.printing.print_checked.Goals as goal
 

@@ -1,5 +1,5 @@
 use Rattle.std.proofs.Common.{◌≡◌, [], ◌∷◌, rules, subst}
-use Rattle.pbfcut_program.specs.Program.{counts_text, prints}
+use Rattle.pbfcut_program.specs.Lines.{counts_text, prints}
 use Rattle.pbfcut_program.specs.Telling.{Tells}
 use Rattle.pbfcut_program.proofs.Logging.{then_none}
 use Rattle.pbfcut_program.proofs.SayingLemmas.{line_without_memory}

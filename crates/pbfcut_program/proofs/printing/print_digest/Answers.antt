@@ -1,6 +1,6 @@
 use Rattle.std.proofs.Common.{◌≡◌, [], ◌∷◌, rules, subst}
 use Rattle.osm_text.specs.Digests.{digest_line}
-use Rattle.pbfcut_program.specs.Program.{prints}
+use Rattle.pbfcut_program.specs.Lines.{prints}
 use Rattle.pbfcut_program.specs.Telling.{Tells}
 use Rattle.pbfcut_program.proofs.Logging.{then_none}
 use Rattle.pbfcut_program.proofs.SayingLemmas.{line_without_memory}

@@ -1,6 +1,6 @@
 use Rattle.std.proofs.Common.{[], ◌∷◌, subst, sym}
 use Rattle.std.proofs.lemmas.Result.{err_from_is_err_and}
-use Rattle.pbfcut_program.specs.Program.{counts_text, done_lines, file_lines, prints}
+use Rattle.pbfcut_program.specs.Lines.{counts_text, done_lines, file_lines, prints}
 use Rattle.pbfcut_program.proofs.FailLemmas.{TellsSome, printing_first, printing_more, tells_more}
 use Rattle.pbfcut_program.specs.Telling.{Tells}
 use Rattle.pbfcut_program.proofs.Logging.{and_then}

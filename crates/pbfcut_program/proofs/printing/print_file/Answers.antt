@@ -1,7 +1,7 @@
 use Rattle.std.proofs.Common.{[], ◌∷◌}
 use Rattle.std.proofs.lemmas.Result.{err_from_is_err_and}
 use Rattle.osm_text.specs.Digests.{digest_line}
-use Rattle.pbfcut_program.specs.Program.{prints, unpacked_text}
+use Rattle.pbfcut_program.specs.Lines.{prints, unpacked_text}
 use Rattle.pbfcut_program.proofs.FailLemmas.{tells_more}
 use Rattle.pbfcut_program.proofs.Printed.{file_first}
 use Rattle.pbfcut_program.proofs.printing.print_file.Goals as goal

@@ -1,5 +1,5 @@
 use Rattle.std.proofs.Common.{◌≡◌, [], ◌∷◌, rules, subst}
-use Rattle.pbfcut_program.specs.Program.{prints, unpacked_text}
+use Rattle.pbfcut_program.specs.Lines.{prints, unpacked_text}
 use Rattle.pbfcut_program.specs.Telling.{Tells}
 use Rattle.pbfcut_program.proofs.Logging.{then_none}
 use Rattle.pbfcut_program.proofs.SayingLemmas.{line_without_memory}

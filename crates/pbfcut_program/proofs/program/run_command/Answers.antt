@@ -1,9 +1,11 @@
-use Rattle.std.proofs.Common.{◌≡◌, [], ◌∷◌, List, ap, inl, inr, rules, string_bytes, None}
+use Rattle.std.proofs.Common.{◌≡◌, ◌⊎◌, [], ◌∷◌, List, ap, inl, inr, rules, string_bytes, subst, None}
 use Rattle.std.proofs.lemmas.Result.{IfErr-weaker, on_ok_weaker}
 use Rattle.pbfcut_program.specs.declared.host.Screen.TheVariants.{Output}
 use Rattle.pbfcut_program.specs.Events.{Event, printed}
-use Rattle.pbfcut_program.specs.Fails.{printing}
+use Rattle.pbfcut_program.specs.Fails.{Each, FailsFor, Quiet, printing}
 use Rattle.pbfcut_program.specs.Manner.{manner_of}
+use Rattle.pbfcut_program.specs.SeveralWrites.{ExtractsEach, LeavesEach, judging_each}
+use Rattle.pbfcut_program.specs.Telling.{IsSaid}
 use Rattle.pbfcut_program.proofs.FailLemmas.{print_fails, tells_err, tells_ok}
 use Rattle.pbfcut_program.proofs.Logging.{then_none}
 use Rattle.pbfcut_program.proofs.Meaning.{does_copy, fails_copy}
@@ -87,3 +89,18 @@ returns-in-Pack-clause-ok g c = on_ok_weaker c.run_writing-in-Pack.result (λ d.
 
 pub returns-in-Pack-clause-err : goal.returns-in-Pack-clause-err
 returns-in-Pack-clause-err g c = IfErr-weaker c.run_writing-in-Pack.result _ _ (λ how f. (f.0, f.1, fails_copy (manner_of c.args.engine) c.args.command.now c.in-Pack.files how f.0 c.in-Pack.is f.2 f.3 f.4)) c.run_writing-in-Pack.ensures.err
+
+pub returns-in-ExtractEach-clause-ok : goal.returns-in-ExtractEach-clause-ok
+returns-in-ExtractEach-clause-ok g c =
+    let same = c.strategy_with.ensures in
+    rw c.in-ExtractEach.is (on_ok_weaker c.run_extract_each.result (λ e. (e.0, e.1, subst (λ s. ExtractsEach (manner_of c.args.engine) s c.in-ExtractEach.files e.0) same e.2)) c.run_extract_each.ensures.ok)
+
+pub returns-in-ExtractEach-clause-err : goal.returns-in-ExtractEach-clause-err
+returns-in-ExtractEach-clause-err g c =
+    let m = manner_of c.args.engine in
+    let files = c.in-ExtractEach.files in
+    let same = c.strategy_with.ensures in
+    rw c.in-ExtractEach.is (IfErr-weaker c.run_extract_each.result _ _ (λ how f. (f.0, f.1, subst (λ s. FailsFor m (judging_each s files f.0) how f.0 × (Each Quiet f.0 ⊎ LeavesEach m s files f.0) × IsSaid m.digests (ExtractsEach m s files) how f.0) same (f.2, f.3, f.4))) c.run_extract_each.ensures.err)
+
+pub returns-in-ExtractEach-clause-files : goal.returns-in-ExtractEach-clause-files
+returns-in-ExtractEach-clause-files g c = rw c.in-ExtractEach.is c.run_extract_each.ensures.files

@@ -1,7 +1,8 @@
 use Rattle.std.proofs.Common.{[], ◌∷◌, ◌++◌, List, inl, inr, refl}
 use Rattle.std.proofs.lemmas.Result.{IfErr-weaker, err_from_is_err_and, on_ok_weaker}
 use Rattle.pbfcut_program.specs.declared.host.Screen.TheVariants.{Output}
-use Rattle.pbfcut_program.specs.Program.{Checks, check_lines, counts_text, prints}
+use Rattle.pbfcut_program.specs.Program.{Checks}
+use Rattle.pbfcut_program.specs.Lines.{check_lines, counts_text, prints}
 use Rattle.pbfcut_program.specs.Events.{Event, opened, read}
 use Rattle.pbfcut_program.specs.Fails.{judging_for}
 use Rattle.pbfcut_program.specs.Manner.{manner_of}

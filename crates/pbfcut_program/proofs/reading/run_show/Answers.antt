@@ -6,14 +6,14 @@ use Rattle.pbfcut_cli.specs.declared.endings.Ending.TheVariants as ending
 use Rattle.pbfcut_program.specs.declared.engine.Report.{Report}
 use Rattle.pbfcut_program.specs.declared.host.FinishFault.{FinishFault}
 use Rattle.pbfcut_program.specs.Devices.{AreFresh}
-use Rattle.pbfcut_program.specs.Events.{Reading, Writing, read, screened, wrote, then_all}
+use Rattle.pbfcut_program.specs.Events.{Reading, Writing, read, screened, wrote, then_all, openings}
 use Rattle.pbfcut_program.specs.Fails.{Calm, Each, FailsOpening, Opens, Quiet, judging_for}
 use Rattle.pbfcut_program.specs.Inputs.{feeds_in}
 use Rattle.pbfcut_program.specs.Manner.{check_in, manner_of, to_raw}
 use Rattle.pbfcut_program.specs.Readings.{IsWork}
 use Rattle.pbfcut.specs.Tasks.{showing}
 use Rattle.pbfcut_program.specs.Telling.{Silent}
-use Rattle.pbfcut_program.specs.Program.{draws, openings}
+use Rattle.pbfcut_program.specs.Program.{draws}
 use Rattle.pbfcut_program.proofs.Beginning.{calm_draws, calm_openings, length_has, opens_openings, shown_events}
 use Rattle.pbfcut_program.proofs.Closing.{if_done, text_fails}
 use Rattle.pbfcut_program.proofs.EventLemmas.{each_both, quiet_of}

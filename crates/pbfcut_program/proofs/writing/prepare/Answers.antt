@@ -1,7 +1,7 @@
 use Rattle.std.proofs.Common.{[], ◌∷◌, ◌++◌, ◌∙◌, ap, Bool, length, List, map, refl, Some, string_bytes, subst}
 use Rattle.std.proofs.lemmas.Result.{err_from_is_err_and}
-use Rattle.pbfcut_program.specs.Events.{Event, seeded}
-use Rattle.pbfcut_program.specs.Program.{looks, openings}
+use Rattle.pbfcut_program.specs.Events.{Event, seeded, openings}
+use Rattle.pbfcut_program.specs.Program.{looks}
 use Rattle.std.specs.Option.{option_map}
 use Rattle.pbfcut_program.proofs.Beginning.{Prepares, calm_looks, calm_openings}
 use Rattle.pbfcut_program.proofs.OutLemmas.{made_at}

@@ -17,9 +17,9 @@ returns-clause-works g c = rw c.requires.packs.0 (λ fresh start.
     let works = rw c.requires.packs.0 at (c.run_raw_into-ran.ensures.works fresh begun) in
     let front = rw c.requires.packs.0 at c.run_raw_into-ran.ensures.front in
     let whole = rw c.requires.packs.0 at c.run_raw_into-ran.ensures.whole in
-    rw c.into_inner.ensures.drain (works_packed c.args.engine.digests (check_by c.args.engine.digests Pbfcutz c.args.seed.key) g.F.Feed ran.out c.finish-result.new.drain ran.output (task_of c.args.job.now) (feeds_of c.args.job.now) (feeds_of c.run_raw_into-ran.new.job) (HasRisen (failures_of_drain c.new-packed.result) (failures_of_drain ran.out))
-    (taken_raw c.new-packed.result) (rw c.new-packed.ensures.taken c.requires.fresh) c.finish-result.ensures.taken (λ risen. has_risen _ _ risen)
-    c.args.engine.packs ran.result c.finish-result.result c.requires.packs.1 c.finish-result.ensures.ends front whole works))
+    rw c.into_inner.ensures.drain (works_packed ran.out c.finish-result.new.drain (task_of c.args.job.now) (map g.F.Feed.remaining (feeds_of c.args.job.now)) (taken_raw c.new-packed.result) (rw c.new-packed.ensures.taken c.requires.fresh) c.finish-result.ensures.taken
+    (HasRisen (failures_of_drain c.new-packed.result) (failures_of_drain ran.out)) (λ risen. has_risen _ _ risen)
+    c.args.engine.digests (check_by c.args.engine.digests Pbfcutz c.args.seed.key) g.F.Feed ran.output (feeds_of c.args.job.now) (feeds_of c.run_raw_into-ran.new.job) c.args.engine.packs ran.result c.finish-result.result c.requires.packs.1 c.finish-result.ensures.ends front whole works))
 
 pub returns-clause-front : goal.returns-clause-front
 returns-clause-front g c =

@@ -5,7 +5,8 @@ use Rattle.pbfcut_program.specs.Events.{Event, read, wrote, then_all}
 use Rattle.pbfcut_program.specs.Fails.{Fails, judging_for}
 use Rattle.pbfcut_program.specs.Jobs.{feeds_of, plan_of, task_of}
 use Rattle.pbfcut_program.specs.Leaving.{Leaves}
-use Rattle.pbfcut_program.specs.Program.{Writes, begun, counts_text, done_lines, is_screen, prints, screen_of}
+use Rattle.pbfcut_program.specs.Program.{Writes, begun, is_screen, screen_of}
+use Rattle.pbfcut_program.specs.Lines.{counts_text, done_lines, prints}
 use Rattle.pbfcut_program.specs.Manner.{check_of, manner_of}
 use Rattle.pbfcut_program.specs.Readings.{IsWork}
 use Rattle.pbfcut_program.proofs.Beginning.{length_has, opens_begun, quiet_begun, quiet_makes, silent_begun, silent_makes}

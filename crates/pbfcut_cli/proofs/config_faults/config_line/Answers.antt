@@ -1,0 +1,5 @@
+use Rattle.std.proofs.Common.{rules, append_assoc}
+use Rattle.pbfcut_cli.proofs.config_faults.config_line.Goals as goal
+
+pub returns : goal.returns
+returns c = search (rules, append_assoc)

@@ -1,0 +1,11 @@
+use Rattle.std.proofs.Common.{length}
+use Rattle.pbfcut_program.specs.SeveralFiles.{DoesEach, DropsPart}
+use Rattle.pbfcut_program.proofs.SeveralFileLemmas.{UpTo}
+use Rattle.pbfcut_program.proofs.several_files.forget_each.Given as goal
+
+-- all but those that are left are dropped
+abbrev pub invariant-parts : goal.invariant-parts
+invariant-parts g l = UpTo (λ done. DoesEach (DropsPart l.fn.program) done (g.H.Host.log l.fn.host) (g.H.Host.log l.host)) l.fn.parts l.rest
+
+abbrev pub decreases-parts : goal.decreases-parts
+decreases-parts g l = length l.rest

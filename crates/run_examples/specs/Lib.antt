@@ -1,0 +1,6 @@
+pub mod Lines
+pub mod Extract
+pub mod AnyRun
+pub mod Refused
+pub mod Packed
+pub mod Dropped
