@@ -1,5 +1,5 @@
 -- The extracts of a configuration that were read so far.
-use Rattle.std.proofs.Common.{◌≡◌, ◌∙◌, ℕ, List, [], ◌∷◌, ◌++◌, Option, None, Some, map, length, Ok, Err, inl, inr, refl, sym, ap, subst, append_assoc, arith}
+use Rattle.std.proofs.Common.{◌≡◌, ◌∙◌, ℕ, List, [], ◌∷◌, ◌++◌, Option, None, Some, map, length, Ok, Err, inr, refl, sym, ap, subst, append_assoc, arith}
 use Rattle.std.proofs.lemmas.List.{append-nil, map-append}
 use Rattle.osm_area.specs.Area.{AreaSpec}
 use Rattle.osm_config.specs.declared.config.ConfiguredExtract.{ConfiguredExtract}
@@ -12,7 +12,7 @@ use Rattle.pbf_frame.specs.declared.stop.Stop.TheVariants as stop
 use Rattle.pbfcut_cli.specs.declared.endings.Ending.{Ending}
 use Rattle.pbfcut_cli.specs.declared.endings.Ending.TheVariants as ending
 use Rattle.pbfcut_program.specs.declared.configured.OutputCut.{OutputCut}
-use Rattle.pbfcut_program.specs.Configured.{FailsConfig, FailsText, MeansConfig, MeansConfigured, MeansEach, OutputArea}
+use Rattle.pbfcut_program.specs.Configured.{FailsConfig, MeansConfig, MeansConfigured, MeansEach, OutputArea}
 use Rattle.pbfcut_program.specs.ConfiguredCuts.{output_area_of}
 use Rattle.pbfcut_program.specs.Events.{Event, text_read, then_all}
 use Rattle.pbfcut_program.specs.Fails.{Calm, Each, FailsOpening}
@@ -40,10 +40,6 @@ calm_each [] es (o ∷ os) m = absurd m
 calm_each (x ∷ xs) es [] m = absurd m
 calm_each (x ∷ xs) es (o ∷ os) m =
     subst (λ l. Each Calm l) (sym m.2) (each_both Calm m.0 m.1 (calm_area x.area m.0 o.area m.4) (calm_each xs m.1 os m.5))
-
--- one extract, which is all of a list
-pub one_extract : (x : ExtractSpec) (o : OutputArea) (own : List Event) → o.output ≡ x.output → MeansConfigured x.area own o.area → MeansEach (x ∷ []) own (o ∷ [])
-one_extract x o own same area = (own, [], sym (append-nil own), same, area, refl)
 
 -- all but those that are left were read, and this happened meanwhile
 pub record HasRead (before now : Option (List Event)) (all left : List ConfiguredExtract) (outs : List OutputCut) : Type 0 where

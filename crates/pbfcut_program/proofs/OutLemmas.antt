@@ -1,14 +1,13 @@
 -- OUT kept, and dropped.
-use Rattle.std.proofs.Common.{◌≡◌, ◌⊎◌, arith, inl, inr, List, ℕ, [], ◌∷◌, ◌++◌, Bool, false, true, Option, None, Some, Result, Ok, Err, refl, sym, subst, ap, ◌∙◌, append_assoc}
-use Rattle.std.proofs.lemmas.List.{append-nil}
+use Rattle.std.proofs.Common.{◌≡◌, ◌⊎◌, arith, inl, inr, List, ℕ, [], ◌∷◌, ◌++◌, Bool, Option, None, Some, Result, Ok, Err, refl, sym, subst, ap, ◌∙◌, append_assoc}
 use Rattle.std.specs.Result.{result_err}
 use Rattle.pbfcut_cli.specs.declared.programs.Program.{Program}
 use Rattle.pbfcut_cli.specs.declared.programs.Program.TheVariants.{Pbfcut, Pbfcutz}
-use Rattle.pbfcut_program.specs.Events.{Event, Writing, not_made, not_named, not_synced, wrote}
-use Rattle.pbfcut_program.specs.Fails.{Calm, Each, FailsOpening, FailsToFinish, FailsToOpen, Has, Quiet}
+use Rattle.pbfcut_program.specs.Events.{Event, Writing, not_named, not_synced, wrote}
+use Rattle.pbfcut_program.specs.Fails.{Each, FailsToFinish, FailsToOpen, Has, Quiet}
 use Rattle.pbfcut_program.specs.Files.{Drops, EndsOut, IsDropped, IsEnd, IsKept, IsMade, Keeps, Misnames, Names}
 use Rattle.pbfcut_program.proofs.EventLemmas.{each_both, has_after, has_before}
-use Rattle.pbfcut_program.specs.Outcomes.{finish_fault_of, unmade, unmade_part}
+use Rattle.pbfcut_program.specs.Outcomes.{finish_fault_of}
 use Rattle.pbfcut_program.specs.Telling.{Silent}
 use Rattle.pbfcut_program.specs.declared.host.CreateFault.{CreateFault}
 use Rattle.pbfcut_program.specs.declared.host.CreateFault.TheVariants as creating
@@ -43,27 +42,6 @@ ends_told program overwrite output w name (Some why) (Err t) events told by is e
 
 -- ---- OUT isn't made
 
-pub unmade_fails : (name : List ℕ) (fault : CreateFault) → FailsOpening (unmade fault) (not_made name fault ∷ [])
-unmade_fails name creating.Failed = ((tt, tt), inl tt)
-unmade_fails name creating.Long = ((tt, tt), inl tt)
-unmade_fails name creating.Exists = ((tt, tt), inl tt)
-unmade_fails name creating.Memory = ((tt, tt), tt)
-
-pub unmade_part_fails : (fault : CreateFault) (tries : List Event) → Each Calm tries → ((fault ≡ creating.Memory) ⊎ Has FailsToOpen tries) → FailsOpening (unmade_part fault) tries
-unmade_part_fails creating.Failed tries q (inr h) = (q, h)
-unmade_part_fails creating.Long tries q (inr h) = (q, h)
-unmade_part_fails creating.Exists tries q (inr h) = (q, h)
-unmade_part_fails creating.Memory tries q h = (q, tt)
-unmade_part_fails creating.Failed tries q (inl e) = absurd (other e) where
-  other : creating.Failed ≡ creating.Memory → ⊥
-  other h = cc
-unmade_part_fails creating.Long tries q (inl e) = absurd (other e) where
-  other : creating.Long ≡ creating.Memory → ⊥
-  other h = cc
-unmade_part_fails creating.Exists tries q (inl e) = absurd (other e) where
-  other : creating.Exists ≡ creating.Memory → ⊥
-  other h = cc
-
 -- other names were tried before
 pub missed_later : (xs ys : List Event) (fault : CreateFault) → ((fault ≡ creating.Memory) ⊎ Has FailsToOpen ys) → ((fault ≡ creating.Memory) ⊎ Has FailsToOpen (xs ++ ys))
 missed_later xs ys fault (inl e) = inl e
@@ -75,13 +53,6 @@ screen_ends program overwrite output (Ok a) = refl
 screen_ends program overwrite output (Err told) = (refl, refl)
 
 -- ---- names
-
-pub names_any : (overwrite : Bool) (output name : List ℕ) (names : List Event) → Names false output name names → Names overwrite output name names
-names_any overwrite output name names (inl n) = inl n
-names_any overwrite output name names (inr (inl n)) = inr (inl n)
-names_any overwrite output name names (inr (inr n)) = absurd (false_true n.0) where
-  false_true : false ≡ true → ⊥
-  false_true h = cc
 
 -- another try failed
 pub fails_late : (xs ys : List Event) (first fault : NameFault) → first ≡ naming.Exists → Has (FailsToFinish (finish_fault_of first)) xs → ((fault ≡ naming.Exists) ⊎ Has (FailsToFinish (finish_fault_of fault)) ys) → Has (FailsToFinish (finish_fault_of fault)) (xs ++ ys)
@@ -95,9 +66,6 @@ drops_after name tries events still d = (tries ++ d.0, d.1, ap (λ es. tries ++ 
 -- one that got it, whose name can't be written to the disk, is kept
 pub kept_unsynced : (overwrite : Bool) (output name : List ℕ) (tries names : List Event) → Each Misnames tries → Names overwrite output name names → Keeps Pbfcutz overwrite output name ((tries ++ names) ++ not_synced output ∷ [])
 kept_unsynced overwrite output name tries names still n = (tries, names, not_synced output ∷ [], append_assoc tries names (not_synced output ∷ []), still, n, (tt, tt))
-
-pub kept_named : (overwrite : Bool) (output name : List ℕ) (tries names : List Event) → Each Misnames tries → Names overwrite output name names → Keeps Pbfcutz overwrite output name (tries ++ names)
-kept_named overwrite output name tries names still n = (tries, names, [], ap (λ es. tries ++ es) (sym (append-nil names)), still, n, tt)
 
 -- ---- what is dropped is quiet
 

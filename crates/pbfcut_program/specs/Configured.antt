@@ -1,11 +1,10 @@
 -- What a configuration has cut out: the areas that it names, each with the path of its OUT.
-use Rattle.std.specs.Prelude.{◌≡◌, ◌⊎◌, ℕ, List, [], ◌∷◌, ◌++◌, Option, option_map, Ok, Err}
+use Rattle.std.specs.Prelude.{◌≡◌, ◌⊎◌, ℕ, List, [], ◌∷◌, ◌++◌, Option, Ok, Err}
 use Rattle.osm_area.specs.Area.{AreaSpec, box_area}
 use Rattle.osm_config.specs.Areas.{AreaSpec as ConfiguredArea, in_box, in_polygons, in_file}
 use Rattle.osm_config.specs.Configs.{ExtractSpec}
 use Rattle.osm_config.specs.Paths.{extracts_of_text}
 use Rattle.osm_config.specs.Readings.{fault_of}
-use Rattle.osm_config.specs.declared.fault.ConfigFault.{ConfigFault}
 use Rattle.osm_polygon.specs.Polygon.{Rings}
 use Rattle.osm_polygon.specs.Polygons.{polygons_area, polygons_of}
 use Rattle.osm_polygon.specs.Texts.{polygons_of_text}
