@@ -4,8 +4,8 @@ ghost use Rattle.std.specs.Prelude.{◌≡◌, IfOk, option_map};
 ghost use Rattle.std.specs.Result.{result_map_both};
 ghost use Rattle.std.specs.String.{string_bytes};
 ghost use Rattle.json.specs.Value.{value_view};
-ghost use Rattle.osm_config.specs.Areas.{area_by, area_in, box_in, edge_at, edge_in, edge_named, edges_in, edges_of_items, edges_of_members};
-ghost use Rattle.osm_config.specs.Areas.{file_in, is_polygon_type, multi_polygon_in, or_box_fault, or_polygon_fault, polygon_in, with_commas};
+ghost use Rattle.osm_config.specs.Areas.{area_in, box_in, edge_at, edge_in, edge_named, edges_in, edges_of_items, edges_of_members};
+ghost use Rattle.osm_config.specs.Areas.{file_in, is_polygon_type, multi_polygon_in, polygon_in, with_commas};
 ghost use Rattle.osm_config.specs.Readings.{Reads, area_of};
 ghost use Rattle.osm_config.specs.Edges.{edges_of};
 

@@ -3,9 +3,8 @@
 ghost use Rattle.std.specs.Prelude.{◌≡◌, IfOk, map, option_map};
 ghost use Rattle.std.specs.String.{string_bytes};
 ghost use Rattle.std.specs.Result.{result_map_both};
-ghost use Rattle.json.specs.Json.{document};
 ghost use Rattle.json.specs.Value.{value_view};
-ghost use Rattle.osm_config.specs.Configs.{config_in, config_of_json, config_of_text, extracts_in, if_some_and_distinct};
+ghost use Rattle.osm_config.specs.Configs.{config_in, config_of_text, extracts_in, if_some_and_distinct};
 ghost use Rattle.osm_config.specs.Readings.{Reads, ReadsConfig, config_of, extract_of};
 
 use crate::config::{Config, ConfiguredExtract};

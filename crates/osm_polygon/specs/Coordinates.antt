@@ -1,5 +1,5 @@
 -- A place by its numbers, which may be wrong each.
-use Rattle.std.specs.Prelude.{ℤ, pos, ◌-ℤ◌, ◌-◌, Bool, false, ◌&&◌, nat_abs, nat_lt, List, length, Option, Some, None, Result, Ok, Err, if◌then◌else◌}
+use Rattle.std.specs.Prelude.{ℤ, ◌-ℤ◌, ◌-◌, Bool, false, ◌&&◌, nat_abs, nat_lt, List, length, Option, Some, None, Result, Ok, Err, if◌then◌else◌}
 use Rattle.std.specs.List.{slice_get}
 use Rattle.osm_polygon.specs.declared.fault.PolyReason.{PolyReason}
 use Rattle.osm_polygon.specs.declared.fault.PolyReason.TheVariants.{Number, Range}

@@ -21,9 +21,6 @@ held_short r = (let blob = short r.part refl in omega (arith, blob, r.front_held
   short Header is = omega (arith, r.blob_last (λ e. (let bad : ⊥ = cc in bad)), r.blob.ok.0)
   short Blob is = omega (arith, r.blob_held is, r.blob.ok.0)
 
-same_some : (x y : List ℕ) → Some x ≡ Some y → x ≡ y
-same_some x y e = cc
-
 module _ {D : Type 0} {d : drain.Ghosts D} (p : PackedDrain D d) where
   -- what was taken, if the drain below reports it
   taken_is : (packed raw : List ℕ) → d.taken p.below.drain ≡ Some packed → taken_raw p ≡ Some raw → raw ≡ unpacked (take p.below.place packed) ++ frame_held p.frame

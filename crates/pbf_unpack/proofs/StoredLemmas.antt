@@ -1,5 +1,5 @@
 -- How the blobs of a file are stored, frame by frame.
-use Rattle.std.proofs.Common.{◌≡◌, ℕ, zero, suc, ◌≤◌, true, false, Bool, List, [], ◌∷◌, ◌++◌, length, drop, append_assoc, Option, refl, sym, ap, ◌∙◌, arith}
+use Rattle.std.proofs.Common.{◌≡◌, ℕ, zero, suc, ◌≤◌, true, false, List, [], ◌∷◌, ◌++◌, length, drop, append_assoc, Option, refl, sym, ap, ◌∙◌, arith}
 use Rattle.std.specs.Option.{option_or}
 use Rattle.std.proofs.lemmas.List.{append-nil, length-drop}
 use Rattle.pbf_frame.specs.Frames.{FrameSpec, blob_at, frame_end, frame_kind, frame_bytes, frame_at}

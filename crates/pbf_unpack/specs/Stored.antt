@@ -1,5 +1,5 @@
 -- How the blobs of a file are stored: whether some are zlib data, and whether some are raw.
-use Rattle.std.specs.Prelude.{ℕ, zero, suc, Bool, true, false, ◌||◌, List, length, drop, Option, Some, None, if◌then◌else◌}
+use Rattle.std.specs.Prelude.{ℕ, zero, suc, true, false, ◌||◌, List, length, drop, Option, Some, None, if◌then◌else◌}
 use Rattle.pbf_wire.specs.Occurrence.{Occurrence}
 use Rattle.pbf_frame.specs.declared.frame.FrameKind.{FrameKind}
 use Rattle.pbf_frame.specs.declared.frame.FrameKind.TheVariants as kind

@@ -1,6 +1,6 @@
 //! A raw file, given to another drain as the published one that means it.
 
-ghost use Rattle.std.specs.Prelude.{◌≡◌, ◌⊎◌, ◌+◌, ◌<◌, ◌≤◌, ◌++◌, length, List, ℕ, Some, [], OnOk, OnErr, IfSome, IsSome};
+ghost use Rattle.std.specs.Prelude.{◌≡◌, ◌⊎◌, ◌+◌, ◌<◌, ◌≤◌, ◌++◌, List, ℕ, Some, [], OnOk, OnErr, IfSome, IsSome};
 ghost use Rattle.pbf_frame.specs.Keeps.{KeepsDrain};
 ghost use Rattle.pbf_frame.specs.declared.header.TheConstants.{HEADER_LIMIT, LARGEST_SIZE};
 ghost use Rattle.pbf_frame.specs.declared.put.TheConstants.{HEAD_ROOM};

@@ -84,9 +84,6 @@ module _ {D S H : Type 0} (d : drain.Ghosts D) where
   pub none_packed : (packer : Packing D S H) → Pending packer [] → HasPacked d packer.drain [] packer
   none_packed packer p = record { fits = tt; added = added_none d packer.drain; pending = p }
 
-  pub same_packed : (start : D) (es : List EntitySpec) (old new : Packing D S H) → new ≡ old → HasPacked d start es old → HasPacked d start es new
-  same_packed start es old new p h = subst (λ (q : Packing D S H). HasPacked d start es q) (sym p) h
-
   -- the block that is closed at the end
   pub ended : (start : D) (es : List EntitySpec) (packer new : Packing D S H) → HasPacked d start es packer → ((es : List EntitySpec) → Pending packer es → Added d packer.drain (at_end es) new.drain) → Added d start (written_entities es) new.drain
   ended start es packer new h w = grind (arith, added_same d start new.drain, run_ends es h.fits, added_more d start packer.drain new.drain (written_after [] es) (at_end (pending_after [] es)) h.added (w (pending_after [] es) h.pending), w (pending_after [] es) h.pending)

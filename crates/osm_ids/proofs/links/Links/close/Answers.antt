@@ -1,7 +1,6 @@
 use Rattle.std.proofs.Common.{◌≤◌, ◌∷◌, [], length, length-append, arith, ap, subst, rules, w64}
 use mir.Val.{SFits}
 use Rattle.std.specs.List.{filter}
-use Rattle.std.specs.FinSet as set
 use Rattle.std.proofs.lemmas.Int.{to_z-of_z}
 use Rattle.osm_ids.specs.Links.{Follows, IsClosing, is_of, to_follow}
 use Rattle.osm_ids.proofs.LinkOrder.{contains-links}
