@@ -24,8 +24,8 @@ abbrev pub IsUnfit : ℕ → List ℕ → Type 0
 IsUnfit place read = (0 < length read) × ((rest : List ℕ) → unpacked_from place (read ++ rest) ≡ as_they_stand (read ++ rest))
 
 -- they are all that there was, and no whole frame
-abbrev pub IsCut : ℕ → List ℕ → Option (List ℕ) → Type 0
-IsCut place read left = (unpacked_from place read ≡ as_they_stand read) × IsAtEnd left
+abbrev pub IsCutShort : ℕ → List ℕ → Option (List ℕ) → Type 0
+IsCutShort place read left = (unpacked_from place read ≡ as_they_stand read) × IsAtEnd left
 
 -- the four bytes and the header of a frame, which says this
 pub record HasHead (place : ℕ) (read header : List ℕ) (head : Head) : Type 0 where
@@ -40,7 +40,7 @@ pub record HasHead (place : ℕ) (read header : List ℕ) (head : Head) : Type 0
 abbrev pub BeginsWith : ℕ → (read header : List ℕ) → Option (List ℕ) → Front → Type 0
 BeginsWith place read header left (front.Says head) = HasHead place read header head
 BeginsWith place read header left front.Unfit = IsUnfit place read
-BeginsWith place read header left front.Cut = IsCut place read left
+BeginsWith place read header left front.Cut = IsCutShort place read left
 
 -- these are a whole frame, whatever follows
 abbrev pub MeansWhole : ℕ → (read blob : List ℕ) → WholeFrame → Type 0
@@ -50,7 +50,7 @@ MeansWhole place read blob w = (0 < length read) × ((rest : List ℕ) → unpac
 abbrev pub Means : ℕ → (read blob : List ℕ) → Option (List ℕ) → Found → Type 0
 Means place read blob left (found.Whole w) = MeansWhole place read blob w
 Means place read blob left found.Unfit = IsUnfit place read
-Means place read blob left found.Cut = IsCut place read left
+Means place read blob left found.Cut = IsCutShort place read left
 
 -- the blobs of bytes that begin no whole frame, whatever follows or as all that there is, don't count
 abbrev pub StoresFront : ℕ → (read : List ℕ) → Front → Type 0
