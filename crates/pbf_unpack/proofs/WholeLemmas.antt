@@ -15,7 +15,7 @@ use Rattle.pbf_frame.proofs.FrameLemmas.{head_parts}
 use Rattle.pbf_frame.proofs.KnownBytes.{prepend_more}
 use Rattle.pbf_frame.proofs.Passed.{passes_more}
 use Rattle.pbf_unpack.specs.Unpacked.{then_unpacked, unpacked_frame, is_whole, unpacked_from}
-use Rattle.pbf_unpack.specs.Stored.{none_stored, stored_from, stored_in, together}
+use Rattle.pbf_unpack.specs.Stored.{none_stored, stored_from, stored_in_frame, together}
 use Rattle.pbf_unpack.specs.Whole.{TookBytes, IsUnfit, IsCutShort, HasHead}
 use Rattle.pbf_unpack.proofs.StoredLemmas.{unfit_stored, whole_stored}
 use Rattle.pbf_unpack.proofs.UnpackedLemmas.{without_prefix, with_long_header, without_header, without_head, too_far, without_blob, whole_parts, unfit, whole_then}
@@ -105,7 +105,7 @@ module _ (place : ℕ) (read header : List ℕ) (head : Head) (has : HasHead pla
   cut_blob_stored blob short = grind (arith, nat_tests, take_all (head_says (place + 4) header).size blob, size_is, unfit_stored place (read ++ blob), begins blob, without_blob (parts blob))
 
   pub whole_stores : (blob : List ℕ) → length blob ≡ head.size → (at end : ℕ) → at ≡ place + length read → end ≡ place + length read + head.size → end ≤ 2 ^ 62
-      → (rest : List ℕ) → stored_from place ((read ++ blob) ++ rest) ≡ together (stored_in head.kind at blob) (stored_from end rest)
+      → (rest : List ℕ) → stored_from place ((read ++ blob) ++ rest) ≡ together (stored_in_frame head.kind at blob) (stored_from end rest)
   whole_stores blob sized at end at_is end_is fits rest =
       let f : FrameSpec = record { offset = place; prefix = has.prefix; header = header; blob = blob } in
       let whole : is_whole f ≡ true = whole_parts f has.four has.small has.counted (ap (λ (r : Result Head Fault). is_ok r) has.says) (omega (arith, fits, end_is, long, size_is)) (sized ∙ size_is) in

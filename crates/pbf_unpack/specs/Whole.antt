@@ -10,7 +10,7 @@ use Rattle.pbf_unpack.specs.declared.whole.Found.{Found}
 use Rattle.pbf_unpack.specs.declared.whole.Found.TheVariants as found
 use Rattle.pbf_unpack.specs.declared.whole.Front.{Front}
 use Rattle.pbf_unpack.specs.declared.whole.Front.TheVariants as front
-use Rattle.pbf_unpack.specs.Stored.{none_stored, stored_from, stored_in, together}
+use Rattle.pbf_unpack.specs.Stored.{none_stored, stored_from, stored_in_frame, together}
 use Rattle.pbf_unpack.specs.Unpacked.{then_unpacked, as_they_stand, unpacked_frame, unpacked_from}
 use Rattle.pbf_frame.specs.declared.frame.TheConstants.{FILE_LIMIT}
 
@@ -60,15 +60,15 @@ StoresFront place read front.Cut = stored_from place read ≡ none_stored
 
 -- and that of a whole frame counts, whatever follows
 abbrev pub Stores : ℕ → (read blob : List ℕ) → Found → Type 0
-Stores place read blob (found.Whole w) = (rest : List ℕ) → stored_from place (read ++ rest) ≡ together (stored_in w.kind w.blob_at blob) (stored_from w.end rest)
+Stores place read blob (found.Whole w) = (rest : List ℕ) → stored_from place (read ++ rest) ≡ together (stored_in_frame w.kind w.blob_at blob) (stored_from w.end rest)
 Stores place read blob found.Unfit = (rest : List ℕ) → stored_from place (read ++ rest) ≡ none_stored
 Stores place read blob found.Cut = stored_from place read ≡ none_stored
 
 -- the blob and the frame end within the limit of a file
-abbrev pub IsPlaced : List ℕ → Found → Type 0
-IsPlaced blob (found.Whole w) = (w.end ≤ FILE_LIMIT) × (w.blob_at + length blob ≤ FILE_LIMIT)
-IsPlaced blob found.Unfit = Unit {0}
-IsPlaced blob found.Cut = Unit {0}
+abbrev pub EndsWithinFile : List ℕ → Found → Type 0
+EndsWithinFile blob (found.Whole w) = (w.end ≤ FILE_LIMIT) × (w.blob_at + length blob ≤ FILE_LIMIT)
+EndsWithinFile blob found.Unfit = Unit {0}
+EndsWithinFile blob found.Cut = Unit {0}
 
 -- the same of a frame that begins here
 pub record IsPlacedAt (place : ℕ) (read blob : List ℕ) (w : WholeFrame) : Type 0 where

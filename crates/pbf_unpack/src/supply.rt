@@ -4,7 +4,7 @@ ghost use Rattle.std.specs.Prelude.{◌≡◌, ◌+◌, ◌-◌, ◌<◌, ◌≤
 ghost use Rattle.pbf_frame.specs.Devices.{prepend, Passes, IsAtEnd};
 ghost use Rattle.pbf_frame.specs.Reads.{FillsFrom};
 ghost use Rattle.pbf_unpack.specs.declared.feed.State.TheVariants as states;
-ghost use Rattle.pbf_unpack.specs.Stored.{stored_by, together};
+ghost use Rattle.pbf_unpack.specs.Stored.{stored_by_kind, together};
 ghost use Rattle.pbf_unpack.specs.Supplying.{left_in, remaining_in, refusals, HasSupplied, SuppliesTheSame, HasSupply, IsSameBut, SuppliesFrom};
 
 use crate::buffers::Buffers;
@@ -64,7 +64,7 @@ impl<F: Feed> UnpackedFeed<F> {
     /// Keeps where the frame in the buffers comes from.
     fn come_from(&mut self, from: Origin, frame: WholeFrame, outcome: Outcome)
         ensures same { IsSameBut self.old self.new }
-        ensures stored { self.new.stored ≡ together self.old.stored (stored_by frame.kind outcome) }
+        ensures stored { self.new.stored ≡ together self.old.stored (stored_by_kind frame.kind outcome) }
     {
         let mut origin = from;
         if outcome == Outcome::Unpacked {

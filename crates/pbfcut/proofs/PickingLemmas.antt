@@ -28,7 +28,7 @@ use Rattle.pbf_block.specs.declared.kinds.Kinds.{Kinds}
 use Rattle.pbf_block.specs.Kinds.{is_among}
 use Rattle.pbf_block.specs.PrimitiveBlock.{entities}
 use Rattle.pbf_block.proofs.KindLemmas.{filter_every}
-use Rattle.pbfcut.specs.Pick.{Pick, HasPacked, BeginsAll, Begins, StopsPacking, StopsAmong}
+use Rattle.pbfcut.specs.Pick.{Pick, HasPacked, BeginsAll, BeginsPacking, StopsPacking, StopsAmong}
 use Rattle.pbf_pass.specs.Stops.{Caused, Only, unchanged}
 
 -- what is picked of the frames
@@ -76,7 +76,7 @@ module _ {D S H : Type 0} (d : drain.Ghosts D) where
   none_gone start done packer h = subst (λ (l : List EntitySpec). HasPacked d start l packer) (sym (append-nil done)) h
 
   -- nothing of them went out
-  pub begins_none : (es : List EntitySpec) (old new : Packing D S H) → d.taken new.drain ≡ d.taken old.drain → Begins d old new es
+  pub begins_none : (es : List EntitySpec) (old new : Packing D S H) → d.taken new.drain ≡ d.taken old.drain → BeginsPacking d old new es
   begins_none es old new same = grind (arith, d.taken old.drain, append_assoc, begins_packed)
 
   -- ---- in a loop over frames
