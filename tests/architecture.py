@@ -2,7 +2,7 @@
 """The map in docs/ARCHITECTURE.md is the tree's: it lists each crate once, with what it is for and its state, and each file of pbf_wire. Each file
 of src/ begins with its concept, as the page says. The calls, clauses and definitions that the tables of promises name are in the sources. No
 contract and no definition has a limit of the format as a numeral: each is a constant. A name of a free item means one thing in the product, but for
-the calls that several layers have.
+the calls that several layers have and for some short words. So it is with definitions.
 
 usage: tests/architecture.py [PROGRAM]
 

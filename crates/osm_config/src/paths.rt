@@ -30,7 +30,8 @@ fn with_path(
     config: &str,
     area: ConfiguredArea,
 ) -> Result<ConfiguredArea, AllocError>
-    ensures { IfOk result (λ placed. area_member_of placed ≡ with_path config.now (area_member_of area)) }
+    ensures { IfOk result (λ placed. area_member_of placed
+        ≡ with_path config.now (area_member_of area)) }
 {
     match area {
         ConfiguredArea::InFile(name) => {

@@ -103,7 +103,8 @@ impl PageIds {
         requires within { self.old.count + length gaps.now ≤ 128 }
         ensures count { self.new.count ≡ self.old.count + length gaps.now }
         ensures ids { (all : List ℤ) (more : List ℕ)
-            → ReadsPage all (held self.old) (gaps.now ++ more) → ReadsPage all (held self.new) more }
+            → ReadsPage all (held self.old) (gaps.now ++ more)
+            → ReadsPage all (held self.new) more }
     {
         let mut last = self.ids[self.count - 1];
         let mut count = self.count;
@@ -119,7 +120,8 @@ impl PageIds {
     fn round(&self, id: i64) -> Known
         requires { BeginsUpTo self.now id }
         ensures there { result.there ≡ list_any (int_eq id) (held self.now) }
-        ensures known { (ids : set.FinSet int_cmp) → IsTruePage ids self.now → IsTrueSpan ids result }
+        ensures known { (ids : set.FinSet int_cmp) → IsTruePage ids self.now
+            → IsTrueSpan ids result }
     {
         let ids = &self.ids[..self.count];
         let at = place_of(ids, id);

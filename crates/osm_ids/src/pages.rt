@@ -118,7 +118,8 @@ impl SealedIds {
     /// It is a call, which few look-ups take.
     #[inline(never)]
     pub(crate) fn look(&self, id: i64, page: &mut PageIds) -> Option<Known>
-        ensures some { IfSome result (λ known. TellsOfId self.now id known × (page.new ≡ page.old)) }
+        ensures some { IfSome result (λ known. TellsOfId self.now id known
+            × (page.new ≡ page.old)) }
         ensures none { IfNone result (IsPageOf self.now id page.new) }
     {
         if self.last < id {

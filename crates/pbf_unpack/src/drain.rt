@@ -90,7 +90,8 @@ impl<D: Drain> PackedDrain<D> {
     pub fn finish(&mut self) -> Result<(), DrainFault>
         ensures gave { OnOk result (GaveAll self.old self.new) }
         ensures taken { taken_raw self.new ≡ taken_raw self.old }
-        ensures stopped { OnErr result (IsSome (stop_of_course self.new.below.course) ⊎ TookNoRawFile self.new) }
+        ensures stopped { OnErr result (IsSome (stop_of_course self.new.below.course)
+            ⊎ TookNoRawFile self.new) }
         ensures keeps { KeepsDrain D.Drain self.old.below.drain self.new.below.drain }
     {
         if self.below.course != Course::Taking {

@@ -64,7 +64,8 @@ impl<F: Feed> UnpackedFeed<F> {
     /// Keeps where the frame in the buffers comes from.
     fn come_from(&mut self, from: Origin, frame: WholeFrame, outcome: Outcome)
         ensures same { IsSameBut self.old self.new }
-        ensures stored { self.new.stored ≡ together self.old.stored (stored_by_kind frame.kind outcome) }
+        ensures stored { self.new.stored
+            ≡ together self.old.stored (stored_by_kind frame.kind outcome) }
     {
         let mut origin = from;
         if outcome == Outcome::Unpacked {

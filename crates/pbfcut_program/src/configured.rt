@@ -99,7 +99,8 @@ fn read_each<H: Host>(
 ) -> Result<Vec<OutputCut>, Ending>
     ensures ok { IfOk result (λ outs. (events : List Event)
         × (H.log host.new ≡ then_all (H.log host.old) events)
-        × MeansEach (map config.extract_member_of extracts.now) events (map output_area_of outs.items)) }
+        × MeansEach (map config.extract_member_of extracts.now) events
+        (map output_area_of outs.items)) }
     ensures err { IfErr result (λ how. (events : List Event)
         × (H.log host.new ≡ then_all (H.log host.old) events) × FailsOpening how events) }
 {
