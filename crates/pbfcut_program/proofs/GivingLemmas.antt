@@ -1,5 +1,5 @@
 -- What a run that ended well changes in the file system.
-use Rattle.std.proofs.Common.{arith, rules, ◌≡◌, inl, inr, ℕ, ◌+◌, List, [], ◌∷◌, ◌++◌, map, Bool, true, false, Option, Some, None, refl, sym, subst, ap, ◌∙◌, append_assoc}
+use Rattle.std.proofs.Common.{rules, ◌≡◌, ℕ, ◌+◌, List, [], ◌∷◌, ◌++◌, map, Bool, true, false, Option, Some, None, refl, sym, subst, ap, ◌∙◌, append_assoc}
 use Rattle.std.proofs.lemmas.List.{append-nil}
 use Rattle.osm_area.specs.Area.{AreaSpec}
 use Rattle.pbf_block.specs.declared.counts.Counts.{Counts}

@@ -1,11 +1,7 @@
 -- What a run for several areas that ended well changes in the file system.
-use Rattle.std.proofs.Common.{◌≡◌, ◌∙◌, inl, ℕ, List, [], ◌∷◌, ◌++◌, map, Bool, true, false, Option, Some, refl, sym, ap, subst, append_assoc}
-use Rattle.std.proofs.lemmas.Bool.{false≢true}
+use Rattle.std.proofs.Common.{◌≡◌, ◌∙◌, inl, ℕ, List, [], ◌∷◌, ◌++◌, map, Bool, false, Option, Some, refl, sym, ap, subst, append_assoc}
 use Rattle.std.specs.List.{AllByRecursion, AllZip, flat_map}
-use Rattle.std.specs.Option.{is_some}
 use Rattle.osm_ways.specs.Selection.{Strategy}
-use Rattle.clap.specs.Words.{Row, Text}
-use Rattle.pbfcut_cli.specs.Words.{ReadsAs, is_given}
 use Rattle.pbfcut_cli.specs.declared.programs.Program.TheVariants.{Pbfcutz}
 use Rattle.pbfcut_cli.specs.declared.words.ConfigFiles.{ConfigFiles}
 use Rattle.pbfcut_program.specs.Configured.{OutputArea}
@@ -22,10 +18,11 @@ use Rattle.pbfcut_program.specs.SeveralWrites.{ExtractsEach, OneOut, WritesOne, 
 use Rattle.pbfcut_program.proofs.ConfiguredLemmas.{config_calm}
 use Rattle.pbfcut_program.proofs.DiskLemmas.{allows_first, allows_past}
 use Rattle.pbfcut_program.proofs.EventLemmas.{each_both}
-use Rattle.pbfcut_program.proofs.GivingLemmas.{openings_had, openings_still, reads_still}
+use Rattle.pbfcut_program.proofs.GivingLemmas.{openings_had, reads_still}
 use Rattle.pbfcut_program.proofs.Printed.{still_prints}
 use Rattle.pbfcut_program.proofs.SettlingLemmas.{still_of}
 use Rattle.pbfcut_program.proofs.SeveralDisk.{kept_fresh, kept_there, others_back}
+use Rattle.pbfcut_program.proofs.SeveralFileLemmas.{calm_looks_each}
 use Rattle.pbfcut_program.proofs.SeveralMaking.{begun_calm}
 use Rattle.pbfcut_program.proofs.SeveralParts.{parts_are_new}
 use Rattle.pbfcut_program.proofs.TakingLemmas.{AllHad, all_had, holds_extract}
@@ -130,11 +127,8 @@ module _ (packs digests : Bool) (s : Strategy) (files : ConfigFiles) (events : L
       let rest = flat_map (λ one. one.makes) (files_of ones) ++ (reads ++ (map (λ one. wrote one.out) (files_of ones) ++ (flat_map (λ one. one.ends) (files_of ones) ++ lines))) in
       let begins = allows_first (x.before ++ begun) rest disk (subst (λ es. AllowsAll disk es) events_are a) in
       let after_config = allows_past x.before begun disk (still_of x.before (config_calm _ _ x.before x.outs x.means)) begins in
-      let after_looks = allows_past looks (opened ++ seed) disk (looked_still files.overwrite (paths_of x.outs)) after_config in
-      openings_had file files.input.now 1 x.writes.has disk (allows_first opened seed disk after_looks) there where
-        looked_still : (overwrite : Bool) (outputs : List (List ℕ)) → Each Still (looks_each overwrite outputs)
-        looked_still overwrite [] = tt
-        looked_still overwrite (o ∷ outputs) = (tt, looked_still overwrite outputs)
+      let after_looks = allows_past looks (opened ++ seed) disk (still_of looks (calm_looks_each files.overwrite (paths_of x.outs))) after_config in
+      openings_had file files.input.now 1 x.writes.has disk (allows_first opened seed disk after_looks) there
 
   pub gives_each : GivesEach (manner Pbfcutz packs digests) s files file events disk
   gives_each = record {
