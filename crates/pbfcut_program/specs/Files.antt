@@ -5,7 +5,7 @@ use Rattle.pbf_frame.specs.Devices.{append}
 use Rattle.pbfcut_cli.specs.declared.programs.Program.{Program}
 use Rattle.pbfcut_cli.specs.declared.programs.Program.TheVariants.{Pbfcut, Pbfcutz}
 use Rattle.pbfcut_program.specs.declared.host.FinishFault.{FinishFault}
-use Rattle.pbfcut_program.specs.Events.{Event, Writing, opened, screened, made, not_made, not_named, not_synced, wrote, linked, moved, renamed, removed, stays}
+use Rattle.pbfcut_program.specs.Events.{Event, Writing, text_read, opened, screened, made, not_made, not_named, not_synced, wrote, linked, moved, renamed, removed, stays}
 use Rattle.pbfcut_program.specs.Fails.{Each, FailsToFinish, Has}
 
 -- what the file of each name has, if there is one
@@ -39,6 +39,7 @@ Allows disk (made name) = disk name ≡ None
 Allows disk (linked from to) = disk to ≡ None
 Allows disk (moved from to) = disk to ≡ None
 Allows disk (opened path pass has) = has ≡ disk path
+Allows disk (text_read path text) = disk path ≡ Some text
 Allows disk _ = Unit {0}
 
 abbrev pub AllowsAll : Disk → List Event → Type 0
