@@ -47,9 +47,10 @@ module _ (disk : Disk) where
   each_on [] es (o ∷ os) m a = absurd m
   each_on (x ∷ xs) es [] m a = absurd m
   each_on (x ∷ xs) es (o ∷ os) m a =
-      let allowed = subst (λ l. AllowsAll disk l) m.2 a in
-      ((m.3, configured_on x.area m.0 o.area m.4 (allows_first m.0 m.1 disk allowed)),
-      each_on xs m.1 os m.5 (allows_past m.0 m.1 disk (still_of m.0 (calm_area x.area m.0 o.area m.4)) allowed))
+      let allowed = subst (λ l. AllowsAll disk l) m.2 a in (
+        (m.3, configured_on x.area m.0 o.area m.4 (allows_first m.0 m.1 disk allowed)),
+        each_on xs m.1 os m.5 (allows_past m.0 m.1 disk (still_of m.0 (calm_area x.area m.0 o.area m.4)) allowed),
+      )
 
   outs_on : (config : List ℕ) (folder : Option (List ℕ)) (es : List Event) (os : List OutputArea) → MeansConfig config folder es os → AllowsAll disk es → AreOutsOn disk config folder os
   outs_on config folder es os m a =

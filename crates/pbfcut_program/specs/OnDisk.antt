@@ -1,5 +1,5 @@
 -- What is cut out, by the texts that the disk has: the polygons of a file, and a configuration.
-use Rattle.std.specs.Prelude.{◌≡◌, ℕ, List, Option, Some, Ok}
+use Rattle.std.specs.Prelude.{◌≡◌, ℕ, List, Option, Ok}
 use Rattle.std.specs.List.{AllZip}
 use Rattle.osm_area.specs.Area.{AreaSpec, box_area}
 use Rattle.osm_config.specs.Areas.{AreaSpec as ConfiguredArea, in_box, in_polygons, in_file}
@@ -11,12 +11,12 @@ use Rattle.osm_polygon.specs.Texts.{polygons_of_text}
 use Rattle.pbfcut_cli.specs.declared.words.Region.{Region}
 use Rattle.pbfcut_cli.specs.declared.words.Region.TheVariants as region
 use Rattle.pbfcut_program.specs.Configured.{OutputArea}
-use Rattle.pbfcut_program.specs.Files.{Disk}
+use Rattle.pbfcut_program.specs.Files.{Disk, HasText}
 
 -- the area is that of the polygons that the file of this path has
 abbrev pub IsAreaOfFile : Disk → (path : List ℕ) → AreaSpec → Type 0
 IsAreaOfFile disk path area = (text : List ℕ) × (polygons : List Rings)
-    × (disk path ≡ Some text) × (polygons_of_text text ≡ Ok polygons) × (area ≡ polygons_area (polygons_of polygons))
+    × HasText disk path text × (polygons_of_text text ≡ Ok polygons) × (area ≡ polygons_area (polygons_of polygons))
 
 -- it is the one that the words name
 abbrev pub IsAreaOn : Disk → Region → AreaSpec → Type 0
@@ -36,4 +36,4 @@ IsExtractOn disk extract out = (out.output ≡ extract.output) × IsConfiguredOn
 -- the OUTs are those of the configuration that the file of this path has, in order
 abbrev pub AreOutsOn : Disk → (config : List ℕ) → (folder : Option (List ℕ)) → List OutputArea → Type 0
 AreOutsOn disk config folder outs = (text : List ℕ) × (extracts : List ExtractSpec)
-    × (disk config ≡ Some text) × (extracts_of_text config folder text ≡ Ok extracts) × AllZip (IsExtractOn disk) extracts outs
+    × HasText disk config text × (extracts_of_text config folder text ≡ Ok extracts) × AllZip (IsExtractOn disk) extracts outs
