@@ -1,6 +1,7 @@
 pub mod Beginning
 pub mod Closing
 pub mod ConfiguredLemmas
+pub mod CutLemmas
 pub mod DiskLemmas
 pub mod EventLemmas
 pub mod FailLemmas
