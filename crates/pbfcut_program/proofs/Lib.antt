@@ -1,7 +1,6 @@
 pub mod Beginning
 pub mod Closing
 pub mod ConfiguredLemmas
-pub mod CutLemmas
 pub mod DiskLemmas
 pub mod EventLemmas
 pub mod FailLemmas

@@ -11,7 +11,6 @@ pub mod Leaving
 pub mod Lines
 pub mod Manner
 pub mod OnDisk
-pub mod PowerCut
 pub mod Outcomes
 pub mod Program
 pub mod Readings

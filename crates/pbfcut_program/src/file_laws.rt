@@ -2,7 +2,7 @@
 //! Names count as they are written: nothing is said of two spellings of one name. Like the laws of runs, each is the contract of a
 //! function that does nothing.
 
-ghost use Rattle.std.specs.Prelude.{[], ◌≡◌, ◌⊎◌, ◌++◌, ◌∷◌, ℕ, List, Bool, Option, true, false, Some, None, codes};
+ghost use Rattle.std.specs.Prelude.{[], ◌≡◌, ◌⊎◌, ◌++◌, ◌∷◌, ℕ, List, Bool, true, false, Some, None, codes};
 ghost use Rattle.std.specs.List.{AllByRecursion};
 ghost use Rattle.clap.specs.Words.{Row, Text};
 ghost use Rattle.pbfcut_cli.specs.Words.{ReadsAs, is_given};
@@ -17,7 +17,6 @@ ghost use Rattle.pbfcut_cli.specs.declared.words.Strategy.{Strategy};
 ghost use Rattle.pbfcut_program.specs.Changes.{DropsFile, EndsWell, GivesConversion, GivesCopy, GivesExtract, KeepsFile};
 ghost use Rattle.pbfcut_program.specs.Events.{Event, Writing, stays};
 ghost use Rattle.pbfcut_program.specs.Files.{AllowsAll, Disk, after};
-ghost use Rattle.pbfcut_program.specs.PowerCut.{AfterCut};
 ghost use Rattle.pbfcut_program.specs.Program.{IsMeant, manner_in};
 ghost use Rattle.pbfcut_program.specs.Settling.{HandlesIn, RunSettles};
 ghost use Rattle.pbfcut_program.specs.SeveralChanges.{HandlesFiles, IsApart, IsDroppedFile, IsKeptWhole, OneFile, Pairwise};
@@ -81,19 +80,6 @@ pub fn always_whole()
         ⊎ DropsFile program output w (started ++ later)
         → AllowsAll disk (started ++ later) → (path bytes : List ℕ) → (path ≡ output → ⊥)
         → disk path ≡ Some bytes → after started disk path ≡ Some bytes }
-{}
-
-/// The same after a power cut at any moment: OUT of pbfcutz is as it was before, or has all that was written to it. What a power cut does is to be
-/// believed (`AfterCut`): what the disk had before the run stays, and so does a file that was synced; another one may have any bytes, or be gone;
-/// and a name that was given or taken may be as it was.
-pub fn whole_after_cut()
-    ensures kept { (overwrite : Bool) (output : List ℕ) (w : Writing) (started later : List Event)
-        (disk : Disk) → KeepsFile Pbfcutz overwrite output w (started ++ later)
-        → (bytes : Option (List ℕ)) → AfterCut started disk output bytes
-        → (bytes ≡ disk output) ⊎ (bytes ≡ Some w.bytes) }
-    ensures dropped { (output : List ℕ) (w : Writing) (started later : List Event) (disk : Disk)
-        → DropsFile Pbfcutz output w (started ++ later)
-        → (bytes : Option (List ℕ)) → AfterCut started disk output bytes → bytes ≡ disk output }
 {}
 
 /// What a user finds after a run of pbfcutz that writes several OUTs, if they have different paths, and none has the name that another's file
