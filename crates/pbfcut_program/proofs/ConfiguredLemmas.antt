@@ -29,7 +29,7 @@ each_then (x ∷ xs) ys es fs (o ∷ os) ps m n =
     (m.0, m.1 ++ fs, ap (λ l. l ++ fs) m.2 ∙ append_assoc m.0 m.1 fs, m.3, m.4, each_then xs ys m.1 fs os ps m.5 n)
 
 -- a text is only read
-calm_area : (a : AreaMember) (es : List Event) (area : AreaSpec) → MeansConfigured a es area → Each Calm es
+pub calm_area : (a : AreaMember) (es : List Event) (area : AreaSpec) → MeansConfigured a es area → Each Calm es
 calm_area (in_box box) es area m = subst (λ l. Each Calm l) (sym m.0) tt
 calm_area (in_polygons polygons) es area m = subst (λ l. Each Calm l) (sym m.0) tt
 calm_area (in_file path) es area m = subst (λ l. Each Calm l) (sym m.2) (tt, tt)
