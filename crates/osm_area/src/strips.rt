@@ -1,0 +1,145 @@
+//! Strips of longitude, each with the boxes that reach into it: of many areas only those are asked for a place that it may lie in.
+
+ghost use Rattle.std.specs.Prelude.{◌≡◌, ◌<◌, ◌≤◌, ◌^◌, ◌+◌, ◌-ℤ◌, IfOk, length, nat_abs};
+ghost use Rattle.osm_area.specs.Strips.{AreAsked, AreStrips, AreWithin, asked_at, is_met, numbers_of, strip_of};
+
+use osm_box::BoundingBox;
+use std::alloc::{AllocError, Global};
+
+/// There are at most 2^10 strips.
+const STRIP_BITS: u32 = 10;
+
+/// Where strips lie: from `west` to `east`, each 2^shift nanodegrees wide.
+#[derive(Clone, Copy, Debug)]
+struct StripSpan {
+    west: i64,
+    east: i64,
+    shift: u32,
+}
+
+impl StripSpan {
+    /// The number of the strip that a longitude is in, counted from the west.
+    #[inline(always)]
+    fn strip_of(self, lon: i128) -> u64
+        requires width { self.shift < 64 }
+        requires near { nat_abs (lon -ℤ self.west) < 2 ^ 64 }
+        ensures { result ≡ strip_of self lon }
+    {
+        ((lon - i128::from(self.west)).unsigned_abs() as u64) >> self.shift
+    }
+
+    /// Whether a box has a longitude in the strip with this number.
+    fn meets(self, number: u64, bounds: BoundingBox) -> bool
+        requires { self.shift < 64 }
+        ensures { result ≡ is_met self number bounds }
+    {
+        self.strip_of(i128::from(bounds.left)) <= number
+            && number <= self.strip_of(i128::from(bounds.right))
+    }
+}
+
+/// The westmost and the eastmost longitude of boxes.
+fn ends_of(boxes: &[BoundingBox]) -> (i64, i64)
+    ensures { AreWithin result.0 result.1 boxes.now }
+{
+    let mut west = i64::MAX;
+    let mut east = i64::MIN;
+    'boxes: for bounds in boxes {
+        west = west.min(bounds.left);
+        east = east.max(bounds.right);
+    }
+    (west, east)
+}
+
+/// Where the strips of boxes between these longitudes lie: the narrowest such that there are at most 1,024.
+fn span_between(west: i64, east: i64) -> StripSpan
+    ensures ends { (result.west ≡ west) × (result.east ≡ east) }
+    ensures width { result.shift < 64 }
+    ensures few { strip_of result east < 1024 }
+{
+    let length = (i128::from(east) - i128::from(west)).unsigned_abs() as u64;
+    let bits = 64 - length.leading_zeros();
+    StripSpan {
+        west,
+        east,
+        shift: bits.saturating_sub(STRIP_BITS),
+    }
+}
+
+/// The numbers of the boxes that have a longitude in the strip with this number.
+fn met_in(
+    alloc: Global,
+    span: StripSpan,
+    number: u64,
+    boxes: &[BoundingBox],
+) -> Result<Vec<usize>, AllocError>
+    requires { span.shift < 64 }
+    ensures { IfOk result (λ met. met.items ≡ numbers_of (is_met span number) 0 boxes.now) }
+{
+    let mut met = Vec::new(alloc);
+    let mut index = 0;
+    'boxes: for bounds in boxes {
+        if span.meets(number, *bounds) {
+            met.push(index)?;
+        }
+        index += 1;
+    }
+    Ok(met)
+}
+
+/// The strips up to the one with this number.
+fn strips_to(
+    alloc: Global,
+    span: StripSpan,
+    last: u64,
+    boxes: &[BoundingBox],
+) -> Result<Vec<Vec<usize>>, AllocError>
+    requires width { span.shift < 64 }
+    requires few { last < 1024 }
+    ensures are { IfOk result (λ strips. AreStrips span 0 boxes.now strips.items) }
+    ensures number { IfOk result (λ strips. length strips.items ≡ last + 1) }
+{
+    let mut strips = Vec::new(alloc);
+    'strips: for number in 0..last + 1 {
+        strips.push(met_in(alloc, span, number, boxes)?)?;
+    }
+    Ok(strips)
+}
+
+/// Strips of longitude, and which boxes of a list have a longitude in each. The boxes of areas tell which of these a place may lie in.
+#[derive(Debug, Drop)]
+pub struct AreaStrips {
+    span: StripSpan,
+    strips: Vec<Vec<usize>>,
+}
+
+impl AreaStrips {
+    /// The strips of these boxes, at most 1,024, which together reach from the westmost longitude of the boxes to the eastmost one.
+    ///
+    /// # Errors
+    ///
+    /// If memory is refused.
+    pub fn new(alloc: Global, boxes: &[BoundingBox]) -> Result<AreaStrips, AllocError>
+        ensures { IfOk result (AreAsked boxes.now) }
+    {
+        let (west, east) = ends_of(boxes);
+        let span = span_between(west, east);
+        let last = span.strip_of(i128::from(east));
+        let strips = strips_to(alloc, span, last, boxes)?;
+        Ok(AreaStrips { span, strips })
+    }
+
+    /// The numbers of the boxes that may have a place of this longitude in nanodegrees, counted from 0, in rising order. It does not allocate.
+    #[inline(always)]
+    pub fn at(&self, lon: i128) -> &[usize]
+        ensures { result.now ≡ asked_at self.now lon }
+    {
+        if lon < i128::from(self.span.west) || lon > i128::from(self.span.east) {
+            return &[];
+        }
+        match self.strips.get(self.span.strip_of(lon) as usize) {
+            Some(strip) => strip.as_slice(),
+            None => &[],
+        }
+    }
+}
