@@ -5,7 +5,7 @@ use Rattle.std.specs.Global.{Vec}
 use Rattle.osm_box.specs.declared.bounding_box.BoundingBox.{BoundingBox}
 use Rattle.osm_box.specs.BoundingBox.{is_between}
 use Rattle.osm_area.specs.declared.strips.AreaStrips.{AreaStrips}
-use Rattle.osm_area.specs.declared.strips.StripSpan.{StripSpan}
+use Rattle.osm_area.specs.declared.strip_span.StripSpan.{StripSpan}
 
 -- ---- numbers
 
@@ -24,13 +24,13 @@ pub record Asks (boxes : List BoundingBox) (lon : ℤ) (asked : List ℕ) : Type
 -- ---- strips
 
 -- the strip that a longitude is in, counted from the west
-abbrev pub strip_of : StripSpan → ℤ → ℕ
-strip_of span lon = nat_abs (lon -ℤ span.west) / 2 ^ span.shift
+abbrev pub strip_number : StripSpan → ℤ → ℕ
+strip_number span lon = nat_abs (lon -ℤ span.west) / 2 ^ span.shift
 
 -- a box has a longitude in the strip with this number
 abbrev pub is_met : StripSpan → ℕ → BoundingBox → Bool
 is_met span number b =
-    nat_le (strip_of span b.left) number && nat_le number (strip_of span b.right)
+    nat_le (strip_number span b.left) number && nat_le number (strip_number span b.right)
 
 -- the boxes lie between these longitudes
 abbrev pub AreWithin : ℤ → ℤ → List BoundingBox → Type 0
@@ -50,7 +50,7 @@ listed_in (Some strip) = strip.items
 unfoldable pub asked_at : AreaStrips → ℤ → List ℕ
 asked_at strips lon =
     if is_between strips.span.west strips.span.east lon
-    then listed_in (slice_get strips.strips.items (strip_of strips.span lon)) else []
+    then listed_in (slice_get strips.strips.items (strip_number strips.span lon)) else []
 
 -- the strips are those of these boxes
 abbrev pub AreAsked : List BoundingBox → AreaStrips → Type 0

@@ -1,41 +1,40 @@
 //! Strips of longitude, each with the boxes that reach into it: of many areas only those are asked for a place that it may lie in.
 
-ghost use Rattle.std.specs.Prelude.{◌≡◌, ◌<◌, ◌≤◌, ◌^◌, ◌+◌, ◌-ℤ◌, IfOk, length, nat_abs};
-ghost use Rattle.osm_area.specs.Strips.{AreAsked, AreStrips, AreWithin, asked_at, is_met, numbers_of, strip_of};
+ghost use Rattle.std.specs.Prelude.{◌≡◌, ◌<◌, ◌^◌, ◌+◌, ◌-ℤ◌, IfOk, length, nat_abs, true};
+ghost use Rattle.osm_box.specs.BoundingBox.{is_between};
+ghost use Rattle.osm_area.specs.Strips.{AreAsked, AreStrips, AreWithin, asked_at, is_met, numbers_of, strip_number};
 
+use crate::strip_span::StripSpan;
 use osm_box::BoundingBox;
 use std::alloc::{AllocError, Global};
 
 /// There are at most 2^10 strips.
 const STRIP_BITS: u32 = 10;
 
-/// Where strips lie: from `west` to `east`, each 2^shift nanodegrees wide.
-#[derive(Clone, Copy, Debug)]
-struct StripSpan {
-    west: i64,
-    east: i64,
-    shift: u32,
+/// Whether strips reach a longitude.
+#[inline(always)]
+fn reach(span: StripSpan, lon: i128) -> bool
+    ensures value { result ≡ is_between span.west span.east lon }
+    ensures near { result ≡ true → nat_abs (lon -ℤ span.west) < 2 ^ 64 }
+{
+    i128::from(span.west) <= lon && lon <= i128::from(span.east)
 }
 
-impl StripSpan {
-    /// The number of the strip that a longitude is in, counted from the west.
-    #[inline(always)]
-    fn strip_of(self, lon: i128) -> u64
-        requires width { self.shift < 64 }
-        requires near { nat_abs (lon -ℤ self.west) < 2 ^ 64 }
-        ensures { result ≡ strip_of self lon }
-    {
-        ((lon - i128::from(self.west)).unsigned_abs() as u64) >> self.shift
-    }
+/// The number of the strip that a longitude is in, counted from the west.
+#[inline(always)]
+fn strip_of(span: StripSpan, lon: i128) -> u64
+    requires { nat_abs (lon -ℤ span.west) < 2 ^ 64 }
+    ensures { result ≡ strip_number span lon }
+{
+    ((lon - i128::from(span.west)).unsigned_abs() as u64) >> span.shift
+}
 
-    /// Whether a box has a longitude in the strip with this number.
-    fn meets(self, number: u64, bounds: BoundingBox) -> bool
-        requires { self.shift < 64 }
-        ensures { result ≡ is_met self number bounds }
-    {
-        self.strip_of(i128::from(bounds.left)) <= number
-            && number <= self.strip_of(i128::from(bounds.right))
-    }
+/// Whether a box has a longitude in the strip with this number.
+fn meets(span: StripSpan, number: u64, bounds: BoundingBox) -> bool
+    ensures { result ≡ is_met span number bounds }
+{
+    strip_of(span, i128::from(bounds.left)) <= number
+        && number <= strip_of(span, i128::from(bounds.right))
 }
 
 /// The westmost and the eastmost longitude of boxes.
@@ -44,9 +43,11 @@ fn ends_of(boxes: &[BoundingBox]) -> (i64, i64)
 {
     let mut west = i64::MAX;
     let mut east = i64::MIN;
-    'boxes: for bounds in boxes {
+    let mut rest = boxes;
+    'boxes: while let Some((bounds, later)) = rest.split_first() {
         west = west.min(bounds.left);
         east = east.max(bounds.right);
+        rest = later;
     }
     (west, east)
 }
@@ -54,8 +55,7 @@ fn ends_of(boxes: &[BoundingBox]) -> (i64, i64)
 /// Where the strips of boxes between these longitudes lie: the narrowest such that there are at most 1,024.
 fn span_between(west: i64, east: i64) -> StripSpan
     ensures ends { (result.west ≡ west) × (result.east ≡ east) }
-    ensures width { result.shift < 64 }
-    ensures few { strip_of result east < 1024 }
+    ensures few { strip_number result east < 1024 }
 {
     let length = (i128::from(east) - i128::from(west)).unsigned_abs() as u64;
     let bits = 64 - length.leading_zeros();
@@ -73,16 +73,17 @@ fn met_in(
     number: u64,
     boxes: &[BoundingBox],
 ) -> Result<Vec<usize>, AllocError>
-    requires { span.shift < 64 }
     ensures { IfOk result (λ met. met.items ≡ numbers_of (is_met span number) 0 boxes.now) }
 {
     let mut met = Vec::new(alloc);
     let mut index = 0;
-    'boxes: for bounds in boxes {
-        if span.meets(number, *bounds) {
+    let mut rest = boxes;
+    'boxes: while let Some((bounds, later)) = rest.split_first() {
+        if meets(span, number, *bounds) {
             met.push(index)?;
         }
         index += 1;
+        rest = later;
     }
     Ok(met)
 }
@@ -94,8 +95,7 @@ fn strips_to(
     last: u64,
     boxes: &[BoundingBox],
 ) -> Result<Vec<Vec<usize>>, AllocError>
-    requires width { span.shift < 64 }
-    requires few { last < 1024 }
+    requires { last < 1024 }
     ensures are { IfOk result (λ strips. AreStrips span 0 boxes.now strips.items) }
     ensures number { IfOk result (λ strips. length strips.items ≡ last + 1) }
 {
@@ -124,7 +124,7 @@ impl AreaStrips {
     {
         let (west, east) = ends_of(boxes);
         let span = span_between(west, east);
-        let last = span.strip_of(i128::from(east));
+        let last = strip_of(span, i128::from(east));
         let strips = strips_to(alloc, span, last, boxes)?;
         Ok(AreaStrips { span, strips })
     }
@@ -134,10 +134,10 @@ impl AreaStrips {
     pub fn at(&self, lon: i128) -> &[usize]
         ensures { result.now ≡ asked_at self.now lon }
     {
-        if lon < i128::from(self.span.west) || lon > i128::from(self.span.east) {
+        if !reach(self.span, lon) {
             return &[];
         }
-        match self.strips.get(self.span.strip_of(lon) as usize) {
+        match self.strips.get(strip_of(self.span, lon) as usize) {
             Some(strip) => strip.as_slice(),
             None => &[],
         }
