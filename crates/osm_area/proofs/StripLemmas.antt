@@ -12,7 +12,7 @@ use Rattle.osm_box.specs.declared.bounding_box.BoundingBox.{BoundingBox}
 use Rattle.osm_box.specs.BoundingBox.{is_between}
 use Rattle.osm_area.specs.declared.strips.AreaStrips.{AreaStrips}
 use Rattle.osm_area.specs.declared.strip_span.StripSpan.{StripSpan}
-use Rattle.osm_area.specs.Strips.{AreAsked, AreStrips, AreWithin, Asks, asked_at, is_met, listed_in, numbers_of, strip_number}
+use Rattle.osm_area.specs.Strips.{AreAsked, AreStrips, AreWithin, Asks, HasLon, asked_at, is_met, listed_in, numbers_of, strip_number}
 
 -- as wide as they are, strips are at most 1,024
 pub few_strips : (a : ℕ) → a < 2 ^ 64 → a / 2 ^ ((64 - count_leading_zeros 64 a) - 10) < 1024
@@ -107,7 +107,7 @@ are_asked strips boxes within few are lon = by (is_between span.west span.east l
   span : StripSpan
   span = strips.span
 
-  by : (b : Bool) → is_between span.west span.east lon ≡ b → Asks boxes lon (asked_at strips lon)
+  by : (b : Bool) → is_between span.west span.east lon ≡ b → Asks (HasLon lon) 0 boxes (asked_at strips lon)
   by true is =
       let here : 0 + strip_number span lon ≡ strip_number span lon = omega arith in
       let parts = and_parts _ _ is in

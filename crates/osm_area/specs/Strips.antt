@@ -15,11 +15,15 @@ numbers_of test number [] = []
 numbers_of test number (x ∷ xs) =
     if test x then number ∷ numbers_of test (number + 1) xs else numbers_of test (number + 1) xs
 
--- these are the numbers of boxes, each one once and in order, and all that have the longitude are among them
-pub record Asks (boxes : List BoundingBox) (lon : ℤ) (asked : List ℕ) : Type 0 where
-  pub test : BoundingBox → Bool
-  pub numbers : asked ≡ numbers_of test 0 boxes
-  pub all : AllByRecursion (λ b. is_between b.left b.right lon ≡ true → test b ≡ true) boxes
+-- these are the numbers of some, counted from this one, each once and in rising order, and all that may be meant are among them
+pub record Asks {X : Type 0} (may : X → Type 0) (number : ℕ) (xs : List X) (asked : List ℕ) : Type 0 where
+  pub test : X → Bool
+  pub numbers : asked ≡ numbers_of test number xs
+  pub all : AllByRecursion (λ x. may x → test x ≡ true) xs
+
+-- a box has the longitude
+abbrev pub HasLon : ℤ → BoundingBox → Type 0
+HasLon lon b = is_between b.left b.right lon ≡ true
 
 -- ---- strips
 
@@ -52,6 +56,6 @@ asked_at strips lon =
     if is_between strips.span.west strips.span.east lon
     then listed_in (slice_get strips.strips.items (strip_number strips.span lon)) else []
 
--- the strips are those of these boxes
+-- each box that has a longitude is among those that strips name for it
 abbrev pub AreAsked : List BoundingBox → AreaStrips → Type 0
-AreAsked boxes strips = (lon : ℤ) → Asks boxes lon (asked_at strips lon)
+AreAsked boxes strips = (lon : ℤ) → Asks (HasLon lon) 0 boxes (asked_at strips lon)
