@@ -1,6 +1,6 @@
 //! The first phases of several areas as one gatherer, which asks for a place only the areas that it may lie in.
 
-ghost use Rattle.std.specs.Prelude.{◌≡◌, ◌<◌, ◌+◌, ◌^◌, ℤ, IfOk, OnOk, length, map};
+ghost use Rattle.std.specs.Prelude.{◌≡◌, ◌<◌, ◌+◌, ◌^◌, ℤ, false, IfOk, OnOk, length, map};
 ghost use Rattle.std.specs.List.{AllByRecursion, fold};
 ghost use Rattle.osm_area.specs.Strips.{asked_at};
 ghost use Rattle.osm_entity.specs.Entity.{node};
