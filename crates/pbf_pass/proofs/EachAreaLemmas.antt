@@ -1,9 +1,10 @@
 -- Several areas in one pass, of which only some are asked for a place.
-use Rattle.std.proofs.Common.{◌≡◌, ◌∙◌, ℕ, zero, suc, ◌+◌, ◌<◌, ℤ, Bool, true, false, true≢false, List, [], ◌∷◌, ◌++◌, length, take, drop, map, Option, Some, None, refl, sym, ap, ap₂, subst, arith, rules, take-append-drop}
-use Rattle.std.specs.Prelude.{if◌then◌else◌}
+use Rattle.std.proofs.Common.{◌≡◌, ◌∙◌, ℕ, zero, suc, ◌+◌, ◌-◌, ◌^◌, ◌<◌, ◌≤◌, ℤ, Bool, true, false, true≢false, List, [], ◌∷◌, ◌++◌, length, take, drop, map, Option, Some, None, refl, sym, ap, ap₂, subst, arith, rules, take-append-drop}
+use Rattle.std.specs.Prelude.{if◌then◌else◌, is_none, pos}
+use Rattle.std.specs.Iterator.{YieldsFirst}
 use Rattle.std.specs.List.{AllByRecursion, fold}
 use Rattle.std.proofs.lemmas.Bool.{and_parts}
-use Rattle.std.proofs.lemmas.List.{map-append}
+use Rattle.std.proofs.lemmas.List.{map-append, map-id}
 use Rattle.osm_area.specs.Area.{AreaSpec}
 use Rattle.osm_area.specs.Strips.{Asks, HasLon, asked_at, numbers_of}
 use Rattle.osm_area.specs.Strips as strips
@@ -16,11 +17,21 @@ use Rattle.osm_ways.specs.InArea.{stepped}
 use Rattle.osm_ways.specs.Phases.{PassesOver}
 use Rattle.osm_ways.specs.Selection.{Seen, a_node}
 use Rattle.pbf_dense.specs.declared.places.Place.{Place}
-use Rattle.pbf_dense.specs.Places.{node_place}
+use Rattle.pbf_dense.specs.Places.{node_place, places_left}
+use Rattle.pbf_dense.specs.declared.places.Places.{Places}
 use Rattle.pbf_pass.specs.EachArea.{AreAsked, HasPlace, IsBounded, IsReady, MayAsk, areas_of, with_place}
 use Rattle.pbf_pass.specs.Pass.{with_seen_in}
 
 -- ---- lists
+
+nothing_more : {X : Type 0} (x : X) (xs : List X) → ◌≡◌ {A = List X} [] (x ∷ xs) → ⊥
+nothing_more x xs e = search rules
+
+heads : {X : Type 0} {x y : X} {xs ys : List X} → ◌≡◌ {A = List X} (x ∷ xs) (y ∷ ys) → x ≡ y
+heads e = cc
+
+tails : {X : Type 0} {x y : X} {xs ys : List X} → ◌≡◌ {A = List X} (x ∷ xs) (y ∷ ys) → xs ≡ ys
+tails e = cc
 
 all_taken : {X : Type 0} (P : X → Type 0) (xs : List X) (k : ℕ) → AllByRecursion P xs → AllByRecursion P (take k xs)
 all_taken P [] zero all = tt
@@ -38,6 +49,25 @@ map_twice : {X Y Z : Type 0} (f : X → Y) (g : Y → Z) (xs : List X) → map g
 map_twice f g [] = refl
 map_twice f g (x ∷ xs) = ap (λ rest. g (f x) ∷ rest) (map_twice f g xs)
 
+not_dropped : {X : Type 0} (xs : List X) (k : ℕ) → k < length xs → drop k xs ≡ [] → ⊥
+not_dropped [] k within e = omega (arith, within)
+not_dropped (x ∷ xs) zero within e = nothing_more x xs (sym e)
+not_dropped (x ∷ xs) (suc k) within e = not_dropped xs k (omega (arith, within)) e
+
+drop_next : {X : Type 0} (xs : List X) (k : ℕ) (y : X) (ys : List X) → drop k xs ≡ y ∷ ys → drop (suc k) xs ≡ ys
+drop_next [] zero y ys e = absurd (nothing_more y ys e)
+drop_next [] (suc k) y ys e = absurd (nothing_more y ys e)
+drop_next (x ∷ xs) zero y ys e = tails e
+drop_next (x ∷ xs) (suc k) y ys e = drop_next xs k y ys e
+
+dropped_length : {X : Type 0} (xs : List X) (k : ℕ) (y : X) (ys : List X) → drop k xs ≡ y ∷ ys → length xs ≡ k + 1 + length ys
+dropped_length [] zero y ys e = absurd (nothing_more y ys e)
+dropped_length [] (suc k) y ys e = absurd (nothing_more y ys e)
+dropped_length (x ∷ xs) zero y ys e =
+    let same = ap length e in
+    omega (arith, same)
+dropped_length (x ∷ xs) (suc k) y ys e = omega (arith, dropped_length xs k y ys e)
+
 -- ---- numbers
 
 numbers_mapped : {X Y : Type 0} (test : Y → Bool) (f : X → Y) (number : ℕ) (xs : List X) → numbers_of test number (map f xs) ≡ numbers_of (λ (x : X). test (f x)) number xs
@@ -50,16 +80,7 @@ record Next {X : Type 0} (test : X → Bool) (first : ℕ) (xs : List X) (n : �
   is : n ≡ first + past
   within : past < length xs
   none : AllByRecursion (λ x. test x ≡ false) (take past xs)
-  more : later ≡ numbers_of test (n + 1) (drop (past + 1) xs)
-
-nothing_more : {X : Type 0} (x : X) (xs : List X) → ◌≡◌ {A = List X} [] (x ∷ xs) → ⊥
-nothing_more x xs e = search rules
-
-heads : {X : Type 0} {x y : X} {xs ys : List X} → ◌≡◌ {A = List X} (x ∷ xs) (y ∷ ys) → x ≡ y
-heads e = cc
-
-tails : {X : Type 0} {x y : X} {xs ys : List X} → ◌≡◌ {A = List X} (x ∷ xs) (y ∷ ys) → xs ≡ ys
-tails e = cc
+  more : later ≡ numbers_of test (n + 1) (drop (suc past) xs)
 
 next_of : {X : Type 0} (test : X → Bool) (xs : List X) (first n : ℕ) (later : List ℕ) → n ∷ later ≡ numbers_of test first xs → Next test first xs n later
 next_of test [] first n later e = absurd (nothing_more n later (sym e))
@@ -181,27 +202,73 @@ module _ {A S : Type 0} (area : A → AreaSpec) (step : S → Seen → S) where
     pub is : n ≡ first + past
     pub within : past < length ms
     pub same : map (λ of. with_place area step of p) (take past ms) ≡ take past ms
-    pub ready : AllByRecursion (IsReady step) (drop (past + 1) ms)
-    pub more : AreAsked p.lon (n + 1) (areas_of area (drop (past + 1) ms)) later
+    pub ready : AllByRecursion (IsReady step) (drop (suc past) ms)
+    pub more : AreAsked p.lon (n + 1) (areas_of area (drop (suc past) ms)) later
 
   pub somebody : (p : Place) (first : ℕ) (ms : List (InArea A S)) (n : ℕ) (later : List ℕ) → AllByRecursion (IsReady step) ms → AreAsked p.lon first (areas_of area ms) (n ∷ later) → Asked p first ms n later
   somebody p first ms n later ready asks =
       let test = λ (of : InArea A S). asks.test (area of.area) in
       let next = next_of test ms first n later (asks.numbers ∙ numbers_mapped asks.test (λ (of : InArea A S). area of.area) first ms) in
       let all = meant p asks.test ms asks.all in
-      let rest = drop (next.past + 1) ms in
+      let rest = drop (suc next.past) ms in
       record {
         past = next.past;
         is = next.is;
         within = next.within;
         same = all_unasked p asks.test (take next.past ms) (all_taken (IsReady step) ms next.past ready) (all_taken (Meant p asks.test) ms next.past all) next.none;
-        ready = all_dropped (IsReady step) ms (next.past + 1) ready;
+        ready = all_dropped (IsReady step) ms (suc next.past) ready;
         more = record {
           test = asks.test;
           numbers = next.more ∙ sym (numbers_mapped asks.test (λ (of : InArea A S). area of.area) (n + 1) rest);
-          all = meant_of p asks.test rest (all_dropped (Meant p asks.test) ms (next.past + 1) all);
+          all = meant_of p asks.test rest (all_dropped (Meant p asks.test) ms (suc next.past) all);
         };
       }
+
+  -- what is asked of the rest, and what comes of all
+  module _ (p : Place) (first : ℕ) (ms : List (InArea A S)) (n : ℕ) (later numbers : List ℕ) (is : numbers ≡ n ∷ later) (ready : AllByRecursion (IsReady step) ms) (asks : AreAsked p.lon first (areas_of area ms) numbers) where
+    one : Asked p first ms n later
+    one = somebody p first ms n later ready (subst (λ (l : List ℕ). AreAsked p.lon first (areas_of area ms) l) is asks)
+
+    past_is : n - first ≡ one.past
+    past_is = omega (arith, one.is)
+
+    pub asked_from : first ≤ n
+    asked_from = omega (arith, one.is)
+
+    pub asked_within : n - first ≤ length ms
+    asked_within = omega (arith, past_is, one.within)
+
+    module _ (back : List (InArea A S)) (there : back ≡ drop (n - first) ms) where
+      back_is : back ≡ drop one.past ms
+      back_is = there ∙ ap (λ k. drop k ms) past_is
+
+      pub asked_there : back ≡ [] → ⊥
+      asked_there none = not_dropped ms one.past one.within (sym back_is ∙ none)
+
+      module _ (m : InArea A S) (after : List (InArea A S)) (found : back ≡ m ∷ after) where
+        after_is : drop (suc one.past) ms ≡ after
+        after_is = drop_next ms one.past m after (sym back_is ∙ found)
+
+        counted : n + 1 + length after ≡ first + length ms
+        counted = omega (arith, one.is, dropped_length ms one.past m after (sym back_is ∙ found))
+
+        pub asked_few : first + length ms < 2 ^ 64 → n + 1 + length after < 2 ^ 64
+        asked_few few = omega (arith, few, counted)
+
+        pub asked_ready : AllByRecursion (IsReady step) after
+        asked_ready = subst (AllByRecursion (IsReady step)) after_is one.ready
+
+        pub asked_more : AreAsked p.lon (n + 1) (areas_of area after) later
+        asked_more = subst (λ (l : List (InArea A S)). AreAsked p.lon (n + 1) (areas_of area l) later) after_is one.more
+
+        pub asked_all : (front : List (InArea A S)) (m' : InArea A S) (after' : List (InArea A S)) → front ≡ take (n - first) ms → m' ≡ with_place area step m p → after' ≡ map (λ of. with_place area step of p) after
+            → front ++ m' ∷ after' ≡ map (λ of. with_place area step of p) ms
+        asked_all front m' after' before here rest =
+            let w = λ (of : InArea A S). with_place area step of p in
+            let whole : take one.past ms ++ m ∷ after ≡ ms = ap (λ (l : List (InArea A S)). take one.past ms ++ l) (sym found ∙ back_is) ∙ take-append-drop one.past ms in
+            ap₂ (λ (l k : List (InArea A S)). l ++ k) (before ∙ ap (λ k. take k ms) past_is ∙ sym one.same) (ap₂ (λ (x : InArea A S) (l : List (InArea A S)). x ∷ l) here rest)
+            ∙ sym (map-append w (take one.past ms) (m ∷ after))
+            ∙ ap (map w) whole
 
   -- ---- all nodes of a message
 
@@ -226,3 +293,27 @@ module _ {A S : Type 0} (area : A → AreaSpec) (step : S → Seen → S) where
       → map (λ of. fold (with_seen_in area step) of (map node (n ∷ ns))) (map (λ of. stepped step of (a_node n.id false)) ms) ≡ map (λ of. fold (with_seen_in area step) of (map node (n ∷ ns))) ms
   outside_each n ns [] ready = refl
   outside_each n ns (m ∷ ms) ready = ap₂ (λ (x : InArea A S) (l : List (InArea A S)). x ∷ l) (outside_first ready.0.alike n ns m) (outside_each n ns ms ready.1)
+
+  pub areas_outside : (begun ms : List (InArea A S)) → ((id : ℤ) → begun ≡ map (λ of. stepped step of (a_node id false)) ms) → areas_of area begun ≡ areas_of area ms
+  areas_outside begun ms is = ap (areas_of area) (is (pos 0)) ∙ areas_stay (λ of. stepped step of (a_node (pos 0) false)) (λ of. refl) ms
+
+  module _ (it more : Places) (first : Option Place) (steps : YieldsFirst places_left it first more) where
+    -- if there is no first place
+    pub nothing_taken : (ns : List NodeSpec) (ms : List (InArea A S)) → is_none first ≡ true → places_left it ≡ map node_place ns → ms ≡ map (λ of. fold (with_seen_in area step) of (map node ns)) ms
+    nothing_taken ns ms none are = by first ns steps none are where
+      by : (f : Option Place) (ns : List NodeSpec) → YieldsFirst places_left it f more → is_none f ≡ true → places_left it ≡ map node_place ns → ms ≡ map (λ of. fold (with_seen_in area step) of (map node ns)) ms
+      by None [] steps none are = sym (map-id ms)
+      by None (n ∷ ns) steps none are = absurd (nothing_more _ _ (sym steps.0 ∙ are))
+      by (Some place) ns steps none are = absurd (true≢false (sym none))
+
+    -- if there is one
+    pub some_taken : (ns : List NodeSpec) (ms begun now : List (InArea A S)) → is_none first ≡ false → places_left it ≡ map node_place ns → ((id : ℤ) → begun ≡ map (λ of. stepped step of (a_node id false)) ms) → AllByRecursion (IsReady step) begun
+        → now ≡ map (λ of. fold (with_seen_in area step) of (map node ns)) begun → now ≡ map (λ of. fold (with_seen_in area step) of (map node ns)) ms
+    some_taken ns ms begun now some are is ready taken = by first ns steps some are taken where
+      by : (f : Option Place) (ns : List NodeSpec) → YieldsFirst places_left it f more → is_none f ≡ false → places_left it ≡ map node_place ns → now ≡ map (λ of. fold (with_seen_in area step) of (map node ns)) begun → now ≡ map (λ of. fold (with_seen_in area step) of (map node ns)) ms
+      by None ns steps some are taken = absurd (true≢false some)
+      by (Some place) [] steps some are taken = absurd (nothing_more _ _ (sym are ∙ steps))
+      by (Some place) (n ∷ ns) steps some are taken =
+          taken
+          ∙ ap (map (λ (of : InArea A S). fold (with_seen_in area step) of (map node (n ∷ ns)))) (is n.id)
+          ∙ outside_each n ns ms (subst (AllByRecursion (IsReady step)) (is n.id) ready)

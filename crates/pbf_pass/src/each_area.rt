@@ -204,6 +204,7 @@ impl<A: Area, P: NodeTaker> Gather for EachArea<A, P> {
     }
 
     /// If memory is refused, no strips are left: then nothing is known of the areas.
+    #[tactic(auto, using(crate::proofs::EachLemmas::all_back))]
     fn gather(&mut self, entity: &EntityRef<'_>) -> Result<(), AllocError> {
         let strips = self.strips.take();
         gather_each(&mut self.members, entity)?;
@@ -211,6 +212,7 @@ impl<A: Area, P: NodeTaker> Gather for EachArea<A, P> {
         Ok(())
     }
 
+    #[tactic(auto, using(crate::proofs::EachLemmas::all_back))]
     fn gather_way(&mut self, unmade: &UnmadeWay<'_>) -> Result<(), AllocError> {
         let strips = self.strips.take();
         gather_way_each(&mut self.members, unmade)?;
@@ -218,6 +220,7 @@ impl<A: Area, P: NodeTaker> Gather for EachArea<A, P> {
         Ok(())
     }
 
+    #[tactic(auto, using(crate::proofs::EachLemmas::all_back, crate::proofs::EachLemmas::fold_each))]
     fn gather_dense(&mut self, dense: &Dense<'_>) -> Result<(), AllocError> {
         let strips = self.strips.take();
         take_dense_each(&mut self.members, &strips, dense)?;
