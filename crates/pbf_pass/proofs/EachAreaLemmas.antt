@@ -33,6 +33,10 @@ heads e = cc
 tails : {X : Type 0} {x y : X} {xs ys : List X} → ◌≡◌ {A = List X} (x ∷ xs) (y ∷ ys) → xs ≡ ys
 tails e = cc
 
+pub empty_is : {X : Type 0} (xs : List X) → length xs ≡ 0 → xs ≡ []
+empty_is [] e = refl
+empty_is (x ∷ xs) e = absurd (omega (arith, e))
+
 all_taken : {X : Type 0} (P : X → Type 0) (xs : List X) (k : ℕ) → AllByRecursion P xs → AllByRecursion P (take k xs)
 all_taken P [] zero all = tt
 all_taken P [] (suc k) all = tt
