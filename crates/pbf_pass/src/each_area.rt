@@ -83,10 +83,7 @@ impl<A: Area, P> EachArea<A, P> {
     /// # Errors
     ///
     /// If memory is refused, the phases are gone.
-    pub fn new(
-        alloc: Global,
-        members: Vec<InArea<A, P>>,
-    ) -> Result<EachArea<A, P>, AllocError>
+    pub fn new(alloc: Global, members: Vec<InArea<A, P>>) -> Result<EachArea<A, P>, AllocError>
     where
         A: Drop,
         P: Drop,

@@ -38,5 +38,5 @@ returns g t c =
     let after = c.in-Some-split_first_mut.after.now in
     let found : back ≡ m ∷ after = search rules in
     let all = asked_all g.A.Area.area g.P.NodeTaker.step c.args.place c.args.first c.args.members.now c.in-Some.number.now c.in-Some.later.now c.args.numbers.now is c.requires.ready c.requires.asked back there m after found
-        c.split_at_mut-from.result.0.now c.take_place.new.self c.take_asked.new.members c.split_at_mut-from.ensures.front (search rules) in
+    c.split_at_mut-from.result.0.now c.take_place.new.self c.take_asked.new.members c.split_at_mut-from.ensures.front (search rules) in
     on_ok_weaker c.take_asked.result all c.take_asked.ensures
