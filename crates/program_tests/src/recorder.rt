@@ -1,6 +1,6 @@
 //! A host over a disk in memory that keeps its log: so the clauses of a host can be met. A test ends if memory for the log is refused.
 
-ghost use Rattle.std.specs.Prelude.{◌≡◌, [], map, Some, IfOk};
+ghost use Rattle.std.specs.Prelude.{◌≡◌, [], map, string_bytes, Some, IfOk, IfSome};
 ghost use Rattle.program_tests.specs.Log.{event_of};
 ghost use Rattle.pbf_frame.specs.Memory.{taken_by};
 ghost use Rattle.pbfcut_program.specs.Events.{then_one};

@@ -1,9 +1,10 @@
-use Rattle.std.proofs.Common.{◌≡◌, length, Some, Ok, Err, false, refl, arith, sym, subst, ◌∙◌}
+use Rattle.std.proofs.Common.{◌≡◌, List, length, Some, Ok, Err, false, rules, refl, arith, sym, subst, ◌∙◌}
 use Rattle.std.specs.List.{AllByRecursion, AllZip}
 use Rattle.pbf_frame.specs.Verdict.{judged_known}
 use Rattle.pbf_pass.specs.Judged.{judged_file}
 use Rattle.pbf_pass.specs.Stops.{ReadFailed}
 use Rattle.pbf_pass.specs.Refused.{stop_of}
+use Rattle.pbf_pass.specs.Unjudged.{ReadsFaulty, StopsUnjudged}
 use Rattle.pbf_pass.proofs.GivenLemmas.{gave_file_less, tells_file}
 use Rattle.pbfcut.specs.Calls.{fed}
 use Rattle.pbfcut.specs.Pick.{IsReadyToPack}
