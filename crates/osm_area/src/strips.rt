@@ -1,4 +1,4 @@
-//! Strips of longitude, each with the boxes that reach into it: of many areas only those are asked for a place that it may lie in.
+//! Strips of longitude, each with the boxes that reach into it: they name the areas that a place may lie in.
 
 ghost use Rattle.std.specs.Prelude.{◌≡◌, ◌<◌, ◌^◌, ◌+◌, ◌-ℤ◌, IfOk, length, nat_abs, true};
 ghost use Rattle.osm_box.specs.BoundingBox.{is_between};
@@ -106,7 +106,7 @@ fn strips_to(
     Ok(strips)
 }
 
-/// Strips of longitude, and which boxes of a list have a longitude in each. The boxes of areas tell which of these a place may lie in.
+/// Strips of longitude, and which boxes of a list have a longitude in each. By the boxes of areas they name those that a place may lie in.
 #[derive(Debug, Drop)]
 pub struct AreaStrips {
     span: StripSpan,
