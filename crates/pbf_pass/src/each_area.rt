@@ -63,7 +63,7 @@ fn boxes_of<A: Area, P>(
 }
 
 /// The strips of the areas of phases, if they are not few.
-fn strips_of<A: Area, P>(
+fn strips_for<A: Area, P>(
     alloc: Global,
     members: &[InArea<A, P>],
 ) -> Result<Option<AreaStrips>, AllocError>
@@ -89,7 +89,7 @@ impl<A: Area, P> EachArea<A, P> {
         P: Drop,
         ensures { IfOk result (λ each. each ≡ members.items) }
     {
-        let strips = strips_of(alloc, members.as_slice())?;
+        let strips = strips_for(alloc, members.as_slice())?;
         Ok(EachArea { members, strips })
     }
 
