@@ -1,4 +1,4 @@
-//! Strips of longitude, each with the boxes that reach into it: of many areas only those are asked for a place that it may lie in.
+//! Strips of longitude, each with the boxes that reach into it: they name the areas that a place may lie in.
 
 ghost use Rattle.std.specs.Prelude.{◌≡◌, ◌<◌, ◌^◌, ◌+◌, ◌-ℤ◌, IfOk, length, nat_abs, true};
 ghost use Rattle.osm_box.specs.BoundingBox.{is_between};
@@ -13,7 +13,7 @@ const STRIP_BITS: u32 = 10;
 
 /// Whether strips reach a longitude.
 #[inline(always)]
-fn reach(span: StripSpan, lon: i128) -> bool
+fn have_lon(span: StripSpan, lon: i128) -> bool
     ensures value { result ≡ is_between span.west span.east lon }
     ensures near { result ≡ true → nat_abs (lon -ℤ span.west) < 2 ^ 64 }
 {
@@ -22,7 +22,7 @@ fn reach(span: StripSpan, lon: i128) -> bool
 
 /// The number of the strip that a longitude is in, counted from the west.
 #[inline(always)]
-fn strip_of(span: StripSpan, lon: i128) -> u64
+fn strip_with(span: StripSpan, lon: i128) -> u64
     requires { nat_abs (lon -ℤ span.west) < 2 ^ 64 }
     ensures { result ≡ strip_number span lon }
 {
@@ -33,8 +33,8 @@ fn strip_of(span: StripSpan, lon: i128) -> u64
 fn meets(span: StripSpan, number: u64, bounds: BoundingBox) -> bool
     ensures { result ≡ is_met span number bounds }
 {
-    strip_of(span, i128::from(bounds.left)) <= number
-        && number <= strip_of(span, i128::from(bounds.right))
+    strip_with(span, i128::from(bounds.left)) <= number
+        && number <= strip_with(span, i128::from(bounds.right))
 }
 
 /// The westmost and the eastmost longitude of boxes.
@@ -106,7 +106,7 @@ fn strips_to(
     Ok(strips)
 }
 
-/// Strips of longitude, and which boxes of a list have a longitude in each. The boxes of areas tell which of these a place may lie in.
+/// Strips of longitude, and which boxes of a list have a longitude in each. By the boxes of areas they name those that a place may lie in.
 #[derive(Debug, Drop)]
 pub struct AreaStrips {
     span: StripSpan,
@@ -124,7 +124,7 @@ impl AreaStrips {
     {
         let (west, east) = ends_of(boxes);
         let span = span_between(west, east);
-        let last = strip_of(span, i128::from(east));
+        let last = strip_with(span, i128::from(east));
         let strips = strips_to(alloc, span, last, boxes)?;
         Ok(AreaStrips { span, strips })
     }
@@ -134,10 +134,10 @@ impl AreaStrips {
     pub fn at(&self, lon: i128) -> &[usize]
         ensures { result.now ≡ asked_at self.now lon }
     {
-        if !reach(self.span, lon) {
+        if !have_lon(self.span, lon) {
             return &[];
         }
-        match self.strips.get(strip_of(self.span, lon) as usize) {
+        match self.strips.get(strip_with(self.span, lon) as usize) {
             Some(strip) => strip.as_slice(),
             None => &[],
         }

@@ -1,4 +1,4 @@
--- Several areas in one pass, of which only some are asked for a place.
+-- Several areas in one pass, of which only some take a place.
 use Rattle.std.proofs.Common.{◌≡◌, ◌∙◌, ℕ, zero, suc, ◌+◌, ◌-◌, ◌^◌, ◌<◌, ◌≤◌, ℤ, Bool, true, false, true≢false, List, [], ◌∷◌, ◌++◌, length, take, drop, map, Option, Some, None, refl, sym, ap, ap₂, subst, arith, rules, take-append-drop}
 use Rattle.std.specs.Prelude.{if◌then◌else◌, is_none, pos}
 use Rattle.std.specs.Iterator.{YieldsFirst}
@@ -78,7 +78,7 @@ numbers_mapped : {X Y : Type 0} (test : Y → Bool) (f : X → Y) (number : ℕ)
 numbers_mapped test f number [] = refl
 numbers_mapped test f number (x ∷ xs) = ap (λ (l : List ℕ). if test (f x) then number ∷ l else l) (numbers_mapped test f (number + 1) xs)
 
--- the first number, and what passes over
+-- the first number, and those before it
 record Next {X : Type 0} (test : X → Bool) (first : ℕ) (xs : List X) (n : ℕ) (later : List ℕ) : Type 0 where
   past : ℕ
   is : n ≡ first + past
@@ -228,7 +228,7 @@ module _ {A S : Type 0} (area : A → AreaSpec) (step : S → Seen → S) where
         };
       }
 
-  -- what is asked of the rest, and what comes of all
+  -- what holds of the rest, and what comes of all
   module _ (p : Place) (first : ℕ) (ms : List (InArea A S)) (n : ℕ) (later numbers : List ℕ) (is : numbers ≡ n ∷ later) (ready : AllByRecursion (IsReady step) ms) (asks : AreAsked p.lon first (areas_of area ms) numbers) where
     one : Asked p first ms n later
     one = somebody p first ms n later ready (subst (λ (l : List ℕ). AreAsked p.lon first (areas_of area ms) l) is asks)

@@ -1,4 +1,4 @@
--- The first phases of several areas, of which only those are asked for a place that it may lie in.
+-- The first phases of several areas, of which only those take a place that it may lie in.
 use Rattle.std.specs.Prelude.{◌≡◌, ◌≤◌, ℕ, ℤ, true, false, ⊤, List, Option, Some, None, map}
 use Rattle.osm_area.specs.Area.{AreaSpec, IsAreaWithin, box_area}
 use Rattle.osm_area.specs.Strips.{Asks, asked_at}

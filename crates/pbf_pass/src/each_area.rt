@@ -1,4 +1,4 @@
-//! The first phases of several areas as one gatherer, which asks for a place only the areas that it may lie in.
+//! The first phases of several areas as one gatherer, which gives a place only to the areas that it may lie in.
 
 ghost use Rattle.std.specs.Prelude.{◌≡◌, ◌<◌, ◌+◌, ◌^◌, ℤ, false, IfOk, OnOk, length, map};
 ghost use Rattle.std.specs.List.{AllByRecursion, fold};
@@ -24,7 +24,7 @@ use std::marker::Model;
 /// Each of fewer areas looks through all nodes by itself, which costs less.
 const FEW_AREAS: usize = 4;
 
-/// The first phases of several areas, as one gatherer. It does what `Each` of them does, and asks for a place only the areas that may have one of
+/// The first phases of several areas, as one gatherer. It does what `Each` of them does, and gives a place only to the areas that may have one of
 /// its longitude. Contracts see the list of the phases.
 #[derive(Drop)]
 pub struct EachArea<A: Area, P> {
@@ -63,7 +63,7 @@ fn boxes_of<A: Area, P>(
 }
 
 /// The strips of the areas of phases, if they are not few.
-fn strips_of<A: Area, P>(
+fn strips_for<A: Area, P>(
     alloc: Global,
     members: &[InArea<A, P>],
 ) -> Result<Option<AreaStrips>, AllocError>
@@ -89,7 +89,7 @@ impl<A: Area, P> EachArea<A, P> {
         P: Drop,
         ensures { IfOk result (λ each. each ≡ members.items) }
     {
-        let strips = strips_of(alloc, members.as_slice())?;
+        let strips = strips_for(alloc, members.as_slice())?;
         Ok(EachArea { members, strips })
     }
 

@@ -7,23 +7,23 @@ use Rattle.osm_area.specs.Strips.{asked_at, listed_in, strip_number}
 use Rattle.osm_area.proofs.StripLemmas.{asked_by}
 use Rattle.osm_area.proofs.strips.AreaStrips.at.Goals as goal
 
-pub returns-then-not-reach : goal.returns-then-not-reach
-returns-then-not-reach c =
+pub returns-then-not-have_lon : goal.returns-then-not-have_lon
+returns-then-not-have_lon c =
     let beyond : is_between c.args.self.now.span.west c.args.self.now.span.east c.args.lon ≡ false = search rules in
     sym (asked_by c.args.self.now c.args.lon beyond)
 
 pub returns-in-Some : goal.returns-in-Some
 returns-in-Some c =
     let within : is_between c.args.self.now.span.west c.args.self.now.span.east c.args.lon ≡ true = search rules in
-    let at : c.strip_of.result ≡ strip_number c.args.self.now.span c.args.lon = search rules in
-    let there : slice_get c.deref.result.now c.strip_of.result ≡ Some c.in-Some.strip.now = slice_get_read c.deref.result.now (length c.deref.result.now) c.strip_of.result c.in-Some.strip.now refl (search rules) (search rules) in
+    let at : c.strip_with.result ≡ strip_number c.args.self.now.span c.args.lon = search rules in
+    let there : slice_get c.deref.result.now c.strip_with.result ≡ Some c.in-Some.strip.now = slice_get_read c.deref.result.now (length c.deref.result.now) c.strip_with.result c.in-Some.strip.now refl (search rules) (search rules) in
     let same : slice_get c.args.self.now.strips.items (strip_number c.args.self.now.span c.args.lon) ≡ Some c.in-Some.strip.now = search rules in
     search rules ∙ sym (asked_by c.args.self.now c.args.lon within ∙ ap listed_in same)
 
 pub returns-in-None : goal.returns-in-None
 returns-in-None c =
     let within : is_between c.args.self.now.span.west c.args.self.now.span.east c.args.lon ≡ true = search rules in
-    let at : c.strip_of.result ≡ strip_number c.args.self.now.span c.args.lon = search rules in
-    let past : slice_get c.deref.result.now c.strip_of.result ≡ None = slice_get_past c.deref.result.now c.strip_of.result (search rules) in
+    let at : c.strip_with.result ≡ strip_number c.args.self.now.span c.args.lon = search rules in
+    let past : slice_get c.deref.result.now c.strip_with.result ≡ None = slice_get_past c.deref.result.now c.strip_with.result (search rules) in
     let same : slice_get c.args.self.now.strips.items (strip_number c.args.self.now.span c.args.lon) ≡ None = search rules in
     sym (asked_by c.args.self.now c.args.lon within ∙ ap listed_in same)
