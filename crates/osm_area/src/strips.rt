@@ -2,7 +2,7 @@
 
 ghost use Rattle.std.specs.Prelude.{◌≡◌, ◌<◌, ◌^◌, ◌+◌, ◌-ℤ◌, IfOk, length, nat_abs, true};
 ghost use Rattle.osm_box.specs.BoundingBox.{is_between};
-ghost use Rattle.osm_area.specs.Strips.{AreAsked, AreStrips, AreWithin, asked_at, is_met, numbers_of, strip_number};
+ghost use Rattle.osm_area.specs.Strips.{AskEnough, ListBoxes, LieBetween, asked_at, is_met, tested_numbers, lon_strip};
 
 use crate::strip_span::StripSpan;
 use osm_box::BoundingBox;
@@ -24,7 +24,7 @@ fn have_lon(span: StripSpan, lon: i128) -> bool
 #[inline(always)]
 fn strip_with(span: StripSpan, lon: i128) -> u64
     requires { nat_abs (lon -ℤ span.west) < 2 ^ 64 }
-    ensures { result ≡ strip_number span lon }
+    ensures { result ≡ lon_strip span lon }
 {
     ((lon - i128::from(span.west)).unsigned_abs() as u64) >> span.shift
 }
@@ -39,7 +39,7 @@ fn meets(span: StripSpan, number: u64, bounds: BoundingBox) -> bool
 
 /// The westmost and the eastmost longitude of boxes.
 fn ends_of(boxes: &[BoundingBox]) -> (i64, i64)
-    ensures { AreWithin result.0 result.1 boxes.now }
+    ensures { LieBetween result.0 result.1 boxes.now }
 {
     let mut west = i64::MAX;
     let mut east = i64::MIN;
@@ -55,7 +55,7 @@ fn ends_of(boxes: &[BoundingBox]) -> (i64, i64)
 /// Where the strips of boxes between these longitudes lie: the narrowest such that there are at most 1,024.
 fn span_between(west: i64, east: i64) -> StripSpan
     ensures ends { (result.west ≡ west) × (result.east ≡ east) }
-    ensures few { strip_number result east < 1024 }
+    ensures few { lon_strip result east < 1024 }
 {
     let length = (i128::from(east) - i128::from(west)).unsigned_abs() as u64;
     let bits = 64 - length.leading_zeros();
@@ -73,7 +73,7 @@ fn met_in(
     number: u64,
     boxes: &[BoundingBox],
 ) -> Result<Vec<usize>, AllocError>
-    ensures { IfOk result (λ met. met.items ≡ numbers_of (is_met span number) 0 boxes.now) }
+    ensures { IfOk result (λ met. met.items ≡ tested_numbers (is_met span number) 0 boxes.now) }
 {
     let mut met = Vec::new(alloc);
     let mut index = 0;
@@ -96,7 +96,7 @@ fn strips_to(
     boxes: &[BoundingBox],
 ) -> Result<Vec<Vec<usize>>, AllocError>
     requires { last < 1024 }
-    ensures are { IfOk result (λ strips. AreStrips span 0 boxes.now strips.items) }
+    ensures are { IfOk result (λ strips. ListBoxes span 0 boxes.now strips.items) }
     ensures number { IfOk result (λ strips. length strips.items ≡ last + 1) }
 {
     let mut strips = Vec::new(alloc);
@@ -120,7 +120,7 @@ impl AreaStrips {
     ///
     /// If memory is refused.
     pub fn new(alloc: Global, boxes: &[BoundingBox]) -> Result<AreaStrips, AllocError>
-        ensures { IfOk result (AreAsked boxes.now) }
+        ensures { IfOk result (AskEnough boxes.now) }
     {
         let (west, east) = ends_of(boxes);
         let span = span_between(west, east);

@@ -6,7 +6,7 @@ use Rattle.std.specs.List.{AllByRecursion, fold}
 use Rattle.std.proofs.lemmas.Bool.{and_parts}
 use Rattle.std.proofs.lemmas.List.{map-append, map-id}
 use Rattle.osm_area.specs.Area.{AreaSpec}
-use Rattle.osm_area.specs.Strips.{Asks, HasLon, asked_at, numbers_of}
+use Rattle.osm_area.specs.Strips.{Asks, HasLon, asked_at, tested_numbers}
 use Rattle.osm_area.specs.Strips as strips
 use Rattle.osm_area.specs.declared.strips.AreaStrips.{AreaStrips}
 use Rattle.osm_box.specs.declared.bounding_box.BoundingBox.{BoundingBox}
@@ -19,7 +19,7 @@ use Rattle.osm_ways.specs.Selection.{Seen, a_node}
 use Rattle.pbf_dense.specs.declared.places.Place.{Place}
 use Rattle.pbf_dense.specs.Places.{node_place, places_left}
 use Rattle.pbf_dense.specs.declared.places.Places.{Places}
-use Rattle.pbf_pass.specs.EachArea.{AreAsked, HasPlace, IsBounded, IsReady, MayAsk, areas_of, with_place}
+use Rattle.pbf_pass.specs.EachArea.{AreEnough, HasPlace, IsBounded, IsReady, MayAsk, member_areas, node_placed}
 use Rattle.pbf_pass.specs.Pass.{with_seen_in}
 
 -- ---- lists
@@ -74,7 +74,7 @@ dropped_length (x ∷ xs) (suc k) y ys e = omega (arith, dropped_length xs k y y
 
 -- ---- numbers
 
-numbers_mapped : {X Y : Type 0} (test : Y → Bool) (f : X → Y) (number : ℕ) (xs : List X) → numbers_of test number (map f xs) ≡ numbers_of (λ (x : X). test (f x)) number xs
+numbers_mapped : {X Y : Type 0} (test : Y → Bool) (f : X → Y) (number : ℕ) (xs : List X) → tested_numbers test number (map f xs) ≡ tested_numbers (λ (x : X). test (f x)) number xs
 numbers_mapped test f number [] = refl
 numbers_mapped test f number (x ∷ xs) = ap (λ (l : List ℕ). if test (f x) then number ∷ l else l) (numbers_mapped test f (number + 1) xs)
 
@@ -84,31 +84,31 @@ record Next {X : Type 0} (test : X → Bool) (first : ℕ) (xs : List X) (n : �
   is : n ≡ first + past
   within : past < length xs
   none : AllByRecursion (λ x. test x ≡ false) (take past xs)
-  more : later ≡ numbers_of test (n + 1) (drop (suc past) xs)
+  more : later ≡ tested_numbers test (n + 1) (drop (suc past) xs)
 
-next_of : {X : Type 0} (test : X → Bool) (xs : List X) (first n : ℕ) (later : List ℕ) → n ∷ later ≡ numbers_of test first xs → Next test first xs n later
+next_of : {X : Type 0} (test : X → Bool) (xs : List X) (first n : ℕ) (later : List ℕ) → n ∷ later ≡ tested_numbers test first xs → Next test first xs n later
 next_of test [] first n later e = absurd (nothing_more n later (sym e))
 next_of {X} test (x ∷ xs) first n later e = by (test x) refl (next_of test xs (first + 1) n later) where
   numbers : Bool → List ℕ
-  numbers b = if b then first ∷ numbers_of test (first + 1) xs else numbers_of test (first + 1) xs
+  numbers b = if b then first ∷ tested_numbers test (first + 1) xs else tested_numbers test (first + 1) xs
 
-  by : (b : Bool) → test x ≡ b → (n ∷ later ≡ numbers_of test (first + 1) xs → Next test (first + 1) xs n later) → Next test first (x ∷ xs) n later
+  by : (b : Bool) → test x ≡ b → (n ∷ later ≡ tested_numbers test (first + 1) xs → Next test (first + 1) xs n later) → Next test first (x ∷ xs) n later
   by true is rest =
-      let here : ◌≡◌ {A = List ℕ} (n ∷ later) (first ∷ numbers_of test (first + 1) xs) = e ∙ ap numbers is in
+      let here : ◌≡◌ {A = List ℕ} (n ∷ later) (first ∷ tested_numbers test (first + 1) xs) = e ∙ ap numbers is in
       let same : n ≡ first = heads here in
-      record { past = 0; is = omega (arith, same); within = omega arith; none = tt; more = tails here ∙ ap (λ (k : ℕ). numbers_of test (k + 1) xs) (sym same) }
+      record { past = 0; is = omega (arith, same); within = omega arith; none = tt; more = tails here ∙ ap (λ (k : ℕ). tested_numbers test (k + 1) xs) (sym same) }
   by false is rest =
       let there = rest (e ∙ ap numbers is) in
       record { past = suc there.past; is = omega (arith, there.is); within = omega (arith, there.within); none = (is, there.none); more = there.more }
 
-none_of : {X : Type 0} (test : X → Bool) (number : ℕ) (xs : List X) → [] ≡ numbers_of test number xs → AllByRecursion (λ x. test x ≡ false) xs
+none_of : {X : Type 0} (test : X → Bool) (number : ℕ) (xs : List X) → [] ≡ tested_numbers test number xs → AllByRecursion (λ x. test x ≡ false) xs
 none_of test number [] e = tt
 none_of {X} test number (x ∷ xs) e = by (test x) refl (none_of test (number + 1) xs) where
   numbers : Bool → List ℕ
-  numbers b = if b then number ∷ numbers_of test (number + 1) xs else numbers_of test (number + 1) xs
+  numbers b = if b then number ∷ tested_numbers test (number + 1) xs else tested_numbers test (number + 1) xs
 
-  by : (b : Bool) → test x ≡ b → ([] ≡ numbers_of test (number + 1) xs → AllByRecursion (λ x. test x ≡ false) xs) → AllByRecursion (λ x. test x ≡ false) (x ∷ xs)
-  by true is rest = absurd (nothing_more number (numbers_of test (number + 1) xs) (e ∙ ap numbers is))
+  by : (b : Bool) → test x ≡ b → ([] ≡ tested_numbers test (number + 1) xs → AllByRecursion (λ x. test x ≡ false) xs) → AllByRecursion (λ x. test x ≡ false) (x ∷ xs)
+  by true is rest = absurd (nothing_more number (tested_numbers test (number + 1) xs) (e ∙ ap numbers is))
   by false is rest = (is, rest (e ∙ ap numbers is))
 
 -- ---- strips of boxes are strips of areas
@@ -122,7 +122,7 @@ module _ (lon : ℤ) (test : BoundingBox → Bool) where
   all_areas [] bounded all = tt
   all_areas (a ∷ areas) bounded all = ((λ has. all.0 (has_lon a bounded.0 has)), all_areas areas bounded.1 all.1)
 
-pub asks_areas : (areas : List AreaSpec) (made : AreaStrips) (boxes : List BoundingBox) → boxes ≡ map (λ area. area.bounds) areas → AllByRecursion IsBounded areas → strips.AreAsked boxes made → MayAsk areas (Some made)
+pub asks_areas : (areas : List AreaSpec) (made : AreaStrips) (boxes : List BoundingBox) → boxes ≡ map (λ area. area.bounds) areas → AllByRecursion IsBounded areas → strips.AskEnough boxes made → MayAsk areas (Some made)
 asks_areas areas made boxes are bounded asks lon =
     let one = subst (λ (l : List BoundingBox). Asks (HasLon lon) 0 l (asked_at made lon)) are (asks lon) in
     record {
@@ -134,44 +134,44 @@ asks_areas areas made boxes are bounded asks lon =
 module _ {A S : Type 0} (area : A → AreaSpec) (step : S → Seen → S) where
   -- ---- areas stay
 
-  areas_stay : (f : InArea A S → InArea A S) → ((of : InArea A S) → (f of).area ≡ of.area) → (ms : List (InArea A S)) → areas_of area (map f ms) ≡ areas_of area ms
+  areas_stay : (f : InArea A S → InArea A S) → ((of : InArea A S) → (f of).area ≡ of.area) → (ms : List (InArea A S)) → member_areas area (map f ms) ≡ member_areas area ms
   areas_stay f same [] = refl
-  areas_stay f same (m ∷ ms) = ap (λ (a : A). area a ∷ areas_of area (map f ms)) (same m) ∙ ap (λ (l : List AreaSpec). area m.area ∷ l) (areas_stay f same ms)
+  areas_stay f same (m ∷ ms) = ap (λ (a : A). area a ∷ member_areas area (map f ms)) (same m) ∙ ap (λ (l : List AreaSpec). area m.area ∷ l) (areas_stay f same ms)
 
   area_folded : (es : List EntitySpec) (of : InArea A S) → (fold (with_seen_in area step) of es).area ≡ of.area
   area_folded [] of = refl
   area_folded (e ∷ es) of = area_folded es (with_seen_in area step of e)
 
-  may_still : (olds news : List (InArea A S)) (before now : Option AreaStrips) → areas_of area news ≡ areas_of area olds → now ≡ before → MayAsk (areas_of area olds) before → MayAsk (areas_of area news) now
-  may_still olds news before now areas same asks = subst (λ (l : List AreaSpec). MayAsk l now) (sym areas) (subst (λ (s : Option AreaStrips). MayAsk (areas_of area olds) s) (sym same) asks)
+  may_still : (olds news : List (InArea A S)) (before now : Option AreaStrips) → member_areas area news ≡ member_areas area olds → now ≡ before → MayAsk (member_areas area olds) before → MayAsk (member_areas area news) now
+  may_still olds news before now areas same asks = subst (λ (l : List AreaSpec). MayAsk l now) (sym areas) (subst (λ (s : Option AreaStrips). MayAsk (member_areas area olds) s) (sym same) asks)
 
-  pub still_one : (e : EntitySpec) (olds news : List (InArea A S)) (before now : Option AreaStrips) → news ≡ map (λ of. with_seen_in area step of e) olds → now ≡ before → MayAsk (areas_of area olds) before → MayAsk (areas_of area news) now
-  still_one e olds news before now is = may_still olds news before now (ap (areas_of area) is ∙ areas_stay (λ of. with_seen_in area step of e) (λ of. refl) olds)
+  pub still_one : (e : EntitySpec) (olds news : List (InArea A S)) (before now : Option AreaStrips) → news ≡ map (λ of. with_seen_in area step of e) olds → now ≡ before → MayAsk (member_areas area olds) before → MayAsk (member_areas area news) now
+  still_one e olds news before now is = may_still olds news before now (ap (member_areas area) is ∙ areas_stay (λ of. with_seen_in area step of e) (λ of. refl) olds)
 
-  pub still_all : (es : List EntitySpec) (olds news : List (InArea A S)) (before now : Option AreaStrips) → news ≡ map (λ of. fold (with_seen_in area step) of es) olds → now ≡ before → MayAsk (areas_of area olds) before → MayAsk (areas_of area news) now
-  still_all es olds news before now is = may_still olds news before now (ap (areas_of area) is ∙ areas_stay (λ of. fold (with_seen_in area step) of es) (area_folded es) olds)
+  pub still_all : (es : List EntitySpec) (olds news : List (InArea A S)) (before now : Option AreaStrips) → news ≡ map (λ of. fold (with_seen_in area step) of es) olds → now ≡ before → MayAsk (member_areas area olds) before → MayAsk (member_areas area news) now
+  still_all es olds news before now is = may_still olds news before now (ap (member_areas area) is ∙ areas_stay (λ of. fold (with_seen_in area step) of es) (area_folded es) olds)
 
   -- ---- a node outside, and then any
 
   pub ready_outside : (alike : PassesOver step) (old new : InArea A S) → ((id : ℤ) → new.phase ≡ step old.phase (a_node id false)) → IsReady step new
   ready_outside alike old new is = record { alike = alike; same = λ id. ap (λ (s : S). step s (a_node id false)) (is id) ∙ alike.after old.phase id id false ∙ sym (is id) }
 
-  ready_after : (of : InArea A S) (p : Place) → IsReady step of → IsReady step (with_place area step of p)
+  ready_after : (of : InArea A S) (p : Place) → IsReady step of → IsReady step (node_placed area step of p)
   ready_after of p ready = record { alike = ready.alike; same = λ id. ready.alike.after of.phase p.id id ((area of.area).has p.lat p.lon) }
 
-  pub all_ready : (p : Place) (ms : List (InArea A S)) → AllByRecursion (IsReady step) ms → AllByRecursion (IsReady step) (map (λ of. with_place area step of p) ms)
+  pub all_ready : (p : Place) (ms : List (InArea A S)) → AllByRecursion (IsReady step) ms → AllByRecursion (IsReady step) (map (λ of. node_placed area step of p) ms)
   all_ready p [] ready = tt
   all_ready p (m ∷ ms) ready = (ready_after m p ready.0, all_ready p ms ready.1)
 
-  pub areas_placed : (p : Place) (ms : List (InArea A S)) → areas_of area (map (λ of. with_place area step of p) ms) ≡ areas_of area ms
-  areas_placed p ms = areas_stay (λ of. with_place area step of p) (λ of. refl) ms
+  pub areas_placed : (p : Place) (ms : List (InArea A S)) → member_areas area (map (λ of. node_placed area step of p) ms) ≡ member_areas area ms
+  areas_placed p ms = areas_stay (λ of. node_placed area step of p) (λ of. refl) ms
 
   -- ---- who is asked
 
   -- an area that isn't asked
-  unasked : (p : Place) (of : InArea A S) (asked : Bool) → IsReady step of → (HasPlace p.lon (area of.area) → asked ≡ true) → asked ≡ false → with_place area step of p ≡ of
+  unasked : (p : Place) (of : InArea A S) (asked : Bool) → IsReady step of → (HasPlace p.lon (area of.area) → asked ≡ true) → asked ≡ false → node_placed area step of p ≡ of
   unasked p of asked ready may none = by ((area of.area).has p.lat p.lon) refl where
-    by : (b : Bool) → (area of.area).has p.lat p.lon ≡ b → with_place area step of p ≡ of
+    by : (b : Bool) → (area of.area).has p.lat p.lon ≡ b → node_placed area step of p ≡ of
     by true is = absurd (true≢false (sym (may (p.lat, is)) ∙ none))
     by false is = ap (λ (b : Bool). stepped step of (a_node p.id b)) is ∙ ap (λ (s : S). record of { phase = s }) (ready.same p.id)
 
@@ -182,20 +182,20 @@ module _ {A S : Type 0} (area : A → AreaSpec) (step : S → Seen → S) where
     abbrev IsLeft : InArea A S → Type 0
     IsLeft of = test (area of.area) ≡ false
 
-    all_unasked : (ms : List (InArea A S)) → AllByRecursion (IsReady step) ms → AllByRecursion Meant ms → AllByRecursion IsLeft ms → map (λ of. with_place area step of p) ms ≡ ms
+    all_unasked : (ms : List (InArea A S)) → AllByRecursion (IsReady step) ms → AllByRecursion Meant ms → AllByRecursion IsLeft ms → map (λ of. node_placed area step of p) ms ≡ ms
     all_unasked [] ready may none = refl
     all_unasked (m ∷ ms) ready may none = ap₂ (λ (x : InArea A S) (l : List (InArea A S)). x ∷ l) (unasked p m (test (area m.area)) ready.0 may.0 none.0) (all_unasked ms ready.1 may.1 none.1)
 
-    meant : (ms : List (InArea A S)) → AllByRecursion (λ a. HasPlace p.lon a → test a ≡ true) (areas_of area ms) → AllByRecursion Meant ms
+    meant : (ms : List (InArea A S)) → AllByRecursion (λ a. HasPlace p.lon a → test a ≡ true) (member_areas area ms) → AllByRecursion Meant ms
     meant [] all = tt
     meant (m ∷ ms) all = (all.0, meant ms all.1)
 
-    meant_of : (ms : List (InArea A S)) → AllByRecursion Meant ms → AllByRecursion (λ a. HasPlace p.lon a → test a ≡ true) (areas_of area ms)
+    meant_of : (ms : List (InArea A S)) → AllByRecursion Meant ms → AllByRecursion (λ a. HasPlace p.lon a → test a ≡ true) (member_areas area ms)
     meant_of [] all = tt
     meant_of (m ∷ ms) all = (all.0, meant_of ms all.1)
 
   -- if none is asked
-  pub nobody : (p : Place) (first : ℕ) (ms : List (InArea A S)) (numbers : List ℕ) → numbers ≡ [] → AllByRecursion (IsReady step) ms → AreAsked p.lon first (areas_of area ms) numbers → ms ≡ map (λ of. with_place area step of p) ms
+  pub nobody : (p : Place) (first : ℕ) (ms : List (InArea A S)) (numbers : List ℕ) → numbers ≡ [] → AllByRecursion (IsReady step) ms → AreEnough p.lon first (member_areas area ms) numbers → ms ≡ map (λ of. node_placed area step of p) ms
   nobody p first ms numbers empty ready asks =
       let none = none_of (λ (of : InArea A S). asks.test (area of.area)) first ms (sym empty ∙ asks.numbers ∙ numbers_mapped asks.test (λ (of : InArea A S). area of.area) first ms) in
       sym (all_unasked p asks.test ms ready (meant p asks.test ms asks.all) none)
@@ -205,11 +205,11 @@ module _ {A S : Type 0} (area : A → AreaSpec) (step : S → Seen → S) where
     pub past : ℕ
     pub is : n ≡ first + past
     pub within : past < length ms
-    pub same : map (λ of. with_place area step of p) (take past ms) ≡ take past ms
+    pub same : map (λ of. node_placed area step of p) (take past ms) ≡ take past ms
     pub ready : AllByRecursion (IsReady step) (drop (suc past) ms)
-    pub more : AreAsked p.lon (n + 1) (areas_of area (drop (suc past) ms)) later
+    pub more : AreEnough p.lon (n + 1) (member_areas area (drop (suc past) ms)) later
 
-  pub somebody : (p : Place) (first : ℕ) (ms : List (InArea A S)) (n : ℕ) (later : List ℕ) → AllByRecursion (IsReady step) ms → AreAsked p.lon first (areas_of area ms) (n ∷ later) → Asked p first ms n later
+  pub somebody : (p : Place) (first : ℕ) (ms : List (InArea A S)) (n : ℕ) (later : List ℕ) → AllByRecursion (IsReady step) ms → AreEnough p.lon first (member_areas area ms) (n ∷ later) → Asked p first ms n later
   somebody p first ms n later ready asks =
       let test = λ (of : InArea A S). asks.test (area of.area) in
       let next = next_of test ms first n later (asks.numbers ∙ numbers_mapped asks.test (λ (of : InArea A S). area of.area) first ms) in
@@ -229,9 +229,9 @@ module _ {A S : Type 0} (area : A → AreaSpec) (step : S → Seen → S) where
       }
 
   -- what holds of the rest, and what comes of all
-  module _ (p : Place) (first : ℕ) (ms : List (InArea A S)) (n : ℕ) (later numbers : List ℕ) (is : numbers ≡ n ∷ later) (ready : AllByRecursion (IsReady step) ms) (asks : AreAsked p.lon first (areas_of area ms) numbers) where
+  module _ (p : Place) (first : ℕ) (ms : List (InArea A S)) (n : ℕ) (later numbers : List ℕ) (is : numbers ≡ n ∷ later) (ready : AllByRecursion (IsReady step) ms) (asks : AreEnough p.lon first (member_areas area ms) numbers) where
     one : Asked p first ms n later
-    one = somebody p first ms n later ready (subst (λ (l : List ℕ). AreAsked p.lon first (areas_of area ms) l) is asks)
+    one = somebody p first ms n later ready (subst (λ (l : List ℕ). AreEnough p.lon first (member_areas area ms) l) is asks)
 
     past_is : n - first ≡ one.past
     past_is = omega (arith, one.is)
@@ -262,13 +262,13 @@ module _ {A S : Type 0} (area : A → AreaSpec) (step : S → Seen → S) where
         pub asked_ready : AllByRecursion (IsReady step) after
         asked_ready = subst (AllByRecursion (IsReady step)) after_is one.ready
 
-        pub asked_more : AreAsked p.lon (n + 1) (areas_of area after) later
-        asked_more = subst (λ (l : List (InArea A S)). AreAsked p.lon (n + 1) (areas_of area l) later) after_is one.more
+        pub asked_more : AreEnough p.lon (n + 1) (member_areas area after) later
+        asked_more = subst (λ (l : List (InArea A S)). AreEnough p.lon (n + 1) (member_areas area l) later) after_is one.more
 
-        pub asked_all : (front : List (InArea A S)) (m' : InArea A S) (after' : List (InArea A S)) → front ≡ take (n - first) ms → m' ≡ with_place area step m p → after' ≡ map (λ of. with_place area step of p) after
-            → front ++ m' ∷ after' ≡ map (λ of. with_place area step of p) ms
+        pub asked_all : (front : List (InArea A S)) (m' : InArea A S) (after' : List (InArea A S)) → front ≡ take (n - first) ms → m' ≡ node_placed area step m p → after' ≡ map (λ of. node_placed area step of p) after
+            → front ++ m' ∷ after' ≡ map (λ of. node_placed area step of p) ms
         asked_all front m' after' before here rest =
-            let w = λ (of : InArea A S). with_place area step of p in
+            let w = λ (of : InArea A S). node_placed area step of p in
             let whole : take one.past ms ++ m ∷ after ≡ ms = ap (λ (l : List (InArea A S)). take one.past ms ++ l) (sym found ∙ back_is) ∙ take-append-drop one.past ms in
             ap₂ (λ (l k : List (InArea A S)). l ++ k) (before ∙ ap (λ k. take k ms) past_is ∙ sym one.same) (ap₂ (λ (x : InArea A S) (l : List (InArea A S)). x ∷ l) here rest)
             ∙ sym (map-append w (take one.past ms) (m ∷ after))
@@ -276,16 +276,16 @@ module _ {A S : Type 0} (area : A → AreaSpec) (step : S → Seen → S) where
 
   -- ---- all nodes of a message
 
-  pub placed : (ns : List NodeSpec) (of : InArea A S) → fold (with_place area step) of (map node_place ns) ≡ fold (with_seen_in area step) of (map node ns)
+  pub placed : (ns : List NodeSpec) (of : InArea A S) → fold (node_placed area step) of (map node_place ns) ≡ fold (with_seen_in area step) of (map node ns)
   placed [] of = refl
-  placed (n ∷ ns) of = placed ns (with_place area step of (node_place n))
+  placed (n ∷ ns) of = placed ns (node_placed area step of (node_place n))
 
-  pub placed_each : (ns : List NodeSpec) (ms : List (InArea A S)) → map (λ of. fold (with_place area step) of (map node_place ns)) ms ≡ map (λ of. fold (with_seen_in area step) of (map node ns)) ms
+  pub placed_each : (ns : List NodeSpec) (ms : List (InArea A S)) → map (λ of. fold (node_placed area step) of (map node_place ns)) ms ≡ map (λ of. fold (with_seen_in area step) of (map node ns)) ms
   placed_each ns [] = refl
   placed_each ns (m ∷ ms) = ap₂ (λ (x : InArea A S) (l : List (InArea A S)). x ∷ l) (placed ns m) (placed_each ns ms)
 
-  pub place_more : (p : Place) (ps : List Place) (ms : List (InArea A S)) → map (λ of. fold (with_place area step) of ps) (map (λ of. with_place area step of p) ms) ≡ map (λ of. fold (with_place area step) of (p ∷ ps)) ms
-  place_more p ps ms = map_twice (λ (of : InArea A S). with_place area step of p) (λ (of : InArea A S). fold (with_place area step) of ps) ms
+  pub place_more : (p : Place) (ps : List Place) (ms : List (InArea A S)) → map (λ of. fold (node_placed area step) of ps) (map (λ of. node_placed area step of p) ms) ≡ map (λ of. fold (node_placed area step) of (p ∷ ps)) ms
+  place_more p ps ms = map_twice (λ (of : InArea A S). node_placed area step of p) (λ (of : InArea A S). fold (node_placed area step) of ps) ms
 
   outside_first : PassesOver step → (n : NodeSpec) (ns : List NodeSpec) (of : InArea A S)
       → fold (with_seen_in area step) (stepped step of (a_node n.id false)) (map node (n ∷ ns)) ≡ fold (with_seen_in area step) of (map node (n ∷ ns))
@@ -298,8 +298,8 @@ module _ {A S : Type 0} (area : A → AreaSpec) (step : S → Seen → S) where
   outside_each n ns [] ready = refl
   outside_each n ns (m ∷ ms) ready = ap₂ (λ (x : InArea A S) (l : List (InArea A S)). x ∷ l) (outside_first ready.0.alike n ns m) (outside_each n ns ms ready.1)
 
-  pub areas_outside : (begun ms : List (InArea A S)) → ((id : ℤ) → begun ≡ map (λ of. stepped step of (a_node id false)) ms) → areas_of area begun ≡ areas_of area ms
-  areas_outside begun ms is = ap (areas_of area) (is (pos 0)) ∙ areas_stay (λ of. stepped step of (a_node (pos 0) false)) (λ of. refl) ms
+  pub areas_outside : (begun ms : List (InArea A S)) → ((id : ℤ) → begun ≡ map (λ of. stepped step of (a_node id false)) ms) → member_areas area begun ≡ member_areas area ms
+  areas_outside begun ms is = ap (member_areas area) (is (pos 0)) ∙ areas_stay (λ of. stepped step of (a_node (pos 0) false)) (λ of. refl) ms
 
   module _ (it more : Places) (first : Option Place) (steps : YieldsFirst places_left it first more) where
     -- if there is no first place

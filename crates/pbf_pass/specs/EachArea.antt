@@ -11,8 +11,8 @@ use Rattle.osm_ways.specs.Selection.{Seen, a_node}
 use Rattle.pbf_dense.specs.declared.places.Place.{Place}
 
 -- the areas of phases
-abbrev pub areas_of : {A S : Type 0} → (A → AreaSpec) → List (InArea A S) → List AreaSpec
-areas_of area members = map (λ of. area of.area) members
+abbrev pub member_areas : {A S : Type 0} → (A → AreaSpec) → List (InArea A S) → List AreaSpec
+member_areas area members = map (λ of. area of.area) members
 
 -- ---- which areas are asked
 
@@ -21,13 +21,13 @@ abbrev pub HasPlace : ℤ → AreaSpec → Type 0
 HasPlace lon area = (lat : ℤ) × (area.has lat lon ≡ true)
 
 -- these are the numbers of areas, and all that have a place of this longitude are among them
-abbrev pub AreAsked : ℤ → (number : ℕ) → List AreaSpec → List ℕ → Type 0
-AreAsked lon number areas asked = Asks (HasPlace lon) number areas asked
+abbrev pub AreEnough : ℤ → (number : ℕ) → List AreaSpec → List ℕ → Type 0
+AreEnough lon number areas asked = Asks (HasPlace lon) number areas asked
 
 -- whatever the longitude, strips name such areas, if there are strips
 abbrev pub MayAsk : List AreaSpec → Option AreaStrips → Type 0
 MayAsk areas None = ⊤
-MayAsk areas (Some strips) = (lon : ℤ) → AreAsked lon 0 areas (asked_at strips lon)
+MayAsk areas (Some strips) = (lon : ℤ) → AreEnough lon 0 areas (asked_at strips lon)
 
 -- each place of the area lies in the box that a header names for it
 abbrev pub IsBounded : AreaSpec → Type 0
@@ -36,8 +36,8 @@ IsBounded area = IsAreaWithin area (box_area area.bounds)
 -- ---- what a phase takes
 
 -- a node, by its place
-abbrev pub with_place : {A S : Type 0} → (A → AreaSpec) → (S → Seen → S) → InArea A S → Place → InArea A S
-with_place area step of p = stepped step of (a_node p.id ((area of.area).has p.lat p.lon))
+abbrev pub node_placed : {A S : Type 0} → (A → AreaSpec) → (S → Seen → S) → InArea A S → Place → InArea A S
+node_placed area step of p = stepped step of (a_node p.id ((area of.area).has p.lat p.lon))
 
 -- a node was taken, so that one that lies outside changes nothing
 pub record IsReady {A S : Type 0} (step : S → Seen → S) (of : InArea A S) : Type 0 where

@@ -8,7 +8,7 @@ ghost use Rattle.osm_ways.specs.InArea.{stepped};
 ghost use Rattle.osm_ways.specs.Selection.{a_node};
 ghost use Rattle.pbf_dense.specs.Cursors.{dense_left};
 ghost use Rattle.pbf_pass.specs.Each.{each_gathered};
-ghost use Rattle.pbf_pass.specs.EachArea.{AreAsked, IsBounded, IsReady, MayAsk, areas_of, with_place};
+ghost use Rattle.pbf_pass.specs.EachArea.{AreEnough, IsBounded, IsReady, MayAsk, member_areas, node_placed};
 ghost use Rattle.pbf_pass.specs.Pass.{with_seen_in};
 
 use crate::each::{gather_dense_each, gather_each, gather_way_each};
@@ -35,13 +35,13 @@ pub struct EachArea<A: Area, P> {
 impl<A: Area, P> Model for EachArea<A, P> {
     ghost use Rattle.std.specs.Prelude.{List};
     ghost use Rattle.osm_ways.specs.declared.in_area.InArea as in_area;
-    ghost use Rattle.pbf_pass.specs.EachArea.{MayAsk, areas_of};
+    ghost use Rattle.pbf_pass.specs.EachArea.{MayAsk, member_areas};
 
     ghost Value = { List (in_area.InArea A P) };
 
     ghost view = { λ each. each.members.items };
 
-    ghost invariant = { λ each. MayAsk (areas_of A.area each.members.items) each.strips };
+    ghost invariant = { λ each. MayAsk (member_areas A.area each.members.items) each.strips };
 }
 
 /// The boxes of the areas of phases.
@@ -50,8 +50,8 @@ fn boxes_of<A: Area, P>(
     members: &[InArea<A, P>],
 ) -> Result<Vec<BoundingBox>, AllocError>
     ensures are { IfOk result (λ boxes. boxes.items
-        ≡ map (λ area. area.bounds) (areas_of A.area members.now)) }
-    ensures within { IfOk result (λ _. AllByRecursion IsBounded (areas_of A.area members.now)) }
+        ≡ map (λ area. area.bounds) (member_areas A.area members.now)) }
+    ensures within { IfOk result (λ _. AllByRecursion IsBounded (member_areas A.area members.now)) }
 {
     let mut boxes = Vec::new(alloc);
     let mut rest = members;
@@ -67,7 +67,7 @@ fn strips_for<A: Area, P>(
     alloc: Global,
     members: &[InArea<A, P>],
 ) -> Result<Option<AreaStrips>, AllocError>
-    ensures { IfOk result (MayAsk (areas_of A.area members.now)) }
+    ensures { IfOk result (MayAsk (member_areas A.area members.now)) }
 {
     if members.len() < FEW_AREAS {
         return Ok(None);
@@ -123,9 +123,9 @@ fn take_asked<A: Area, P: NodeTaker>(
 ) -> Result<(), AllocError>
     requires few { first + length members.old < 2 ^ 64 }
     requires ready { AllByRecursion (IsReady P.step) members.old }
-    requires asked { AreAsked place.lon first (areas_of A.area members.old) numbers.now }
+    requires asked { AreEnough place.lon first (member_areas A.area members.old) numbers.now }
     ensures { OnOk result
-        (members.new ≡ map (λ of. with_place A.area P.step of place) members.old) }
+        (members.new ≡ map (λ of. node_placed A.area P.step of place) members.old) }
 {
     let Some((number, later)) = numbers.split_first() else {
         return Ok(());
@@ -145,7 +145,7 @@ fn take_places_asked<A: Area, P: NodeTaker>(
     dense: &Dense<'_>,
 ) -> Result<(), AllocError>
     requires ready { AllByRecursion (IsReady P.step) members.old }
-    requires asks { (lon : ℤ) → AreAsked lon 0 (areas_of A.area members.old)
+    requires asks { (lon : ℤ) → AreEnough lon 0 (member_areas A.area members.old)
         (asked_at strips.now lon) }
     ensures { OnOk result (members.new ≡ map (λ of. fold (with_seen_in A.area P.step) of
         (map node (dense_left dense.now))) members.old) }
@@ -162,7 +162,7 @@ fn take_by_strips<A: Area, P: NodeTaker>(
     strips: &AreaStrips,
     dense: &Dense<'_>,
 ) -> Result<(), AllocError>
-    requires { (lon : ℤ) → AreAsked lon 0 (areas_of A.area members.old)
+    requires { (lon : ℤ) → AreEnough lon 0 (member_areas A.area members.old)
         (asked_at strips.now lon) }
     ensures { OnOk result (members.new ≡ map (λ of. fold (with_seen_in A.area P.step) of
         (map node (dense_left dense.now))) members.old) }
@@ -182,7 +182,7 @@ fn take_dense_each<A: Area, P: NodeTaker>(
     strips: &Option<AreaStrips>,
     dense: &Dense<'_>,
 ) -> Result<(), AllocError>
-    requires { MayAsk (areas_of A.area members.old) strips.now }
+    requires { MayAsk (member_areas A.area members.old) strips.now }
     ensures { OnOk result (members.new ≡ map (λ of. fold (with_seen_in A.area P.step) of
         (map node (dense_left dense.now))) members.old) }
 {

@@ -34,12 +34,12 @@ after [] disk = disk
 after (e ∷ es) disk = after es (changed e disk)
 
 -- the text of a file that has these bytes: they are UTF-8, or if they aren't, Latin-1
-unfoldable pub text_of : List ℕ → List ℕ
-text_of bytes = if is_utf8 bytes then bytes else encode_utf8_all bytes
+unfoldable pub text_of_bytes : List ℕ → List ℕ
+text_of_bytes bytes = if is_utf8 bytes then bytes else encode_utf8_all bytes
 
 -- the file of this path has this text
 abbrev pub HasText : Disk → (path text : List ℕ) → Type 0
-HasText disk path text = (bytes : List ℕ) × (disk path ≡ Some bytes) × (text ≡ text_of bytes)
+HasText disk path text = (bytes : List ℕ) × (disk path ≡ Some bytes) × (text ≡ text_of_bytes bytes)
 
 -- what is said of the file system is so
 abbrev pub Allows : Disk → Event → Type 0
