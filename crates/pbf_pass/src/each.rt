@@ -64,9 +64,9 @@ impl<V: Visit> Visit for Each<V> {
     }
 }
 
-/// Visits a frame by each of the visitors: by the first, and then by those after it. So it calls itself as often as there are visitors, and
-/// no invariant has to say which of them are done.
-fn visit_each<V: Visit>(visitors: &mut [V], alloc: Global, frame: &Frame<'_>) -> Result<(), Stop>
+/// Visits a frame by each of the visitors: by the first, and then by those after it. If one stops, those before it have taken the frame, and
+/// those after it are as they were.
+pub fn visit_each<V: Visit>(visitors: &mut [V], alloc: Global, frame: &Frame<'_>) -> Result<(), Stop>
     requires { AllByRecursion V.ready visitors.old }
     ensures took { OnOk result ((f : FrameSpec) → Shows frame.now f
         → EachTook V.took visitors.old f visitors.new) }

@@ -15,7 +15,7 @@ mod unjudged;
 mod visit;
 
 pub use checking::{check, check_with_receipt};
-pub use each::Each;
+pub use each::{Each, visit_each};
 pub use hashed::{HashedDrain, PassFeed};
 pub use hashing::{PassCheck, PassHasher};
 pub use header_limit::writable_header;

@@ -27,3 +27,4 @@ pub mod CopyingLemmas
 pub mod SmartLemmas
 pub mod TaskLemmas
 pub mod EachTaskLemmas
+pub mod WantedLemmas
