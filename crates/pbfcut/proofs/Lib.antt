@@ -28,3 +28,4 @@ pub mod SmartLemmas
 pub mod TaskLemmas
 pub mod EachTaskLemmas
 pub mod WantedLemmas
+pub mod WantedWriters

@@ -1,5 +1,5 @@
 -- What several areas want of a block.
-use Rattle.std.proofs.Common.{◌≡◌, ◌<◌, ◌+◌, ℕ, List, [], ◌∷◌, ◌++◌, Bool, true, false, length, take, drop, get_or, append-nil, append_assoc, sym, ap, ◌∙◌, refl, arith}
+use Rattle.std.proofs.Common.{◌≡◌, ◌<◌, ◌+◌, ℕ, List, [], ◌∷◌, ◌++◌, Bool, true, false, if◌then◌else◌, length, take, drop, get_or, append-nil, append_assoc, sym, ap, ◌∙◌, refl, arith}
 use Rattle.std.specs.List.{AllByRecursion, filter, flat_map}
 use Rattle.std.proofs.lemmas.List.{take_more, take-append-drop}
 use Rattle.std.proofs.lemmas.List.Elements.{filter-append}
@@ -12,14 +12,17 @@ use Rattle.pbfcut.specs.Pick.{Pick}
 use Rattle.pbfcut.specs.Wanted.{AreWanted, listed_entities}
 
 -- one run more
-pub listed_more : (runs : List Run) (i : ℕ) (d : Run) → i < length runs → listed_entities (take (i + 1) runs) ≡ listed_entities (take i runs) ++ run_entities (get_or runs i d)
-listed_more runs i d lt = ap listed_entities (take_more runs i d lt) ∙ (flat_map-append run_entities (take i runs) (get_or runs i d ∷ []) ∙ ap (λ l. listed_entities (take i runs) ++ l) (append-nil (run_entities (get_or runs i d))))
+pub listed_more : (runs : List Run) (i : ℕ) (one : Run) → i < length runs → one ≡ get_or runs i one → listed_entities (take (i + 1) runs) ≡ listed_entities (take i runs) ++ run_entities one
+listed_more runs i one lt is =
+    ap listed_entities (take_more runs i one lt)
+    ∙ (flat_map-append run_entities (take i runs) (get_or runs i one ∷ [])
+    ∙ (ap (λ l. listed_entities (take i runs) ++ l) (append-nil (run_entities (get_or runs i one))) ∙ ap (λ r. listed_entities (take i runs) ++ run_entities r) (sym is)))
 
--- a run more, of those that are left
-pub listed_split : (runs : List Run) (i : ℕ) (d : Run) → i < length runs → listed_entities (take i runs) ++ (run_entities (get_or runs i d) ++ listed_entities (drop (i + 1) runs)) ≡ listed_entities runs
-listed_split runs i d lt =
-    append_assoc (listed_entities (take i runs)) (run_entities (get_or runs i d)) (listed_entities (drop (i + 1) runs))
-    ∙ (ap (λ l. l ++ listed_entities (drop (i + 1) runs)) (sym (listed_more runs i d lt))
+-- with those that are left
+pub listed_split : (runs : List Run) (i : ℕ) (one : Run) → i < length runs → one ≡ get_or runs i one → listed_entities (take i runs) ++ (run_entities one ++ listed_entities (drop (i + 1) runs)) ≡ listed_entities runs
+listed_split runs i one lt is =
+    sym (append_assoc (listed_entities (take i runs)) (run_entities one) (listed_entities (drop (i + 1) runs)))
+    ∙ (ap (λ l. l ++ listed_entities (drop (i + 1) runs)) (sym (listed_more runs i one lt is))
     ∙ (sym (flat_map-append run_entities (take (i + 1) runs) (drop (i + 1) runs)) ∙ ap listed_entities (take-append-drop (i + 1) runs)))
 
 -- ---- which are wanted
@@ -47,11 +50,14 @@ wanted_more pick es run wanted are = record {
 }
 
 -- what is picked by less is picked of them alike
+within_first : (pick all : Pick) (e : EntitySpec) (left es : List EntitySpec) → (pick e ≡ true → all e ≡ true) → filter pick left ≡ filter pick es → filter pick (if all e then e ∷ left else left) ≡ filter pick (e ∷ es)
+within_first pick all e left es in_all same = by (pick e) (all e) refl refl where
+  by : (p a : Bool) → pick e ≡ p → all e ≡ a → filter pick (if all e then e ∷ left else left) ≡ filter pick (e ∷ es)
+  by p a is is_all = grind arith
+
 within : (pick all : Pick) → ((e : EntitySpec) → pick e ≡ true → all e ≡ true) → (es : List EntitySpec) → filter pick (filter all es) ≡ filter pick es
 within pick all in_all [] = refl
-within pick all in_all (e ∷ es) = by (pick e) (all e) refl refl where
-  by : (p a : Bool) → pick e ≡ p → all e ≡ a → filter pick (filter all (e ∷ es)) ≡ filter pick (e ∷ es)
-  by p a is is_all = grind (arith, within pick all in_all es, in_all e)
+within pick all in_all (e ∷ es) = within_first pick all e (filter all es) es (in_all e) (within pick all in_all es)
 
 pub wanted_within : (pick all : Pick) (es wanted : List EntitySpec) → ((e : EntitySpec) → pick e ≡ true → all e ≡ true) → AreWanted all es wanted → AreWanted pick es wanted
 wanted_within pick all es wanted in_all are = record {

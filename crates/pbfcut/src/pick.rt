@@ -146,7 +146,7 @@ impl<'a> Picker<'a> {
 
     /// Whether all nodes are written, whatever their ids are.
     #[tactic(auto, unfolding(crate::specs::Pick::picks_id))]
-    fn picks_all(&self) -> bool
+    pub(crate) fn picks_all(&self) -> bool
         ensures { IsTrue result → (id : ℤ) → picks_id self.now id ≡ true }
     {
         self.chooser.is_none()

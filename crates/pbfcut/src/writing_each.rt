@@ -1,23 +1,28 @@
 //! The pass that writes several extracts: each area has its writer, and each frame goes through all of them.
 
-ghost use Rattle.std.specs.Prelude.{◌≡◌, ◌≤◌, [], OnOk, IfErr, length};
+ghost use Rattle.std.specs.Prelude.{◌≡◌, ◌≤◌, [], true, false, Ok, OnOk, IfErr, length};
 ghost use Rattle.std.specs.List.{AllByRecursion, AllZip};
 ghost use Rattle.std.specs.Vec.{vec_capacity};
 ghost use Rattle.pbf_frame.specs.declared.stop.Stop.{Stop};
 ghost use Rattle.pbf_header.specs.Header.{header_of};
 ghost use Rattle.pbf_pass.specs.HeaderLimit.{HasShortTexts};
 ghost use Rattle.pbfcut.specs.Calls.{fed};
-ghost use Rattle.pbfcut.specs.Pick.{IsReadyToPack};
-ghost use Rattle.pbfcut.specs.Several.{AllThree, CanBegin, IsOutputOf, IsWriterOf, OneStopped, PutsHeader, StopsAtHeader, StopsAtLast, WriterFails, WriterTakes, WritesEach, WritesEachUnjudged, WritesLast, IsFreshWriter};
+ghost use Rattle.pbf_pass.specs.Each.{EachTook, OneFailed};
+ghost use Rattle.pbf_pass.specs.Payload.{lent_by};
+ghost use Rattle.pbfcut.specs.Pick.{IsReadyToPack, picks_of, take_of};
+ghost use Rattle.pbfcut.specs.Wanted.{listed_entities};
+ghost use Rattle.pbfcut.specs.Several.{AllThree, CanBegin, IsOutputOf, IsReadyAmong, IsReadyWriter, IsWriterOf, OneStopped, PicksAmong, PutsHeader, StopsAtHeader, StopsAtLast, WriterFails, WriterFailsAtPayload, WriterPacks, WriterStops, WriterTakes, WriterTakesPayload, WritesEach, WritesEachUnjudged, WritesLast, IsFreshWriter};
 
 use crate::carrying::{AreaChoice, AreaOutput};
 use crate::pick::{EntityPacker, Picker};
 use crate::repeat::LaterPass;
 use crate::write::pack_payload;
 use osm_pack::Packer;
-use pbf_block::Counts;
-use pbf_frame::{Drain, Feed, Frame, Stop};
-use pbf_pass::{Each, Visit, pass_over};
+use crate::wanted::wanted_runs;
+use osm_ways::Chosen;
+use pbf_block::{Counts, Kinds, Run, UnjudgedBlock};
+use pbf_frame::{Drain, Feed, Frame, FrameKind, Stop};
+use pbf_pass::{Visit, pass_over};
 use std::alloc::Global;
 use std::hash::BuildHasher;
 
@@ -28,18 +33,6 @@ struct AreaWriter<'a, A, D: Drain, S: BuildHasher> {
     choice: &'a AreaChoice,
     packer: Packer<D, S>,
     entities: EntityPacker<'a>,
-}
-
-impl<A, D: Drain, S: BuildHasher> Visit for AreaWriter<'_, A, D, S> {
-    ghost took = { WriterTakes D.Drain };
-
-    ghost failed = { WriterFails D.Drain };
-
-    ghost ready = { λ v. IsReadyToPack v.packer };
-
-    fn visit(&mut self, _alloc: Global, frame: &Frame<'_>) -> Result<(), Stop> {
-        pack_payload(frame, &mut self.entities, &mut self.packer)
-    }
 }
 
 impl<'a, A, D: Drain, S: BuildHasher> AreaWriter<'a, A, D, S> {
@@ -74,6 +67,102 @@ impl<'a, A, D: Drain, S: BuildHasher> AreaWriter<'a, A, D, S> {
             drain: self.packer.into_drain(),
         }
     }
+}
+
+/// The writers of several areas, in their order. What one of them wants of a block is looked for once.
+#[derive(Drop)]
+struct EachWriter<'a, A, D: Drain, S: BuildHasher> {
+    writers: Vec<AreaWriter<'a, A, D, S>>,
+    /// Picks all that one of them picks, and maybe more.
+    all: Picker<'a>,
+}
+
+impl<A, D: Drain, S: BuildHasher> Visit for EachWriter<'_, A, D, S> {
+    ghost took = { λ old f new. EachTook (WriterTakes D.Drain) old.writers.items f new.writers.items
+        × (new.all ≡ old.all) };
+
+    ghost failed = { λ old f new stop. OneFailed (WriterTakes D.Drain) (WriterFails D.Drain)
+        old.writers.items f new.writers.items stop };
+
+    ghost ready = { λ v. AllByRecursion (IsReadyAmong (picks_of v.all)) v.writers.items };
+
+    fn visit(&mut self, alloc: Global, frame: &Frame<'_>) -> Result<(), Stop> {
+        if pack_together(alloc, frame, &mut self.all, &mut self.writers)? {
+            return Ok(());
+        }
+        pack_payload_each(frame, &mut self.writers)
+    }
+}
+
+/// Packs what each of the writers picks of these runs, by one writer after another.
+fn pack_wanted_each<A, D: Drain, S: BuildHasher>(
+    wanted: &[Run<'_>],
+    writers: &mut [AreaWriter<'_, A, D, S>],
+) -> Result<(), Stop>
+    requires { AllByRecursion IsReadyWriter writers.old }
+    ensures packed { OnOk result (AllZip (WriterPacks D.Drain (listed_entities wanted.now))
+        writers.old writers.new) }
+    ensures stopped { IfErr result (λ stop. OneStopped
+        (WriterPacks D.Drain (listed_entities wanted.now))
+        (WriterStops D.Drain (listed_entities wanted.now) stop) writers.old writers.new) }
+{
+    let Some((first, later)) = writers.split_first_mut() else {
+        return Ok(());
+    };
+    first.entities.pack_wanted(wanted, &mut first.packer)?;
+    pack_wanted_each(wanted, later)
+}
+
+/// Packs what each of the writers picks of the payload of a frame, which each of them reads by itself.
+fn pack_payload_each<A, D: Drain, S: BuildHasher>(
+    frame: &Frame<'_>,
+    writers: &mut [AreaWriter<'_, A, D, S>],
+) -> Result<(), Stop>
+    requires { AllByRecursion IsReadyWriter writers.old }
+    ensures packed { OnOk result (AllZip (WriterTakesPayload D.Drain (lent_by frame.now))
+        writers.old writers.new) }
+    ensures stopped { IfErr result (λ stop. OneStopped
+        (WriterTakesPayload D.Drain (lent_by frame.now))
+        (WriterFailsAtPayload D.Drain (lent_by frame.now) stop) writers.old writers.new) }
+{
+    let Some((first, later)) = writers.split_first_mut() else {
+        return Ok(());
+    };
+    pack_payload(frame, &mut first.entities, &mut first.packer)?;
+    pack_payload_each(frame, later)
+}
+
+/// Packs what each of the writers picks of a block, which is read once to find what `all` picks of it. It returns false, and nothing was done,
+/// if `all` picks everything or too much, if memory is refused, or if the frame has no block.
+fn pack_together<A, D: Drain, S: BuildHasher>(
+    alloc: Global,
+    frame: &Frame<'_>,
+    all: &mut Picker<'_>,
+    writers: &mut [AreaWriter<'_, A, D, S>],
+) -> Result<bool, Stop>
+    requires { AllByRecursion (IsReadyAmong (picks_of all.old)) writers.old }
+    ensures packed { result ≡ Ok true → AllZip (WriterTakesPayload D.Drain (lent_by frame.now))
+        writers.old writers.new }
+    ensures left { result ≡ Ok false → writers.new ≡ writers.old }
+    ensures stopped { IfErr result (λ stop. OneStopped
+        (WriterTakesPayload D.Drain (lent_by frame.now))
+        (WriterFailsAtPayload D.Drain (lent_by frame.now) stop) writers.old writers.new) }
+    ensures same { all.new ≡ all.old }
+{
+    if all.picks_all() {
+        return Ok(false);
+    }
+    let FrameKind::Data = frame.kind else {
+        return Ok(false);
+    };
+    let Ok(Some(block)) = UnjudgedBlock::open(alloc, frame.payload, frame.payload_at) else {
+        return Ok(false);
+    };
+    let Ok(Some(wanted)) = wanted_runs(alloc, all, block.runs_among(Kinds::all())) else {
+        return Ok(false);
+    };
+    pack_wanted_each(&wanted, writers)?;
+    Ok(true)
 }
 
 /// What is done before the frames of a file, and after them.
@@ -209,9 +298,11 @@ fn end_all<W: Ends>(writers: &mut [W]) -> Result<(), Stop>
 fn pack_each<'a, A, F: Feed, D: Drain, S: BuildHasher>(
     pass: LaterPass,
     feed: &mut F,
+    all: Option<&'a Chosen>,
     writers: Vec<AreaWriter<'a, A, D, S>>,
 ) -> (Vec<AreaWriter<'a, A, D, S>>, Result<[u8; 32], Stop>)
-    requires { AllByRecursion (IsFreshWriter pass.number) writers.items }
+    requires fresh { AllByRecursion (IsFreshWriter pass.number) writers.items }
+    requires among { AllByRecursion (PicksAmong (take_of all.entry)) writers.items }
     ensures { WritesEachUnjudged (fed F.Feed feed.old feed.new) D.Drain pass
         writers.entry.items result.0.items result.1 }
 {
@@ -219,9 +310,11 @@ fn pack_each<'a, A, F: Feed, D: Drain, S: BuildHasher>(
     if let Err(stop) = begin_all(&mut writers) {
         return (writers, Err(stop));
     }
-    let mut each = Each::new(writers);
+    let all = Picker::of_taken(all);
+    let mut each = EachWriter { writers, all };
     let outcome = pass_over(pass.passes, feed, &mut each);
-    let mut writers = each.into_members();
+    let EachWriter { writers, all: _all } = each;
+    let mut writers = writers;
     let read = match outcome {
         Ok(read) => read,
         Err(halt) => return (writers, Err(halt.into())),
