@@ -1,6 +1,6 @@
 //! The pass that writes several extracts: each area has its writer, and each frame goes through all of them.
 
-ghost use Rattle.std.specs.Prelude.{◌≡◌, ◌≤◌, [], true, false, Ok, OnOk, IfErr, length};
+ghost use Rattle.std.specs.Prelude.{◌≡◌, ◌≤◌, List, [], true, false, Ok, OnOk, IfErr, length};
 ghost use Rattle.std.specs.List.{AllByRecursion, AllZip};
 ghost use Rattle.std.specs.Vec.{vec_capacity};
 ghost use Rattle.pbf_frame.specs.declared.stop.Stop.{Stop};
@@ -8,7 +8,8 @@ ghost use Rattle.pbf_header.specs.Header.{header_of};
 ghost use Rattle.pbf_pass.specs.HeaderLimit.{HasShortTexts};
 ghost use Rattle.pbfcut.specs.Calls.{fed};
 ghost use Rattle.pbf_pass.specs.Each.{EachTook, OneFailed};
-ghost use Rattle.pbf_pass.specs.Payload.{lent_by};
+ghost use Rattle.osm_entity.specs.Entity.{EntitySpec};
+ghost use Rattle.pbf_pass.specs.Payload.{Payload, lent_by};
 ghost use Rattle.pbfcut.specs.Pick.{IsReadyToPack, picks_of, take_of};
 ghost use Rattle.pbfcut.specs.Wanted.{listed_entities};
 ghost use Rattle.pbfcut.specs.Several.{AllThree, CanBegin, IsOutputOf, IsReadyAmong, IsReadyWriter, IsWriterOf, OneStopped, PicksAmong, PutsHeader, StopsAtHeader, StopsAtLast, WriterFails, WriterFailsAtPayload, WriterPacks, WriterStops, WriterTakes, WriterTakesPayload, WritesEach, WritesEachUnjudged, WritesLast, IsFreshWriter};
@@ -94,41 +95,84 @@ impl<A, D: Drain, S: BuildHasher> Visit for EachWriter<'_, A, D, S> {
     }
 }
 
+/// What is packed of a block, or of a whole payload.
+trait PacksParts {
+    /// Whether it can pack.
+    ghost can_pack: { Self → Type 0 };
+
+    /// It packed what it picks of these entities.
+    ghost packed: { List EntitySpec → Self → Self → Type 0 };
+
+    /// Why it stopped among them, and what it is then.
+    ghost not_packed: { List EntitySpec → Stop → Self → Self → Type 0 };
+
+    /// It packed what it picks of a payload.
+    ghost took: { Payload → Self → Self → Type 0 };
+
+    /// Why it stopped at the payload, and what it is then.
+    ghost not_taken: { Payload → Stop → Self → Self → Type 0 };
+
+    /// Packs what it picks of these runs.
+    fn pack_wanted(&mut self, wanted: &[Run<'_>]) -> Result<(), Stop>
+        requires { can_pack self.old }
+        ensures packed { OnOk result (packed (listed_entities wanted.now) self.old self.new) }
+        ensures stopped { IfErr result (λ stop.
+            not_packed (listed_entities wanted.now) stop self.old self.new) };
+
+    /// Packs what it picks of the payload of a frame.
+    fn pack_payload(&mut self, frame: &Frame<'_>) -> Result<(), Stop>
+        requires { can_pack self.old }
+        ensures took { OnOk result (took (lent_by frame.now) self.old self.new) }
+        ensures stopped { IfErr result (λ stop.
+            not_taken (lent_by frame.now) stop self.old self.new) };
+}
+
+impl<A, D: Drain, S: BuildHasher> PacksParts for AreaWriter<'_, A, D, S> {
+    ghost can_pack = { IsReadyWriter };
+
+    ghost packed = { WriterPacks D.Drain };
+
+    ghost not_packed = { WriterStops D.Drain };
+
+    ghost took = { WriterTakesPayload D.Drain };
+
+    ghost not_taken = { WriterFailsAtPayload D.Drain };
+
+    fn pack_wanted(&mut self, wanted: &[Run<'_>]) -> Result<(), Stop> {
+        self.entities.pack_wanted(wanted, &mut self.packer)
+    }
+
+    fn pack_payload(&mut self, frame: &Frame<'_>) -> Result<(), Stop> {
+        pack_payload(frame, &mut self.entities, &mut self.packer)
+    }
+}
+
 /// Packs what each of the writers picks of these runs, by one writer after another.
-fn pack_wanted_each<A, D: Drain, S: BuildHasher>(
-    wanted: &[Run<'_>],
-    writers: &mut [AreaWriter<'_, A, D, S>],
-) -> Result<(), Stop>
-    requires { AllByRecursion IsReadyWriter writers.old }
-    ensures packed { OnOk result (AllZip (WriterPacks D.Drain (listed_entities wanted.now))
+fn pack_wanted_each<W: PacksParts>(wanted: &[Run<'_>], writers: &mut [W]) -> Result<(), Stop>
+    requires { AllByRecursion W.can_pack writers.old }
+    ensures packed { OnOk result (AllZip (W.packed (listed_entities wanted.now))
         writers.old writers.new) }
-    ensures stopped { IfErr result (λ stop. OneStopped
-        (WriterPacks D.Drain (listed_entities wanted.now))
-        (WriterStops D.Drain (listed_entities wanted.now) stop) writers.old writers.new) }
+    ensures stopped { IfErr result (λ stop. OneStopped (W.packed (listed_entities wanted.now))
+        (W.not_packed (listed_entities wanted.now) stop) writers.old writers.new) }
 {
     let Some((first, later)) = writers.split_first_mut() else {
         return Ok(());
     };
-    first.entities.pack_wanted(wanted, &mut first.packer)?;
+    first.pack_wanted(wanted)?;
     pack_wanted_each(wanted, later)
 }
 
 /// Packs what each of the writers picks of the payload of a frame, which each of them reads by itself.
-fn pack_payload_each<A, D: Drain, S: BuildHasher>(
-    frame: &Frame<'_>,
-    writers: &mut [AreaWriter<'_, A, D, S>],
-) -> Result<(), Stop>
-    requires { AllByRecursion IsReadyWriter writers.old }
-    ensures packed { OnOk result (AllZip (WriterTakesPayload D.Drain (lent_by frame.now))
-        writers.old writers.new) }
-    ensures stopped { IfErr result (λ stop. OneStopped
-        (WriterTakesPayload D.Drain (lent_by frame.now))
-        (WriterFailsAtPayload D.Drain (lent_by frame.now) stop) writers.old writers.new) }
+fn pack_payload_each<W: PacksParts>(frame: &Frame<'_>, writers: &mut [W]) -> Result<(), Stop>
+    requires { AllByRecursion W.can_pack writers.old }
+    ensures took { OnOk result (AllZip (W.took (lent_by frame.now)) writers.old writers.new) }
+    ensures stopped { IfErr result (λ stop. OneStopped (W.took (lent_by frame.now))
+        (W.not_taken (lent_by frame.now) stop) writers.old writers.new) }
 {
     let Some((first, later)) = writers.split_first_mut() else {
         return Ok(());
     };
-    pack_payload(frame, &mut first.entities, &mut first.packer)?;
+    first.pack_payload(frame)?;
     pack_payload_each(frame, later)
 }
 
