@@ -88,10 +88,7 @@ impl<A, D: Drain, S: BuildHasher> Visit for EachWriter<'_, A, D, S> {
     ghost ready = { λ v. AllByRecursion (IsReadyAmong (picks_of v.all)) v.writers.items };
 
     fn visit(&mut self, alloc: Global, frame: &Frame<'_>) -> Result<(), Stop> {
-        if pack_together(alloc, frame, &mut self.all, &mut self.writers)? {
-            return Ok(());
-        }
-        pack_payload_each(frame, &mut self.writers)
+        pack_frame_each(alloc, frame, &mut self.all, &mut self.writers)
     }
 }
 
@@ -207,6 +204,27 @@ fn pack_together<A, D: Drain, S: BuildHasher>(
     };
     pack_wanted_each(&wanted, writers)?;
     Ok(true)
+}
+
+/// Packs what each of the writers picks of the payload of a frame, which is read once if that can be.
+fn pack_frame_each<A, D: Drain, S: BuildHasher>(
+    alloc: Global,
+    frame: &Frame<'_>,
+    all: &mut Picker<'_>,
+    writers: &mut [AreaWriter<'_, A, D, S>],
+) -> Result<(), Stop>
+    requires { AllByRecursion (IsReadyAmong (picks_of all.old)) writers.old }
+    ensures packed { OnOk result (AllZip (WriterTakesPayload D.Drain (lent_by frame.now))
+        writers.old writers.new) }
+    ensures stopped { IfErr result (λ stop. OneStopped
+        (WriterTakesPayload D.Drain (lent_by frame.now))
+        (WriterFailsAtPayload D.Drain (lent_by frame.now) stop) writers.old writers.new) }
+    ensures same { all.new ≡ all.old }
+{
+    if pack_together(alloc, frame, all, writers)? {
+        return Ok(());
+    }
+    pack_payload_each(frame, writers)
 }
 
 /// What is done before the frames of a file, and after them.
