@@ -18,26 +18,26 @@ returns-in_err-pack_wanted_each-clause-stopped g c =
     let e = err_from_is_err_and c.from_residual.result c.from_residual.ensures.1 in
     let frame = c.args.frame.now in
     let block = c.in-Ok-Some.block in
-    let is = rw c.in-Ok-Some.block-is at c.in-Ok-Some.ensures.payload in
+    let is = rw c.in-Ok-Some.field-0-is at c.in-Ok-Some.ensures.payload in
     let here : block_fault block.at block.payload.now ≡ block_fault frame.payload_at frame.payload.now = ap₂ (λ (at : ℕ) (m : List ℕ). block_fault at m) is.1 is.0 in
     let es = joined_runs (runs_left c.runs_among.result) in
     let p = primitive_block frame.payload_at frame.payload.now in
-    let are = subst (λ l. AreWanted (picks_of c.args.all.now) es (listed_entities l)) (sym c.deref.ensures.value) (rw c.in-Ok-Some-wanted_runs.wanted-is at c.in-Ok-Some-wanted_runs.ensures.wanted) in
+    let are = subst (λ l. AreWanted (picks_of c.args.all.now) es (listed_entities l)) (sym c.deref.ensures.value) (rw c.in-Ok-Some-wanted_runs.field-0-is at c.in-Ok-Some-wanted_runs.ensures.wanted) in
     let fits = λ (sound : fault_in p ≡ None). c.runs_among.ensures.fits (here ∙ sound) in
     let same = λ (pick : Pick) (sound : fault_in p ≡ None). picked_runs pick c.all.result es frame.payload_at block.at frame.payload.now block.payload.now c.all.ensures is (c.runs_among.ensures.exact (here ∙ sound)) in
     let lent : lent_by frame ≡ p = ap (λ k. payload_as k frame.payload_at frame.payload.now) c.in-Data.is in
-    rw (e.1, e.2) (subst (λ q. OneStopped (WriterTakesPayload g.D.Drain q) (WriterFailsAtPayload g.D.Drain q _) c.args.writers.now _) (sym lent) (one_payload g.D.Drain p (picks_of c.args.all.now) es _ are fits same _ c.args.writers.now _ c.requires c.in_err-pack_wanted_each.ensures.stopped))
+    rw (e.1, e.2) (subst (λ q. OneStopped (WriterTakesPayload g.D.Drain q) (WriterFailsAtPayload g.D.Drain q c.in_err-pack_wanted_each.field-0.0) c.args.writers.now c.pack_wanted_each.new.writers) (sym lent) (one_payload g.D.Drain p (picks_of c.args.all.now) es _ are fits same c.in_err-pack_wanted_each.field-0.0 c.args.writers.now c.pack_wanted_each.new.writers c.requires c.in_err-pack_wanted_each.ensures.stopped))
 
 pub returns-clause-packed : goal.returns-clause-packed
 returns-clause-packed g c is_true =
     let frame = c.args.frame.now in
     let block = c.in-Ok-Some.block in
-    let is = rw c.in-Ok-Some.block-is at c.in-Ok-Some.ensures.payload in
+    let is = rw c.in-Ok-Some.field-0-is at c.in-Ok-Some.ensures.payload in
     let here : block_fault block.at block.payload.now ≡ block_fault frame.payload_at frame.payload.now = ap₂ (λ (at : ℕ) (m : List ℕ). block_fault at m) is.1 is.0 in
     let es = joined_runs (runs_left c.runs_among.result) in
     let p = primitive_block frame.payload_at frame.payload.now in
-    let are = subst (λ l. AreWanted (picks_of c.args.all.now) es (listed_entities l)) (sym c.deref.ensures.value) (rw c.in-Ok-Some-wanted_runs.wanted-is at c.in-Ok-Some-wanted_runs.ensures.wanted) in
+    let are = subst (λ l. AreWanted (picks_of c.args.all.now) es (listed_entities l)) (sym c.deref.ensures.value) (rw c.in-Ok-Some-wanted_runs.field-0-is at c.in-Ok-Some-wanted_runs.ensures.wanted) in
     let fits = λ (sound : fault_in p ≡ None). c.runs_among.ensures.fits (here ∙ sound) in
     let same = λ (pick : Pick) (sound : fault_in p ≡ None). picked_runs pick c.all.result es frame.payload_at block.at frame.payload.now block.payload.now c.all.ensures is (c.runs_among.ensures.exact (here ∙ sound)) in
     let lent : lent_by frame ≡ p = ap (λ k. payload_as k frame.payload_at frame.payload.now) c.in-Data.is in
-    subst (λ q. AllZip (WriterTakesPayload g.D.Drain q) c.args.writers.now _) (sym lent) (each_payload g.D.Drain p (picks_of c.args.all.now) es _ are fits same c.args.writers.now _ c.requires c.in_ok-pack_wanted_each.ensures.packed)
+    subst (λ q. AllZip (WriterTakesPayload g.D.Drain q) c.args.writers.now c.pack_wanted_each.new.writers) (sym lent) (each_payload g.D.Drain p (picks_of c.args.all.now) es _ are fits same c.args.writers.now c.pack_wanted_each.new.writers c.requires c.in_ok-pack_wanted_each.ensures.packed)
