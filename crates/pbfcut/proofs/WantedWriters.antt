@@ -1,17 +1,26 @@
 -- What several writers do with a block that is read once for all of them.
-use Rattle.std.proofs.Common.{◌≡◌, ◌⊎◌, inl, inr, List, [], ◌∷◌, true, None, Ok, Err, sym, subst, ◌∙◌}
+use Rattle.std.proofs.Common.{◌≡◌, ◌⊎◌, inl, inr, ℕ, Option, ap, ap₂, List, [], ◌∷◌, true, None, Ok, Err, sym, subst, ◌∙◌}
 use Rattle.std.specs.List.{AllByRecursion, AllZip, filter}
 use Rattle.osm_entity.specs.Entity.{EntitySpec}
 use Rattle.osm_entity.specs.Ranges.{EntityFits}
 use Rattle.pbf_frame.specs.declared.device.Drain as drain
 use Rattle.pbf_frame.specs.declared.stop.Stop.{Stop}
-use Rattle.pbf_frame.specs.Frames.{FrameSpec}
+use Rattle.pbf_frame.specs.declared.device.Feed as feed
+use Rattle.pbf_frame.specs.declared.frame.Frame.{Frame}
+use Rattle.pbf_frame.specs.Frames.{FrameSpec, frame_payload, frame_payload_at}
+use Rattle.pbf_frame.specs.Keeps.{KeepsFeed}
+use Rattle.pbf_frame.specs.Next.{Shows}
+use Rattle.pbf_frame.specs.Verdict.{Verdict}
 use Rattle.pbf_pass.specs.Each.{EachTook, OneFailed}
 use Rattle.pbf_pass.specs.Judged.{fault_in}
-use Rattle.pbf_pass.specs.Payload.{Payload, payload_of}
+use Rattle.pbf_pass.specs.Payload.{Payload, lent_by, payload_as, payload_of}
+use Rattle.pbf_pass.specs.Refused.{RefusesRest}
+use Rattle.pbf_pass.specs.Visit.{RefusesVisit, StopsVisit, Visited, VisitsAll}
+use Rattle.pbf_pass.proofs.HaltingLemmas.{rest_of}
 use Rattle.pbfcut.specs.declared.writing_each.AreaWriter.{AreaWriter}
+use Rattle.pbfcut.specs.declared.writing_each.EachWriter.{EachWriter}
 use Rattle.pbfcut.specs.Pick.{Pick, picked_in, picks_of}
-use Rattle.pbfcut.specs.Several.{IsReadyAmong, IsReadyWriter, OneStopped, PicksAmong, WriterFails, WriterFailsAtPayload, WriterPacks, WriterStops, WriterTakes, WriterTakesPayload}
+use Rattle.pbfcut.specs.Several.{IsReadyAmong, IsReadyWriter, OneStopped, PicksAmong, WriterFails, WriterFailsAtPayload, WriterPacks, WriterStops, WriterTakes, WriterTakesPayload, WritersFail, WritersTake}
 use Rattle.pbfcut.specs.Wanted.{AreWanted}
 use Rattle.pbfcut.specs.Write.{FailsAtUnjudgedPayload, PacksUnjudgedPayload}
 use Rattle.pbfcut.proofs.SeveralLemmas.{zip_right, zip_with}
@@ -85,6 +94,16 @@ module _ {A D S H : Type 0} (d : drain.Ghosts D) where
     one_frame stop [] news did = absurd did
     one_frame stop (old ∷ olds) [] did = absurd did
 
+  -- what a frame shows
+  shown : (frame : Frame) (f : FrameSpec) → Shows frame f → payload_of f ≡ lent_by frame
+  shown frame f s = ap (λ k. payload_as k (frame_payload_at f) (frame_payload f)) (sym s.kind) ∙ ap₂ (λ (at : ℕ) (m : List ℕ). payload_as frame.kind at m) (sym s.payload_at) (sym s.payload)
+
+  pub each_shown : (frame : Frame) (f : FrameSpec) → Shows frame f → (olds news : List (AreaWriter A D S H)) → AllZip (WriterTakesPayload d (lent_by frame)) olds news → EachTook (WriterTakes d) olds f news
+  each_shown frame f s olds news did = each_frame f (lent_by frame) (shown frame f s) olds news did
+
+  pub one_shown : (frame : Frame) (f : FrameSpec) → Shows frame f → (stop : Stop) (olds news : List (AreaWriter A D S H)) → OneStopped (WriterTakesPayload d (lent_by frame)) (WriterFailsAtPayload d (lent_by frame) stop) olds news → OneFailed (WriterTakes d) (WriterFails d) olds f news stop
+  one_shown frame f s stop olds news did = one_frame f (lent_by frame) (shown frame f s) stop olds news did
+
   -- ---- what they can do then
 
   still_ready : (p : Payload) (all : Pick) (old new : AreaWriter A D S H) → WriterTakesPayload d p old new → IsReadyAmong all old → IsReadyAmong all new
@@ -92,3 +111,20 @@ module _ {A D S H : Type 0} (d : drain.Ghosts D) where
 
   pub each_ready : (p : Payload) (all : Pick) (olds news : List (AreaWriter A D S H)) → AllZip (WriterTakesPayload d p) olds news → AllByRecursion (IsReadyAmong all) olds → AllByRecursion (IsReadyAmong all) news
   each_ready p all olds news did ready = zip_right (WriterTakesPayload d p) (IsReadyAmong all) (IsReadyAmong all) (still_ready p all) olds news did ready
+
+  -- ---- the frames of a pass
+
+  seen_visited : (fs : List FrameSpec) (a b : EachWriter A D S H) → Visited (WritersTake d) a fs b → Visited (EachTook (WriterTakes d)) a.writers.items fs b.writers.items
+  seen_visited [] a b same = ap (λ (v : EachWriter A D S H). v.writers.items) same
+  seen_visited (f ∷ fs) a b v = (v.0.writers.items, v.1.0, seen_visited fs v.0 b v.2)
+
+  pub seen_visits : (known : Option Verdict) (count : ℕ) (a b : EachWriter A D S H) → VisitsAll (WritersTake d) known count a b → VisitsAll (EachTook (WriterTakes d)) known count a.writers.items b.writers.items
+  seen_visits known count a b v = record { frames = v.frames; says = v.says; counted = v.counted; visited = seen_visited v.frames a b v.visited }
+
+  pub seen_stops : (known : Option Verdict) (read : Type 0) (a b : EachWriter A D S H) (stop : Stop) → StopsVisit (WritersTake d) (WritersFail d) known read a b stop → StopsVisit (EachTook (WriterTakes d)) (OneFailed (WriterTakes d) (WriterFails d)) known read a.writers.items b.writers.items stop
+  seen_stops known read a b stop (inl s) = inl (record { frames = s.frames; rest = s.rest; gone = s.gone; visited = seen_visited s.frames a b s.visited; caused = s.caused })
+  seen_stops known read a b stop (inr s) = inr (record { frames = s.frames; frame = s.frame; rest = s.rest; gone = s.gone; mid = s.mid.writers.items; visited = seen_visited s.frames a s.mid s.visited; failing = s.failing })
+
+  pub seen_rest : {F : Type 0} (g : feed.Ghosts F) (old new : F) (judge : List ℕ → Option Verdict) (a b : EachWriter A D S H) (stop : Stop) → KeepsFeed g old new → RefusesRest g old new (RefusesVisit (WritersTake d) (WritersFail d) judge a b) stop
+      → RefusesRest g old new (RefusesVisit (EachTook (WriterTakes d)) (OneFailed (WriterTakes d) (WriterFails d)) judge a.writers.items b.writers.items) stop
+  seen_rest g old new judge a b stop kept rest = rest_of g old new old new _ _ stop kept rest (λ bytes is. seen_stops (judge bytes) ⊥ a b stop is)

@@ -14,6 +14,7 @@ use Rattle.pbf_frame.specs.Verdict.{Verdict}
 use Rattle.pbf_block.specs.declared.counts.Counts.{Counts}
 use Rattle.pbf_header.specs.Header.{header_of}
 use Rattle.pbf_pass.specs.Counting.{counts_of}
+use Rattle.pbf_pass.specs.Each.{EachTook, OneFailed}
 use Rattle.pbf_pass.specs.Given.{Took}
 use Rattle.pbf_pass.specs.HeaderLimit.{HasShortTexts}
 use Rattle.pbf_pass.specs.Hashing.{mark_by}
@@ -26,6 +27,7 @@ use Rattle.pbfcut.specs.declared.carrying.AreaChoice.{AreaChoice}
 use Rattle.pbfcut.specs.declared.carrying.AreaOutput.{AreaOutput}
 use Rattle.pbfcut.specs.declared.repeat.LaterPass.{LaterPass}
 use Rattle.pbfcut.specs.declared.writing_each.AreaWriter.{AreaWriter}
+use Rattle.pbfcut.specs.declared.writing_each.EachWriter.{EachWriter}
 use Rattle.pbfcut.specs.Calls.{FailedFeed, FeedUse, GaveBy, KeepsFed, supply_of}
 use Rattle.pbfcut.specs.Pick.{IsFreshPacker, IsReadyToPack, PacksEach, Pick, picks_of, taken_by}
 use Rattle.pbfcut.specs.Repeat.{StopsLater, digest_of}
@@ -192,3 +194,10 @@ WriterTakesPayload d p old new = PacksUnjudged {X = Unit {0}} d p old.entities n
 
 abbrev pub WriterFailsAtPayload : {A D S H : Type 0} → drain.Ghosts D → Payload → Stop → AreaWriter A D S H → AreaWriter A D S H → Type 0
 WriterFailsAtPayload d p stop old new = PacksUnjudged {X = Unit {0}} d p old.entities new.entities old.packer new.packer (Err stop) × IsSameWriter old new
+
+-- all of them took a frame, or one of them stopped at it
+abbrev pub WritersTake : {A D S H : Type 0} → drain.Ghosts D → Takes (EachWriter A D S H)
+WritersTake d old f new = EachTook (WriterTakes d) old.writers.items f new.writers.items × (new.all ≡ old.all)
+
+abbrev pub WritersFail : {A D S H : Type 0} → drain.Ghosts D → Fails (EachWriter A D S H)
+WritersFail d old f new stop = OneFailed (WriterTakes d) (WriterFails d) old.writers.items f new.writers.items stop

@@ -7,12 +7,11 @@ ghost use Rattle.pbf_frame.specs.declared.stop.Stop.{Stop};
 ghost use Rattle.pbf_header.specs.Header.{header_of};
 ghost use Rattle.pbf_pass.specs.HeaderLimit.{HasShortTexts};
 ghost use Rattle.pbfcut.specs.Calls.{fed};
-ghost use Rattle.pbf_pass.specs.Each.{EachTook, OneFailed};
 ghost use Rattle.osm_entity.specs.Entity.{EntitySpec};
 ghost use Rattle.pbf_pass.specs.Payload.{Payload, lent_by};
 ghost use Rattle.pbfcut.specs.Pick.{IsReadyToPack, picks_of, take_of};
 ghost use Rattle.pbfcut.specs.Wanted.{listed_entities};
-ghost use Rattle.pbfcut.specs.Several.{AllThree, CanBegin, IsOutputOf, IsReadyAmong, IsReadyWriter, IsWriterOf, OneStopped, PicksAmong, PutsHeader, StopsAtHeader, StopsAtLast, WriterFails, WriterFailsAtPayload, WriterPacks, WriterStops, WriterTakes, WriterTakesPayload, WritesEach, WritesEachUnjudged, WritesLast, IsFreshWriter};
+ghost use Rattle.pbfcut.specs.Several.{AllThree, CanBegin, IsOutputOf, IsReadyAmong, IsReadyWriter, IsWriterOf, OneStopped, PicksAmong, PutsHeader, StopsAtHeader, StopsAtLast, WriterFailsAtPayload, WriterPacks, WriterStops, WriterTakesPayload, WritersFail, WritersTake, WritesEach, WritesEachUnjudged, WritesLast, IsFreshWriter};
 
 use crate::carrying::{AreaChoice, AreaOutput};
 use crate::pick::{EntityPacker, Picker};
@@ -79,11 +78,9 @@ struct EachWriter<'a, A, D: Drain, S: BuildHasher> {
 }
 
 impl<A, D: Drain, S: BuildHasher> Visit for EachWriter<'_, A, D, S> {
-    ghost took = { λ old f new. EachTook (WriterTakes D.Drain) old.writers.items f new.writers.items
-        × (new.all ≡ old.all) };
+    ghost took = { WritersTake D.Drain };
 
-    ghost failed = { λ old f new stop. OneFailed (WriterTakes D.Drain) (WriterFails D.Drain)
-        old.writers.items f new.writers.items stop };
+    ghost failed = { WritersFail D.Drain };
 
     ghost ready = { λ v. AllByRecursion (IsReadyAmong (picks_of v.all)) v.writers.items };
 
