@@ -2,7 +2,7 @@
 """The map in docs/ARCHITECTURE.md is the tree's: it lists each crate once, with what it is for and its state, and each file of pbf_wire. Each file
 of src/ begins with its concept, as the page says. The calls, clauses and definitions that the tables of promises name are in the sources. No
 contract and no definition has a limit of the format as a numeral: each is a constant. A name of a free item means one thing in the product, but for
-the calls that several layers have.
+the calls that several layers have and for some short words. So it is with definitions.
 
 usage: tests/architecture.py [PROGRAM]
 
@@ -119,21 +119,23 @@ CALLS_OF_LAYERS = {
     "extract_parents_sorted_with_receipt", "extract_sorted_with_receipt", "list_blobs", "show", "show_info", "show_with_receipt", "unpack",
 }
 # this many other names stand in two files or more, most of them short words such as `State`, `Place` and `put`
-MOST_SHARED_NAMES = 23
+MOST_SHARED_NAMES = 20
+# and this many names of definitions
+MOST_SHARED_DEFINITIONS = 47
 OF_EXAMPLES = {"digest_pass", "pbf_examples", "pbf_vectors", "run_examples", "zlib_examples", "zlib_streams"}
 ITEM = re.compile(r"(?:pub(?:\([a-z]+\))? )?(?:const )?(?:fn|struct|enum|trait|const|static|type) (\w+)")
+DEFINITION = re.compile(r"(?:(?:abbrev|unfoldable) pub|pub record|pub data|pub(?! (?:record|data|mod) )) (\S+)")
 
 
-def shared_names(crates: set) -> list:
-    """The names of free items that stand in two files or more, if they are too many."""
+def shared_names(crates: set, part: str, ending: str, item: re.Pattern, most: int) -> list:
+    """The names that stand in two files of a part of the crates or more, if they are too many."""
     places = {}
     for crate in crates:
-        for name in files_of(crate):
-            lines = read(os.path.join(TOP, "crates", crate, "src", name)).splitlines()
-            for item in filter(None, map(ITEM.match, lines)):
-                places.setdefault(item[1], set()).add(f"{crate}/src/{name}")
+        for path in glob.glob(os.path.join(TOP, "crates", crate, part, f"*.{ending}")):
+            for found in filter(None, map(item.match, read(path).splitlines())):
+                places.setdefault(found[1], set()).add(f"{crate}/{part}/{os.path.basename(path)}")
     shared = {name: where for name, where in places.items() if len(where) > 1 and name not in CALLS_OF_LAYERS | {"main"}}
-    if len(shared) <= MOST_SHARED_NAMES:
+    if len(shared) <= most:
         return []
     return [f"names: '{name}' is in {', '.join(sorted(where))}" for name, where in sorted(shared.items())]
 
@@ -145,7 +147,8 @@ def main():
     code = {crate for crate in crates if not is_of_tests(crate)}
     faults = unknown_promises(words_of_sources(crates))
     faults += numerals(code)
-    faults += shared_names({crate for crate in code if crate not in OF_EXAMPLES})
+    faults += shared_names(code - OF_EXAMPLES, "src", "rt", ITEM, MOST_SHARED_NAMES)
+    faults += shared_names(code - OF_EXAMPLES, "specs", "antt", DEFINITION, MOST_SHARED_DEFINITIONS)
     faults += unknown_names(text, words_of_sources(crates))
     link = os.path.join(TOP, "pbfcutz")
     if not os.path.islink(link) or os.readlink(link) != "pbfcut":

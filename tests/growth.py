@@ -517,6 +517,14 @@ def side_by_side(count: int) -> bytes:
     return configuration([f'{{"output": "out{number}", "bbox": [{number / count:.9f}, 0, {(number + 1) / count:.9f}, 1]}}' for number in range(count)])
 
 
+def small_boxes(count: int) -> bytes:
+    """So many boxes all over that square, each with the ten-thousandth part of it."""
+    chance = random.Random(4)
+    corners = [(chance.randrange(990) / 1_000, chance.randrange(990) / 1_000) for _ in range(count)]
+    return configuration([f'{{"output": "out{number}", "bbox": [{west:.3f}, {south:.3f}, {west + 0.01:.3f}, {south + 0.01:.3f}]}}'
+                          for number, (west, south) in enumerate(corners)])
+
+
 def configuration(extracts: list) -> bytes:
     return ('{"extracts": [%s]}' % ",\n".join(extracts)).encode()
 
@@ -535,6 +543,7 @@ TRIANGLE, OPEN_RING = '"polygon": [[[0, 0], [1, 0], [0, 1], [0, 0]]]', '"polygon
 CONFIGURATIONS = {
     "areas that overlap": (lambda size: scattered(20_000), overlapping, lambda size: 40_000 * size, 0),
     "areas side by side": (lambda size: scattered(40_000), side_by_side, lambda size: 40_000 * size, 0),
+    "small areas": (lambda size: scattered(20_000), lambda size: small_boxes(40 * size), lambda size: 400_000 * size, 0),
     "areas with more nodes": (lambda size: scattered(5_000 * size), lambda size: overlapping(8), lambda size: 80_000 * size, 0),
     "extracts of which the last is wrong": (lambda size: [block(nodes(1))], lambda size: numbered(8_000 * size, GOOD_BOX, BAD_BOX), lambda size: 0, 2),
     "polygons of which the last is wrong": (lambda size: [block(nodes(1))], lambda size: numbered(4_000 * size, TRIANGLE, OPEN_RING), lambda size: 0, 2),

@@ -10,17 +10,17 @@ use Rattle.osm_config.specs.declared.fault.ConfigError.TheVariants as error
 use Rattle.osm_config.specs.declared.fault.ConfigStop.{ConfigStop}
 use Rattle.osm_config.specs.declared.fault.ConfigStop.TheVariants as stop
 use Rattle.osm_config.specs.Faults.{OrFault}
-use Rattle.osm_config.specs.Readings.{IsNamed, Reads, ReadsConfig, extract_of}
+use Rattle.osm_config.specs.Readings.{IsNamed, Reads, ReadsConfig, extract_member_of}
 use Rattle.osm_polygon.specs.Texts.{without_mark}
 
-outputs_are : (es : List ConfiguredExtract) → map (λ e. e.output) (map extract_of es) ≡ map (λ e. string_bytes e.output) es
+outputs_are : (es : List ConfiguredExtract) → map (λ e. e.output) (map extract_member_of es) ≡ map (λ e. string_bytes e.output) es
 outputs_are [] = refl
 outputs_are (e ∷ es) = ap (λ os. string_bytes e.output ∷ os) (outputs_are es)
 
-pub distinct_by : (es : List ConfiguredExtract) (r : Option ℕ) → r ≡ repeated_after [] (map (λ e. string_bytes e.output) es) → 1 ≤ length es → if_some_and_distinct (map extract_of es) ≡ unless_repeated (map extract_of es) r
+pub distinct_by : (es : List ConfiguredExtract) (r : Option ℕ) → r ≡ repeated_after [] (map (λ e. string_bytes e.output) es) → 1 ≤ length es → if_some_and_distinct (map extract_member_of es) ≡ unless_repeated (map extract_member_of es) r
 distinct_by [] r h some = absurd (omega (arith, some))
 distinct_by (e ∷ es) r h some =
-    ap (λ os. unless_repeated (map extract_of (e ∷ es)) (repeated_after [] os)) (outputs_are (e ∷ es)) ∙ ap (unless_repeated (map extract_of (e ∷ es))) (sym h)
+    ap (λ os. unless_repeated (map extract_member_of (e ∷ es)) (repeated_after [] os)) (outputs_are (e ∷ es)) ∙ ap (unless_repeated (map extract_member_of (e ∷ es))) (sym h)
 
 -- the text after its mark is this value
 pub means_value : (text rest : List ℕ) (value : Json) → rest ≡ without_mark text → document rest ≡ Some value → config_of_text text ≡ config_in value

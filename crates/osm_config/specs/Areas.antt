@@ -16,10 +16,10 @@ use Rattle.osm_polygon.specs.PolyFile.{PolygonsOrFault}
 use Rattle.osm_polygon.specs.Polygon.{Rings}
 
 -- a box, polygons, or those of a file
-pub data AreaSpec : Type 0 where
-  in_box : BoundingBox → AreaSpec
-  in_polygons : List Rings → AreaSpec
-  in_file : List ℕ → AreaSpec
+pub data AreaMember : Type 0 where
+  in_box : BoundingBox → AreaMember
+  in_polygons : List Rings → AreaMember
+  in_file : List ℕ → AreaMember
 
 -- ---- bbox
 
@@ -61,12 +61,12 @@ abbrev pub with_commas : Parts → List ℕ
 with_commas edges =
     edges.left ++ codes "," ++ edges.bottom ++ codes "," ++ edges.right ++ codes "," ++ edges.top
 
-abbrev pub or_box_fault : (extract : ℕ) → Result BoundingBox BoxFault → OrFault AreaSpec
+abbrev pub or_box_fault : (extract : ℕ) → Result BoundingBox BoxFault → OrFault AreaMember
 or_box_fault extract (Ok bounds) = Ok (in_box bounds)
 or_box_fault extract (Err wrong) = fault extract (codes "bbox") (reason.BadBox wrong)
 
 -- the box that `--box=left,bottom,right,top` is
-abbrev pub box_in : (extract : ℕ) → Json → OrFault AreaSpec
+abbrev pub box_in : (extract : ℕ) → Json → OrFault AreaMember
 box_in extract value =
     and_then (edges_in extract value) (λ edges.
     or_box_fault extract (box_of_text (with_commas edges)))
@@ -77,7 +77,7 @@ abbrev pub is_polygon_type : Option (List ℕ) → Bool
 is_polygon_type None = true
 is_polygon_type (Some name) = bytes_eq name (codes "poly") || bytes_eq name (codes "geojson")
 
-abbrev pub file_in : (extract : ℕ) → (name : List ℕ) → Json → OrFault AreaSpec
+abbrev pub file_in : (extract : ℕ) → (name : List ℕ) → Json → OrFault AreaMember
 file_in extract name value =
     and_then (judge_object extract name kind.File value) (λ _.
     and_then (file_name_in extract (codes "file_name") value) (λ file.
@@ -85,29 +85,29 @@ file_in extract name value =
     if is_polygon_type type then Ok (in_file file)
     else fault extract (codes "file_type") reason.FileType)))
 
-abbrev pub or_polygon_fault : (extract : ℕ) → (name : List ℕ) → PolygonsOrFault → OrFault AreaSpec
+abbrev pub or_polygon_fault : (extract : ℕ) → (name : List ℕ) → PolygonsOrFault → OrFault AreaMember
 or_polygon_fault extract name (Ok polygons) = Ok (in_polygons polygons)
 or_polygon_fault extract name (Err wrong) = fault extract name (reason.BadPolygon wrong)
 
-abbrev pub polygon_in : (extract : ℕ) → Json → OrFault AreaSpec
+abbrev pub polygon_in : (extract : ℕ) → Json → OrFault AreaMember
 polygon_in extract (array items) =
     or_polygon_fault extract (codes "polygon") (polygon_coordinates (array items))
 polygon_in extract value = file_in extract (codes "polygon") value
 
-abbrev pub multi_polygon_in : (extract : ℕ) → Json → OrFault AreaSpec
+abbrev pub multi_polygon_in : (extract : ℕ) → Json → OrFault AreaMember
 multi_polygon_in extract (array items) =
     or_polygon_fault extract (codes "multipolygon") (multi_polygon_coordinates (array items))
 multi_polygon_in extract value = file_in extract (codes "multipolygon") value
 
 -- ---- exactly one of them
 
-abbrev pub area_by : (extract : ℕ) → (bbox polygon multipolygon : Option Json) → OrFault AreaSpec
+abbrev pub area_by : (extract : ℕ) → (bbox polygon multipolygon : Option Json) → OrFault AreaMember
 area_by extract (Some value) None None = box_in extract value
 area_by extract None (Some value) None = polygon_in extract value
 area_by extract None None (Some value) = multi_polygon_in extract value
 area_by extract _ _ _ = fault extract [] reason.Area
 
-abbrev pub area_in : (extract : ℕ) → Json → OrFault AreaSpec
+abbrev pub area_in : (extract : ℕ) → Json → OrFault AreaMember
 area_in extract value =
     area_by extract (get (codes "bbox") value) (get (codes "polygon") value)
     (get (codes "multipolygon") value)

@@ -6,7 +6,7 @@ use Rattle.std.specs.Str.{bytes_eq}
 use Rattle.json.specs.Json.{Json, Items, no_items, item, document}
 use Rattle.osm_config.specs.declared.fault.ConfigReason.TheVariants as reason
 use Rattle.osm_config.specs.declared.names.ConfigObject.TheVariants as kind
-use Rattle.osm_config.specs.Areas.{AreaSpec, area_in}
+use Rattle.osm_config.specs.Areas.{AreaMember, area_in}
 use Rattle.osm_config.specs.Faults.{OrFault, fault, and_then}
 use Rattle.osm_config.specs.Members.{file_name_in, judge_object, list_in, optional_string, required}
 use Rattle.osm_polygon.specs.Texts.{without_mark}
@@ -14,7 +14,7 @@ use Rattle.osm_polygon.specs.Texts.{without_mark}
 -- an extract: the name of its output file, and its area
 pub record ExtractSpec : Type 0 where
   pub output : List ℕ
-  pub area : AreaSpec
+  pub area : AreaMember
 
 -- a configuration: the folder of the outputs, if one is named, and the extracts
 pub record ConfigSpec : Type 0 where

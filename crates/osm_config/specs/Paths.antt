@@ -1,7 +1,7 @@
 -- The extracts of a configuration, with the paths of their files.
 use Rattle.std.specs.Prelude.{ℕ, List, [], map, Option, unwrap_or}
 use Rattle.std.specs.Path.{path_join, path_with_file_name}
-use Rattle.osm_config.specs.Areas.{AreaSpec, in_file}
+use Rattle.osm_config.specs.Areas.{AreaMember, in_file}
 use Rattle.osm_config.specs.Configs.{ExtractSpec, config_of_text, if_some_and_distinct}
 use Rattle.osm_config.specs.Faults.{OrFault, and_then}
 
@@ -10,7 +10,7 @@ abbrev pub folder_of_outputs : (given named : Option (List ℕ)) → List ℕ
 folder_of_outputs given named = unwrap_or given (unwrap_or named [])
 
 -- a relative file of polygons is beside the configuration's own file
-abbrev pub with_path : (config : List ℕ) → AreaSpec → AreaSpec
+abbrev pub with_path : (config : List ℕ) → AreaMember → AreaMember
 with_path config (in_file name) = in_file (path_with_file_name config name)
 with_path config area = area
 

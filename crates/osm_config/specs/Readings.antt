@@ -11,25 +11,25 @@ use Rattle.osm_config.specs.declared.fault.ConfigFault.{ConfigFault}
 use Rattle.osm_config.specs.declared.fault.ConfigStop.{ConfigStop}
 use Rattle.osm_config.specs.declared.fault.ConfigStop.TheVariants as stop
 use Rattle.osm_polygon.specs.RingPlaces.{rings_of}
-use Rattle.osm_config.specs.Areas.{AreaSpec, in_box, in_polygons, in_file}
+use Rattle.osm_config.specs.Areas.{AreaMember, in_box, in_polygons, in_file}
 use Rattle.osm_config.specs.Configs.{ConfigSpec, ExtractSpec}
 use Rattle.osm_config.specs.Faults.{FaultSpec, OrFault}
 
 abbrev pub fault_of : ConfigFault → FaultSpec
 fault_of f = record { extract = f.extract; member = string_bytes f.member; reason = f.reason }
 
-abbrev pub area_of : ConfiguredArea → AreaSpec
-area_of (InBox bounds) = in_box bounds
-area_of (InPolygons polygons) = in_polygons (map rings_of polygons.items)
-area_of (InFile name) = in_file (string_bytes name)
+abbrev pub area_member_of : ConfiguredArea → AreaMember
+area_member_of (InBox bounds) = in_box bounds
+area_member_of (InPolygons polygons) = in_polygons (map rings_of polygons.items)
+area_member_of (InFile name) = in_file (string_bytes name)
 
-abbrev pub extract_of : ConfiguredExtract → ExtractSpec
-extract_of e = record { output = string_bytes e.output; area = area_of e.area }
+abbrev pub extract_member_of : ConfiguredExtract → ExtractSpec
+extract_member_of e = record { output = string_bytes e.output; area = area_member_of e.area }
 
 abbrev pub config_of : Config → ConfigSpec
 config_of c = record {
   directory = option_map string_bytes c.directory;
-  extracts = map extract_of c.extracts.items;
+  extracts = map extract_member_of c.extracts.items;
 }
 
 -- what was read is what the text has, or its fault, or memory was refused

@@ -4,9 +4,9 @@ ghost use Rattle.std.specs.Prelude.{◌≡◌, IfOk, option_map};
 ghost use Rattle.std.specs.Result.{result_map_both};
 ghost use Rattle.std.specs.String.{string_bytes};
 ghost use Rattle.json.specs.Value.{value_view};
-ghost use Rattle.osm_config.specs.Areas.{area_by, area_in, box_in, edge_at, edge_in, edge_named, edges_in, edges_of_items, edges_of_members};
-ghost use Rattle.osm_config.specs.Areas.{file_in, is_polygon_type, multi_polygon_in, or_box_fault, or_polygon_fault, polygon_in, with_commas};
-ghost use Rattle.osm_config.specs.Readings.{Reads, area_of};
+ghost use Rattle.osm_config.specs.Areas.{area_in, box_in, edge_at, edge_in, edge_named, edges_in, edges_of_items, edges_of_members};
+ghost use Rattle.osm_config.specs.Areas.{file_in, is_polygon_type, multi_polygon_in, polygon_in, with_commas};
+ghost use Rattle.osm_config.specs.Readings.{Reads, area_member_of};
 ghost use Rattle.osm_config.specs.Edges.{edges_of};
 
 use crate::config::ConfiguredArea;
@@ -146,7 +146,7 @@ fn bounds_in<'v, 'a>(
     value: &'v Value<'a>,
 ) -> Result<ConfiguredArea, ConfigStop<'v>>
     ensures { Reads (box_in extract (value_view value.now))
-        (result_map_both area_of (λ e. e) result) }
+        (result_map_both area_member_of (λ e. e) result) }
 {
     let edges = edges_in(alloc, extract, value)?;
     let text = with_commas(alloc, &edges)?;
@@ -174,7 +174,7 @@ fn file_in<'v, 'a>(
     value: &'v Value<'a>,
 ) -> Result<ConfiguredArea, ConfigStop<'v>>
     ensures { Reads (file_in extract name.now (value_view value.now))
-        (result_map_both area_of (λ e. e) result) }
+        (result_map_both area_member_of (λ e. e) result) }
 {
     judge_object(alloc, extract, name, ConfigObject::File, value)?;
     let file = file_name_in(extract, "file_name", value)?;
@@ -193,7 +193,7 @@ fn polygon_in<'v, 'a>(
     value: &'v Value<'a>,
 ) -> Result<ConfiguredArea, ConfigStop<'v>>
     ensures { Reads (polygon_in extract (value_view value.now))
-        (result_map_both area_of (λ e. e) result) }
+        (result_map_both area_member_of (λ e. e) result) }
 {
     let Value::Array(_) = value else {
         return file_in(alloc, extract, "polygon", value);
@@ -216,7 +216,7 @@ fn multi_polygon_in<'v, 'a>(
     value: &'v Value<'a>,
 ) -> Result<ConfiguredArea, ConfigStop<'v>>
     ensures { Reads (multi_polygon_in extract (value_view value.now))
-        (result_map_both area_of (λ e. e) result) }
+        (result_map_both area_member_of (λ e. e) result) }
 {
     let Value::Array(_) = value else {
         return file_in(alloc, extract, "multipolygon", value);
@@ -239,7 +239,7 @@ pub(crate) fn area_in<'v, 'a>(
     value: &'v Value<'a>,
 ) -> Result<ConfiguredArea, ConfigStop<'v>>
     ensures { Reads (area_in extract (value_view value.now))
-        (result_map_both area_of (λ e. e) result) }
+        (result_map_both area_member_of (λ e. e) result) }
 {
     match (
         value.get("bbox"),

@@ -4,7 +4,7 @@ ghost use Rattle.std.specs.Prelude.{◌≡◌, [], map, option_map};
 ghost use Rattle.std.specs.Result.{result_map_both};
 ghost use Rattle.json.specs.Value.{items_view, value_view};
 ghost use Rattle.osm_config.specs.Configs.{extract_in, extracts_after, is_pbf, judge_strings, with_extract};
-ghost use Rattle.osm_config.specs.Readings.{Reads, extract_of};
+ghost use Rattle.osm_config.specs.Readings.{Reads, extract_member_of};
 
 use crate::area::area_in;
 use crate::config::ConfiguredExtract;
@@ -43,7 +43,7 @@ fn extract_in<'v, 'a>(
     value: &'v Value<'a>,
 ) -> Result<ConfiguredExtract, ConfigStop<'v>>
     ensures { Reads (extract_in extract (value_view value.now))
-        (result_map_both extract_of (λ e. e) result) }
+        (result_map_both extract_member_of (λ e. e) result) }
 {
     judge_object(alloc, extract, "", ConfigObject::Extract, value)?;
     let output = file_name_in(extract, "output", value)?;
@@ -59,8 +59,8 @@ fn with_extract<'v, 'a>(
     mut extracts: Vec<ConfiguredExtract>,
     value: &'v Value<'a>,
 ) -> Result<Vec<ConfiguredExtract>, ConfigStop<'v>>
-    ensures { Reads (with_extract (map extract_of extracts.items) (value_view value.now))
-        (result_map_both (λ extracts. map extract_of extracts.items) (λ e. e) result) }
+    ensures { Reads (with_extract (map extract_member_of extracts.items) (value_view value.now))
+        (result_map_both (λ extracts. map extract_member_of extracts.items) (λ e. e) result) }
 {
     let extract = extract_in(alloc, extracts.len() + 1, value)?;
     extracts.push(extract)?;
@@ -73,7 +73,7 @@ pub(crate) fn extracts_of<'v, 'a>(
     items: &'v Vec<Value<'a>>,
 ) -> Result<Vec<ConfiguredExtract>, ConfigStop<'v>>
     ensures { Reads (extracts_after [] (items_view items.now.items))
-        (result_map_both (λ extracts. map extract_of extracts.items) (λ e. e) result) }
+        (result_map_both (λ extracts. map extract_member_of extracts.items) (λ e. e) result) }
 {
     let mut extracts = Vec::new(alloc);
     for item in items {

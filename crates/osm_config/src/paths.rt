@@ -4,7 +4,7 @@ ghost use Rattle.std.specs.Prelude.{◌≡◌, IfOk, map, option_map, string_byt
 ghost use Rattle.std.specs.Result.{result_map_both};
 ghost use Rattle.osm_config.specs.Configs.{if_some_and_distinct};
 ghost use Rattle.osm_config.specs.Paths.{extracts_of_text, folder_of_outputs, with_path, with_paths};
-ghost use Rattle.osm_config.specs.Readings.{ReadsConfig, area_of, extract_of};
+ghost use Rattle.osm_config.specs.Readings.{ReadsConfig, area_member_of, extract_member_of};
 
 use crate::config::{Config, ConfiguredArea, ConfiguredExtract};
 use crate::fault::{ConfigError, config_error};
@@ -30,7 +30,8 @@ fn with_path(
     config: &str,
     area: ConfiguredArea,
 ) -> Result<ConfiguredArea, AllocError>
-    ensures { IfOk result (λ placed. area_of placed ≡ with_path config.now (area_of area)) }
+    ensures { IfOk result (λ placed. area_member_of placed
+        ≡ with_path config.now (area_member_of area)) }
 {
     match area {
         ConfiguredArea::InFile(name) => {
@@ -48,8 +49,8 @@ fn with_paths(
     folder: &str,
     extract: ConfiguredExtract,
 ) -> Result<ConfiguredExtract, AllocError>
-    ensures { IfOk result (λ placed. extract_of placed
-        ≡ with_paths config.now folder.now (extract_of extract)) }
+    ensures { IfOk result (λ placed. extract_member_of placed
+        ≡ with_paths config.now folder.now (extract_member_of extract)) }
 {
     let ConfiguredExtract { output, area } = extract;
     let area = with_path(alloc, config, area)?;
@@ -67,8 +68,8 @@ fn all_with_paths(
     folder: &str,
     extracts: Vec<ConfiguredExtract>,
 ) -> Result<Vec<ConfiguredExtract>, AllocError>
-    ensures { IfOk result (λ placed. map extract_of placed.items
-        ≡ map (with_paths config.now folder.now) (map extract_of extracts.items)) }
+    ensures { IfOk result (λ placed. map extract_member_of placed.items
+        ≡ map (with_paths config.now folder.now) (map extract_member_of extracts.items)) }
 {
     let mut placed = Vec::new(alloc);
     for extract in extracts {
@@ -82,8 +83,8 @@ fn distinct(
     alloc: Global,
     extracts: Vec<ConfiguredExtract>,
 ) -> Result<Vec<ConfiguredExtract>, ConfigError>
-    ensures { ReadsConfig (if_some_and_distinct (map extract_of extracts.items))
-        (result_map_both (λ extracts. map extract_of extracts.items) (λ e. e) result) }
+    ensures { ReadsConfig (if_some_and_distinct (map extract_member_of extracts.items))
+        (result_map_both (λ extracts. map extract_member_of extracts.items) (λ e. e) result) }
 {
     match if_some_and_distinct(alloc, extracts) {
         Ok(extracts) => Ok(extracts),
@@ -108,7 +109,7 @@ pub fn read_extracts(
 ) -> Result<Vec<ConfiguredExtract>, ConfigError>
     ensures { ReadsConfig
         (extracts_of_text config.now (option_map (λ s. s.now) folder.entry) text.now)
-        (result_map_both (λ extracts. map extract_of extracts.items) (λ e. e) result) }
+        (result_map_both (λ extracts. map extract_member_of extracts.items) (λ e. e) result) }
 {
     let Config {
         directory,

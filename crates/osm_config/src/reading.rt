@@ -3,10 +3,9 @@
 ghost use Rattle.std.specs.Prelude.{◌≡◌, IfOk, map, option_map};
 ghost use Rattle.std.specs.String.{string_bytes};
 ghost use Rattle.std.specs.Result.{result_map_both};
-ghost use Rattle.json.specs.Json.{document};
 ghost use Rattle.json.specs.Value.{value_view};
-ghost use Rattle.osm_config.specs.Configs.{config_in, config_of_json, config_of_text, extracts_in, if_some_and_distinct};
-ghost use Rattle.osm_config.specs.Readings.{Reads, ReadsConfig, config_of, extract_of};
+ghost use Rattle.osm_config.specs.Configs.{config_in, config_of_text, extracts_in, if_some_and_distinct};
+ghost use Rattle.osm_config.specs.Readings.{Reads, ReadsConfig, config_of, extract_member_of};
 
 use crate::config::{Config, ConfiguredExtract};
 use crate::extract::extracts_of;
@@ -23,8 +22,8 @@ pub(crate) fn if_some_and_distinct<'v>(
     alloc: Global,
     extracts: Vec<ConfiguredExtract>,
 ) -> Result<Vec<ConfiguredExtract>, ConfigStop<'v>>
-    ensures { Reads (if_some_and_distinct (map extract_of extracts.items))
-        (result_map_both (λ extracts. map extract_of extracts.items) (λ e. e) result) }
+    ensures { Reads (if_some_and_distinct (map extract_member_of extracts.items))
+        (result_map_both (λ extracts. map extract_member_of extracts.items) (λ e. e) result) }
 {
     if extracts.is_empty() {
         return Err(ConfigStop::Refused(0, "extracts", ConfigReason::Empty));
@@ -41,7 +40,7 @@ fn extracts_in<'v, 'a>(
     value: &'v Value<'a>,
 ) -> Result<Vec<ConfiguredExtract>, ConfigStop<'v>>
     ensures { Reads (extracts_in (value_view value.now))
-        (result_map_both (λ extracts. map extract_of extracts.items) (λ e. e) result) }
+        (result_map_both (λ extracts. map extract_member_of extracts.items) (λ e. e) result) }
 {
     let list = required(0, "extracts", value)?;
     let items = list_in(0, "extracts", list)?;

@@ -10,7 +10,7 @@ use Rattle.std.proofs.lemmas.Bool.Decides.{Decides-int_eq}
 use Rattle.std.proofs.lemmas.List.Folds.{list_any-append}
 use Rattle.std.proofs.lemmas.List.Sums.{sum_by-cons}
 use Rattle.osm_ids.specs.declared.links.Link.{Link}
-use Rattle.osm_ids.specs.Links.{link_cmp, Has, IsClosed, IsLeast, is_link_among, is_of, is_in, missing_parents, IsClosing, to_follow}
+use Rattle.osm_ids.specs.Links.{link_cmp, HoldsOfEach, IsClosed, IsLeast, is_link_among, is_of, is_in, missing_parents, GrowsToLeast, to_follow}
 use Rattle.osm_ids.proofs.Sets.{Ids, ids_of, contains-ids_of, insert_cases, insert_has}
 use Rattle.osm_ids.proofs.LinkOrder.{found_is, found_itself, kept_among}
 
@@ -47,11 +47,11 @@ missing_less (l ∷ links) x s here e = grind (arith, ints, set.members, or_case
 -- ---- following links
 
 -- a link whose parent is there is done
-pub follow_same : (links rest : List Link) (x : Link) (start ids : Ids) (work : List ℤ) → IsClosing links (x ∷ rest) start ids work → set.contains ids x.parent ≡ true → IsClosing links rest start ids work
+pub follow_same : (links rest : List Link) (x : Link) (start ids : Ids) (work : List ℤ) → GrowsToLeast links (x ∷ rest) start ids work → set.contains ids x.parent ≡ true → GrowsToLeast links rest start ids work
 follow_same links rest x start ids work c here = grind (arith, or_right, or_cases, found_is)
 
 -- an id that is due is added, and its links are to be followed
-add_due : (links rest : List Link) (start ids : Ids) (work : List ℤ) (p : ℤ) → IsClosing links rest start ids work → ((test : ℤ → Bool) → Has start test → IsClosed (is_link_among links) test → test p ≡ true) → IsClosing links rest start (set.insert ids p) (work ++ p ∷ [])
+add_due : (links rest : List Link) (start ids : Ids) (work : List ℤ) (p : ℤ) → GrowsToLeast links rest start ids work → ((test : ℤ → Bool) → HoldsOfEach start test → IsClosed (is_link_among links) test → test p ≡ true) → GrowsToLeast links rest start (set.insert ids p) (work ++ p ∷ [])
 add_due links rest start ids work p c due =
     record {
       holds = λ y h. insert_has ids p y (c.holds y h);
@@ -62,7 +62,7 @@ add_due links rest start ids work p c due =
     }
 
 -- a link whose parent is new
-pub follow_new : (links rest : List Link) (x : Link) (start ids : Ids) (work : List ℤ) → IsClosing links (x ∷ rest) start ids work → set.contains ids x.parent ≡ false → IsClosing links rest start (set.insert ids x.parent) (work ++ x.parent ∷ []) × (to_follow links (set.insert ids x.parent) (work ++ x.parent ∷ []) ≤ to_follow links ids work)
+pub follow_new : (links rest : List Link) (x : Link) (start ids : Ids) (work : List ℤ) → GrowsToLeast links (x ∷ rest) start ids work → set.contains ids x.parent ≡ false → GrowsToLeast links rest start (set.insert ids x.parent) (work ++ x.parent ∷ []) × (to_follow links (set.insert ids x.parent) (work ++ x.parent ∷ []) ≤ to_follow links ids work)
 follow_new links rest x start ids work c none =
     let here = c.left x (or_left (eq_by_cmp link_cmp x x) (is_link_among rest x) (found_itself x)) in (
       follow_same links rest x start _ _ (add_due links (x ∷ rest) start ids work x.parent c (λ test has closed. closed x here.0 (c.least test has closed x.member here.1))) (insert_new ids x.parent),
@@ -71,14 +71,14 @@ follow_new links rest x start ids work c none =
 
 -- ---- the work list
 
-pub closing_start : (links : List Link) (start : Ids) (work : List ℤ) → ids_of work ≡ start → IsClosing links [] start start work
+pub closing_start : (links : List Link) (start : Ids) (work : List ℤ) → ids_of work ≡ start → GrowsToLeast links [] start start work
 closing_start links start work e = grind (arith, contains-ids_of work)
 
 -- the links of the last id of the work are to be followed
-pub closing_pop : (links : List Link) (start ids : Ids) (work : List ℤ) (id : ℤ) → IsClosing links [] start ids (work ++ id ∷ []) → IsClosing links (filter (is_of id) links) start ids work
+pub closing_pop : (links : List Link) (start ids : Ids) (work : List ℤ) (id : ℤ) → GrowsToLeast links [] start ids (work ++ id ∷ []) → GrowsToLeast links (filter (is_of id) links) start ids work
 closing_pop links start ids work id c = grind (arith, push_has work id, and_parts, kept_among id links, c.known id (push_new work id), push_new work id, push_cases work id, both_ways false refl)
 
-pub closing_end : (links : List Link) (start ids : Ids) (work : List ℤ) → IsClosing links [] start ids work → work ≡ [] → IsLeast (is_link_among links) start ids
+pub closing_end : (links : List Link) (start ids : Ids) (work : List ℤ) → GrowsToLeast links [] start ids work → work ≡ [] → IsLeast (is_link_among links) start ids
 closing_end links start ids work c none = grind arith
 
 -- ---- the least set

@@ -7,9 +7,9 @@ use Rattle.std.proofs.lemmas.Bool.{cases_lt}
 use Rattle.std.proofs.lemmas.Int.{ints}
 use Rattle.std.proofs.lemmas.List.{get_or-drop, get_or-take, length-drop, length-take}
 use Rattle.osm_ids.specs.declared.page.PageIds.{PageIds}
-use Rattle.osm_ids.specs.Index.{HasPage, first_of, ArePassed, IsRead}
+use Rattle.osm_ids.specs.Index.{HasPage, first_of, ArePagesUpTo, IsPageRead}
 use Rattle.osm_ids.specs.Pages.{IsRising, rising}
-use Rattle.osm_ids.specs.Windows.{IsKept, IsPageOf, held, first_held, last_held}
+use Rattle.osm_ids.specs.Windows.{IsTruePage, IsPageOf, held, first_held, last_held}
 use Rattle.osm_ids.proofs.Sets.{Ids, contains-ids_of}
 use Rattle.osm_ids.proofs.Rising.{rising_rises, ids_of-rising}
 use Rattle.osm_ids.proofs.Places.{far, at_most, all_between, any_between, any_at, any_up, any_part, rising_part, last_most, last_there}
@@ -18,7 +18,7 @@ use Rattle.osm_ids.proofs.Places.{far, at_most, all_between, any_between, any_at
 pub has_rising : (s : Ids) (id : ℤ) → set.contains s id ≡ list_any (int_eq id) (rising s)
 has_rising s id = ap (λ (t : Ids). set.contains t id) (sym (ids_of-rising s)) ∙ contains-ids_of (rising s) id
 
-module _ (s : Ids) (n : ℕ) (lt : HasPage (rising s) n) (p : PageIds) (r : IsRead (rising s) n p) where
+module _ (s : Ids) (n : ℕ) (lt : HasPage (rising s) n) (p : PageIds) (r : IsPageRead (rising s) n p) where
   abbrev all : List ℤ
   all = rising s
 
@@ -62,7 +62,7 @@ module _ (s : Ids) (n : ℕ) (lt : HasPage (rising s) n) (p : PageIds) (r : IsRe
       ∙ ap (list_any (int_eq id)) (sym r.held_is)
 
   -- it is kept of the set
-  pub is_kept : IsKept s p
+  pub is_kept : IsTruePage s p
   is_kept = record {
     rising = rises;
     within = r.within;
@@ -87,7 +87,7 @@ module _ (s : Ids) (n : ℕ) (lt : HasPage (rising s) n) (p : PageIds) (r : IsRe
   }
 
   -- and an id is looked up in it, if so many pages begin at or below
-  pub is_page_of : (id : ℤ) → ArePassed all id (n + 1) → IsPageOf s id p
+  pub is_page_of : (id : ℤ) → ArePagesUpTo all id (n + 1) → IsPageOf s id p
   is_page_of id passed =
       let same : (n + 1) - 1 ≡ n = omega arith in
       grind (arith, is_kept, rises, some, counted, within, first, answered)

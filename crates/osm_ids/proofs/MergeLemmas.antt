@@ -1,5 +1,5 @@
 -- Late ids among those of a set.
-use Rattle.std.proofs.Common.{◌≡◌, Bool, true, false, ◌||◌, List, [], ◌∷◌, Option, IfNone, Bor, Some, None, ℤ, ◌<ℤ◌, ◌≤ℤ◌, sym, subst, arith}
+use Rattle.std.proofs.Common.{◌≡◌, true, ◌||◌, List, [], ◌∷◌, Option, IfNone, Bor, Some, None, ℤ, ◌<ℤ◌, ◌≤ℤ◌, sym, subst, arith}
 use Rattle.std.specs.List.{list_any, cons_option}
 use Rattle.std.specs.Option.{option_copied}
 use Rattle.std.specs.Map.Iter.{TakesFirst, deref}
@@ -23,9 +23,6 @@ pub record Merging (all done : Ids) (late ids : List ℤ) : Type 0 where
 
 pub merging_start : (ids : Ids) (late : List ℤ) → AreLate ids late → IsRising late → Merging (with_late ids late) set.empty late (rising ids)
 merging_start ids late l h = grind (arith, ints, set.members, has_rising ids, set.contains-empty int_cmp, rising_rises ids, ids_of-rising ids)
-
-or_later : (a b : Bool) → (a || b) ≡ false → b ≡ false
-or_later a b h2 = grind arith
 
 -- the first of the others is below the late ones
 pub merging_id : (all done : Ids) (late ids : List ℤ) (id : ℤ) → Merging all done late (id ∷ ids) → Rises id late → Merging all (set.insert done id) late ids

@@ -7,13 +7,13 @@ use Rattle.std.proofs.lemmas.Bool.{or_cases}
 use Rattle.std.proofs.lemmas.Int.{ints}
 use Rattle.osm_ids.specs.declared.page.PageIds.{PageIds}
 use Rattle.osm_ids.specs.Order.{IsAbove, IsReached, AreLate}
-use Rattle.osm_ids.specs.Windows.{IsKept}
+use Rattle.osm_ids.specs.Windows.{IsTruePage}
 use Rattle.osm_ids.proofs.Sets.{Ids, insert_has}
 use Rattle.osm_ids.proofs.Rising.{other_above}
 use Rattle.osm_ids.proofs.OrderLemmas.{with_late, contains-with_late, known_laid}
 
 -- a greater id leaves true what a page says
-pub kept_insert : (ids : Ids) (id : ℤ) (page : PageIds) → IsAbove ids id → IsKept ids page → IsKept (set.insert ids id) page
+pub kept_insert : (ids : Ids) (id : ℤ) (page : PageIds) → IsAbove ids id → IsTruePage ids page → IsTruePage (set.insert ids id) page
 kept_insert ids id page up k =
     record {
       rising = k.rising;

@@ -9,7 +9,7 @@ use Rattle.std.proofs.lemmas.Int.{ints}
 use Rattle.osm_ids.specs.declared.page.Known.{Known}
 use Rattle.osm_ids.specs.declared.page.PageIds.{PageIds}
 use Rattle.osm_ids.specs.Pages.{IsRising}
-use Rattle.osm_ids.specs.Windows.{IsKept, IsKnown, IsBegun, IsPlaced, IsRun, held, first_held}
+use Rattle.osm_ids.specs.Windows.{IsTruePage, IsTrueSpan, BeginsUpTo, IsPlaceAmong, IsRunOfIds, held, first_held}
 use Rattle.osm_ids.proofs.Sets.{Ids}
 use Rattle.osm_ids.proofs.Places.{at_most, any_between, all_between}
 
@@ -30,20 +30,20 @@ first_is : (page : PageIds) → 0 < length (held page) → get_or (held page) 0 
 first_is page some = get_or-take page.count page.ids 0 (pos 0) (omega (arith, some, length-take page.count page.ids))
 
 -- the ids between two of a page, or after its last
-pub gap_known : (ids : Ids) (page : PageIds) (at : ℕ) (top : ℤ) → IsKept ids page → 0 < at → at ≤ length (held page) → top ≤ℤ page.below → (at < length (held page) → top ≤ℤ get_or (held page) at (pos 0)) → (x : ℤ) → get_or (held page) (at - 1) (pos 0) <ℤ x → x <ℤ top → set.contains ids x ≡ false
+pub gap_known : (ids : Ids) (page : PageIds) (at : ℕ) (top : ℤ) → IsTruePage ids page → 0 < at → at ≤ length (held page) → top ≤ℤ page.below → (at < length (held page) → top ≤ℤ get_or (held page) at (pos 0)) → (x : ℤ) → get_or (held page) (at - 1) (pos 0) <ℤ x → x <ℤ top → set.contains ids x ≡ false
 gap_known ids page at top k some le below next x low high = grind (arith, ints, at_most (held page) 0 (at - 1) (pos 0) k.rising (omega arith) (omega (arith, some, le)), first_is page (omega (arith, some, le)), none_at (held page))
 
 -- and those of a run
-pub run_known : (ids : Ids) (page : PageIds) (at to : ℕ) → IsKept ids page → at ≤ to → to < length (held page) → IsRun (held page) at to → (x : ℤ) → get_or (held page) at (pos 0) ≤ℤ x → x ≤ℤ get_or (held page) to (pos 0) → set.contains ids x ≡ true
+pub run_known : (ids : Ids) (page : PageIds) (at to : ℕ) → IsTruePage ids page → at ≤ to → to < length (held page) → IsRunOfIds (held page) at to → (x : ℤ) → get_or (held page) at (pos 0) ≤ℤ x → x ≤ℤ get_or (held page) to (pos 0) → set.contains ids x ≡ true
 run_known ids page at to k high lt run x above below =
     let up = at_most (held page) at to (pos 0) k.rising high lt in
     k.inside x (all_between (held page) at to x (pos 0) k.rising high lt (omega (arith, ints, up, run, high)) above below)
 
 -- ---- the place of an id that is not below the first
 
-module _ (page : PageIds) (id seen : ℤ) (at : ℕ) (e : seen ≡ id) (b : IsBegun page id) (q : IsPlaced (held page) seen at) (other : at < length (held page) → get_or (held page) at (pos 0) ≡ id → ⊥) where
-  p : IsPlaced (held page) id at
-  p = subst (λ z. IsPlaced (held page) z at) e q
+module _ (page : PageIds) (id seen : ℤ) (at : ℕ) (e : seen ≡ id) (b : BeginsUpTo page id) (q : IsPlaceAmong (held page) seen at) (other : at < length (held page) → get_or (held page) at (pos 0) ≡ id → ⊥) where
+  p : IsPlaceAmong (held page) id at
+  p = subst (λ z. IsPlaceAmong (held page) z at) e q
 
   apart : at < length (held page) → id <ℤ get_or (held page) at (pos 0)
   apart lt = grind (arith, ints, p.ahead lt, other lt)
@@ -58,5 +58,5 @@ module _ (page : PageIds) (id seen : ℤ) (at : ℕ) (e : seen ≡ id) (b : IsBe
 
 -- ---- the ids between two numbers
 
-pub told_known : (ids : Ids) (known : Known) (there : Bool) (above below above' below' : ℤ) → known ≡ record { span = record { above = above'; below = below' }; there = there } → above' ≡ above → below' ≡ below → ((x : ℤ) → above <ℤ x → x <ℤ below → set.contains ids x ≡ there) → IsKnown ids known
+pub told_known : (ids : Ids) (known : Known) (there : Bool) (above below above' below' : ℤ) → known ≡ record { span = record { above = above'; below = below' }; there = there } → above' ≡ above → below' ≡ below → ((x : ℤ) → above <ℤ x → x <ℤ below → set.contains ids x ≡ there) → IsTrueSpan ids known
 told_known ids known there above below above' below' e low high known_is = grind arith

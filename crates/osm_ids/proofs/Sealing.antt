@@ -20,7 +20,7 @@ use Rattle.pbf_wire.proofs.Spellings.{spelling_is_read}
 use Rattle.pbf_wire.proofs.WritingLemmas.{shortest_positive}
 use Rattle.pbf_wire.proofs.PackedLemmas.{column_read, packed_push}
 use Rattle.osm_ids.specs.declared.index.PageStart.{PageStart}
-use Rattle.osm_ids.specs.Index.{ArePassed, HasPage, first_of, page_at, set_in}
+use Rattle.osm_ids.specs.Index.{ArePagesUpTo, HasPage, first_of, page_at, set_in}
 use Rattle.osm_ids.specs.Order.{IsAbove, IsReached}
 use Rattle.osm_ids.specs.Pages.{gap, gaps, Page, page_ids, page_bytes, pages_past, pages_of, ids_of_pages, bytes_of_pages, starts_from, HasFullPages, Rises, IsRising, AllFit, raised, ids_in, IsSealed, rising}
 use Rattle.osm_ids.proofs.Sets.{Ids, ids_of, contains-ids_of}
@@ -302,7 +302,7 @@ module _ (index : List PageStart) (bytes : List ℕ) (ids : List ℤ) (s : IsSea
   pub parted_index : (id : ℤ) → IsPartitionedBy (λ (a : PageStart). int_le a.first id) index
   parted_index id i j d le lt there = grind (arith, ints, at_most ids (128 * i) (128 * j) (pos 0) s.rising (omega (arith, le)) (omega (arith, page_count, lt)), first_is i d (omega (arith, le, lt)), first_is j d lt, there)
 
-  pub passed_at : (id : ℤ) (n : ℕ) → n ≤ length index → IsPartitionPoint (λ (a : PageStart). int_le a.first id ≡ true) (λ (a : PageStart). int_le a.first id ≡ false) index n → ArePassed ids id n
+  pub passed_at : (id : ℤ) (n : ℕ) → n ≤ length index → IsPartitionPoint (λ (a : PageStart). int_le a.first id ≡ true) (λ (a : PageStart). int_le a.first id ≡ false) index n → ArePagesUpTo ids id n
   passed_at id n le point = grind (arith, page_count, first_is (n - 1) (record { first = pos 0; place = 0 }), first_is n (record { first = pos 0; place = 0 }), begun n)
 
   -- one more id, above all others

@@ -1,5 +1,5 @@
 -- The keys of an ordered set as a finite set.
-use Rattle.std.proofs.Common.{◌≡◌, true, ◌||◌, ◌⊎◌, ℕ, zero, suc, List, [], ◌∷◌, ℤ, ◌≤ℤ◌, refl, sym, ◌∙◌, arith, Ordering}
+use Rattle.std.proofs.Common.{◌≡◌, true, ◌||◌, ◌⊎◌, ℕ, zero, suc, List, [], ◌∷◌, ℤ, refl, sym, ◌∙◌, arith, Ordering}
 use Rattle.std.specs.List.{list_any, AllByRecursion}
 use Rattle.std.proofs.Math.ListN.{set as set_at}
 use Rattle.std.specs.Ordering.{int_eq, int_cmp, eq_by_cmp}
@@ -44,7 +44,3 @@ insert_cases s p x h = grind (arith, or_cases (int_eq x p) (set.contains s x) (s
 
 pub insert_has : (s : Ids) (p x : ℤ) → set.contains s x ≡ true → set.contains (set.insert s p) x ≡ true
 insert_has s p x h = set.contains-insert int_cmp_total s p x ∙ or_right (int_eq x p) (set.contains s x) h
-
--- two numbers of which neither is below the other
-pub between : (a b : ℤ) → a ≤ℤ b → b ≤ℤ a → a ≡ b
-between a b h k = omega (arith, ints)

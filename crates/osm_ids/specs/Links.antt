@@ -18,8 +18,8 @@ link_code = code_by (ℤ × ℤ) (coded× coded_ℤ coded_ℤ) (λ l. (l.member,
 -- ---- the least set
 
 -- the test holds of each id of the set
-abbrev pub Has : set.FinSet int_cmp → (ℤ → Bool) → Type 0
-Has ids test = (id : ℤ) → set.contains ids id ≡ true → test id ≡ true
+abbrev pub HoldsOfEach : set.FinSet int_cmp → (ℤ → Bool) → Type 0
+HoldsOfEach ids test = (id : ℤ) → set.contains ids id ≡ true → test id ≡ true
 
 -- of each of the links: if the test holds of the member it holds of the parent
 abbrev pub IsClosed : (Link → Bool) → (ℤ → Bool) → Type 0
@@ -27,9 +27,9 @@ IsClosed is_link test = (l : Link) → is_link l ≡ true → test l.member ≡ 
 
 -- the least set that holds the start and the parent of each link whose member it holds
 pub record IsLeast (is_link : Link → Bool) (start ids : set.FinSet int_cmp) : Type 0 where
-  pub holds : Has start (set.contains ids)
+  pub holds : HoldsOfEach start (set.contains ids)
   pub closed : IsClosed is_link (set.contains ids)
-  pub least : (test : ℤ → Bool) → Has start test → IsClosed is_link test → Has ids test
+  pub least : (test : ℤ → Bool) → HoldsOfEach start test → IsClosed is_link test → HoldsOfEach ids test
 
 -- ---- following the links of one id
 
@@ -49,20 +49,20 @@ abbrev pub missing_parents : List Link → set.FinSet int_cmp → ℕ
 missing_parents links ids = count_by (λ (l : Link). not (set.contains ids l.parent)) links
 
 -- a set grows towards the least one: the work has ids whose links are still to be followed, and of one more id these links are
-pub record IsClosing (links rest : List Link) (start ids : set.FinSet int_cmp) (work : List ℤ) : Type 0 where
-  pub holds : Has start (set.contains ids)
+pub record GrowsToLeast (links rest : List Link) (start ids : set.FinSet int_cmp) (work : List ℤ) : Type 0 where
+  pub holds : HoldsOfEach start (set.contains ids)
   pub known : (x : ℤ) → is_in work x ≡ true → set.contains ids x ≡ true
   pub left : (l : Link) → is_link_among rest l ≡ true → (is_link_among links l ≡ true) × (set.contains ids l.member ≡ true)
   pub done : (l : Link) → is_link_among links l ≡ true → set.contains ids l.member ≡ true → (is_in work l.member ≡ true) ⊎ ((set.contains ids l.parent ≡ true) ⊎ (is_link_among rest l ≡ true))
-  pub least : (test : ℤ → Bool) → Has start test → IsClosed (is_link_among links) test → Has ids test
+  pub least : (test : ℤ → Bool) → HoldsOfEach start test → IsClosed (is_link_among links) test → HoldsOfEach ids test
 
 -- a measure of what is to be done
 abbrev pub to_follow : List Link → set.FinSet int_cmp → List ℤ → ℕ
 to_follow links ids work = 2 * missing_parents links ids + length work
 
 -- of one id these links were followed, and these are left
-abbrev pub Follows : List Link → List Link → List Link → set.FinSet int_cmp → List ℤ → set.FinSet int_cmp → List ℤ → Type 0
-Follows links all rest old old_work new new_work = (start : set.FinSet int_cmp) → IsClosing links all start old old_work → IsClosing links rest start new new_work × (to_follow links new new_work ≤ to_follow links old old_work)
+abbrev pub FollowsLinks : List Link → List Link → List Link → set.FinSet int_cmp → List ℤ → set.FinSet int_cmp → List ℤ → Type 0
+FollowsLinks links all rest old old_work new new_work = (start : set.FinSet int_cmp) → GrowsToLeast links all start old old_work → GrowsToLeast links rest start new new_work × (to_follow links new new_work ≤ to_follow links old old_work)
 
 -- the parents are numbers of 64 bits
 abbrev pub ParentsFit : List Link → Type 0

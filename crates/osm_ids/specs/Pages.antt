@@ -96,7 +96,7 @@ pub record IsSealed (index : List PageStart) (bytes : List ℕ) (ids : List ℤ)
   pub fits : AllFit ids
 
 -- these numbers are how far apart the ids are that are still to come after those of a page
-pub record Reads (all held : List ℤ) (left : List ℕ) : Type 0 where
+pub record ReadsPage (all held : List ℤ) (left : List ℕ) : Type 0 where
   pub fits : AllFit (raised (last_from (pos 0) held) left)
   pub whole : all ≡ held ++ raised (last_from (pos 0) held) left
 

@@ -15,12 +15,12 @@ use Rattle.osm_ids.specs.Pages.{IsRising}
 -- ---- a span of ids
 
 -- of the ids of a span, a set has all, or none
-abbrev pub IsKnown : set.FinSet int_cmp → Known → Type 0
-IsKnown ids known = (id : ℤ) → known.span.above <ℤ id → id <ℤ known.span.below → set.contains ids id ≡ known.there
+abbrev pub IsTrueSpan : set.FinSet int_cmp → Known → Type 0
+IsTrueSpan ids known = (id : ℤ) → known.span.above <ℤ id → id <ℤ known.span.below → set.contains ids id ≡ known.there
 
 -- and so it is with this id
-pub record Tells (ids : set.FinSet int_cmp) (id : ℤ) (told : Known) : Type 0 where
-  pub known : IsKnown ids told
+pub record TellsOfId (ids : set.FinSet int_cmp) (id : ℤ) (told : Known) : Type 0 where
+  pub known : IsTrueSpan ids told
   pub there : set.contains ids id ≡ told.there
 
 -- a set has none of these ids
@@ -45,7 +45,7 @@ abbrev pub last_held : PageIds → ℤ
 last_held page = last_from (pos 0) (held page)
 
 -- these are ids of the set, and it has no others from the first of them up to `below`, to which it reaches
-pub record IsKept (ids : set.FinSet int_cmp) (page : PageIds) : Type 0 where
+pub record IsTruePage (ids : set.FinSet int_cmp) (page : PageIds) : Type 0 where
   pub rising : IsRising (held page)
   pub within : page.count ≤ 128
   pub some : first_held page <ℤ page.below → 0 < page.count
@@ -55,7 +55,7 @@ pub record IsKept (ids : set.FinSet int_cmp) (page : PageIds) : Type 0 where
   pub reached : (id : ℤ) → first_held page ≤ℤ id → id <ℤ page.below → IsReached ids id
 
 -- the page has ids, and the first of them isn't above this one
-pub record IsBegun (page : PageIds) (id : ℤ) : Type 0 where
+pub record BeginsUpTo (page : PageIds) (id : ℤ) : Type 0 where
   pub rising : IsRising (held page)
   pub some : 0 < page.count
   pub within : page.count ≤ 128
@@ -63,29 +63,29 @@ pub record IsBegun (page : PageIds) (id : ℤ) : Type 0 where
 
 -- the id is looked up among those of this page
 pub record IsPageOf (ids : set.FinSet int_cmp) (id : ℤ) (page : PageIds) : Type 0 where
-  pub kept : IsKept ids page
-  pub begun : IsBegun page id
+  pub kept : IsTruePage ids page
+  pub begun : BeginsUpTo page id
   pub answer : set.contains ids id ≡ list_any (int_eq id) (held page)
 
 -- so many of the ids are below this one
-pub record IsPlaced (ids : List ℤ) (id : ℤ) (at : ℕ) : Type 0 where
+pub record IsPlaceAmong (ids : List ℤ) (id : ℤ) (at : ℕ) : Type 0 where
   pub within : at ≤ length ids
   pub behind : 0 < at → get_or ids (at - 1) (pos 0) <ℤ id
   pub ahead : at < length ids → id ≤ℤ get_or ids at (pos 0)
 
 -- the number after another, or the same
-pub record IsNext (number next : ℤ) : Type 0 where
+pub record IsSameOrNext (number next : ℤ) : Type 0 where
   pub low : number ≤ℤ next
   pub high : next ≤ℤ (number +ℤ pos 1)
 
 -- between two places of a list lie as many steps as numbers
-abbrev pub IsRun : List ℤ → ℕ → ℕ → Type 0
-IsRun ids from to = nat_abs (get_or ids to (pos 0) -ℤ get_or ids from (pos 0)) ≡ to - from
+abbrev pub IsRunOfIds : List ℤ → ℕ → ℕ → Type 0
+IsRunOfIds ids from to = nat_abs (get_or ids to (pos 0) -ℤ get_or ids from (pos 0)) ≡ to - from
 
 -- ---- a window
 
 -- all that it holds is true of the set
 pub record IsOf (ids : set.FinSet int_cmp) (window : Window) : Type 0 where
-  pub pages : AllByRecursion (IsKept ids) window.pages
+  pub pages : AllByRecursion (IsTruePage ids) window.pages
   pub next : window.next < 8
-  pub known : IsKnown ids window.known
+  pub known : IsTrueSpan ids window.known

@@ -5,8 +5,8 @@ ghost use Rattle.std.specs.List.{list_any};
 ghost use Rattle.std.specs.Ordering.{int_eq, int_cmp};
 ghost use Rattle.std.specs.FinSet as set;
 ghost use Rattle.pbf_wire.specs.Packed.{numbers_of};
-ghost use Rattle.osm_ids.specs.Pages.{AllFit, IsRising, Reads, raised};
-ghost use Rattle.osm_ids.specs.Windows.{IsBegun, IsKept, IsKnown, IsNext, IsPlaced, IsRun, Tells, held, first_held, last_held};
+ghost use Rattle.osm_ids.specs.Pages.{AllFit, IsRising, ReadsPage, raised};
+ghost use Rattle.osm_ids.specs.Windows.{BeginsUpTo, IsTruePage, IsTrueSpan, IsSameOrNext, IsPlaceAmong, IsRunOfIds, TellsOfId, held, first_held, last_held};
 
 use crate::pages::SealedIds;
 use pbf_wire::{Column, Span};
@@ -40,7 +40,7 @@ pub(crate) struct PageIds {
 impl PageIds {
     /// No ids of whatever set.
     pub(crate) fn new() -> PageIds
-        ensures kept { (ids : set.FinSet int_cmp) → IsKept ids result }
+        ensures kept { (ids : set.FinSet int_cmp) → IsTruePage ids result }
         ensures none { result.count ≡ 0 }
         ensures empty { held result ≡ [] }
     {
@@ -61,9 +61,9 @@ impl PageIds {
     /// Whether a set has the id, and ids round it of which the same holds. If these ids aren't near, the page that it is in is read.
     #[inline(always)]
     pub(crate) fn find(&mut self, ids: &SealedIds, id: i64) -> Known
-        requires { IsKept ids.now self.old }
-        ensures kept { IsKept ids.now self.new }
-        ensures told { Tells ids.now id result }
+        requires { IsTruePage ids.now self.old }
+        ensures kept { IsTruePage ids.now self.new }
+        ensures told { TellsOfId ids.now id result }
     {
         if !self.covers(id) {
             if let Some(known) = ids.look(id, self) {
@@ -79,7 +79,7 @@ impl PageIds {
         ensures count { (0 < self.new.count) × (self.new.count ≤ 128) }
         ensures ids { AllFit (raised first (take 127 (numbers_of bytes.now)))
             → held self.new ≡ first ∷ raised first (take 127 (numbers_of bytes.now)) }
-        ensures below { IsNext (last_held self.new) self.new.below }
+        ensures below { IsSameOrNext (last_held self.new) self.new.below }
     {
         let mut gaps = Column::packed(bytes);
         self.ids[0] = first;
@@ -103,7 +103,8 @@ impl PageIds {
         requires within { self.old.count + length gaps.now ≤ 128 }
         ensures count { self.new.count ≡ self.old.count + length gaps.now }
         ensures ids { (all : List ℤ) (more : List ℕ)
-            → Reads all (held self.old) (gaps.now ++ more) → Reads all (held self.new) more }
+            → ReadsPage all (held self.old) (gaps.now ++ more)
+            → ReadsPage all (held self.new) more }
     {
         let mut last = self.ids[self.count - 1];
         let mut count = self.count;
@@ -117,9 +118,10 @@ impl PageIds {
 
     /// Whether an id that isn't below the first is one of these, and ids from it on, or round it, of which the same holds.
     fn round(&self, id: i64) -> Known
-        requires { IsBegun self.now id }
+        requires { BeginsUpTo self.now id }
         ensures there { result.there ≡ list_any (int_eq id) (held self.now) }
-        ensures known { (ids : set.FinSet int_cmp) → IsKept ids self.now → IsKnown ids result }
+        ensures known { (ids : set.FinSet int_cmp) → IsTruePage ids self.now
+            → IsTrueSpan ids result }
     {
         let ids = &self.ids[..self.count];
         let at = place_of(ids, id);
@@ -137,7 +139,7 @@ impl PageIds {
 /// How many of rising ids are below an id.
 fn place_of(ids: &[i64], id: i64) -> usize
     requires { IsRising ids.now }
-    ensures { IsPlaced ids.now id result }
+    ensures { IsPlaceAmong ids.now id result }
 {
     ids.partition_point(|other| is_below(other, id))
 }
@@ -162,7 +164,7 @@ fn before(number: i64) -> i64
 
 /// The number after another, if there is one.
 fn after(number: i64) -> i64
-    ensures { IsNext number result }
+    ensures { IsSameOrNext number result }
 {
     if number == i64::MAX {
         number
@@ -175,7 +177,7 @@ fn after(number: i64) -> i64
 fn run_after(ids: &[i64], at: usize) -> usize
     requires { at < length ids.now }
     ensures high { (at ≤ result) × (result < length ids.now) }
-    ensures run { IsRun ids.now at result }
+    ensures run { IsRunOfIds ids.now at result }
 {
     let mut to = at;
     let mut step = 8;

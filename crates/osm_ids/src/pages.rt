@@ -4,9 +4,9 @@ ghost use Rattle.std.specs.Prelude.{◌≡◌, ◌<◌, length, List, ℤ, true,
 ghost use Rattle.std.specs.Int.{div_ceil};
 ghost use Rattle.std.specs.FinSet as set;
 ghost use Rattle.osm_ids.specs.Pages.{IsRising, pages_of, bytes_of_pages, rising};
-ghost use Rattle.osm_ids.specs.Index.{HasPage, ArePassed, IsRead};
+ghost use Rattle.osm_ids.specs.Index.{HasPage, ArePagesUpTo, IsPageRead};
 ghost use Rattle.osm_ids.specs.Order.{IsAbove, IsReached};
-ghost use Rattle.osm_ids.specs.Windows.{IsPageOf, Tells};
+ghost use Rattle.osm_ids.specs.Windows.{IsPageOf, TellsOfId};
 
 use crate::index::{PAGE, PageStart, begins_up_to, bytes_from, first_id};
 use crate::page::{Known, PageIds, told};
@@ -118,7 +118,8 @@ impl SealedIds {
     /// It is a call, which few look-ups take.
     #[inline(never)]
     pub(crate) fn look(&self, id: i64, page: &mut PageIds) -> Option<Known>
-        ensures some { IfSome result (λ known. Tells self.now id known × (page.new ≡ page.old)) }
+        ensures some { IfSome result (λ known. TellsOfId self.now id known
+            × (page.new ≡ page.old)) }
         ensures none { IfNone result (IsPageOf self.now id page.new) }
     {
         if self.last < id {
@@ -137,7 +138,7 @@ impl SealedIds {
 
     /// How many pages begin at or below the id.
     fn begun(&self, id: i64) -> usize
-        ensures { ArePassed (rising self.now) id result }
+        ensures { ArePagesUpTo (rising self.now) id result }
     {
         self.index.partition_point(|start| begins_up_to(start, id))
     }
@@ -146,8 +147,8 @@ impl SealedIds {
     /// all between. None is read then.
     fn whole(&self, begun: usize) -> Option<Known>
         requires { 0 < begun }
-        ensures { (id : ℤ) → ArePassed (rising self.now) id begun
-            → IfSome result (λ known. Tells self.now id known) }
+        ensures { (id : ℤ) → ArePagesUpTo (rising self.now) id begun
+            → IfSome result (λ known. TellsOfId self.now id known) }
     {
         let next = self.index.get(begun)?;
         let first = self.index[begun - 1].first;
@@ -160,7 +161,7 @@ impl SealedIds {
     /// Reads the ids of a page.
     pub(crate) fn read(&self, page: usize, ids: &mut PageIds)
         requires { HasPage (rising self.now) page }
-        ensures { IsRead (rising self.now) page ids.new }
+        ensures { IsPageRead (rising self.now) page ids.new }
     {
         let start = self.index[page];
         ids.read(start.first, bytes_from(&self.bytes, start.place));

@@ -29,7 +29,7 @@ impl Model for IdSet {
     ghost use Rattle.std.specs.Coded.{coded_ℤ};
     ghost use Rattle.std.specs.FinSet as set;
     ghost use Rattle.osm_ids.specs.Order.{AreLate};
-    ghost use Rattle.osm_ids.specs.Windows.{IsKept};
+    ghost use Rattle.osm_ids.specs.Windows.{IsTruePage};
 
     ghost Value = { set.FinSet int_cmp };
 
@@ -37,7 +37,7 @@ impl Model for IdSet {
 
     ghost view = { λ a. set.union a.pages (set.from_list a.late.keys) };
 
-    ghost invariant = { λ a. AreLate a.pages a.late.keys × IsKept a.pages a.here };
+    ghost invariant = { λ a. AreLate a.pages a.late.keys × IsTruePage a.pages a.here };
 }
 
 impl IdSet {

@@ -3,7 +3,7 @@
 ghost use Rattle.std.specs.Prelude.{◌≡◌, ◌<◌};
 ghost use Rattle.std.specs.FinSet as set;
 ghost use Rattle.std.specs.Ordering.{int_cmp};
-ghost use Rattle.osm_ids.specs.Windows.{HasAll, IsOf, Lacks, Tells};
+ghost use Rattle.osm_ids.specs.Windows.{HasAll, IsOf, Lacks, TellsOfId};
 
 use crate::page::{Known, PageIds};
 use crate::pages::SealedIds;
@@ -92,7 +92,7 @@ impl Window {
     fn find(&mut self, ids: &SealedIds, id: i64)
         requires { IsOf ids.now self.old }
         ensures of { IsOf ids.now self.new }
-        ensures told { Tells ids.now id self.new.known }
+        ensures told { TellsOfId ids.now id self.new.known }
     {
         let at = place_for(&self.pages, self.next, id);
         self.known = self.pages[at].find(ids, id);

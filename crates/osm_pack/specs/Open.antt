@@ -41,14 +41,14 @@ pub record IsJoining (joining : Joining) (e : EntitySpec) : Type 0 where
   pub weight : joining.weight ≡ entity_weight e
 
 -- one more entity may join it
-abbrev pub Joins : {S H : Type 0} → OpenBlock S H → EntitySpec → Type 0
-Joins b e = (es : List EntitySpec) → Holds b es → is_block (es ++ e ∷ []) ≡ true
+abbrev pub JoinsBlock : {S H : Type 0} → OpenBlock S H → EntitySpec → Type 0
+JoinsBlock b e = (es : List EntitySpec) → Holds b es → is_block (es ++ e ∷ []) ≡ true
 
 -- the block is open, and the entity, which is in its ranges, may join it
 pub record MayAdd {S H : Type 0} (b : OpenBlock S H) (e : EntitySpec) : Type 0 where
   pub «open» : IsOpen b
   pub fits : EntityFits e
-  pub joins : Joins b e
+  pub joins : JoinsBlock b e
 
 -- the message of an entity with these texts is made in the writer, and nothing else is done
 pub record Makes {S H : Type 0} (old new : OpenBlock S H) (used : List (List ℕ)) : Type 0 where

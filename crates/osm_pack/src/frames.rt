@@ -12,7 +12,7 @@ ghost use Rattle.osm_pack.specs.Open.{Holds, IsOpen, IsJoining};
 ghost use Rattle.osm_pack.specs.Likenesses.{IsLikeNode};
 ghost use Rattle.pbf_dense.specs.Cursors.{dense_left};
 ghost use Rattle.pbf_frame.specs.declared.stop.Stop.TheVariants.{Memory};
-ghost use Rattle.osm_pack.specs.Pushing.{MakesRoom, Writes};
+ghost use Rattle.osm_pack.specs.Pushing.{MakesRoom, WritesOrStops};
 ghost use Rattle.osm_pack.specs.View.{entity_shown};
 ghost use Rattle.osm_pack.specs.Stops.{UsesDrain};
 ghost use Rattle.pbf_header.specs.declared.write.TheConstants.{MOST_HEADER_TEXT};
@@ -34,7 +34,7 @@ pub(crate) fn close_into<D: Drain, S: BuildHasher>(
 ) -> Result<(), Stop>
     requires { IsOpen block.old }
     ensures writes { (es : List EntitySpec) → Holds block.old es
-        → Writes D.Drain (block_frame es) drain.old drain.new result }
+        → WritesOrStops D.Drain (block_frame es) drain.old drain.new result }
     ensures empty { OnOk result (Holds block.new []) }
     ensures drain { UsesDrain D.Drain drain.old drain.new result }
 {
@@ -107,7 +107,7 @@ pub(crate) fn push_into<D: Drain, S: BuildHasher>(
     ensures pending { (es : List EntitySpec) → Holds block.old es
         → OnOk result (Holds block.new (then_pending es (entity_shown weighed.entry.entity))) }
     ensures writes { (es : List EntitySpec) → Holds block.old es
-        → Writes D.Drain (then_written es (entity_shown weighed.entry.entity))
+        → WritesOrStops D.Drain (then_written es (entity_shown weighed.entry.entity))
         drain.old drain.new result }
     ensures drain { UsesDrain D.Drain drain.old drain.new result }
 {
@@ -156,7 +156,7 @@ pub(crate) fn put_header_into<D: Drain>(
 ) -> Result<(), Stop>
     requires { text_weight (header_of header.now).source + text_weight (header_of header.now).url
         ≤ MOST_HEADER_TEXT }
-    ensures writes { Writes D.Drain (header_frame (header_of header.now))
+    ensures writes { WritesOrStops D.Drain (header_frame (header_of header.now))
         drain.old drain.new result }
     ensures drain { UsesDrain D.Drain drain.old drain.new result }
 {
@@ -174,7 +174,7 @@ pub(crate) fn finish_into<D: Drain, S: BuildHasher>(
 ) -> Result<(), Stop>
     requires { IsOpen block.old }
     ensures writes { (es : List EntitySpec) → Holds block.old es
-        → Writes D.Drain (at_end es) drain.old drain.new result }
+        → WritesOrStops D.Drain (at_end es) drain.old drain.new result }
     ensures open { OnOk result (IsOpen block.new) }
     ensures empty { OnOk result (Holds block.new []) }
     ensures drain { UsesDrain D.Drain drain.old drain.new result }

@@ -13,7 +13,7 @@ use Rattle.osm_box.specs.BoundingBox.{is_inside}
 use Rattle.osm_polygon.specs.Earth.{is_on_earth}
 use Rattle.osm_polygon.specs.Polygon.{PolygonSpec, is_in_polygon}
 use Rattle.osm_polygon.specs.declared.groups.Cluster.{Cluster}
-use Rattle.osm_polygon.specs.Polygons.{box_of, is_in_any, joined}
+use Rattle.osm_polygon.specs.Polygons.{box_of, is_in_any, box_of_both}
 use Rattle.osm_polygon.specs.Groups.{is_in_clusters, clusters_area}
 
 -- ---- boxes
@@ -34,7 +34,7 @@ both : {a b : Bool} → a ≡ true → b ≡ true → (a && b) ≡ true
 both e f = rw (e, f) refl
 
 module _ (lat lon : ℤ) where
-  joined_first : (a b : BoundingBox) → is_inside a lat lon ≡ true → is_inside (joined a b) lat lon ≡ true
+  joined_first : (a b : BoundingBox) → is_inside a lat lon ≡ true → is_inside (box_of_both a b) lat lon ≡ true
   joined_first a b e =
       let parts = and_parts _ _ e in
       let lats = and_parts _ _ parts.0 in
@@ -42,7 +42,7 @@ module _ (lat lon : ℤ) where
       both (both (min_first a.bottom b.bottom lat lats.0) (max_first a.top b.top lat lats.1))
       (both (min_first a.left b.left lon lons.0) (max_first a.right b.right lon lons.1))
 
-  joined_second : (a b : BoundingBox) → is_inside b lat lon ≡ true → is_inside (joined a b) lat lon ≡ true
+  joined_second : (a b : BoundingBox) → is_inside b lat lon ≡ true → is_inside (box_of_both a b) lat lon ≡ true
   joined_second a b e =
       let parts = and_parts _ _ e in
       let lats = and_parts _ _ parts.0 in
@@ -51,21 +51,21 @@ module _ (lat lon : ℤ) where
       (both (min_second a.left b.left lon lons.0) (max_second a.right b.right lon lons.1))
 
   still : (area : BoundingBox) (polygons : List PolygonSpec) → is_inside area lat lon ≡ true
-      → is_inside (fold (λ area polygon. joined area polygon.bounds) area polygons) lat lon ≡ true
+      → is_inside (fold (λ area polygon. box_of_both area polygon.bounds) area polygons) lat lon ≡ true
   still area [] e = e
-  still area (p ∷ polygons) e = still (joined area p.bounds) polygons (joined_first area p.bounds e)
+  still area (p ∷ polygons) e = still (box_of_both area p.bounds) polygons (joined_first area p.bounds e)
 
   in_bounds : (p : PolygonSpec) → is_in_polygon p lat lon ≡ true → is_inside p.bounds lat lon ≡ true
   in_bounds p e = search rules
 
   bounded : (area : BoundingBox) (polygons : List PolygonSpec) → is_in_any polygons lat lon ≡ true
-      → is_inside (fold (λ area polygon. joined area polygon.bounds) area polygons) lat lon ≡ true
+      → is_inside (fold (λ area polygon. box_of_both area polygon.bounds) area polygons) lat lon ≡ true
   bounded area [] e = absurd (true≢false (sym e))
-  bounded area (p ∷ polygons) e = by (is_in_polygon p lat lon) refl (bounded (joined area p.bounds) polygons) where
+  bounded area (p ∷ polygons) e = by (is_in_polygon p lat lon) refl (bounded (box_of_both area p.bounds) polygons) where
     by : (b : Bool) → is_in_polygon p lat lon ≡ b
-        → (is_in_any polygons lat lon ≡ true → is_inside (fold (λ area polygon. joined area polygon.bounds) (joined area p.bounds) polygons) lat lon ≡ true)
-        → is_inside (fold (λ area polygon. joined area polygon.bounds) (joined area p.bounds) polygons) lat lon ≡ true
-    by true is rest = still (joined area p.bounds) polygons (joined_second area p.bounds (in_bounds p is))
+        → (is_in_any polygons lat lon ≡ true → is_inside (fold (λ area polygon. box_of_both area polygon.bounds) (box_of_both area p.bounds) polygons) lat lon ≡ true)
+        → is_inside (fold (λ area polygon. box_of_both area polygon.bounds) (box_of_both area p.bounds) polygons) lat lon ≡ true
+    by true is rest = still (box_of_both area p.bounds) polygons (joined_second area p.bounds (in_bounds p is))
     by false is rest = rest (search (rules, is, e))
 
   of_earth : (p : PolygonSpec) → is_in_polygon p lat lon ≡ true → is_on_earth lat lon ≡ true

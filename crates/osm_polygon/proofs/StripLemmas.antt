@@ -2,7 +2,6 @@
 use Rattle.std.proofs.Common.{◌≡◌, ◌≢◌, ℕ, zero, suc, ◌+◌, ◌-◌, ◌*◌, ◌/◌, ◌^◌, ◌<◌, ◌≤◌, Bool, true, false, ◌&&◌, ◌⊎◌, inl, inr, List, [], ◌∷◌, ◌++◌, length, length-append, get_or, Option, Some, None, refl, sym, ap, ap₂, subst, ◌∙◌, arith, rules}
 use Rattle.std.specs.Prelude.{filter, slice_set, nat_le, nat_lt, min, max, if◌then◌else◌, cond}
 use Rattle.std.specs.List.{slice_get, sum_by}
-use Rattle.std.proofs.lemmas.Int.{ints}
 use Rattle.std.proofs.lemmas.Nat.{le-div}
 use Rattle.std.proofs.Math.Nat.{div-mul-le_self, one-le-pow, mul-le-mul}
 use Rattle.std.proofs.lemmas.List.{append-nil, length-map}
@@ -10,7 +9,6 @@ use Rattle.std.proofs.lemmas.List.Sums.{sum_by-append, sum_by-cons}
 use Rattle.std.proofs.lemmas.List.Elements.{filter-append}
 use Rattle.osm_polygon.specs.declared.edge.Edge.{Edge}
 use Rattle.osm_polygon.specs.declared.edge.Axis.{Axis}
-use Rattle.osm_polygon.specs.declared.edge.Axis.TheVariants.{Latitude, Longitude}
 use Rattle.osm_polygon.specs.declared.place.Place.{Place}
 use Rattle.osm_polygon.specs.declared.strips.Strip.{Strip}
 use Rattle.osm_polygon.specs.declared.strips.StripRange.{StripRange}
@@ -113,11 +111,6 @@ none_beyond axis shift first end n (e ∷ edges) are beyond =
     rw (none_in (lowest axis shift e) (highest axis shift e) n first end are.0.0 are.0.1 (omega arith) beyond) (none_beyond axis shift first end n edges are.1 beyond)
 
 -- ---- how much that is
-
--- one strip has a place of each edge
-all_earth : (axis : Axis) (p : Place) → along axis p < 2 ^ 39
-all_earth Latitude p = let on = p.on_earth in omega (arith, ints, on.south, on.north)
-all_earth Longitude p = let on = p.on_earth in omega (arith, ints, on.west, on.east)
 
 zero_div : (n : ℕ) → n < 2 ^ 39 → n / 2 ^ 39 ≡ 0
 zero_div n h = omega (arith, h)

@@ -84,8 +84,8 @@ AreBands shift number edges (band ∷ more) =
     × AreBands shift (number + 1) edges more
 
 -- what a band says of a place in it, if these are its edges, and an even number of them crosses its border
-abbrev pub Tells : Band → Probe → Bool → Type 0
-Tells band asked told =
+abbrev pub TellsOfPlace : Band → Probe → Bool → Type 0
+TellsOfPlace band asked told =
     (edges : List Edge) → IsBand asked.border edges band
     → asked.border.band ≡ strip_number Latitude asked.border.shift asked.place
     → is_odd_of (crosses_border asked.border) edges ≡ false → told ≡ is_told asked false edges
@@ -96,8 +96,8 @@ AreClosed sides =
     (set : Point → Bool) → is_odd_of (λ s. differ (set s.from) (set s.to)) sides ≡ false
 
 -- how many edges the cells of all bands have together
-abbrev pub held_by : List Band → ℕ
-held_by bands = sum_by (λ b. held b.cells.items) bands
+abbrev pub held_by_bands : List Band → ℕ
+held_by_bands bands = sum_by (λ b. held b.cells.items) bands
 
 -- how many cells that are
 abbrev pub cells_by : List Band → ℕ

@@ -12,7 +12,7 @@ use Rattle.osm_polygon.specs.declared.belts.BeltBands.{BeltBands}
 use Rattle.osm_polygon.specs.Polygon.{is_amid_edges}
 use Rattle.osm_polygon.specs.Edges.{point_of, side_of, strip_number, is_in_strip}
 use Rattle.osm_polygon.specs.Strips.{held}
-use Rattle.osm_polygon.specs.Bands.{IsBand, AreBands, AreClosed, held_by, cells_by}
+use Rattle.osm_polygon.specs.Bands.{IsBand, AreBands, AreClosed, held_by_bands, cells_by}
 
 -- the bands of the belt with this number, if these are the edges of the polygon: each place of it is in one of them
 pub record AreBeltBands (shift number : ℕ) (edges : List Edge) (parts : BeltBands) : Type 0 where
@@ -66,7 +66,7 @@ BeltTells belt asked told =
 -- how many edges the cells of a belt have together
 abbrev pub held_of : Belt → ℕ
 held_of (One band) = held band.cells.items
-held_of (Many parts) = held_by parts.bands.items
+held_of (Many parts) = held_by_bands parts.bands.items
 
 abbrev pub held_in : List Belt → ℕ
 held_in belts = sum_by held_of belts

@@ -1,5 +1,5 @@
 -- A place by its numbers, which may be wrong each.
-use Rattle.std.specs.Prelude.{ℤ, pos, ◌-ℤ◌, ◌-◌, Bool, false, ◌&&◌, nat_abs, nat_lt, List, length, Option, Some, None, Result, Ok, Err, if◌then◌else◌}
+use Rattle.std.specs.Prelude.{ℤ, ◌-ℤ◌, ◌-◌, Bool, false, ◌&&◌, nat_abs, nat_lt, List, length, Option, Some, None, Result, Ok, Err, if◌then◌else◌}
 use Rattle.std.specs.List.{slice_get}
 use Rattle.osm_polygon.specs.declared.fault.PolyReason.{PolyReason}
 use Rattle.osm_polygon.specs.declared.fault.PolyReason.TheVariants.{Number, Range}
@@ -22,16 +22,16 @@ abbrev pub is_long_by : Option Point → Option Point → Bool
 is_long_by (Some from) (Some to) = is_long from to
 is_long_by _ _ = false
 
-abbrev pub last_of : List Point → Option Point
-last_of places = slice_get places (length places - 1)
+abbrev pub last_point : List Point → Option Point
+last_point places = slice_get places (length places - 1)
 
 -- the edge from the last place of a ring to one more
 abbrev pub is_long_to : List Point → Point → Bool
-is_long_to places to = is_long_by (last_of places) (Some to)
+is_long_to places to = is_long_by (last_point places) (Some to)
 
 -- the edge from the last place of a ring to its first
 abbrev pub is_long_back : List Point → Bool
-is_long_back places = is_long_by (last_of places) (slice_get places 0)
+is_long_back places = is_long_by (last_point places) (slice_get places 0)
 
 -- the place, or what is wrong with its first wrong number
 abbrev pub place_at : {E : Type 0} → (lon lat : Result ℤ E) → Result Point E

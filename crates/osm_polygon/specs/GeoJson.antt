@@ -20,30 +20,30 @@ use Rattle.osm_polygon.specs.Polygon.{Point, Rings}
 
 -- ---- in order, up to the first fault
 
-abbrev pub OrFault : Type 0 → Type 0
-OrFault A = Result A PolyFault
+abbrev pub OrShapeFault : Type 0 → Type 0
+OrShapeFault A = Result A PolyFault
 
-abbrev pub and_then : {A B : Type 0} → OrFault A → (A → OrFault B) → OrFault B
+abbrev pub and_then : {A B : Type 0} → OrShapeFault A → (A → OrShapeFault B) → OrShapeFault B
 and_then (Ok x) next = next x
 and_then (Err fault) next = Err fault
 
-abbrev pub each_item : {A : Type 0} → (A → Json → OrFault A) → A → Items → OrFault A
+abbrev pub each_item : {A : Type 0} → (A → Json → OrShapeFault A) → A → Items → OrShapeFault A
 each_item step done no_items = Ok done
 each_item step done (item value more) = and_then (step done value) (λ d. each_item step d more)
 
 -- what is there, or the fault that the text isn't GeoJSON of polygons
-abbrev pub or_shape : {A : Type 0} → Option A → OrFault A
+abbrev pub or_shape : {A : Type 0} → Option A → OrShapeFault A
 or_shape None = Err (record { place = where_.Text; reason = reason.Shape })
 or_shape (Some x) = Ok x
 
-abbrev pub items_in : Json → OrFault Items
+abbrev pub items_in : Json → OrShapeFault Items
 items_in value = or_shape (as_array value)
 
-abbrev pub member : List ℕ → Json → OrFault Json
+abbrev pub member : List ℕ → Json → OrShapeFault Json
 member name value = or_shape (get name value)
 
 -- what there is so far, with what each item has
-abbrev pub each : {A : Type 0} → (A → Json → OrFault A) → A → Json → OrFault A
+abbrev pub each : {A : Type 0} → (A → Json → OrShapeFault A) → A → Json → OrShapeFault A
 each step done value = and_then (items_in value) (each_item step done)
 
 -- ---- a ring
@@ -58,14 +58,14 @@ position value = place_at (coordinate (pos 180000000000) (number_at 0 value))
     (coordinate (pos 90000000000) (number_at 1 value))
 
 -- the ring of this number, counted from 1, with a place more
-abbrev pub with_place : (ring : ℕ) → List Point → Result Point PolyReason → OrFault (List Point)
+abbrev pub with_place : (ring : ℕ) → List Point → Result Point PolyReason → OrShapeFault (List Point)
 with_place ring places (Ok place) =
     if is_long_to places place
     then Err (record { place = where_.Ring ring (length places + 1); reason = reason.Long })
     else Ok (places ++ place ∷ [])
 with_place ring places (Err r) = Err (record { place = where_.Ring ring (length places + 1); reason = r })
 
-abbrev pub with_position : (ring : ℕ) → List Point → Json → OrFault (List Point)
+abbrev pub with_position : (ring : ℕ) → List Point → Json → OrShapeFault (List Point)
 with_position ring places value = with_place ring places (position value)
 
 abbrev pub is_same_place : Point → Point → Bool
@@ -79,14 +79,14 @@ is_same_by _ _ = false
 abbrev pub is_closed : List Point → Bool
 is_closed places = is_same_by (slice_get places 0) (slice_get places (length places - 1))
 
-abbrev pub if_closed : (ring : ℕ) → List Point → OrFault (List Point)
+abbrev pub if_closed : (ring : ℕ) → List Point → OrShapeFault (List Point)
 if_closed ring places =
     if nat_lt (length places) 4
     then Err (record { place = where_.Ring ring (length places); reason = reason.Short })
     else if is_closed places then Ok places
     else Err (record { place = where_.Ring ring (length places); reason = reason.Open })
 
-abbrev pub ring_places : (ring : ℕ) → Items → OrFault (List Point)
+abbrev pub ring_places : (ring : ℕ) → Items → OrShapeFault (List Point)
 ring_places ring items = and_then (each_item (with_position ring) [] items) (if_closed ring)
 
 abbrev pub with_ring : Rings → Json → RingsOrFault
@@ -97,18 +97,18 @@ with_ring rings value =
 -- ---- a polygon
 
 -- rings are counted together, and `before` rings come before the polygon's
-abbrev pub place_after : (before : ℕ) → PolyPlace → PolyPlace
-place_after before (where_.Ring ring position) =
+abbrev pub ring_place_after : (before : ℕ) → PolyPlace → PolyPlace
+ring_place_after before (where_.Ring ring position) =
     where_.Ring (min (before + ring) 18446744073709551615) position
-place_after before place = place
+ring_place_after before place = place
 
 abbrev pub fault_after : (before : ℕ) → PolyFault → PolyFault
 fault_after before fault =
-    record { place = place_after before fault.place; reason = fault.reason }
+    record { place = ring_place_after before fault.place; reason = fault.reason }
 
-abbrev pub after : (before : ℕ) → RingsOrFault → RingsOrFault
-after before (Ok rings) = Ok rings
-after before (Err fault) = Err (fault_after before fault)
+abbrev pub rings_after : (before : ℕ) → RingsOrFault → RingsOrFault
+rings_after before (Ok rings) = Ok rings
+rings_after before (Err fault) = Err (fault_after before fault)
 
 -- a polygon without rings is none
 abbrev pub and_polygon : List Rings → Rings → List Rings
@@ -117,7 +117,7 @@ and_polygon polygons (ring ∷ rings) = polygons ++ (ring ∷ rings) ∷ []
 
 abbrev pub with_polygon : List Rings → Json → PolygonsOrFault
 with_polygon polygons value =
-    and_then (after (sum_by length polygons) (each with_ring [] value)) (λ rings.
+    and_then (rings_after (sum_by length polygons) (each with_ring [] value)) (λ rings.
     Ok (and_polygon polygons rings))
 
 -- ---- what has polygons

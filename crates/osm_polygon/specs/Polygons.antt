@@ -8,8 +8,8 @@ use Rattle.osm_polygon.specs.Polygon.{Rings, PolygonSpec, is_in_polygon}
 use Rattle.osm_polygon.specs.Rings.{no_box, polygon_of}
 
 -- the least box that has both
-abbrev pub joined : BoundingBox → BoundingBox → BoundingBox
-joined area other = record {
+abbrev pub box_of_both : BoundingBox → BoundingBox → BoundingBox
+box_of_both area other = record {
   left = int_min area.left other.left;
   bottom = int_min area.bottom other.bottom;
   right = int_max area.right other.right;
@@ -18,7 +18,7 @@ joined area other = record {
 
 -- the least box that has the boxes of all polygons
 abbrev pub box_of : List PolygonSpec → BoundingBox
-box_of polygons = fold (λ area polygon. joined area polygon.bounds) no_box polygons
+box_of polygons = fold (λ area polygon. box_of_both area polygon.bounds) no_box polygons
 
 -- polygons, and a box that has all of them
 pub record PolygonsSpec : Type 0 where

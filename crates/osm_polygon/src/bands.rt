@@ -7,7 +7,7 @@
 ghost use Rattle.std.specs.Prelude.{◌≡◌, ◌<◌, ◌≤◌, ◌+◌, ◌-◌, ◌*◌, IfOk, length};
 ghost use Rattle.osm_polygon.specs.declared.edge.Axis.TheVariants.{Latitude};
 ghost use Rattle.osm_polygon.specs.Strips.{held, spans_of};
-ghost use Rattle.osm_polygon.specs.Bands.{differ, is_south_of, crosses_border, is_beside, is_told, is_odd_of, is_last, IsBand, AreBands, held_by, cells_by, Tells};
+ghost use Rattle.osm_polygon.specs.Bands.{differ, is_south_of, crosses_border, is_beside, is_told, is_odd_of, is_last, IsBand, AreBands, held_by_bands, cells_by, TellsOfPlace};
 
 use crate::edge::{Axis, Edge, Meeting, strip_of};
 use crate::place::Place;
@@ -173,7 +173,7 @@ pub(crate) fn bands_of(
     ensures are { IfOk result (λ bands. AreBands cut.shift cut.first edges.now bands.items) }
     ensures number { IfOk result (λ bands. length bands.items ≡ cut.end - cut.first) }
     ensures few { IfOk result (λ bands.
-        held_by bands.items ≤ 2 * spans_of cut edges.now) }
+        held_by_bands bands.items ≤ 2 * spans_of cut edges.now) }
     ensures cells { IfOk result (λ bands.
         cells_by bands.items ≤ spans_of cut edges.now + length bands.items) }
 {
@@ -197,7 +197,7 @@ impl Band {
     pub(crate) fn has(&self, asked: Probe) -> bool
         requires cells { self.now.shift < 64 }
         requires bands { asked.border.shift < 64 }
-        ensures { Tells self.now asked result }
+        ensures { TellsOfPlace self.now asked result }
     {
         let number = strip_of(Axis::Longitude, self.shift, asked.place);
         if number < self.first {

@@ -8,7 +8,7 @@ ghost use Rattle.json.specs.Value.{items_view, value_view};
 ghost use Rattle.osm_polygon.specs.Edges.{point_of};
 ghost use Rattle.osm_polygon.specs.GeoJson.{and_polygon, each, fault_after, geojson_polygons, if_closed, if_some, is_closed, is_same_place, items_in};
 ghost use Rattle.osm_polygon.specs.GeoJson.{geometry_named, geometry_of, member, number_at, position, ring_places};
-ghost use Rattle.osm_polygon.specs.GeoJson.{document_by, feature_by, geometry_by, shape_by};
+ghost use Rattle.osm_polygon.specs.GeoJson.{document_by};
 ghost use Rattle.osm_polygon.specs.GeoJson.{polygon_coordinates, multi_polygon_coordinates};
 ghost use Rattle.osm_polygon.specs.GeoJson.{with_feature, with_geometry, with_polygon, with_position, with_ring, with_shape};
 ghost use Rattle.osm_polygon.specs.Readings.{ReadsText, error_after};

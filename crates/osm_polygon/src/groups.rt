@@ -2,7 +2,7 @@
 
 ghost use Rattle.std.specs.Prelude.{◌≡◌, ◌≤◌, ℤ, IfOk};
 ghost use Rattle.osm_box.specs.BoundingBox.{is_inside};
-ghost use Rattle.osm_polygon.specs.Polygons.{box_of, is_in_any, joined};
+ghost use Rattle.osm_polygon.specs.Polygons.{box_of, is_in_any, box_of_both};
 ghost use Rattle.osm_polygon.specs.Groups.{is_in_group, is_in_groups, is_in_cluster, is_in_clusters};
 
 use crate::place::Place;
@@ -81,7 +81,7 @@ pub(crate) fn any_cluster_has(clusters: &[Cluster], place: Place) -> bool
 
 /// The least box that has both.
 fn join(area: BoundingBox, other: BoundingBox) -> BoundingBox
-    ensures { result ≡ joined area other }
+    ensures { result ≡ box_of_both area other }
 {
     BoundingBox {
         left: area.left.min(other.left),

@@ -1,12 +1,12 @@
 -- Columns of metadata, and how they are taken over.
-use Rattle.std.proofs.Common.{◌≡◌, ℕ, zero, suc, drop, true, false, ℤ, ◌+ℤ◌, List, [], ◌∷◌, refl, ap, rules, pos, ◌+◌, ◌-◌, ◌%◌, ◌^◌, ◌<◌, ◌≤◌, ltb, ◌++◌, map, take, sym, ap₂, ◌∙◌, arith, append_assoc, append-nil, subst}
+use Rattle.std.proofs.Common.{◌≡◌, ℕ, zero, suc, drop, true, false, ℤ, ◌+ℤ◌, List, [], ◌∷◌, refl, ap, rules, pos, ◌+◌, ◌-◌, ◌%◌, ◌^◌, ◌<◌, ◌≤◌, ltb, ◌++◌, map, take, sym, ap₂, ◌∙◌, arith, append_assoc, subst}
 use Rattle.std.specs.List.{list_all, AllByRecursion}
 use Rattle.pbf_wire.specs.Faults.{fields_in}
 use Rattle.pbf_wire.specs.Occurrence.{found}
 use Rattle.pbf_wire.proofs.Items.{items_none}
 use Rattle.pbf_wire.specs.Signed.{is_within, IsWithin}
 use Rattle.pbf_wire.specs.Sums.{sums_within, added}
-use Rattle.std.proofs.Math.Seq.{take-add, take-nil, drop-nil}
+use Rattle.std.proofs.Math.Seq.{take-add}
 use Rattle.std.proofs.lemmas.Bool.Decides.{nat_tests}
 use Rattle.std.proofs.lemmas.List.{map-append, drop-drop}
 use Rattle.std.proofs.lemmas.Int.{ints}
@@ -36,16 +36,8 @@ no_fields at = ap found (items_none at [] refl)
 
 -- ---- numbers
 
-pub none_taken : (written : ℕ → ℕ) (old from : List ℕ) (count : ℕ) → TakesNumbers written old old from from count count
-none_taken written old from count = record { added = refl; passed = refl }
-
 pub both_taken : (written : ℕ → ℕ) (old middle new from between rest : List ℕ) (count some left : ℕ) → TakesNumbers written old middle from between count some → TakesNumbers written middle new between rest some left → TakesNumbers written old new from rest count left
 both_taken written old middle new from between rest count some left h k = record { added = k.added ∙ h.added; passed = k.passed ∙ h.passed }
-
--- all are taken, or there are no more
-pub all_taken : (written : ℕ → ℕ) (old new from rest : List ℕ) (count left : ℕ) → TakesNumbers written old new from rest count left → left ≡ 0 → new ≡ old ++ map written (take count from)
-all_taken written old new from rest count left h none =
-    let d = subst (λ (n : ℕ). TakesNumbers written old new from rest count n) none h in sym (append-nil new) ∙ d.added
 
 pub all_passed : (written : ℕ → ℕ) (old new from rest : List ℕ) (count left : ℕ) → TakesNumbers written old new from rest count left → left ≡ 0 → rest ≡ drop count from
 all_passed written old new from rest count left h none =
@@ -64,20 +56,6 @@ some_taken written old new from rest some count few same e f =
           ∙ ap (λ (w : List ℕ). old ++ w) (sym (map-append written (take some from) (take more (drop some from))) ∙ ap (map written) (sym parts));
       passed = ap (drop more) f ∙ drop-drop more some from ∙ ap (λ (n : ℕ). drop n from) (sym all);
     }
-
--- one that is there
-pub one_taken : (written : ℕ → ℕ) (old new from rest : List ℕ) (number count : ℕ) → 0 < count → from ≡ number ∷ rest → new ≡ old ++ written number ∷ [] → TakesNumbers written old new from rest count (count - 1)
-one_taken written old new from rest number zero some e f = absurd (omega arith)
-one_taken written old new from rest number (suc n) some e f =
-    let less : suc n - 1 ≡ n = omega arith in
-    rw (e, f, less) (record { added = append_assoc old (written number ∷ []) (map written (take n rest)); passed = refl })
-
--- none is there
-pub none_there : (written : ℕ → ℕ) (old from rest : List ℕ) (count : ℕ) → from ≡ [] → rest ≡ [] → TakesNumbers written old old from rest count 0
-none_there written old from rest count e f = rw (e, f) (record {
-  added = ap (λ (w : List ℕ). old ++ map written w) (sym (take-nil count));
-  passed = sym (drop-nil count);
-})
 
 -- ---- small versions are written as they are
 

@@ -25,7 +25,7 @@ use Rattle.pbf_wire.specs.declared.kind.Kind.TheVariants as kind
 use Rattle.pbf_wire.specs.Wire.{kind_of}
 use Rattle.pbf_wire.proofs.AllLemmas.{all_weaker}
 use Rattle.pbf_wire.proofs.SoundLemmas.{both_nil, all_nil, is_right, sums_good, sums_within_limit, fields_sound, count_is_length, no_least}
-use Rattle.pbf_dense.specs.Judged.{id_count, dense_wire, dense_structure, dense_values, coordinate_counts, dense_info_values, range_faults, texts_named, IsSound, dense_weights, as_stored, fault_before_weights, dense_fault, if_none}
+use Rattle.pbf_dense.specs.Judged.{id_count, dense_wire, dense_structure, dense_values, coordinate_counts, dense_info_values, range_faults, texts_named, IsSoundDense, dense_weights, as_stored, fault_before_weights, dense_fault, if_none}
 use Rattle.std.specs.Option.{option_or, option_map}
 use Rattle.pbf_wire.specs.Least.{least}
 use Rattle.osm_entity.specs.Entity.{NodeSpec, node}
@@ -147,7 +147,7 @@ ids_are_nodes place at m table scale e =
 
 -- ---- the whole message
 
-pub dense_reads : (table : List (List ℕ)) (at : ℕ) (m : List ℕ) → IsSound table at m → DenseReads (fields_in at m)
+pub dense_reads : (table : List (List ℕ)) (at : ℕ) (m : List ℕ) → IsSoundDense table at m → DenseReads (fields_in at m)
 unfolding dense_structure dense_values
 dense_reads table at m h =
     let os = fields_in at m in
@@ -168,7 +168,7 @@ dense_reads table at m h =
     }
 
 -- what is read along the columns is what indices give
-pub nodes_same : (table : List (List ℕ)) (scale : Scale) (at : ℕ) (m : List ℕ) → IsSound table at m → nodes_along table scale (fields_in at m) ≡ nodes table scale (fields_in at m)
+pub nodes_same : (table : List (List ℕ)) (scale : Scale) (at : ℕ) (m : List ℕ) → IsSoundDense table at m → nodes_along table scale (fields_in at m) ≡ nodes table scale (fields_in at m)
 nodes_same table scale at m h = reads_same table scale (fields_in at m) (dense_reads table at m h)
 
 -- ---- the phases of judgement, one after the other
@@ -181,7 +181,7 @@ no_second : (f g : Option Fault) → option_or f g ≡ None → g ≡ None
 no_second None g e = e
 no_second (Some f) g e = absurd (cc)
 
-pub early_sound : (table : List (List ℕ)) (place at : ℕ) (m : List ℕ) → length table ≤ 2 ^ 62 → fault_before_weights (length table) place at m ≡ None → IsSound table at m
+pub early_sound : (table : List (List ℕ)) (place at : ℕ) (m : List ℕ) → length table ≤ 2 ^ 62 → fault_before_weights (length table) place at m ≡ None → IsSoundDense table at m
 unfolding fault_before_weights
 early_sound table place at m few e =
     let later = no_second (least (dense_wire place at m)) _ e in
@@ -193,7 +193,7 @@ early_sound table place at m few e =
       values = no_least (dense_values (length table) place at m) (no_second (least (dense_structure place at m)) _ later);
     }
 
-pub sound_at : (table : List (List ℕ)) (place at : ℕ) (m : List ℕ) → length table ≤ 2 ^ 62 → dense_fault place at table m ≡ None → IsSound table at m
+pub sound_at : (table : List (List ℕ)) (place at : ℕ) (m : List ℕ) → length table ≤ 2 ^ 62 → dense_fault place at table m ≡ None → IsSoundDense table at m
 unfolding dense_fault
 sound_at table place at m few e = early_sound table place at m few (no_first (fault_before_weights (length table) place at m) _ e)
 
@@ -232,7 +232,7 @@ module _ (table : List (List ℕ)) (scale : Scale) (scaled : ScaleFits scale) (o
   unfolding nodes
   all_fit = let n = length (column ID os) in each_fits (range_with_len 0 n) (in_all ID n h.ids refl) (in_all LAT n h.lats h.lats_long) (in_all LON n h.lons h.lons_long)
 
-pub nodes_fit : (table : List (List ℕ)) (scale : Scale) (at : ℕ) (m : List ℕ) → ScaleFits scale → IsSound table at m → AllByRecursion FitsLight (nodes table scale (fields_in at m))
+pub nodes_fit : (table : List (List ℕ)) (scale : Scale) (at : ℕ) (m : List ℕ) → ScaleFits scale → IsSoundDense table at m → AllByRecursion FitsLight (nodes table scale (fields_in at m))
 nodes_fit table scale at m scaled h = all_fit table scale scaled (fields_in at m) (dense_reads table at m h)
 
 -- ---- types

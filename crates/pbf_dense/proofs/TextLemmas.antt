@@ -1,5 +1,5 @@
 -- The texts of nodes that are taken over, node by node.
-use Rattle.std.proofs.Common.{◌≡◌, ℕ, zero, suc, ℤ, pos, ◌+◌, ◌-◌, ◌<◌, ◌≤◌, Bool, true, false, ◌||◌, List, [], ◌∷◌, ◌++◌, length, length-append, map, drop, Option, Some, None, refl, sym, ap, ◌∙◌, arith, append_assoc, append-nil, subst}
+use Rattle.std.proofs.Common.{◌≡◌, ℕ, zero, suc, ℤ, pos, ◌+◌, ◌-◌, ◌<◌, ◌≤◌, Bool, true, false, ◌||◌, List, [], ◌∷◌, ◌++◌, length, length-append, map, drop, Option, Some, None, sym, ap, ◌∙◌, arith, append_assoc, append-nil, subst}
 use Rattle.std.specs.Prelude.{slice_get, Ok}
 use Rattle.std.specs.List.{cons_option}
 use Rattle.std.specs.Option.{option_map, option_to_list}
@@ -23,9 +23,6 @@ pub record TextsGoOn (start : List (List ℕ)) (all : List NodeTexts) (before : 
   pub users_are : (used : List (List ℕ)) → now.users ++ users_for (texts_after texts (texts_used left ++ used)) left ≡ before.users ++ users_for (texts_after texts (texts_used left ++ used)) all
   pub tagged_is : (now.tagged || any_tagged left) ≡ (before.tagged || any_tagged all)
   pub room : length texts + length (texts_used left) ≤ 1048575
-
-pub none_taken : (start : List (List ℕ)) (all : List NodeTexts) (before : TextColumns) → length start + length (texts_used all) ≤ 1048575 → TextsGoOn start all before start before all
-none_taken start all before room = record { texts_are = refl; runs_are = λ used. refl; users_are = λ used. refl; tagged_is = refl; room = room }
 
 pub all_taken : (start : List (List ℕ)) (all : List NodeTexts) (before : TextColumns) (texts : List (List ℕ)) (now : TextColumns) (left : List NodeTexts)
     → TextsGoOn start all before texts now left → left ≡ [] → TakesTexts all start texts before now

@@ -130,7 +130,7 @@ unfoldable pub dense_fault : ℕ → ℕ → List (List ℕ) → List ℕ → Op
 dense_fault place at table m = option_or (fault_before_weights (length table) place at m) (least (phase_faults phase.Weights place at table m))
 
 -- the phases before the weights have no fault
-pub record IsSound (table : List (List ℕ)) (at : ℕ) (m : List ℕ) : Type 0 where
+pub record IsSoundDense (table : List (List ℕ)) (at : ℕ) (m : List ℕ) : Type 0 where
   pub place : ℕ
   pub few : length table ≤ SUM_LIMIT
   pub wire : dense_wire place at m ≡ []

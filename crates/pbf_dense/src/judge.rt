@@ -57,7 +57,7 @@ impl<'a> Dense<'a> {
     ghost use Rattle.pbf_wire.specs.Faults.{fields_in};
     ghost use Rattle.pbf_dense.specs.Nodes.{nodes};
     ghost use Rattle.pbf_dense.specs.Cursors.{dense_left};
-    ghost use Rattle.pbf_dense.specs.Judged.{IsSound};
+    ghost use Rattle.pbf_dense.specs.Judged.{IsSoundDense};
 
     /// Judges a dense message by one phase. Its first byte is at `at` in the file, and its field at `place`; the table is
     /// that of its block. The error is the least fault of the phase. Weights are judged only if the other phases have no
@@ -90,7 +90,7 @@ impl<'a> Dense<'a> {
     #[tactic(auto, using(crate::proofs::SoundDense::nodes_same))]
     pub fn open(message: &'a [u8], at: u64, table: &'a Table<'a>, scale: Scale) -> Dense<'a>
         requires placed { at + length message.now ≤ OFFSET_LIMIT }
-        requires sound { IsSound table.now at message.now }
+        requires sound { IsSoundDense table.now at message.now }
         ensures { dense_left result ≡ nodes table.now scale (fields_in at message.now) }
     {
         Dense::over(Message { bytes: message, at }, table, scale)

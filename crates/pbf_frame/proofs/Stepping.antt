@@ -48,9 +48,6 @@ after_none h p bytes = refl
 
 -- ---- the blob
 
-abbrev Blobbed : Type 0
-Blobbed = Result (List ℕ × List ℕ) Fault
-
 -- the phases from the blob's bytes on
 abbrev late : FrameKind → ℕ → ℕ → List ℕ → List (List Fault)
 late k size at blob = fault_where (nat_lt (length blob) size) at BlobCut ∷ phases_of_blob k at blob
@@ -106,12 +103,6 @@ module _ (h : Bool) (p : ℕ) (bytes : List ℕ) (some : length bytes == 0 ≡ f
 
   -- the header has all of its bytes
   module _ (long : nat_lt (length (take 4 bytes)) 4 ≡ false) (small : nat_le HEADER_LIMIT n ≡ false) (whole : nat_lt (length f.header) n ≡ false) where
-    abbrev left : List ℕ
-    left = drop (length f.header) (drop 4 bytes)
-
-    abbrev read_blob : List ℕ × List ℕ → Result (FrameSpec × List ℕ) Fault
-    read_blob = after_blob p f.prefix ((f.header, head), drop n (drop 4 bytes))
-
     by_options : (w a o : Option Fault) → wire HEADER_KINDS (items (p + 4) f.header) ≡ w → least (header_faults (p + 4) f.header) ≡ a → least (order_faults (Some FILE_LIMIT) h p head.kind (p + 4 + length f.header + head.size)) ≡ o
         → steps_of h p bytes ≡ unless (option_or w (option_or a (option_or o (first_fault (late head.kind head.size (blob_at f) f.blob))))) (Ok (Some f, drop (length (frame_bytes f)) bytes))
     unfolding steps_of prefix_at after_prefix frame_of header_after bytes_at head_of

@@ -12,3 +12,4 @@ pub mod HaltingLemmas
 pub mod HashLemmas
 pub mod EachLemmas
 pub mod SortedFileLemmas
+pub mod EachAreaLemmas

@@ -11,3 +11,4 @@ pub mod SortedFile
 pub mod Hashing
 pub mod Given
 pub mod Refused
+pub mod EachArea

@@ -64,9 +64,9 @@ impl<V: Visit> Visit for Each<V> {
     }
 }
 
-/// Visits a frame by each of the visitors: by the first, and then by those after it. If one stops, those before it have taken the frame, and
-/// those after it are as they were.
-pub fn visit_each<V: Visit>(visitors: &mut [V], alloc: Global, frame: &Frame<'_>) -> Result<(), Stop>
+/// Visits a frame by each of the visitors: by the first, and then by those after it. So it calls itself as often as there are visitors, and
+/// no invariant has to say which of them are done.
+fn visit_each<V: Visit>(visitors: &mut [V], alloc: Global, frame: &Frame<'_>) -> Result<(), Stop>
     requires { AllByRecursion V.ready visitors.old }
     ensures took { OnOk result ((f : FrameSpec) → Shows frame.now f
         → EachTook V.took visitors.old f visitors.new) }
@@ -107,7 +107,10 @@ impl<G: Gather> Gather for Each<G> {
 }
 
 /// Gathers an entity by each of the gatherers.
-fn gather_each<G: Gather>(gatherers: &mut [G], entity: &EntityRef<'_>) -> Result<(), AllocError>
+pub(crate) fn gather_each<G: Gather>(
+    gatherers: &mut [G],
+    entity: &EntityRef<'_>,
+) -> Result<(), AllocError>
     ensures { OnOk result
         (gatherers.new ≡ map (λ g. G.gathered g (entity_of entity.now)) gatherers.old) }
 {
@@ -119,7 +122,10 @@ fn gather_each<G: Gather>(gatherers: &mut [G], entity: &EntityRef<'_>) -> Result
 }
 
 /// Gathers a way that is not made yet by each of the gatherers.
-fn gather_way_each<G: Gather>(gatherers: &mut [G], unmade: &UnmadeWay<'_>) -> Result<(), AllocError>
+pub(crate) fn gather_way_each<G: Gather>(
+    gatherers: &mut [G],
+    unmade: &UnmadeWay<'_>,
+) -> Result<(), AllocError>
     ensures { OnOk result
         (gatherers.new ≡ map (λ g. G.gathered g (way (way_from unmade.now))) gatherers.old) }
 {
@@ -131,7 +137,10 @@ fn gather_way_each<G: Gather>(gatherers: &mut [G], unmade: &UnmadeWay<'_>) -> Re
 }
 
 /// Gathers the nodes of a dense message by each of the gatherers.
-fn gather_dense_each<G: Gather>(gatherers: &mut [G], dense: &Dense<'_>) -> Result<(), AllocError>
+pub(crate) fn gather_dense_each<G: Gather>(
+    gatherers: &mut [G],
+    dense: &Dense<'_>,
+) -> Result<(), AllocError>
     ensures { OnOk result (gatherers.new
         ≡ map (λ g. fold G.gathered g (map node (dense_left dense.now))) gatherers.old) }
 {

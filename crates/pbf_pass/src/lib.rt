@@ -3,6 +3,7 @@
 
 mod checking;
 mod each;
+mod each_area;
 mod hashed;
 mod hashing;
 mod header_limit;
@@ -15,7 +16,8 @@ mod unjudged;
 mod visit;
 
 pub use checking::{check, check_with_receipt};
-pub use each::{Each, visit_each};
+pub use each::Each;
+pub use each_area::EachArea;
 pub use hashed::{HashedDrain, PassFeed};
 pub use hashing::{PassCheck, PassHasher};
 pub use header_limit::writable_header;

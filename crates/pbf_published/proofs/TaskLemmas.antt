@@ -1,6 +1,5 @@
 -- What a call over unpacking feeds says of the published files below them.
-use Rattle.std.proofs.Common.{◌≡◌, ◌⊎◌, inl, inr, ℕ, zero, suc, ◌+◌, ◌<◌, ◌-◌, length, arith, MutBor, Bool, true, false, List, [], ◌∷◌, ◌++◌, map, take, drop, Option, Some, None, Result, Ok, Err, IfOk, IfErr, OnErr, refl, sym, ap, ◌∙◌, subst}
-use Rattle.pbf_wire.specs.declared.fault.Fault.{Fault}
+use Rattle.std.proofs.Common.{◌≡◌, inl, inr, ℕ, zero, suc, ◌+◌, ◌<◌, ◌-◌, length, arith, MutBor, Bool, true, false, List, [], ◌∷◌, ◌++◌, map, take, drop, Option, Some, None, Result, Ok, Err, refl, sym, ap, ◌∙◌, subst}
 use Rattle.pbf_frame.specs.declared.device.Feed as feed
 use Rattle.pbf_frame.specs.declared.stop.Stop.{Stop}
 use Rattle.pbf_frame.specs.declared.stop.Stop.TheVariants as stop
@@ -13,12 +12,11 @@ use Rattle.pbf_unpack.specs.declared.feed.UnpackedFeed.{UnpackedFeed}
 use Rattle.pbf_unpack.specs.Supplying.{HasSupplied, refusals, remaining_in}
 use Rattle.pbfcut.specs.Calls.{AllSupply, AnyFailed, ChangedIn, ChangedLater, DrainUse, FeedUse, GaveEach, GaveEachOrNot, TookBy, fed, supply_of, used}
 use Rattle.pbfcut.specs.TaskCalls.{DoesTask, GaveFiles}
-use Rattle.pbfcut.specs.Tasks.{Holds, Task, answer_of, judge_of, passes_of, spares}
+use Rattle.pbfcut.specs.Tasks.{Holds, Task, judge_of, passes_of, spares}
 use Rattle.pbf_published.specs.declared.input.PublishedHalt.{PublishedHalt}
-use Rattle.pbf_published.specs.declared.input.PublishedInput.{PublishedInput}
 use Rattle.pbf_published.specs.declared.traced.TracedFeed.{TracedFeed}
 use Rattle.pbf_published.specs.Published.{ChangedFrom, GaveEachOrNone, GavePublishedEach, HasDigest, HasTraced, IsOpened, ReportsOutcome, raw_of}
-use Rattle.pbf_published.specs.PublishedTasks.{AreOpened, DigestsDiffer, DoesPublished, FailBelow, GavePublishedFiles, HaveDigest, OtherDigest, ShareDigest, skipped_of}
+use Rattle.pbf_published.specs.PublishedTasks.{AreOpened, DigestsDiffer, DoesPublished, FailBelow, HaveDigest, OtherDigest, ShareDigest, skipped_of}
 use Rattle.pbf_published.proofs.PublishedLemmas.{DigestIsOf, changed_any, changed_stop, digest_told, fault_as, first_unknown, later_differ, outcome_beginning, outcome_receipt, outcome_stops, packed_differ, published_of, read_below, with_nothing}
 
 module _ {F U : Type 0} (f : feed.Ghosts F) (u : feed.Ghosts U) (below : U → F) (check : PassCheck) where

@@ -64,7 +64,7 @@ GavePublishedEach (one ∷ more) digest raw_digest holds = GavePublished one.gho
 
 -- packed bytes of this digest mean this raw file; and if nothing is left, nothing is left of them, and they are what there was at the start, as far
 -- as that is known
-pub record Means (digest : Mark) (start left left_below : Option (List ℕ)) (raw : List ℕ) : Type 0 where
+pub record MeansRaw (digest : Mark) (start left left_below : Option (List ℕ)) (raw : List ℕ) : Type 0 where
   pub packed : List ℕ
   pub digest_is : IsDigestOf digest packed
   pub means : unpacked packed ≡ raw
@@ -119,7 +119,7 @@ pub record Digested {F : Type 0} (old new : PassFeed F) (digest : List ℕ) : Ty
 -- an unpacking feed has this digest: packed bytes have it by the check, mean what was supplied, and passed by each log of the feed below. If nothing is
 -- reported to be left, it has one, and they are what there was at the start
 pub record HasDigest {F U : Type 0} (f : feed.Ghosts F) (u : feed.Ghosts U) (below : F) (now : U) (digest : Option (List ℕ)) : Type 0 where
-  pub means : (check : PassCheck) (start : Option (List ℕ)) (raw : List ℕ) → u.has_passed now (log_number (hash_log check) (hash_log check) start) raw → IfSome digest (λ d. Means (mark_by check d) start (u.remaining now) (f.remaining below) raw)
+  pub means : (check : PassCheck) (start : Option (List ℕ)) (raw : List ℕ) → u.has_passed now (log_number (hash_log check) (hash_log check) start) raw → IfSome digest (λ d. MeansRaw (mark_by check d) start (u.remaining now) (f.remaining below) raw)
   pub logged : (check : PassCheck) (log : ℕ) (start : Option (List ℕ)) (raw : List ℕ) → u.has_passed now (log_number (hash_log check) (below_log log) start) raw → IfSome digest (λ d. PassedAs (f.has_passed below) log (mark_by check d) raw (λ packed. u.remaining now ≡ Some [] → start ≡ Some packed))
   pub there : u.remaining now ≡ Some [] → digest ≡ None → ⊥
 

@@ -8,7 +8,7 @@ use Rattle.pbf_unpack.specs.declared.drain.PackedDrain.{PackedDrain}
 use Rattle.pbf_unpack.specs.declared.frame.Part.{Part}
 use Rattle.pbf_unpack.specs.declared.frame.Part.TheVariants.{Prefix, Header, Blob}
 use Rattle.pbf_unpack.specs.declared.frame.RawFrame.{RawFrame}
-use Rattle.pbf_unpack.specs.Packing.{frame_held, taken_raw, HasCause, IsCut}
+use Rattle.pbf_unpack.specs.Packing.{frame_held, taken_raw, HasCause, TookNoRawFile}
 use Rattle.pbf_unpack.specs.RawFrames.{IsCutRaw, IsRawFile}
 use Rattle.pbf_unpack.specs.Unpacked.{unpacked}
 use Rattle.pbf_unpack.proofs.GoingOn.{no_cut_file, no_raw_file}
@@ -20,9 +20,6 @@ held_short r = (let blob = short r.part refl in omega (arith, blob, r.front_held
   short Prefix is = omega (arith, r.blob_last (λ e. (let bad : ⊥ = cc in bad)), r.blob.ok.0)
   short Header is = omega (arith, r.blob_last (λ e. (let bad : ⊥ = cc in bad)), r.blob.ok.0)
   short Blob is = omega (arith, r.blob_held is, r.blob.ok.0)
-
-same_some : (x y : List ℕ) → Some x ≡ Some y → x ≡ y
-same_some x y e = cc
 
 module _ {D : Type 0} {d : drain.Ghosts D} (p : PackedDrain D d) where
   -- what was taken, if the drain below reports it
@@ -42,7 +39,7 @@ module _ {D : Type 0} {d : drain.Ghosts D} (p : PackedDrain D d) where
   has_cause Refused is = tt
 
   -- it holds a frame that isn't whole
-  pub is_cut : IsCutRaw (frame_held p.frame) → IsCut p
+  pub is_cut : IsCutRaw (frame_held p.frame) → TookNoRawFile p
   is_cut none = λ raw taken file.
       let (packed, known) = known_of raw taken in
       no_cut_file (unpacked (take p.below.place packed)) (frame_held p.frame) (p.below.whole packed known).goes_on none (subst IsRawFile (taken_is packed raw known taken) file)

@@ -72,17 +72,8 @@ module _ (f : FrameSpec) (had : Bool) (sound : IsFrame had f.offset f) where
 
   -- of these parts
   module _ (front blob : List ℕ) (are : AreParts f front blob) where
-    pub parts_long : length front ≡ 4 + length f.header
-    parts_long = omega (arith, ap length are.front_is, length-append f.prefix f.header, sound.prefix_long)
-
-    pub parts_prefix : take 4 front ≡ f.prefix
-    parts_prefix = ap (λ (l : List ℕ). take 4 l) are.front_is ∙ take_at f.prefix f.header 4 sound.prefix_long
-
     pub parts_header : drop 4 front ≡ f.header
     parts_header = ap (λ (l : List ℕ). drop 4 l) are.front_is ∙ drop_at f.prefix f.header 4 sound.prefix_long
-
-    pub parts_counted : big_number 4 (take 4 front) ≡ length f.header
-    parts_counted = ap (λ (l : List ℕ). big_number 4 l) parts_prefix ∙ sound.spelled
 
     pub parts_say : (at : ℕ) → head_of at (drop 4 front) ≡ Ok head
     parts_say at = ap (λ (l : List ℕ). head_of at l) parts_header ∙ head_there at

@@ -14,7 +14,7 @@ use Rattle.pbf_frame.specs.declared.frame.FrameKind.TheVariants as kind
 use Rattle.pbf_frame.specs.Writing.{written_frame}
 use Rattle.zlib.specs.Stream.{inflated}
 use Rattle.pbf_unpack.specs.declared.below.Course.TheVariants.{Taking, Failed}
-use Rattle.pbf_unpack.specs.Course.{IsPackedAt, IsPackedAs, IsBegun, HasWhole}
+use Rattle.pbf_unpack.specs.Course.{IsPackedAt, IsPackedAs, BeginsPacked, HasWhole}
 use Rattle.pbf_unpack.specs.declared.whole.WholeFrame.{WholeFrame}
 use Rattle.pbf_unpack.specs.Packed.{packed_in, fits_size}
 use Rattle.pbf_unpack.specs.Unpacked.{as_they_stand, unpacked_frame, unpacked_from, unpacked}
@@ -40,7 +40,7 @@ packed_means raw packed is = grind (arith, append-nil packed, nothing_more (0 + 
 -- ---- what the drain below took, as far as it is known
 
 -- nothing was begun
-not_begun : (place : ℕ) (taken : List ℕ) → length taken ≡ place → ∥ IsBegun place (drop place taken) ∥₁
+not_begun : (place : ℕ) (taken : List ℕ) → length taken ≡ place → ∥ BeginsPacked place (drop place taken) ∥₁
 not_begun place taken exact =
     let none : drop place taken ≡ [] = ap (drop place) (sym (append-nil taken)) ∙ drop_at taken [] place exact in
     ∣ record { rest = []; raw = []; means = subst (λ (l : List ℕ). IsPackedAt place [] (l ++ [])) (sym none) (packed_nothing place) } ∣₁

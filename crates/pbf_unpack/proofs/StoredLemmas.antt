@@ -1,10 +1,10 @@
 -- How the blobs of a file are stored, frame by frame.
-use Rattle.std.proofs.Common.{◌≡◌, ℕ, zero, suc, ◌≤◌, true, false, Bool, List, [], ◌∷◌, ◌++◌, length, drop, append_assoc, Option, refl, sym, ap, ◌∙◌, arith}
+use Rattle.std.proofs.Common.{◌≡◌, ℕ, zero, suc, ◌≤◌, true, false, List, [], ◌∷◌, ◌++◌, length, drop, append_assoc, Option, refl, sym, ap, ◌∙◌, arith}
 use Rattle.std.specs.Option.{option_or}
 use Rattle.std.proofs.lemmas.List.{append-nil, length-drop}
 use Rattle.pbf_frame.specs.Frames.{FrameSpec, blob_at, frame_end, frame_kind, frame_bytes, frame_at}
 use Rattle.pbf_unpack.specs.declared.stored.Stored.{Stored}
-use Rattle.pbf_unpack.specs.Stored.{none_stored, stored_from, stored_in, stored_within, together}
+use Rattle.pbf_unpack.specs.Stored.{none_stored, stored_from, stored_in_frame, stored_within, together}
 use Rattle.pbf_unpack.specs.declared.fault.UnpackFault.{UnpackFault}
 use Rattle.pbf_unpack.specs.Unpacked.{is_whole, then_unpacked, unpacked_from}
 use Rattle.pbf_unpack.proofs.UnpackedLemmas.{joined_assoc, whole_long}
@@ -35,7 +35,7 @@ unfit_stored place bytes is = unfit_within (length bytes) place bytes is
 -- ---- a whole frame
 
 abbrev then_others : (ℕ → List ℕ → Stored) → FrameSpec → List ℕ → Stored
-then_others others f bytes = together (stored_in (frame_kind f) (blob_at f) f.blob) (others (frame_end f) (drop (length (frame_bytes f)) bytes))
+then_others others f bytes = together (stored_in_frame (frame_kind f) (blob_at f) f.blob) (others (frame_end f) (drop (length (frame_bytes f)) bytes))
 
 whole_within : (n place : ℕ) (bytes : List ℕ) → is_whole (frame_at place bytes) ≡ true → stored_within (suc n) place bytes ≡ then_others (stored_within n) (frame_at place bytes) bytes
 unfolding stored_within
@@ -53,7 +53,7 @@ same_fuel (suc m) (suc n) place (b ∷ bs) low high = elim (is_whole (frame_at p
       let rest = drop (length (frame_bytes f)) (b ∷ bs) in
       let shorter : length rest ≤ length bs = omega (arith, long, length-drop (length (frame_bytes f)) (b ∷ bs)) in
       whole_within m place (b ∷ bs) is
-      ∙ ap (together (stored_in (frame_kind f) (blob_at f) f.blob)) (same_fuel m n (frame_end f) rest (omega (arith, shorter, low)) (omega (arith, shorter, high)))
+      ∙ ap (together (stored_in_frame (frame_kind f) (blob_at f) f.blob)) (same_fuel m n (frame_end f) rest (omega (arith, shorter, low)) (omega (arith, shorter, high)))
       ∙ sym (whole_within n place (b ∷ bs) is)
   | false ↦ λ is. unfit_within (suc m) place (b ∷ bs) is ∙ sym (unfit_within (suc n) place (b ∷ bs) is)
 ] refl

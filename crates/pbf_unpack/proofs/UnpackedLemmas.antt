@@ -5,7 +5,7 @@ use Rattle.std.proofs.lemmas.List.{append-nil, length-drop}
 use Rattle.std.proofs.lemmas.Bool.Decides.{nat_tests}
 use Rattle.byteorder.specs.Endian.{big_number}
 use Rattle.pbf_frame.specs.declared.header.TheConstants.{HEADER_LIMIT}
-use Rattle.pbf_frame.specs.Frames.{FrameSpec, header_at, blob_at, frame_end, frame_kind, frame_bytes, frame_at, cut_faults}
+use Rattle.pbf_frame.specs.Frames.{FrameSpec, header_at, blob_at, frame_end, frame_kind, frame_bytes, frame_at}
 use Rattle.pbf_frame.specs.Header.{head_says}
 use Rattle.pbf_frame.specs.Steps.{head_of}
 use Rattle.pbf_unpack.specs.Unpacked.{Unpacked, then_unpacked, as_they_stand, unpacked_frame, is_whole, unpacked_within, unpacked_from}
@@ -31,9 +31,6 @@ nothing_more place = refl
 module _ (f : FrameSpec) where
   abbrev size : ℕ
   size = (head_says (header_at f) f.header).size
-
-  abbrev uncut : Bool
-  uncut = length (cut_faults f) == 0
 
   abbrev said : Bool
   said = is_ok (head_of (header_at f) f.header)

@@ -15,8 +15,8 @@ use Rattle.pbf_frame.proofs.FrameLemmas.{head_parts}
 use Rattle.pbf_frame.proofs.KnownBytes.{prepend_more}
 use Rattle.pbf_frame.proofs.Passed.{passes_more}
 use Rattle.pbf_unpack.specs.Unpacked.{then_unpacked, unpacked_frame, is_whole, unpacked_from}
-use Rattle.pbf_unpack.specs.Stored.{none_stored, stored_from, stored_in, together}
-use Rattle.pbf_unpack.specs.Whole.{TookBytes, IsUnfit, IsCut, HasHead}
+use Rattle.pbf_unpack.specs.Stored.{none_stored, stored_from, stored_in_frame, together}
+use Rattle.pbf_unpack.specs.Whole.{TookBytes, IsUnfit, IsCutShort, HasHead}
 use Rattle.pbf_unpack.proofs.StoredLemmas.{unfit_stored, whole_stored}
 use Rattle.pbf_unpack.proofs.UnpackedLemmas.{without_prefix, with_long_header, without_header, without_head, too_far, without_blob, whole_parts, unfit, whole_then}
 
@@ -45,7 +45,7 @@ module _ (place : ℕ) (read : List ℕ) (left : Option (List ℕ)) where
   abbrev f : FrameSpec
   f = frame_at place read
 
-  pub cut_prefix : length read < 4 → IsAtEnd left → IsCut place read left
+  pub cut_prefix : length read < 4 → IsAtEnd left → IsCutShort place read left
   cut_prefix short ended = grind (arith, nat_tests, take_all 4 read, unfit place read, without_prefix f)
 
   pub cut_prefix_stored : length read < 4 → stored_from place read ≡ none_stored
@@ -54,7 +54,7 @@ module _ (place : ℕ) (read : List ℕ) (left : Option (List ℕ)) where
 pub long_header : (place : ℕ) (read : List ℕ) → length read ≡ 4 → HEADER_LIMIT ≤ big_number 4 read → IsUnfit place read
 long_header place read four long = grind (arith, nat_tests, with_long_header, long, unfit place, at_prefix place read)
 
-pub cut_header : (place : ℕ) (prefix header : List ℕ) (left : Option (List ℕ)) → length prefix ≡ 4 → big_number 4 prefix < HEADER_LIMIT → length header < big_number 4 prefix → IsAtEnd left → IsCut place (prefix ++ header) left
+pub cut_header : (place : ℕ) (prefix header : List ℕ) (left : Option (List ℕ)) → length prefix ≡ 4 → big_number 4 prefix < HEADER_LIMIT → length header < big_number 4 prefix → IsAtEnd left → IsCutShort place (prefix ++ header) left
 cut_header place prefix header left four small short ended = grind (arith, nat_tests, take_all (big_number 4 prefix) header, without_header (from_prefix place prefix header), unfit place (prefix ++ header), at_prefix place prefix header four)
 
 pub no_head : (place : ℕ) (prefix header : List ℕ) (e : Fault) → length prefix ≡ 4 → length header ≡ big_number 4 prefix → head_of (place + 4) header ≡ Err e → IsUnfit place (prefix ++ header)
@@ -95,7 +95,7 @@ module _ (place : ℕ) (read header : List ℕ) (head : Head) (has : HasHead pla
   pub ends_too_far : 2 ^ 62 < place + length read + head.size → IsUnfit place (read ++ [])
   ends_too_far far = grind (arith, nat_tests, long, length-append read [], too_far, size_is, append-nil read, unfit place, begins)
 
-  pub cut_blob : (blob : List ℕ) (left : Option (List ℕ)) → length blob < head.size → IsAtEnd left → IsCut place (read ++ blob) left
+  pub cut_blob : (blob : List ℕ) (left : Option (List ℕ)) → length blob < head.size → IsAtEnd left → IsCutShort place (read ++ blob) left
   cut_blob blob left short ended = grind (arith, nat_tests, take_all (head_says (place + 4) header).size blob, size_is, unfit place (read ++ blob), begins blob, without_blob (parts blob))
 
   pub ends_too_far_stored : 2 ^ 62 < place + length read + head.size → (rest : List ℕ) → stored_from place ((read ++ []) ++ rest) ≡ none_stored
@@ -105,7 +105,7 @@ module _ (place : ℕ) (read header : List ℕ) (head : Head) (has : HasHead pla
   cut_blob_stored blob short = grind (arith, nat_tests, take_all (head_says (place + 4) header).size blob, size_is, unfit_stored place (read ++ blob), begins blob, without_blob (parts blob))
 
   pub whole_stores : (blob : List ℕ) → length blob ≡ head.size → (at end : ℕ) → at ≡ place + length read → end ≡ place + length read + head.size → end ≤ 2 ^ 62
-      → (rest : List ℕ) → stored_from place ((read ++ blob) ++ rest) ≡ together (stored_in head.kind at blob) (stored_from end rest)
+      → (rest : List ℕ) → stored_from place ((read ++ blob) ++ rest) ≡ together (stored_in_frame head.kind at blob) (stored_from end rest)
   whole_stores blob sized at end at_is end_is fits rest =
       let f : FrameSpec = record { offset = place; prefix = has.prefix; header = header; blob = blob } in
       let whole : is_whole f ≡ true = whole_parts f has.four has.small has.counted (ap (λ (r : Result Head Fault). is_ok r) has.says) (omega (arith, fits, end_is, long, size_is)) (sized ∙ size_is) in

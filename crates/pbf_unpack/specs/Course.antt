@@ -16,7 +16,7 @@ abbrev pub IsPackedAs : (raw packed : List ℕ) → Type 0
 IsPackedAs raw packed = IsPackedAt 0 raw packed
 
 -- these bytes at a place are a packed frame, as far as they go, or nothing
-pub record IsBegun (place : ℕ) (bytes : List ℕ) : Type 0 where
+pub record BeginsPacked (place : ℕ) (bytes : List ℕ) : Type 0 where
   pub rest : List ℕ
   pub raw : List ℕ
   pub means : IsPackedAt place raw (bytes ++ rest)
@@ -26,7 +26,7 @@ pub record IsBegun (place : ℕ) (bytes : List ℕ) : Type 0 where
 pub record HasWhole (course : Course) (place : ℕ) (taken : List ℕ) : Type 0 where
   pub whole : IsPackedAs (unpacked (take place taken)) (take place taken)
   pub within : place ≤ length taken
-  pub begun : ∥ IsBegun place (drop place taken) ∥₁
+  pub begun : ∥ BeginsPacked place (drop place taken) ∥₁
   pub goes_on : GoesOn (unpacked (take place taken))
   pub exact : course ≡ Taking → length taken ≡ place
 

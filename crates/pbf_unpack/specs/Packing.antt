@@ -75,5 +75,5 @@ HasCause {d = d} p Unfit = (packed raw rest : List ℕ) → d.taken p.below.drai
 HasCause p Refused = Unit {0}
 
 -- what it took is no raw file, as far as the drain below reports that
-abbrev pub IsCut : {D : Type 0} {d : drain.Ghosts D} → PackedDrain D d → Type 0
-IsCut p = (raw : List ℕ) → taken_raw p ≡ Some raw → IsRawFile raw → ⊥
+abbrev pub TookNoRawFile : {D : Type 0} {d : drain.Ghosts D} → PackedDrain D d → Type 0
+TookNoRawFile p = (raw : List ℕ) → taken_raw p ≡ Some raw → IsRawFile raw → ⊥

@@ -6,8 +6,8 @@ use Rattle.pbf_frame.specs.Steps.{head_of}
 use Rattle.pbf_frame.specs.declared.header.TheConstants.{HEADER_LIMIT}
 
 -- the four bytes are there, and the header is no longer than it may be
-abbrev pub HoldsHeader : (front wanted : ℕ) → Type 0
-HoldsHeader front wanted = (4 ≤ front) × (front + wanted ≤ HEADER_LIMIT + 3)
+abbrev pub WantsHeader : (front wanted : ℕ) → Type 0
+WantsHeader front wanted = (4 ≤ front) × (front + wanted ≤ HEADER_LIMIT + 3)
 
 -- the length of the header, by the four bytes before it
 unfoldable pub header_length : (front : List ℕ) → ℕ

@@ -1,5 +1,5 @@
 -- How the blobs of a file are stored: whether some are zlib data, and whether some are raw.
-use Rattle.std.specs.Prelude.{ℕ, zero, suc, Bool, true, false, ◌||◌, List, length, drop, Option, Some, None, if◌then◌else◌}
+use Rattle.std.specs.Prelude.{ℕ, zero, suc, true, false, ◌||◌, List, length, drop, Option, Some, None, if◌then◌else◌}
 use Rattle.pbf_wire.specs.Occurrence.{Occurrence}
 use Rattle.pbf_frame.specs.declared.frame.FrameKind.{FrameKind}
 use Rattle.pbf_frame.specs.declared.frame.FrameKind.TheVariants as kind
@@ -25,9 +25,9 @@ stored_as (Some stream) = record { packed = true; raw = false }
 stored_as None = record { packed = false; raw = true }
 
 -- that of a frame of this kind; the blob of another type doesn't count
-abbrev pub stored_in : FrameKind → ℕ → (blob : List ℕ) → Stored
-stored_in kind.Other at blob = none_stored
-stored_in _ at blob = stored_as (packed_in at blob)
+abbrev pub stored_in_frame : FrameKind → ℕ → (blob : List ℕ) → Stored
+stored_in_frame kind.Other at blob = none_stored
+stored_in_frame _ at blob = stored_as (packed_in at blob)
 
 -- ---- a file
 
@@ -36,7 +36,7 @@ unfoldable pub stored_within : ℕ → ℕ → List ℕ → Stored
 stored_within zero place bytes = none_stored
 stored_within (suc fuel) place bytes =
     let f = frame_at place bytes in
-    if is_whole f then together (stored_in (frame_kind f) (blob_at f) f.blob) (stored_within fuel (frame_end f) (drop (length (frame_bytes f)) bytes)) else none_stored
+    if is_whole f then together (stored_in_frame (frame_kind f) (blob_at f) f.blob) (stored_within fuel (frame_end f) (drop (length (frame_bytes f)) bytes)) else none_stored
 
 -- the frames of these bytes at this place; each has a byte at least
 unfoldable pub stored_from : ℕ → List ℕ → Stored
@@ -50,6 +50,6 @@ stored_after Unpacked = record { packed = true; raw = false }
 stored_after (Faulty fault) = record { packed = true; raw = false }
 
 -- by its kind
-abbrev pub stored_by : FrameKind → Outcome → Stored
-stored_by kind.Other outcome = none_stored
-stored_by _ outcome = stored_after outcome
+abbrev pub stored_by_kind : FrameKind → Outcome → Stored
+stored_by_kind kind.Other outcome = none_stored
+stored_by_kind _ outcome = stored_after outcome

@@ -105,7 +105,7 @@ pub record SuppliesFrom {F X : Type 0} (f : feed.Ghosts F) (old new : UnpackedFe
 -- ---- how it goes on
 
 -- a feed that is still to supply the same, and has supplied the same
-pub record GoesOn {F : Type 0} (remaining : F → Option (List ℕ)) (has_passed : F → ℕ → List ℕ → Type 0) (old new : UnpackedFeed F) : Type 0 where
+pub record SuppliesTheSame {F : Type 0} (remaining : F → Option (List ℕ)) (has_passed : F → ℕ → List ℕ → Type 0) (old new : UnpackedFeed F) : Type 0 where
   pub remaining_same : remaining_in remaining old ≡ remaining_in remaining new
   pub supplied_same : (log : ℕ) (bytes : List ℕ) → HasSupplied remaining has_passed old log bytes → HasSupplied remaining has_passed new log bytes
 

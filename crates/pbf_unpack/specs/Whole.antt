@@ -10,7 +10,7 @@ use Rattle.pbf_unpack.specs.declared.whole.Found.{Found}
 use Rattle.pbf_unpack.specs.declared.whole.Found.TheVariants as found
 use Rattle.pbf_unpack.specs.declared.whole.Front.{Front}
 use Rattle.pbf_unpack.specs.declared.whole.Front.TheVariants as front
-use Rattle.pbf_unpack.specs.Stored.{none_stored, stored_from, stored_in, together}
+use Rattle.pbf_unpack.specs.Stored.{none_stored, stored_from, stored_in_frame, together}
 use Rattle.pbf_unpack.specs.Unpacked.{then_unpacked, as_they_stand, unpacked_frame, unpacked_from}
 use Rattle.pbf_frame.specs.declared.frame.TheConstants.{FILE_LIMIT}
 
@@ -24,8 +24,8 @@ abbrev pub IsUnfit : ℕ → List ℕ → Type 0
 IsUnfit place read = (0 < length read) × ((rest : List ℕ) → unpacked_from place (read ++ rest) ≡ as_they_stand (read ++ rest))
 
 -- they are all that there was, and no whole frame
-abbrev pub IsCut : ℕ → List ℕ → Option (List ℕ) → Type 0
-IsCut place read left = (unpacked_from place read ≡ as_they_stand read) × IsAtEnd left
+abbrev pub IsCutShort : ℕ → List ℕ → Option (List ℕ) → Type 0
+IsCutShort place read left = (unpacked_from place read ≡ as_they_stand read) × IsAtEnd left
 
 -- the four bytes and the header of a frame, which says this
 pub record HasHead (place : ℕ) (read header : List ℕ) (head : Head) : Type 0 where
@@ -40,7 +40,7 @@ pub record HasHead (place : ℕ) (read header : List ℕ) (head : Head) : Type 0
 abbrev pub BeginsWith : ℕ → (read header : List ℕ) → Option (List ℕ) → Front → Type 0
 BeginsWith place read header left (front.Says head) = HasHead place read header head
 BeginsWith place read header left front.Unfit = IsUnfit place read
-BeginsWith place read header left front.Cut = IsCut place read left
+BeginsWith place read header left front.Cut = IsCutShort place read left
 
 -- these are a whole frame, whatever follows
 abbrev pub MeansWhole : ℕ → (read blob : List ℕ) → WholeFrame → Type 0
@@ -50,7 +50,7 @@ MeansWhole place read blob w = (0 < length read) × ((rest : List ℕ) → unpac
 abbrev pub Means : ℕ → (read blob : List ℕ) → Option (List ℕ) → Found → Type 0
 Means place read blob left (found.Whole w) = MeansWhole place read blob w
 Means place read blob left found.Unfit = IsUnfit place read
-Means place read blob left found.Cut = IsCut place read left
+Means place read blob left found.Cut = IsCutShort place read left
 
 -- the blobs of bytes that begin no whole frame, whatever follows or as all that there is, don't count
 abbrev pub StoresFront : ℕ → (read : List ℕ) → Front → Type 0
@@ -60,15 +60,15 @@ StoresFront place read front.Cut = stored_from place read ≡ none_stored
 
 -- and that of a whole frame counts, whatever follows
 abbrev pub Stores : ℕ → (read blob : List ℕ) → Found → Type 0
-Stores place read blob (found.Whole w) = (rest : List ℕ) → stored_from place (read ++ rest) ≡ together (stored_in w.kind w.blob_at blob) (stored_from w.end rest)
+Stores place read blob (found.Whole w) = (rest : List ℕ) → stored_from place (read ++ rest) ≡ together (stored_in_frame w.kind w.blob_at blob) (stored_from w.end rest)
 Stores place read blob found.Unfit = (rest : List ℕ) → stored_from place (read ++ rest) ≡ none_stored
 Stores place read blob found.Cut = stored_from place read ≡ none_stored
 
 -- the blob and the frame end within the limit of a file
-abbrev pub IsPlaced : List ℕ → Found → Type 0
-IsPlaced blob (found.Whole w) = (w.end ≤ FILE_LIMIT) × (w.blob_at + length blob ≤ FILE_LIMIT)
-IsPlaced blob found.Unfit = Unit {0}
-IsPlaced blob found.Cut = Unit {0}
+abbrev pub EndsWithinFile : List ℕ → Found → Type 0
+EndsWithinFile blob (found.Whole w) = (w.end ≤ FILE_LIMIT) × (w.blob_at + length blob ≤ FILE_LIMIT)
+EndsWithinFile blob found.Unfit = Unit {0}
+EndsWithinFile blob found.Cut = Unit {0}
 
 -- the same of a frame that begins here
 pub record IsPlacedAt (place : ℕ) (read blob : List ℕ) (w : WholeFrame) : Type 0 where

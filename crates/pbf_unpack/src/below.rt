@@ -1,7 +1,6 @@
 //! The drain below a packing one, and how far the file is that it takes.
 
 ghost use Rattle.std.specs.Prelude.{◌≡◌, ◌+◌, ◌<◌, ◌≤◌, ◌++◌, List, ℕ, Some, [], length, OnOk, OnErr, IfSome};
-ghost use Rattle.pbf_frame.specs.Devices.{HasRisen, IsFront};
 ghost use Rattle.pbf_frame.specs.Transfers.{Added};
 ghost use Rattle.pbf_frame.specs.declared.frame.TheConstants.{FILE_LIMIT};
 ghost use Rattle.pbf_unpack.specs.declared.below.Course.TheVariants as courses;

@@ -1,6 +1,6 @@
 //! A raw file, given to another drain as the published one that means it.
 
-ghost use Rattle.std.specs.Prelude.{◌≡◌, ◌⊎◌, ◌+◌, ◌<◌, ◌≤◌, ◌++◌, length, List, ℕ, Some, [], OnOk, OnErr, IfSome, IsSome};
+ghost use Rattle.std.specs.Prelude.{◌≡◌, ◌⊎◌, ◌+◌, ◌<◌, ◌≤◌, ◌++◌, List, ℕ, Some, [], OnOk, OnErr, IfSome, IsSome};
 ghost use Rattle.pbf_frame.specs.Keeps.{KeepsDrain};
 ghost use Rattle.pbf_frame.specs.declared.header.TheConstants.{HEADER_LIMIT, LARGEST_SIZE};
 ghost use Rattle.pbf_frame.specs.declared.put.TheConstants.{HEAD_ROOM};
@@ -32,7 +32,7 @@ pub struct PackedDrain<D: Drain> {
 }
 
 impl<D: Drain> PackedDrain<D> {
-    ghost use Rattle.pbf_unpack.specs.Packing.{taken_raw, failures_of_drain, frame_held, GaveAll, HasCause, HasPacked, IsCut, IsEmptied, TookSame};
+    ghost use Rattle.pbf_unpack.specs.Packing.{taken_raw, failures_of_drain, frame_held, GaveAll, HasCause, HasPacked, TookNoRawFile, IsEmptied, TookSame};
 
     /// Over a drain that took nothing. It does not allocate before the first frame.
     pub fn new(alloc: Global, deflater: Deflater, drain: D) -> Self
@@ -90,7 +90,8 @@ impl<D: Drain> PackedDrain<D> {
     pub fn finish(&mut self) -> Result<(), DrainFault>
         ensures gave { OnOk result (GaveAll self.old self.new) }
         ensures taken { taken_raw self.new ≡ taken_raw self.old }
-        ensures stopped { OnErr result (IsSome (stop_of_course self.new.below.course) ⊎ IsCut self.new) }
+        ensures stopped { OnErr result (IsSome (stop_of_course self.new.below.course)
+            ⊎ TookNoRawFile self.new) }
         ensures keeps { KeepsDrain D.Drain self.old.below.drain self.new.below.drain }
     {
         if self.below.course != Course::Taking {

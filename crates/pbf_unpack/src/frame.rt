@@ -5,7 +5,7 @@ ghost use Rattle.pbf_frame.specs.declared.header.Head.{Head};
 ghost use Rattle.pbf_frame.specs.declared.header.TheConstants.{HEADER_LIMIT, LARGEST_SIZE};
 ghost use Rattle.pbf_unpack.specs.declared.frame.Part.TheVariants as parts;
 ghost use Rattle.pbf_frame.specs.Steps.{head_of};
-ghost use Rattle.pbf_unpack.specs.Parts.{HasHeader, HoldsBlob, HoldsHeader};
+ghost use Rattle.pbf_unpack.specs.Parts.{HasHeader, HoldsBlob, WantsHeader};
 
 use byteorder::{BigEndian, ByteOrder};
 use pbf_frame::{FrameKind, HEAD_ROOM, HEADER_LIMIT, RAW_LIMIT, put_head, read_head};
@@ -65,7 +65,7 @@ pub(crate) struct RawFrame {
     wanted: usize,
     ghost prefix: { part ≡ parts.Prefix → vec_len front + wanted ≡ 4 },
     ghost prefix_begun: { part ≡ parts.Prefix → 0 < wanted },
-    ghost header: { part ≡ parts.Header → HoldsHeader (vec_len front) wanted },
+    ghost header: { part ≡ parts.Header → WantsHeader (vec_len front) wanted },
     ghost header_long: { part ≡ parts.Header → HasHeader front.items wanted },
     ghost header_begun: { part ≡ parts.Header → wanted ≡ 0 → vec_len front ≡ 4 },
     ghost blob_long: { part ≡ parts.Blob → HoldsBlob front.items blob.items wanted },

@@ -1,7 +1,7 @@
 //! How the blobs of a file are stored.
 
 ghost use Rattle.std.specs.Prelude.{◌≡◌};
-ghost use Rattle.pbf_unpack.specs.Stored.{none_stored, stored_after, stored_by, together};
+ghost use Rattle.pbf_unpack.specs.Stored.{none_stored, stored_after, stored_by_kind, together};
 
 use crate::unpack::Outcome;
 use pbf_frame::FrameKind;
@@ -39,7 +39,7 @@ impl Stored {
 
     /// These and one frame more. A blob of another type than `OSMHeader` and `OSMData` doesn't count.
     pub(crate) fn with(self, kind: FrameKind, outcome: Outcome) -> Stored
-        ensures { result ≡ together self (stored_by kind outcome) }
+        ensures { result ≡ together self (stored_by_kind kind outcome) }
     {
         if kind == FrameKind::Other {
             return self;

@@ -4,8 +4,8 @@ ghost use Rattle.std.specs.Prelude.{◌≡◌, ◌+◌, ◌-◌, ◌<◌, ◌≤
 ghost use Rattle.pbf_frame.specs.Devices.{prepend, Passes, IsAtEnd};
 ghost use Rattle.pbf_frame.specs.Reads.{FillsFrom};
 ghost use Rattle.pbf_unpack.specs.declared.feed.State.TheVariants as states;
-ghost use Rattle.pbf_unpack.specs.Stored.{stored_by, together};
-ghost use Rattle.pbf_unpack.specs.Supplying.{left_in, remaining_in, refusals, HasSupplied, GoesOn, HasSupply, IsSameBut, SuppliesFrom};
+ghost use Rattle.pbf_unpack.specs.Stored.{stored_by_kind, together};
+ghost use Rattle.pbf_unpack.specs.Supplying.{left_in, remaining_in, refusals, HasSupplied, SuppliesTheSame, HasSupply, IsSameBut, SuppliesFrom};
 
 use crate::buffers::Buffers;
 use crate::feed::{Origin, State, UnpackedFeed};
@@ -64,7 +64,8 @@ impl<F: Feed> UnpackedFeed<F> {
     /// Keeps where the frame in the buffers comes from.
     fn come_from(&mut self, from: Origin, frame: WholeFrame, outcome: Outcome)
         ensures same { IsSameBut self.old self.new }
-        ensures stored { self.new.stored ≡ together self.old.stored (stored_by frame.kind outcome) }
+        ensures stored { self.new.stored
+            ≡ together self.old.stored (stored_by_kind frame.kind outcome) }
     {
         let mut origin = from;
         if outcome == Outcome::Unpacked {
@@ -81,7 +82,7 @@ impl<F: Feed> UnpackedFeed<F> {
     fn next_frame(&mut self) -> Result<(), Stop>
         requires reading { self.old.state ≡ states.Reading }
         requires spent { left_in self.old ≡ [] }
-        ensures goes_on { OnOk result (GoesOn F.remaining F.has_passed self.old self.new) }
+        ensures goes_on { OnOk result (SuppliesTheSame F.remaining F.has_passed self.old self.new) }
         ensures ready { OnOk result (HasSupply self.new.state (left_in self.new)) }
         ensures feed { FillsFrom F.Feed self.old.feed self.new.feed result }
     {
@@ -111,7 +112,7 @@ impl<F: Feed> UnpackedFeed<F> {
 
     /// Makes sure that there are bytes in the buffers, if there are any left.
     fn make_ready(&mut self) -> Result<(), Stop>
-        ensures goes_on { OnOk result (GoesOn F.remaining F.has_passed self.old self.new) }
+        ensures goes_on { OnOk result (SuppliesTheSame F.remaining F.has_passed self.old self.new) }
         ensures ready { OnOk result (HasSupply self.new.state (left_in self.new)) }
         ensures feed { SuppliesFrom F.Feed self.old self.new result }
     {

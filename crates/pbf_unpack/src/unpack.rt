@@ -5,7 +5,7 @@ ghost use Rattle.pbf_wire.specs.declared.limits.TheConstants.{OFFSET_LIMIT, RAW_
 ghost use Rattle.pbf_frame.specs.declared.frame.FrameKind.TheVariants as kinds;
 ghost use Rattle.pbf_frame.specs.Writing.{written_frame};
 ghost use Rattle.pbf_unpack.specs.Payloads.{fault_of_outcome};
-ghost use Rattle.pbf_unpack.specs.Stored.{stored_by, stored_in};
+ghost use Rattle.pbf_unpack.specs.Stored.{stored_by_kind, stored_in_frame};
 ghost use Rattle.pbf_unpack.specs.Unpacked.{unpacked_frame};
 
 use crate::blob::packed_field;
@@ -64,8 +64,8 @@ pub(crate) fn unpack(
     ensures means { IfOk result (λ outcome. unpacked_frame frame.kind frame.blob_at
         (buffers.old.front.items ++ buffers.old.packed.items) buffers.old.packed.items
         ≡ (buffers.new.front.items ++ buffers.new.raw.items, fault_of_outcome outcome)) }
-    ensures stored { IfOk result (λ outcome. stored_by frame.kind outcome
-        ≡ stored_in frame.kind frame.blob_at buffers.old.packed.items) }
+    ensures stored { IfOk result (λ outcome. stored_by_kind frame.kind outcome
+        ≡ stored_in_frame frame.kind frame.blob_at buffers.old.packed.items) }
 {
     if frame.kind == FrameKind::Other {
         buffers.stand();

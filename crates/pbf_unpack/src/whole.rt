@@ -4,7 +4,7 @@ ghost use Rattle.std.specs.Prelude.{◌≡◌, ◌+◌, ◌-◌, ◌<◌, ◌≤
 ghost use Rattle.pbf_frame.specs.declared.header.Head.{Head};
 ghost use Rattle.pbf_frame.specs.declared.header.TheConstants.{HEADER_LIMIT};
 ghost use Rattle.pbf_frame.specs.Reads.{FillsFrom};
-ghost use Rattle.pbf_unpack.specs.Whole.{TookBytes, BeginsWith, Means, MeansWhole, IsPlaced, IsPlacedAt, Stores, StoresFront};
+ghost use Rattle.pbf_unpack.specs.Whole.{TookBytes, BeginsWith, Means, MeansWhole, EndsWithinFile, IsPlacedAt, Stores, StoresFront};
 ghost use Rattle.pbf_unpack.specs.RawFrames.{IsFrameOf, IsPastLimit};
 ghost use Rattle.pbf_frame.specs.declared.frame.TheConstants.{FILE_LIMIT};
 
@@ -123,7 +123,7 @@ pub(crate) fn read_whole<F: Feed>(
         buffers.new.packed.items (F.remaining feed.new)) }
     ensures stores { IfOk result (Stores place (buffers.new.front.items ++ buffers.new.packed.items)
         buffers.new.packed.items) }
-    ensures placed { IfOk result (IsPlaced buffers.new.packed.items) }
+    ensures placed { IfOk result (EndsWithinFile buffers.new.packed.items) }
     ensures raw { buffers.new.raw ≡ buffers.old.raw }
     ensures feed { FillsFrom F.Feed feed.old feed.new result }
 {

@@ -1,5 +1,5 @@
 -- What is gathered for one of several areas.
-use Rattle.std.proofs.Common.{◌≡◌, ℕ, List, [], ◌∷◌, Bool, true, false, true≢false, refl, sym, ap, ◌∙◌}
+use Rattle.std.proofs.Common.{◌≡◌, List, [], ◌∷◌, Bool, true, false, true≢false, refl, sym, ap, ◌∙◌}
 use Rattle.std.specs.List.{fold}
 use Rattle.osm_entity.specs.Entity.{EntitySpec}
 use Rattle.pbfcut.specs.declared.area_phase.AreaPhase.{AreaPhase}

@@ -1,30 +1,26 @@
 -- What a call says of each of several extracts, from what its passes say.
-use Rattle.std.proofs.Common.{◌≡◌, ◌⊎◌, ℕ, List, [], ◌∷◌, ◌++◌, length, map, Bool, true, false, Option, Some, None, Result, Ok, Err, IfOk, IfErr, OnOk, OnErr, refl, sym, ap, subst, ◌∙◌, arith}
+use Rattle.std.proofs.Common.{◌≡◌, ℕ, List, [], ◌∷◌, ◌++◌, length, Bool, true, false, Some, None, Result, Ok, Err, IfOk, refl, sym, ap, subst, arith}
 use Rattle.std.specs.List.{AllByRecursion, AllZip}
 use Rattle.osm_area.specs.Area.{AreaSpec}
 use Rattle.osm_ways.specs.Selection.{Strategy, all_parents, complete_ways}
 use Rattle.osm_ways.specs.Phases.{KeptSets}
 use Rattle.pbf_header.specs.Header.{HeaderSpec, header_of}
-use Rattle.pbf_block.specs.declared.counts.Counts.{Counts}
 use Rattle.pbf_wire.specs.declared.fault.Fault.{Fault}
 use Rattle.pbf_frame.specs.declared.device.Feed as feed
 use Rattle.pbf_frame.specs.declared.device.Drain as drain
 use Rattle.pbf_frame.specs.declared.stop.Stop.{Stop}
 use Rattle.pbf_frame.specs.declared.stop.Stop.TheVariants as why
-use Rattle.pbf_frame.specs.Devices.{IsFront}
 use Rattle.pbf_frame.specs.Verdict.{Verdict}
-use Rattle.pbf_frame.specs.Frames.{FrameSpec}
 use Rattle.pbf_pass.specs.declared.hashing.PassCheck.{PassCheck}
 use Rattle.pbf_pass.specs.declared.receipt.Halt.{Halt}
 use Rattle.pbf_pass.specs.declared.receipt.Halt.TheVariants as halt
 use Rattle.pbf_pass.specs.declared.receipt.InputReceipt.{InputReceipt}
 use Rattle.pbf_pass.specs.declared.receipt.Passes.{Passes}
-use Rattle.pbf_pass.specs.Given.{GaveFile, Took}
 use Rattle.pbf_pass.specs.Hashing.{Mark, mark_by}
 use Rattle.pbf_pass.specs.Judged.{judged_file}
 use Rattle.pbf_pass.specs.Refused.{stop_of}
-use Rattle.pbf_pass.specs.HeaderLimit.{HasShortTexts, judged_writable}
-use Rattle.pbf_pass.specs.Stops.{Caused, FaultOf}
+use Rattle.pbf_pass.specs.HeaderLimit.{HasShortTexts}
+use Rattle.pbf_pass.specs.Stops.{Caused}
 use Rattle.pbf_pass.proofs.GivenLemmas.{gave_file_less, tells_file}
 use Rattle.std.proofs.lemmas.Result.{on_err_weaker}
 use Rattle.pbf_pass.proofs.LimitLemmas.{judged_sound}
@@ -32,18 +28,18 @@ use Rattle.pbfcut.specs.declared.carrying.AreaChoice.{AreaChoice}
 use Rattle.pbfcut.specs.declared.carrying.AreaOutput.{AreaOutput}
 use Rattle.pbfcut.specs.declared.carrying.EachReceipt.{EachReceipt}
 use Rattle.pbfcut.specs.declared.repeat.LaterPass.{LaterPass}
-use Rattle.pbfcut.specs.Calls.{AllSupply, AnyFailed, ChangedAmong, DrainUse, FailedDrain, FeedUse, GaveBy, GaveOrNot, KeepsAll, drained, supply_of, taken_after, taken_before}
+use Rattle.pbfcut.specs.Calls.{DrainUse, FeedUse, GaveBy, GaveOrNot, KeepsAll, drained, supply_of}
 use Rattle.pbfcut.specs.Choosing.{StopsChoosing}
 use Rattle.pbfcut.specs.ChoosingEach.{Chose, ChoseParents, ChoseWays, IsSoundFile}
 use Rattle.pbfcut.specs.EachReceipts.{ExtractsEach, HaltsOutput, receipt_of, stop_result}
 use Rattle.pbfcut.specs.Extracting.{IsChoice}
-use Rattle.pbfcut.specs.Kept.{IsWritable, extract_of}
+use Rattle.pbfcut.specs.Kept.{IsWritable}
 use Rattle.pbfcut.specs.Pick.{taken_by}
 use Rattle.pbfcut.specs.Receipts.{Extracts, Wrote, judge_by}
 use Rattle.pbfcut.specs.Theorem.{IsExtraction}
 use Rattle.pbfcut.specs.Repeat.{StopsLater, digest_of}
-use Rattle.pbfcut.specs.Several.{AllThree, AnyZip, KeepsOutput, OutputBegan, OutputFailed, OutputTook, WritesEach}
-use Rattle.pbfcut.specs.Write.{Packed, PacksFront, WritesChoice}
+use Rattle.pbfcut.specs.Several.{AllThree, KeepsOutput, OutputBegan, OutputTook, WritesEach}
+use Rattle.pbfcut.specs.Write.{WritesChoice}
 use Rattle.pbfcut.proofs.ChosenLemmas.{extracts_by, if_ok_both, wrote_extract, wrote_front}
 use Rattle.pbfcut.proofs.ConvertingLemmas.{known_says, nothing_out}
 use Rattle.pbfcut.proofs.ExtractingLemmas.{Selects, selects_chosen, selects_parents}

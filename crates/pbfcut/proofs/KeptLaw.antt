@@ -12,7 +12,7 @@ use Rattle.osm_entity.specs.Entity as entity
 use Rattle.osm_entity.specs.Entity.{EntitySpec}
 use Rattle.osm_entity.specs.Ranges.{EntityFits, EntityTyped}
 use Rattle.osm_entity.specs.Weight.{text_weight}
-use Rattle.osm_ways.specs.Selection.{Strategy, IsWider, keeps, extract}
+use Rattle.osm_ways.specs.Selection.{Strategy, IsWider, extract}
 use Rattle.osm_ways.specs.Seen.{seen_entity, seen_decoded}
 use Rattle.osm_ways.proofs.Decoding.{seen_alike}
 use Rattle.osm_ways.proofs.Boxes.{seen_entity-within}

@@ -28,7 +28,7 @@ use Rattle.pbf_block.specs.declared.kinds.Kinds.{Kinds}
 use Rattle.pbf_block.specs.Kinds.{is_among}
 use Rattle.pbf_block.specs.PrimitiveBlock.{entities}
 use Rattle.pbf_block.proofs.KindLemmas.{filter_every}
-use Rattle.pbfcut.specs.Pick.{Pick, HasPacked, BeginsAll, Begins, StopsPacking, StopsAmong}
+use Rattle.pbfcut.specs.Pick.{Pick, HasPacked, BeginsAll, BeginsPacking, StopsPacking, StopsAmong}
 use Rattle.pbf_pass.specs.Stops.{Caused, Only, unchanged}
 
 -- what is picked of the frames
@@ -76,16 +76,13 @@ module _ {D S H : Type 0} (d : drain.Ghosts D) where
   none_gone start done packer h = subst (λ (l : List EntitySpec). HasPacked d start l packer) (sym (append-nil done)) h
 
   -- nothing of them went out
-  pub begins_none : (es : List EntitySpec) (old new : Packing D S H) → d.taken new.drain ≡ d.taken old.drain → Begins d old new es
+  pub begins_none : (es : List EntitySpec) (old new : Packing D S H) → d.taken new.drain ≡ d.taken old.drain → BeginsPacking d old new es
   begins_none es old new same = grind (arith, d.taken old.drain, append_assoc, begins_packed)
 
   -- ---- in a loop over frames
 
   pub none_packed : (packer : Packing D S H) → Pending packer [] → HasPacked d packer.drain [] packer
   none_packed packer p = record { fits = tt; added = added_none d packer.drain; pending = p }
-
-  pub same_packed : (start : D) (es : List EntitySpec) (old new : Packing D S H) → new ≡ old → HasPacked d start es old → HasPacked d start es new
-  same_packed start es old new p h = subst (λ (q : Packing D S H). HasPacked d start es q) (sym p) h
 
   -- the block that is closed at the end
   pub ended : (start : D) (es : List EntitySpec) (packer new : Packing D S H) → HasPacked d start es packer → ((es : List EntitySpec) → Pending packer es → Added d packer.drain (at_end es) new.drain) → Added d start (written_entities es) new.drain

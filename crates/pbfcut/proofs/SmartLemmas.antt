@@ -10,18 +10,15 @@ use Rattle.pbf_wire.specs.declared.fault.Fault.{Fault}
 use Rattle.pbf_wire.specs.declared.fault.Reason.TheVariants.{Unsorted}
 use Rattle.pbf_wire.specs.Faults.{fault}
 use Rattle.pbf_frame.specs.Frames.{FrameSpec}
-use Rattle.pbf_frame.specs.Verdict.{Verdict}
 use Rattle.pbf_header.specs.Header.{HeaderSpec}
 use Rattle.pbf_pass.specs.Counting.{stored_entities}
 use Rattle.pbf_pass.specs.declared.hashing.PassCheck.{PassCheck}
 use Rattle.pbf_pass.specs.declared.receipt.Halt.{Halt}
-use Rattle.pbf_pass.specs.declared.receipt.Halt.TheVariants as halt
-use Rattle.pbf_pass.specs.Hashing.{IsDigestOf, mark_by}
+use Rattle.pbf_pass.specs.Hashing.{mark_by}
 use Rattle.pbf_pass.specs.HeaderLimit.{judged_writable}
-use Rattle.pbf_pass.specs.Judged.{judged_file}
 use Rattle.pbf_pass.specs.SortedFile.{judged_sorted, rank_of}
 use Rattle.pbf_pass.specs.Stops.{FaultOf}
-use Rattle.pbf_pass.proofs.GivenLemmas.{Tells, says_told, tells_file}
+use Rattle.pbf_pass.proofs.GivenLemmas.{Tells, tells_file}
 use Rattle.pbf_pass.specs.Refused.{stop_of}
 use Rattle.pbf_pass.proofs.SortedFileLemmas.{fault_sorted, halts_sorting, order_refused}
 use Rattle.pbfcut.specs.Calls.{AnyFailed, ChangedAmong, FeedUse, GaveBy, supply_of}

@@ -1,13 +1,11 @@
 -- What each call says, as it is said of its task.
-use Rattle.std.proofs.Common.{◌≡◌, ℕ, List, [], ◌∷◌, ◌++◌, ◌∙◌, length, slice_index_or, slice_set, ap, Bool, false, Option, Some, Result, Ok, Err, IfOk, OnErr, refl, sym, subst, inl, arith}
+use Rattle.std.proofs.Common.{◌≡◌, ℕ, List, [], ◌∷◌, ◌++◌, ◌∙◌, length, slice_index_or, slice_set, ap, Bool, false, Some, Result, Ok, Err, IfOk, OnErr, refl, sym, subst, inl, arith}
 use Rattle.std.proofs.lemmas.List.{append-nil}
-use Rattle.std.proofs.lemmas.Result.{on_err_weaker}
 use Rattle.osm_area.specs.Area.{AreaSpec}
 use Rattle.osm_ways.specs.Selection.{Strategy}
 use Rattle.pbf_frame.specs.declared.device.Feed as feed
 use Rattle.pbf_frame.specs.declared.device.Drain as drain
 use Rattle.pbf_frame.specs.declared.stop.Stop.TheVariants as stop
-use Rattle.pbf_frame.specs.Devices.{IsFront}
 use Rattle.pbf_frame.specs.Transfers.{Added}
 use Rattle.pbf_frame.specs.Verdict.{judged}
 use Rattle.pbf_frame.proofs.KnownBytes.{append_none}
@@ -15,19 +13,19 @@ use Rattle.pbf_pass.specs.declared.hashing.PassCheck.{PassCheck}
 use Rattle.pbf_pass.specs.declared.receipt.Halt.{Halt}
 use Rattle.pbf_pass.specs.declared.receipt.Halt.TheVariants as halt
 use Rattle.pbf_pass.specs.declared.receipt.InputReceipt.{InputReceipt}
-use Rattle.pbf_pass.specs.Hashing.{Mark, mark_by}
+use Rattle.pbf_pass.specs.Hashing.{mark_by}
 use Rattle.pbf_pass.specs.HeaderLimit.{judged_writable}
 use Rattle.pbf_pass.specs.Judged.{fully, judged_file}
 use Rattle.pbf_pass.specs.Pass.{CountsFile}
 use Rattle.pbf_pass.specs.Refused.{EndsJudging}
 use Rattle.pbf_pass.proofs.GivenLemmas.{gave_file_less}
-use Rattle.pbfcut.specs.Calls.{AllSupply, DrainUse, FeedUse, GaveBy, GaveOrNot, TookBy, drained, fed, supply_of, taken_after, taken_before, used}
+use Rattle.pbfcut.specs.Calls.{DrainUse, FeedUse, GaveBy, TookBy, drained, fed, supply_of, taken_after, taken_before, used}
 use Rattle.pbfcut.specs.Ends.{EndsInFront, EndsPasses}
 use Rattle.pbfcut.specs.Kept.{IsWritable, conversion_of}
 use Rattle.pbfcut.specs.Receipts.{Extracts, Wrote}
-use Rattle.pbfcut.specs.Showing.{Shown, ShowsFront, answer_text}
+use Rattle.pbfcut.specs.Showing.{Shown, ShowsFront}
 use Rattle.pbfcut.specs.TaskCalls.{DoesPasses, GaveFiles}
-use Rattle.pbfcut.specs.Tasks.{Holds, Task, answer_of, checking, converting, copying, extracting, judge_of, showing, spares, spares_by}
+use Rattle.pbfcut.specs.Tasks.{Holds, Task, checking, converting, copying, extracting, showing, spares_by}
 use Rattle.pbfcut.specs.Theorem.{IsConverted, IsExtraction}
 use Rattle.pbfcut.proofs.ConvertingLemmas.{nothing_out}
 use Rattle.pbfcut.proofs.TheoremLemmas.{gave_or_less, took_weaker}

@@ -1,5 +1,5 @@
 -- What several writers do with a block that is read once for all of them.
-use Rattle.std.proofs.Common.{◌≡◌, ◌⊎◌, inl, inr, ℕ, Option, ap, ap₂, List, [], ◌∷◌, true, None, Ok, Err, sym, subst, ◌∙◌}
+use Rattle.std.proofs.Common.{◌≡◌, ◌⊎◌, inl, inr, ℕ, Option, ap, ap₂, List, [], ◌∷◌, ◌++◌, true, None, Ok, Err, sym, subst, ◌∙◌}
 use Rattle.std.specs.List.{AllByRecursion, AllZip, filter}
 use Rattle.osm_entity.specs.Entity.{EntitySpec}
 use Rattle.osm_entity.specs.Ranges.{EntityFits}
@@ -9,7 +9,9 @@ use Rattle.pbf_frame.specs.declared.device.Feed as feed
 use Rattle.pbf_frame.specs.declared.frame.Frame.{Frame}
 use Rattle.pbf_frame.specs.Frames.{FrameSpec, frame_payload, frame_payload_at}
 use Rattle.pbf_frame.specs.Keeps.{KeepsFeed}
+use Rattle.pbf_frame.specs.Devices.{IsAtEnd}
 use Rattle.pbf_frame.specs.Next.{Shows}
+use Rattle.pbf_frame.specs.Refusals.{Refuses}
 use Rattle.pbf_frame.specs.Verdict.{Verdict}
 use Rattle.pbf_pass.specs.Each.{EachTook, OneFailed}
 use Rattle.pbf_pass.specs.Judged.{fault_in}
@@ -26,6 +28,13 @@ use Rattle.pbfcut.specs.Write.{FailsAtUnjudgedPayload, PacksUnjudgedPayload}
 use Rattle.pbfcut.proofs.SeveralLemmas.{zip_right, zip_with}
 use Rattle.pbfcut.proofs.WantedLemmas.{wanted_within}
 use Rattle.pbfcut.proofs.WritingLemmas.{fails_at_unjudged_payload}
+
+-- what refuses bytes, if it says less of them
+refuses_more : (first then : List ℕ → Type 0) (before now : ℕ → List ℕ → Type 0) (old new : Option (List ℕ)) → ((bytes : List ℕ) → first bytes → then bytes) → Refuses first before now old new → Refuses then before now old new
+refuses_more first then before now old new h r = record { read = r.read; told = r.told; logged = r.logged; faulty = of r.faulty } where
+  of : ((rest : List ℕ) → first (r.read ++ rest)) ⊎ (IsAtEnd new × first r.read) → ((rest : List ℕ) → then (r.read ++ rest)) ⊎ (IsAtEnd new × then r.read)
+  of (inl all) = inl (λ rest. h (r.read ++ rest) (all rest))
+  of (inr end) = inr (end.0, h r.read end.1)
 
 module _ {A D S H : Type 0} (d : drain.Ghosts D) where
   -- ---- of a payload, from what is wanted of it
@@ -127,4 +136,4 @@ module _ {A D S H : Type 0} (d : drain.Ghosts D) where
 
   pub seen_rest : {F : Type 0} (g : feed.Ghosts F) (old new : F) (judge : List ℕ → Option Verdict) (a b : EachWriter A D S H) (stop : Stop) → KeepsFeed g old new → RefusesRest g old new (RefusesVisit (WritersTake d) (WritersFail d) judge a b) stop
       → RefusesRest g old new (RefusesVisit (EachTook (WriterTakes d)) (OneFailed (WriterTakes d) (WriterFails d)) judge a.writers.items b.writers.items) stop
-  seen_rest g old new judge a b stop kept rest = rest_of g old new old new _ _ stop kept rest (λ bytes is. seen_stops (judge bytes) ⊥ a b stop is)
+  seen_rest g old new judge a b stop kept rest = rest_of g old new old new _ _ stop kept rest (λ t refuses. refuses_more _ _ _ _ _ _ (λ bytes is. seen_stops (judge bytes) ⊥ a b t is) refuses)

@@ -1,27 +1,22 @@
 -- What one of several writers has written, and what went out of it if the pass stopped.
-use Rattle.std.proofs.Common.{◌≡◌, ◌⊎◌, ℕ, ◌≤◌, ◌^◌, min, List, [], ◌∷◌, ◌++◌, false, Option, Some, None, Result, Ok, Err, IfOk, IfErr, subst, inl, inr, refl, sym, ap, ◌∙◌, arith, rules}
+use Rattle.std.proofs.Common.{◌≡◌, ◌⊎◌, ℕ, ◌≤◌, List, [], ◌∷◌, false, Option, Some, subst, inl, inr, refl, sym, ap, ◌∙◌, arith}
 use Rattle.std.specs.List.{AllByRecursion, AllZip, filter}
 use Rattle.osm_entity.specs.Entity.{EntitySpec}
-use Rattle.osm_pack.specs.Cuts.{at_end, header_frame, written_entities, written_file}
+use Rattle.osm_pack.specs.Cuts.{at_end, header_frame, written_file}
 use Rattle.osm_pack.specs.Packing.{Pending}
 use Rattle.osm_pack.specs.Stops.{IsPackStop}
 use Rattle.pbf_header.specs.Header.{HeaderSpec, header_of}
-use Rattle.pbf_block.specs.declared.counts.Counts.{Counts}
 use Rattle.pbf_frame.specs.declared.device.Feed as feed
 use Rattle.pbf_frame.specs.declared.device.Drain as drain
 use Rattle.pbf_frame.specs.declared.stop.Stop.{Stop}
 use Rattle.pbf_frame.specs.declared.stop.Stop.TheVariants as why
-use Rattle.pbf_frame.specs.Devices.{HasRisen, IsFront, append}
+use Rattle.pbf_frame.specs.Devices.{HasRisen, IsFront}
 use Rattle.pbf_frame.specs.Frames.{FrameSpec}
-use Rattle.pbf_frame.specs.Keeps.{KeepsDrain}
-use Rattle.pbf_frame.specs.Transfers.{Added}
 use Rattle.pbf_frame.specs.Verdict.{Verdict, judged_known}
 use Rattle.pbf_frame.proofs.Beginnings.{front_whole}
 use Rattle.pbf_pass.specs.Counting.{counts_of, stored_entities}
 use Rattle.pbf_pass.specs.Each.{EachTook, OneFailed, VisitsFront}
-use Rattle.pbf_pass.specs.Given.{Took}
 use Rattle.pbf_pass.specs.Judged.{fully_known, judged_file}
-use Rattle.pbf_pass.specs.Stops.{Caused}
 use Rattle.pbf_pass.specs.Unjudged.{ReadsFaulty, StopsAtFrame, StopsUnjudged}
 use Rattle.pbf_pass.specs.Refused.{RefusesRest}
 use Rattle.pbf_pass.proofs.GivenLemmas.{Tells}
@@ -31,7 +26,6 @@ use Rattle.pbf_pass.proofs.UnjudgedLemmas.{faulty_visited, stops_visited}
 use Rattle.pbfcut.specs.declared.writing_each.AreaWriter.{AreaWriter}
 use Rattle.pbfcut.specs.Pick.{HasPacked, Pick, picks_of}
 use Rattle.pbfcut.specs.Several.{AnyZip, IsFreshWriter, KeepsWriter, OneStopped, PutsHeader, StopsAtHeader, StopsAtLast, WriterBegan, WriterFailed, WriterFails, WriterTakes, WriterTook, WritesLast}
-use Rattle.pbfcut.specs.Write.{Packed, PacksFront}
 use Rattle.pbfcut.proofs.ConvertingLemmas.{nothing_out}
 use Rattle.pbfcut.proofs.PickingLemmas.{behind_header, end_front, ended, header_alone, none_packed, whole_file}
 use Rattle.pbfcut.proofs.SeveralLemmas.{any_after, any_weaker, each_after, one_of, zip_then, zip_weaker, zip_with}

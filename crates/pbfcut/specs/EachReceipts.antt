@@ -16,7 +16,7 @@ use Rattle.pbfcut.specs.declared.carrying.AreaOutput.{AreaOutput}
 use Rattle.pbfcut.specs.declared.carrying.EachReceipt.{EachReceipt}
 use Rattle.pbfcut.specs.declared.extracting_each.EachStrategy.{EachStrategy}
 use Rattle.pbfcut.specs.declared.extracting_each.EachStrategy.TheVariants as each
-use Rattle.pbfcut.specs.Calls.{AllSupply, DrainUse, FailedDrain, FeedUse, KeepsAll, KeepsDrained, drained, supply_of, taken_after, taken_before}
+use Rattle.pbfcut.specs.Calls.{AllSupply, DrainUse, FailedDrain, FeedUse, KeepsAll, drained, supply_of, taken_after, taken_before}
 use Rattle.pbfcut.specs.Kept.{extract_of}
 use Rattle.pbfcut.specs.Receipts.{Extracts}
 use Rattle.pbfcut.specs.Tasks.{spares_by}

@@ -104,7 +104,7 @@ pub record Packs {D S H : Type 0} (d : drain.Ghosts D) (old new : Packing D S H)
   pub packed : (start : D) (done : List EntitySpec) → HasPacked d start done old → HasPacked d start (done ++ es) new
 
 -- of these entities, after those that were, a prefix went out
-pub record Begins {D S H : Type 0} (d : drain.Ghosts D) (old new : Packing D S H) (es : List EntitySpec) : Type 0 where
+pub record BeginsPacking {D S H : Type 0} (d : drain.Ghosts D) (old new : Packing D S H) (es : List EntitySpec) : Type 0 where
   pub begun : (start : D) (done : List EntitySpec) → HasPacked d start done old → BeginsAll (d.taken start) (done ++ es) (d.taken new.drain)
 
 -- ---- what a call does to a packer
@@ -118,12 +118,12 @@ pub record PacksAll {D S H : Type 0} (d : drain.Ghosts D) (fault : Option Fault)
 -- a call stopped: for the fault, then nothing went out; otherwise a prefix of these entities did
 pub record StopsPacking {D S H : Type 0} (d : drain.Ghosts D) (fault : Option Fault) (es : List EntitySpec) (old new : Packing D S H) (stop : Stop) : Type 0 where
   pub cause : Caused (Only fault) ⊥ (WriteFailed d old.drain new.drain) unchanged stop
-  pub front : (d.taken new.drain ≡ d.taken old.drain) ⊎ ((fault ≡ None) × Begins d old new es)
+  pub front : (d.taken new.drain ≡ d.taken old.drain) ⊎ ((fault ≡ None) × BeginsPacking d old new es)
 
 -- the same of entities of which some are picked: one of them can't be written; or a write failed, or memory was refused
 pub record StopsAmong {D S H : Type 0} (d : drain.Ghosts D) (number : ℕ) (pick : Pick) (es : List EntitySpec) (old new : Packing D S H) (stop : Stop) : Type 0 where
   pub cause : Caused (λ e. ⊥) ⊥ (WriteFailed d old.drain new.drain) (λ pass. (pass ≡ number) × (AllByRecursion EntityFits es → ⊥)) stop
-  pub begins : Begins d old new (filter pick es)
+  pub begins : BeginsPacking d old new (filter pick es)
 
 -- of these entities those that are picked were packed, and counted with those before them
 pub record PacksPicked {D S H : Type 0} (d : drain.Ghosts D) (pick : Pick) (es : List EntitySpec) (old new : Packing D S H) (before now : Counts) : Type 0 where

@@ -1,8 +1,8 @@
 -- Several drains that one call writes to: what it does to each of them, and why it stops.
 use Rattle.std.specs.Prelude.{◌≡◌, ◌⊎◌, ℕ, List, [], ◌∷◌, true, Option, Some, Result, Ok, Err, OnOk, OnErr, IfOk, IfErr}
-use Rattle.std.specs.List.{AllByRecursion, AllZip}
+use Rattle.std.specs.List.{AllZip}
 use Rattle.osm_pack.specs.Cuts.{at_end, header_frame}
-use Rattle.osm_pack.specs.Packing.{Packing, Pending}
+use Rattle.osm_pack.specs.Packing.{Pending}
 use Rattle.osm_pack.specs.Stops.{IsPackStop}
 use Rattle.osm_entity.specs.Entity.{EntitySpec}
 use Rattle.pbf_frame.specs.declared.device.Drain as drain
@@ -11,7 +11,6 @@ use Rattle.pbf_frame.specs.Devices.{IsFront}
 use Rattle.pbf_frame.specs.Keeps.{KeepsDrain}
 use Rattle.pbf_frame.specs.Transfers.{Added}
 use Rattle.pbf_frame.specs.Verdict.{Verdict}
-use Rattle.pbf_block.specs.declared.counts.Counts.{Counts}
 use Rattle.pbf_header.specs.Header.{header_of}
 use Rattle.pbf_pass.specs.Counting.{counts_of}
 use Rattle.pbf_pass.specs.Each.{EachTook, OneFailed}

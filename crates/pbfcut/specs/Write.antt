@@ -25,7 +25,7 @@ use Rattle.pbfcut.specs.Calls.{DrainUse, FailedDrain, FailedFeed, FeedUse, GaveB
 use Rattle.pbfcut.specs.declared.repeat.LaterPass.{LaterPass}
 use Rattle.pbfcut.specs.declared.write.OutputPlan.{OutputPlan}
 use Rattle.pbfcut.specs.declared.pick.EntityPacker.{EntityPacker}
-use Rattle.pbfcut.specs.Pick.{Pick, Packs, Begins, KeepsPacker, take_of, picked_in, taken_by, picks_of}
+use Rattle.pbfcut.specs.Pick.{Pick, Packs, BeginsPacking, KeepsPacker, take_of, picked_in, taken_by, picks_of}
 use Rattle.pbfcut.specs.Repeat.{StopsLater, digest_of}
 
 -- ---- one payload, and one frame
@@ -42,7 +42,7 @@ pub record PacksUnjudgedPayload {D S H : Type 0} (d : drain.Ghosts D) (pick : Pi
 -- refused. If it has none, a prefix of what is picked of it went out
 pub record FailsAtUnjudgedPayload {D S H : Type 0} (d : drain.Ghosts D) (number : ℕ) (pick : Pick) (p : Payload) (old new : Packing D S H) (stop : Stop) : Type 0 where
   pub cause : StopsAtPayload number (WriteFailed d old.drain new.drain) p stop
-  pub begins : fault_in p ≡ None → Begins d old new (picked_in pick p)
+  pub begins : fault_in p ≡ None → BeginsPacking d old new (picked_in pick p)
 
 -- what a call does at a payload that it doesn't judge
 pub record PacksUnjudged {D S H X : Type 0} (d : drain.Ghosts D) (p : Payload) (before now : EntityPacker) (old new : Packing D S H) (result : Result X Stop) : Type 0 where

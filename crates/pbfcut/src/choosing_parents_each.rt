@@ -20,7 +20,7 @@ use osm_area::Area;
 use osm_ways::{FoundRelations, InArea, RelationPhase, RelationTaker, WayPhase};
 use pbf_frame::Feed;
 use pbf_header::Header;
-use pbf_pass::{Each, Halt, Passes, judge, writable_header};
+use pbf_pass::{Each, EachArea, Halt, Passes, judge, writable_header};
 use std::alloc::{AllocError, Global};
 
 /// What follows a first phase: the phase of ways, what relations gave, and the header with the area's box.
@@ -131,7 +131,8 @@ fn begin_parents_each<A: Area + Copy, P: RelationTaker + Drop, F: Feed, D>(
         (StopsChoosing judged_writable (fed F.Feed feed.old feed.new) [] passes.check) }
     ensures keeps { KeepsFeed F.Feed feed.old feed.new }
 {
-    let mut each = Each::new(begin_phases::<A, P, D>(passes.alloc, outputs)?);
+    let takings = begin_phases::<A, P, D>(passes.alloc, outputs)?;
+    let mut each = EachArea::new(passes.alloc, takings)?;
     let judged = judge(passes, feed, &mut each)?;
     let header = writable_header(&judged)?;
     let phases = end_all_takings(passes.alloc, header, each.into_members())?;

@@ -1,6 +1,6 @@
 //! `convert`: all entities, in canonical form.
 
-ghost use Rattle.std.specs.Prelude.{◌≡◌, ℕ, List, [], ◌∷◌, false, IfOk, IfErr, OnOk};
+ghost use Rattle.std.specs.Prelude.{ℕ, List, [], ◌∷◌, false, IfOk, IfErr, OnOk};
 ghost use Rattle.pbfcut.specs.Calls.{AllSupply, drained, fed, StopsPasses};
 ghost use Rattle.pbfcut.specs.Theorem.{Converted, IsConverted, Promised, Canonical};
 ghost use Rattle.pbfcut.specs.Converting.{answer_bytes, CanBeWritten};

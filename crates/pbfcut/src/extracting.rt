@@ -1,6 +1,6 @@
 //! `extract` and `extract_parents`: what a box cuts out of a file, in canonical form.
 
-ghost use Rattle.std.specs.Prelude.{◌≡◌, ℕ, List, [], ◌∷◌, true, false, Some, IfOk, IfErr, OnOk};
+ghost use Rattle.std.specs.Prelude.{◌≡◌, ℕ, List, [], ◌∷◌, false, Some, IfOk, IfErr, OnOk};
 ghost use Rattle.osm_area.specs.Area.{box_area};
 ghost use Rattle.osm_ways.specs.Selection.{all_parents, complete_ways};
 ghost use Rattle.osm_ways.specs.Whole.{is_wanted};

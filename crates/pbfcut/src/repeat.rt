@@ -1,6 +1,6 @@
 //! Passes after the first one, whose bytes have to have its digest.
 
-ghost use Rattle.std.specs.Prelude.{◌≡◌, true, false, IfErr, MatchResult, OnOk, Ok, Err};
+ghost use Rattle.std.specs.Prelude.{◌≡◌, false, IfErr, MatchResult, OnOk, Ok, Err};
 ghost use Rattle.pbf_frame.specs.declared.stop.Stop.TheVariants.{Changed};
 ghost use Rattle.pbf_pass.specs.Hashing.{mark_by};
 ghost use Rattle.pbfcut.specs.Repeat.{as_change, digest_of, GathersLater};

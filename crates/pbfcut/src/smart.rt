@@ -1,6 +1,6 @@
 //! The smart extract: that with all parents, and with the members of relations that are wanted whole.
 
-ghost use Rattle.std.specs.Prelude.{◌≡◌, List, [], ◌∷◌, IfOk};
+ghost use Rattle.std.specs.Prelude.{[], ◌∷◌, IfOk};
 ghost use Rattle.osm_ways.specs.Selection.{smart};
 ghost use Rattle.osm_ways.specs.Whole.{is_wanted};
 ghost use Rattle.pbf_header.specs.Header.{header_of};

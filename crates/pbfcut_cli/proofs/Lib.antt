@@ -1,4 +1,3 @@
 mod Rows
-mod ReasonText
 mod Joining
 mod CommandLemmas

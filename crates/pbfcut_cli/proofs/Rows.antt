@@ -1,6 +1,5 @@
 -- What the getters read, by the rows.
-use Rattle.std.proofs.Common.{arith, ◌≡◌, ◌⊎◌, ◌∙◌, ap, refl, sym, List, [], ◌∷◌, map, Option, Some, None, unwrap_or, option_map, Bor, Bool, true, codes, find, is_some}
-use Rattle.std.specs.Prelude.{IsSome}
+use Rattle.std.proofs.Common.{arith, ◌≡◌, ◌⊎◌, ◌∙◌, sym, List, [], ◌∷◌, map, Option, Some, None, option_map, Bool, true, codes, find, is_some}
 use Rattle.clap.specs.Words.{App, Row, Shape, Text, built, has_subcommand, is_simple, subcommand_of, subcommand_rows_of}
 use Rattle.clap.specs.declared.parser.matches.ArgMatches.{ArgMatches}
 use Rattle.clap.specs.declared.parser.matches.ArgMatches.TheViews.{out-ArgMatches}
@@ -9,24 +8,7 @@ use Rattle.clap.specs.Simple.{argument_words, entered, label_of, names_of, rows_
 use Rattle.clap.specs.Walk.{answers_to, stop_after}
 use Rattle.pbfcut_cli.specs.declared.programs.Program.{Program}
 use Rattle.pbfcut_cli.specs.declared.programs.Program.TheVariants.{Pbfcut, Pbfcutz}
-use Rattle.pbfcut_cli.specs.declared.words.CliFault.{CliFault}
-use Rattle.pbfcut_cli.specs.declared.words.Command.{Command}
-use Rattle.pbfcut_cli.specs.Words.{HasFault, IsHelp, IsNoLine, IsOffered, IsRead, program_app}
-
--- the text of a reference, or the empty one
-pub text_or_empty : (o : Option (Bor Text)) (d : Bor Text) (v : Option Text)
-    → option_map (λ s. s.now) o ≡ v → d.now ≡ [] → (unwrap_or o d).now ≡ unwrap_or v []
-text_or_empty o d v h3 h4 = grind arith
-
--- it is there, or isn't, by what its getter returns
-pub present : (o : Option (Bor Text)) (v : Option Text) (x : Bor Text) → option_map (λ s. s.now) o ≡ v → o ≡ Some x → v ≡ Some x.now
-present o v x e is = sym e ∙ ap (option_map (λ (s : Bor Text). s.now)) is
-
-pub absent : (o : Option (Bor Text)) (v : Option Text) → option_map (λ s. s.now) o ≡ v → o ≡ None → v ≡ None
-absent o v e is = sym e ∙ ap (option_map (λ (s : Bor Text). s.now)) is
-
-pub is_there : (o : Option (Bor Text)) (v : Option Text) (x : Bor Text) → option_map (λ s. s.now) o ≡ v → o ≡ Some x → IsSome v
-is_there o v x e is = rw (present o v x e is) refl
+use Rattle.pbfcut_cli.specs.Words.{IsOffered, program_app}
 
 abbrev IsIn : Text → List Text → Type 0
 IsIn name [] = ⊥
@@ -75,11 +57,3 @@ offered program m words has same =
     go : (o : Option (Text × List Row)) → is_some o ≡ true → subcommand_of (program_app program) words ≡ o → IsOffered o
     go None h e = cc
     go (Some p) h e = named program words p e
-
--- a command that is read is no help
-pub never_help : (o : Option (Text × List Row)) (c : Command) → IsRead o c → IsHelp c → ⊥
-never_help o c h2 h3 = grind arith
-
--- a fault of words that `clap` takes is no line of `clap`
-pub never_line : (o : Option (Text × List Row)) (f : CliFault) → HasFault o f → IsNoLine f
-never_line o f h2 = grind arith

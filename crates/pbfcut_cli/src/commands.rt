@@ -148,7 +148,7 @@ fn raw<'a>(alloc: Global) -> Arg<'a>
     Arg::new(alloc, "raw")
         .long("raw")
         .action(ArgAction::SetTrue)
-        .help(help::RAW)
+        .help(help::RAW_BLOBS)
 }
 
 /// The box, as text, by one name.
@@ -220,7 +220,7 @@ fn types<'a>(alloc: Global) -> Arg<'a>
     Arg::new(alloc, "types")
         .long("types")
         .value_name("LIST")
-        .help(help::TYPES)
+        .help(help::WHOLE_TYPES)
 }
 
 /// A flag of Osmium's, which help leaves out.
@@ -471,7 +471,7 @@ fn titled<'a>(alloc: Global, help: &'a Help) -> Command<'a>
 {
     Command::new(alloc, "pbfcut")
         .about(help.about)
-        .version(help::VERSION)
+        .version(help::PROGRAM_VERSION)
         .after_help(help.after)
 }
 

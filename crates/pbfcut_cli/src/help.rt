@@ -210,7 +210,7 @@ pub(crate) const AFTER_INFO: &str = after_arguments_of_reader!(
 );
 
 /// What `--version` prints after the name.
-pub(crate) const VERSION: &str = "1.0.0 (rattle-kit-13f logic dac8208d650f15bf)";
+pub(crate) const PROGRAM_VERSION: &str = "1.0.0 (rattle-kit-13f logic dac8208d650f15bf)";
 
 pub(crate) const OUTPUT: &str = "The file to write; it must not exist";
 
@@ -224,9 +224,9 @@ pub(crate) const PARENTS: &str = "Also keep relations that contain kept ones";
 
 pub(crate) const STRATEGY: &str = "What is kept: complete_ways, or smart";
 
-pub(crate) const TYPES: &str = "Types that smart keeps whole, with commas";
+pub(crate) const WHOLE_TYPES: &str = "Types that smart keeps whole, with commas";
 
-pub(crate) const RAW: &str = "Write raw blobs: OUT is not compressed";
+pub(crate) const RAW_BLOBS: &str = "Write raw blobs: OUT is not compressed";
 
 pub(crate) const BOX: &str = "Edges of the box, in degrees; also --bbox";
 

@@ -5,11 +5,9 @@ ghost use Rattle.std.specs.Option.{option_map};
 ghost use Rattle.clap.specs.Words.{first_of, found_of, kind_of, rows_of, subcommand_rows_of, takes};
 ghost use Rattle.pbfcut_cli.specs.Words.{
   FitsFault,
-  HasAreaFault,
   HasConfigFault,
   HasExtractFault,
   HasFault,
-  HasFilesFault,
   HasOutputFault,
   HasRegionFault,
   HasStrategyFault,
@@ -30,7 +28,6 @@ ghost use Rattle.pbfcut_cli.specs.Words.{
   command_words,
   is_given,
   is_or_absent,
-  names_complete_ways,
   names_output,
   names_pbf,
   names_region,

@@ -5,7 +5,7 @@ use std::fs::{self, File, Metadata};
 use std::os::unix::fs::MetadataExt;
 
 /// Which file it is, by whatever name.
-#[derive(Clone, Copy, PartialEq, Eq)]
+#[derive(Clone, Copy, PartialEq, Eq, PartialOrd, Ord)]
 pub struct Identity {
     device: u64,
     number: u64,
@@ -29,7 +29,7 @@ pub fn plain_file_at(rt: &HostRuntime, path: &str) -> Option<Identity> {
 }
 
 /// A name in a folder, by whatever path the folder is reached.
-#[derive(Drop)]
+#[derive(Drop, PartialEq, Eq, PartialOrd, Ord)]
 pub struct Entry {
     folder: Identity,
     name: String,
@@ -47,11 +47,6 @@ impl Entry {
             folder: Identity::of(&folder),
             name: String::from_str(rt.alloc(), name).ok()?,
         })
-    }
-
-    /// Whether both are one.
-    pub fn is(&self, other: &Entry) -> bool {
-        self.folder == other.folder && self.name.as_str() == other.name.as_str()
     }
 }
 

@@ -9,7 +9,7 @@ use Rattle.pbfcut_program.specs.Events.{Event, advised, made, opened, seeded, th
 use Rattle.pbfcut_program.specs.Fails.{Calm, Each, Opens, Quiet}
 use Rattle.pbfcut_program.specs.Files.{IsMade, Misses, Still}
 use Rattle.pbfcut_program.specs.Program.{MeansArea, advice, begun, draws, is_empty, looks}
-use Rattle.pbfcut_program.proofs.EventLemmas.{each_both, quiet_of}
+use Rattle.pbfcut_program.proofs.EventLemmas.{each_both, each_weaker, quiet_of}
 use Rattle.pbfcut_program.proofs.FailLemmas.{opens_after, opens_before}
 use Rattle.pbfcut_program.proofs.SayingLemmas.{silent_of}
 use Rattle.pbfcut_program.specs.Telling.{Silent}
@@ -21,8 +21,7 @@ missing_calm : (e : Event) → Misses e → Calm e
 missing_calm e h1 = grind arith
 
 pub misses_calm : (tries : List Event) → Each Misses tries → Each Calm tries
-misses_calm [] m = tt
-misses_calm (e ∷ es) m = (missing_calm e m.0, misses_calm es m.1)
+misses_calm tries m = each_weaker Misses Calm missing_calm tries m
 
 pub quiet_makes : (program : Program) (is : Bool) (output : List ℕ) (name : Option (List ℕ)) (events : List Event) → IsMade program is output name events → Each Quiet events
 quiet_makes program true output name events m = subst (λ es. Each Quiet es) (sym m.1) (tt, tt)

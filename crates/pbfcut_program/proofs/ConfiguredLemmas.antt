@@ -1,18 +1,18 @@
 -- The extracts of a configuration that were read so far.
-use Rattle.std.proofs.Common.{◌≡◌, ◌∙◌, ℕ, List, [], ◌∷◌, ◌++◌, Option, None, Some, map, length, Ok, Err, inl, inr, refl, sym, ap, subst, append_assoc, arith}
+use Rattle.std.proofs.Common.{◌≡◌, ◌∙◌, ℕ, List, [], ◌∷◌, ◌++◌, Option, None, Some, map, length, Ok, Err, inr, refl, sym, ap, subst, append_assoc, arith}
 use Rattle.std.proofs.lemmas.List.{append-nil, map-append}
 use Rattle.osm_area.specs.Area.{AreaSpec}
 use Rattle.osm_config.specs.declared.config.ConfiguredExtract.{ConfiguredExtract}
-use Rattle.osm_config.specs.Areas.{AreaSpec as ConfiguredArea, in_box, in_polygons, in_file}
+use Rattle.osm_config.specs.Areas.{AreaMember, in_box, in_polygons, in_file}
 use Rattle.osm_config.specs.Configs.{ConfigSpec, ExtractSpec, config_of_text, if_some_and_distinct, repeated_after, unless_repeated}
 use Rattle.osm_config.specs.Faults.{OrFault, and_then as or_fault_then}
 use Rattle.osm_config.specs.Paths.{extracts_of_text, folder_of_outputs, with_paths}
-use Rattle.osm_config.specs.Readings.{extract_of}
+use Rattle.osm_config.specs.Readings.{extract_member_of}
 use Rattle.pbf_frame.specs.declared.stop.Stop.TheVariants as stop
 use Rattle.pbfcut_cli.specs.declared.endings.Ending.{Ending}
 use Rattle.pbfcut_cli.specs.declared.endings.Ending.TheVariants as ending
 use Rattle.pbfcut_program.specs.declared.configured.OutputCut.{OutputCut}
-use Rattle.pbfcut_program.specs.Configured.{FailsConfig, FailsText, MeansConfig, MeansConfigured, MeansEach, OutputArea}
+use Rattle.pbfcut_program.specs.Configured.{FailsConfig, MeansConfig, MeansConfigured, MeansEach, OutputArea}
 use Rattle.pbfcut_program.specs.ConfiguredCuts.{output_area_of}
 use Rattle.pbfcut_program.specs.Events.{Event, text_read, then_all}
 use Rattle.pbfcut_program.specs.Fails.{Calm, Each, FailsOpening}
@@ -29,7 +29,7 @@ each_then (x ∷ xs) ys es fs (o ∷ os) ps m n =
     (m.0, m.1 ++ fs, ap (λ l. l ++ fs) m.2 ∙ append_assoc m.0 m.1 fs, m.3, m.4, each_then xs ys m.1 fs os ps m.5 n)
 
 -- a text is only read
-calm_area : (a : ConfiguredArea) (es : List Event) (area : AreaSpec) → MeansConfigured a es area → Each Calm es
+pub calm_area : (a : AreaMember) (es : List Event) (area : AreaSpec) → MeansConfigured a es area → Each Calm es
 calm_area (in_box box) es area m = subst (λ l. Each Calm l) (sym m.0) tt
 calm_area (in_polygons polygons) es area m = subst (λ l. Each Calm l) (sym m.0) tt
 calm_area (in_file path) es area m = subst (λ l. Each Calm l) (sym m.2) (tt, tt)
@@ -41,36 +41,32 @@ calm_each (x ∷ xs) es [] m = absurd m
 calm_each (x ∷ xs) es (o ∷ os) m =
     subst (λ l. Each Calm l) (sym m.2) (each_both Calm m.0 m.1 (calm_area x.area m.0 o.area m.4) (calm_each xs m.1 os m.5))
 
--- one extract, which is all of a list
-pub one_extract : (x : ExtractSpec) (o : OutputArea) (own : List Event) → o.output ≡ x.output → MeansConfigured x.area own o.area → MeansEach (x ∷ []) own (o ∷ [])
-one_extract x o own same area = (own, [], sym (append-nil own), same, area, refl)
-
 -- all but those that are left were read, and this happened meanwhile
 pub record HasRead (before now : Option (List Event)) (all left : List ConfiguredExtract) (outs : List OutputCut) : Type 0 where
   pub events : List Event
   pub log : now ≡ then_all before events
   pub done : List ConfiguredExtract
   pub parts : done ++ left ≡ all
-  pub each : MeansEach (map extract_of done) events (map output_area_of outs)
+  pub each : MeansEach (map extract_member_of done) events (map output_area_of outs)
 
 pub read_none : (log : Option (List Event)) (all : List ConfiguredExtract) → HasRead log log all all []
 read_none log all = record { events = []; log = then_none log; done = []; parts = refl; each = refl }
 
 module _ (k l : Option (List Event)) (all left : List ConfiguredExtract) (outs : List OutputCut) (r : HasRead k l all left outs) where
   pub read_calm : Each Calm r.events
-  read_calm = calm_each (map extract_of r.done) r.events (map output_area_of outs) r.each
+  read_calm = calm_each (map extract_member_of r.done) r.events (map output_area_of outs) r.each
 
   -- one more was read
   pub read_more : (m : Option (List Event)) (first : ConfiguredExtract) (more : List ConfiguredExtract) (out : OutputCut) (own : List Event) → left ≡ first ∷ more
-      → m ≡ then_all l own → MeansEach (extract_of first ∷ []) own (output_area_of out ∷ []) → HasRead k m all more (outs ++ out ∷ [])
+      → m ≡ then_all l own → MeansEach (extract_member_of first ∷ []) own (output_area_of out ∷ []) → HasRead k m all more (outs ++ out ∷ [])
   read_more m first more out own is log one = record {
     events = r.events ++ own;
     log = and_then k l m r.events own r.log log;
     done = r.done ++ first ∷ [];
     parts = append_assoc r.done (first ∷ []) more ∙ ap (λ x. r.done ++ x) (sym is) ∙ r.parts;
-    each = subst (λ os. MeansEach (map extract_of (r.done ++ first ∷ [])) (r.events ++ own) os) (sym (map-append output_area_of outs (out ∷ [])))
-        (subst (λ xs. MeansEach xs (r.events ++ own) (map output_area_of outs ++ output_area_of out ∷ [])) (sym (map-append extract_of r.done (first ∷ [])))
-        (each_then (map extract_of r.done) (extract_of first ∷ []) r.events own (map output_area_of outs) (output_area_of out ∷ []) r.each one));
+    each = subst (λ os. MeansEach (map extract_member_of (r.done ++ first ∷ [])) (r.events ++ own) os) (sym (map-append output_area_of outs (out ∷ [])))
+        (subst (λ xs. MeansEach xs (r.events ++ own) (map output_area_of outs ++ output_area_of out ∷ [])) (sym (map-append extract_member_of r.done (first ∷ [])))
+        (each_then (map extract_member_of r.done) (extract_member_of first ∷ []) r.events own (map output_area_of outs) (output_area_of out ∷ []) r.each one));
   }
 
   -- it failed at the next
@@ -84,15 +80,15 @@ module _ (k l : Option (List Event)) (all left : List ConfiguredExtract) (outs :
   read_stopped m x o own log one = read_failed m (ending.Stopped stop.Memory) own log (calm_each (x ∷ []) own (o ∷ []) one, tt)
 
   -- none is left
-  pub read_all : length left ≡ 0 → (events : List Event) × (l ≡ then_all k events) × MeansEach (map extract_of all) events (map output_area_of outs)
-  read_all none = (r.events, r.log, subst (λ xs. MeansEach (map extract_of xs) r.events (map output_area_of outs)) (whole left none r.parts) r.each) where
+  pub read_all : length left ≡ 0 → (events : List Event) × (l ≡ then_all k events) × MeansEach (map extract_member_of all) events (map output_area_of outs)
+  read_all none = (r.events, r.log, subst (λ xs. MeansEach (map extract_member_of xs) r.events (map output_area_of outs)) (whole left none r.parts) r.each) where
     whole : (rest : List ConfiguredExtract) → length rest ≡ 0 → r.done ++ rest ≡ all → r.done ≡ all
     whole [] e p = sym (append-nil r.done) ∙ p
     whole (x ∷ rest) e p = absurd (omega (arith, e))
 
 -- the configuration was read, and then all that it names
 pub config_read : (config : List ℕ) (folder : Option (List ℕ)) (k l m : Option (List Event)) (text : List ℕ) (extracts : List ExtractSpec) (given : List ConfiguredExtract) (later : List Event) (outputs : List OutputArea)
-    → l ≡ then_all k (text_read config text ∷ []) → extracts_of_text config folder text ≡ Ok extracts → map extract_of given ≡ extracts → m ≡ then_all l later → MeansEach (map extract_of given) later outputs
+    → l ≡ then_all k (text_read config text ∷ []) → extracts_of_text config folder text ≡ Ok extracts → map extract_member_of given ≡ extracts → m ≡ then_all l later → MeansEach (map extract_member_of given) later outputs
     → (events : List Event) × (m ≡ then_all k events) × MeansConfig config folder events outputs
 config_read config folder k l m text extracts given later outputs first are same log each = (
   text_read config text ∷ later,

@@ -213,9 +213,6 @@ module _ (output name bytes : List ℕ) (disk : Disk) where
   true_false : true ≡ false → ⊥
   true_false h = cc
 
-  name_of_stays : (p q : List ℕ) → stays p ≡ stays q → p ≡ q
-  name_of_stays p q h = cc
-
   module _ (differ : name ≡ output → ⊥) (none : disk name ≡ None) where
     -- a part that stays
     part_left : (events : List Event) (now : Disk) → ((p : List ℕ) → Happened (stays p) events → p ≡ name) → Happened (stays name) events → ((p : List ℕ) → (p ≡ name → ⊥) → (p ≡ output → ⊥) → now p ≡ disk p) → IsLeft output disk events now

@@ -31,16 +31,18 @@ pub each_front : (p : Event → Type 0) (xs ys : List Event) → Each p (xs ++ y
 each_front p [] ys h = tt
 each_front p (x ∷ xs) ys h = (h.0, each_front p xs ys h.1)
 
+pub each_weaker : (p q : Event → Type 0) → ((e : Event) → p e → q e) → (xs : List Event) → Each p xs → Each q xs
+each_weaker p q of [] h = tt
+each_weaker p q of (x ∷ xs) h = (of x h.0, each_weaker p q of xs h.1)
+
 pub each_quiet : (p : Event → Type 0) → ((e : Event) → Quiet e → p e) → (xs : List Event) → Each Quiet xs → Each p xs
-each_quiet p of [] q = tt
-each_quiet p of (x ∷ xs) q = (of x q.0, each_quiet p of xs q.1)
+each_quiet p of xs q = each_weaker Quiet p of xs q
 
 calm_quiet : (e : Event) → Calm e → Quiet e
 calm_quiet e h1 = grind arith
 
 pub quiet_of : (xs : List Event) → Each Calm xs → Each Quiet xs
-quiet_of [] q = tt
-quiet_of (x ∷ xs) q = (calm_quiet x q.0, quiet_of xs q.1)
+quiet_of xs q = each_weaker Calm Quiet calm_quiet xs q
 
 quiet_nothing : (e : Event) → Quiet e → TookNothing e
 quiet_nothing e h1 = grind arith

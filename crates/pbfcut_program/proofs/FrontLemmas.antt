@@ -1,8 +1,7 @@
 -- What went out when a call of the engine stopped, if its feeds had the same bytes.
-use Rattle.std.proofs.Common.{arith, ◌≡◌, inl, inr, ℕ, ◌+◌, List, [], ◌∷◌, map, length, subst, Option, Some, Result, Ok, Err, IfErr, OnErr, Bool, false, refl, ap, sym, ◌∙◌}
+use Rattle.std.proofs.Common.{arith, ◌≡◌, inl, inr, ℕ, ◌+◌, List, [], ◌∷◌, map, length, subst, Option, Some, Result, Ok, Err, IfErr, OnErr, refl, ap}
 use Rattle.pbf_frame.specs.declared.device.Feed as feed
 use Rattle.pbf_frame.specs.declared.device.Drain as drain
-use Rattle.pbf_frame.specs.Devices.{IsFront}
 use Rattle.pbf_frame.specs.declared.stop.Stop.{Stop}
 use Rattle.pbf_frame.specs.declared.stop.Stop.TheVariants as stop
 use Rattle.pbf_pass.specs.declared.hashing.PassCheck.{PassCheck}
@@ -23,7 +22,7 @@ use Rattle.pbfcut_program.specs.Manner.{Form, meant, meant_known, packed_file, r
 use Rattle.pbfcut_program.specs.Outcomes.{ReportsPublished, ReportsRaw}
 use Rattle.pbfcut_program.proofs.PublishedCalls.{supplies_are}
 use Rattle.pbfcut.specs.TaskCalls.{DoesTask}
-use Rattle.pbfcut.specs.Tasks.{Task, answer_of}
+use Rattle.pbfcut.specs.Tasks.{Task}
 
 -- what is known of a stopped call over raw files holds of what is reported of it
 raw_stopped : {X Y : Type 0} (outcome : Result InputReceipt Halt) (result : Result Report Halted) → (X → Y) → OnErr outcome X → ReportsRaw outcome result → OnErr result Y

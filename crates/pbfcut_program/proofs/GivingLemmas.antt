@@ -1,5 +1,5 @@
 -- What a run that ended well changes in the file system.
-use Rattle.std.proofs.Common.{arith, rules, ◌≡◌, inl, inr, ℕ, ◌+◌, List, [], ◌∷◌, ◌++◌, map, Bool, true, false, Option, Some, None, refl, sym, subst, ap, ◌∙◌, append_assoc}
+use Rattle.std.proofs.Common.{rules, ◌≡◌, ℕ, ◌+◌, List, [], ◌∷◌, ◌++◌, map, Bool, true, false, Option, Some, None, refl, sym, subst, ap, ◌∙◌, append_assoc}
 use Rattle.std.proofs.lemmas.List.{append-nil}
 use Rattle.osm_area.specs.Area.{AreaSpec}
 use Rattle.pbf_block.specs.declared.counts.Counts.{Counts}
@@ -12,6 +12,7 @@ use Rattle.pbfcut_program.specs.Events.{Event, Reading, read, seeded, stays, wro
 use Rattle.pbfcut_program.specs.Fails.{Each}
 use Rattle.pbfcut_program.specs.Files.{AllowsAll, Disk, IsKept, IsMade, Still, after}
 use Rattle.pbfcut_program.specs.Manner.{Manner}
+use Rattle.pbfcut_program.specs.OnDisk.{IsAreaOn}
 use Rattle.pbfcut_program.specs.Program.{Extracts, MeansArea, Writes, WritesCounts, advice, is_empty, is_screen, looks, screen_of, strategy_of}
 use Rattle.pbfcut_program.specs.Lines.{counts_text, done_lines, prints}
 use Rattle.pbfcut_program.specs.Taking.{Happened}
@@ -49,7 +50,11 @@ area_still : (cut : Region) (events : List Event) (area : AreaSpec) → MeansAre
 area_still (region.Box box) events area m = subst (λ (es : List Event). Each Still es) (sym m.0) tt
 area_still (region.Polygon path) events area m = subst (λ (es : List Event). Each Still es) (sym m.2) (tt, tt)
 
--- ---- what was opened
+-- ---- what was read, and what was opened
+
+area_on : (disk : Disk) (cut : Region) (events : List Event) (area : AreaSpec) → MeansArea cut events area → AllowsAll disk events → IsAreaOn disk cut area
+area_on disk (region.Box box) events area m a = m.1
+area_on disk (region.Polygon path) events area m a = (m.0, m.1, (subst (λ (es : List Event). AllowsAll disk es) m.2 a).0, m.3, m.4)
 
 pub openings_had : (file input : List ℕ) (pass : ℕ) (has : List (Option (List ℕ))) (disk : Disk) → AllowsAll disk (openings input pass has) → disk input ≡ Some file → AllHad file has
 openings_had file input pass [] disk a there = tt
@@ -155,6 +160,9 @@ module _ (m : Manner) (cut : Region) (by : Strategy) (files : Files) (events : L
   allowed : AllowsAll disk (x.before ++ x.after ++ advice x.counts)
   allowed = subst (λ (es : List Event). AllowsAll disk es) x.happened a
 
+  reads_allowed : AllowsAll disk x.before
+  reads_allowed = allows_first x.before x.after disk (allows_first (x.before ++ x.after) (advice x.counts) disk allowed)
+
   had : AllHad file x.writes.has
   had = writes_had m extract files x.counts x.before x.after (advice x.counts) x.writes around file disk there allowed
 
@@ -164,6 +172,7 @@ module _ (m : Manner) (cut : Region) (by : Strategy) (files : Files) (events : L
       record {
         took = extracts_had file m cut by files events x had;
         area_first = (x.after ++ advice x.counts, x.happened ∙ append_assoc x.before x.after (advice x.counts) ∙ ap (λ es. es ++ (x.after ++ advice x.counts)) (sym took.1));
+        area_on = area_on disk cut _ _ (extracts_had file m cut by files events x had).means (subst (λ es. AllowsAll disk es) (sym took.1) reads_allowed);
         gives = subst (λ (bytes : List ℕ). GivesFile m files bytes events disk) (sym took.0)
             (subst (λ (es : List Event). GivesFile m files x.writes.out.bytes es disk) (sym x.happened) (gives_file m extract files x.counts x.before x.after (advice x.counts) x.writes around disk allowed));
       }

@@ -1,14 +1,13 @@
 -- OUT kept, and dropped.
-use Rattle.std.proofs.Common.{◌≡◌, ◌⊎◌, arith, inl, inr, List, ℕ, [], ◌∷◌, ◌++◌, Bool, false, true, Option, None, Some, Result, Ok, Err, refl, sym, subst, ap, ◌∙◌, append_assoc}
-use Rattle.std.proofs.lemmas.List.{append-nil}
+use Rattle.std.proofs.Common.{◌≡◌, ◌⊎◌, arith, inl, inr, List, ℕ, [], ◌∷◌, ◌++◌, Bool, Option, None, Some, Result, Ok, Err, refl, sym, subst, ap, ◌∙◌, append_assoc}
 use Rattle.std.specs.Result.{result_err}
 use Rattle.pbfcut_cli.specs.declared.programs.Program.{Program}
 use Rattle.pbfcut_cli.specs.declared.programs.Program.TheVariants.{Pbfcut, Pbfcutz}
-use Rattle.pbfcut_program.specs.Events.{Event, Writing, not_made, not_named, not_synced, wrote}
-use Rattle.pbfcut_program.specs.Fails.{Calm, Each, FailsOpening, FailsToFinish, FailsToOpen, Has, Quiet}
+use Rattle.pbfcut_program.specs.Events.{Event, Writing, not_named, not_synced, wrote}
+use Rattle.pbfcut_program.specs.Fails.{Each, FailsToFinish, FailsToOpen, Has, Quiet}
 use Rattle.pbfcut_program.specs.Files.{Drops, EndsOut, IsDropped, IsEnd, IsKept, IsMade, Keeps, Misnames, Names}
-use Rattle.pbfcut_program.proofs.EventLemmas.{each_both, has_after, has_before}
-use Rattle.pbfcut_program.specs.Outcomes.{finish_fault_of, unmade, unmade_part}
+use Rattle.pbfcut_program.proofs.EventLemmas.{each_both, each_weaker, has_after, has_before}
+use Rattle.pbfcut_program.specs.Outcomes.{finish_fault_of}
 use Rattle.pbfcut_program.specs.Telling.{Silent}
 use Rattle.pbfcut_program.specs.declared.host.CreateFault.{CreateFault}
 use Rattle.pbfcut_program.specs.declared.host.CreateFault.TheVariants as creating
@@ -43,27 +42,6 @@ ends_told program overwrite output w name (Some why) (Err t) events told by is e
 
 -- ---- OUT isn't made
 
-pub unmade_fails : (name : List ℕ) (fault : CreateFault) → FailsOpening (unmade fault) (not_made name fault ∷ [])
-unmade_fails name creating.Failed = ((tt, tt), inl tt)
-unmade_fails name creating.Long = ((tt, tt), inl tt)
-unmade_fails name creating.Exists = ((tt, tt), inl tt)
-unmade_fails name creating.Memory = ((tt, tt), tt)
-
-pub unmade_part_fails : (fault : CreateFault) (tries : List Event) → Each Calm tries → ((fault ≡ creating.Memory) ⊎ Has FailsToOpen tries) → FailsOpening (unmade_part fault) tries
-unmade_part_fails creating.Failed tries q (inr h) = (q, h)
-unmade_part_fails creating.Long tries q (inr h) = (q, h)
-unmade_part_fails creating.Exists tries q (inr h) = (q, h)
-unmade_part_fails creating.Memory tries q h = (q, tt)
-unmade_part_fails creating.Failed tries q (inl e) = absurd (other e) where
-  other : creating.Failed ≡ creating.Memory → ⊥
-  other h = cc
-unmade_part_fails creating.Long tries q (inl e) = absurd (other e) where
-  other : creating.Long ≡ creating.Memory → ⊥
-  other h = cc
-unmade_part_fails creating.Exists tries q (inl e) = absurd (other e) where
-  other : creating.Exists ≡ creating.Memory → ⊥
-  other h = cc
-
 -- other names were tried before
 pub missed_later : (xs ys : List Event) (fault : CreateFault) → ((fault ≡ creating.Memory) ⊎ Has FailsToOpen ys) → ((fault ≡ creating.Memory) ⊎ Has FailsToOpen (xs ++ ys))
 missed_later xs ys fault (inl e) = inl e
@@ -75,13 +53,6 @@ screen_ends program overwrite output (Ok a) = refl
 screen_ends program overwrite output (Err told) = (refl, refl)
 
 -- ---- names
-
-pub names_any : (overwrite : Bool) (output name : List ℕ) (names : List Event) → Names false output name names → Names overwrite output name names
-names_any overwrite output name names (inl n) = inl n
-names_any overwrite output name names (inr (inl n)) = inr (inl n)
-names_any overwrite output name names (inr (inr n)) = absurd (false_true n.0) where
-  false_true : false ≡ true → ⊥
-  false_true h = cc
 
 -- another try failed
 pub fails_late : (xs ys : List Event) (first fault : NameFault) → first ≡ naming.Exists → Has (FailsToFinish (finish_fault_of first)) xs → ((fault ≡ naming.Exists) ⊎ Has (FailsToFinish (finish_fault_of fault)) ys) → Has (FailsToFinish (finish_fault_of fault)) (xs ++ ys)
@@ -96,64 +67,47 @@ drops_after name tries events still d = (tries ++ d.0, d.1, ap (λ es. tries ++ 
 pub kept_unsynced : (overwrite : Bool) (output name : List ℕ) (tries names : List Event) → Each Misnames tries → Names overwrite output name names → Keeps Pbfcutz overwrite output name ((tries ++ names) ++ not_synced output ∷ [])
 kept_unsynced overwrite output name tries names still n = (tries, names, not_synced output ∷ [], append_assoc tries names (not_synced output ∷ []), still, n, (tt, tt))
 
-pub kept_named : (overwrite : Bool) (output name : List ℕ) (tries names : List Event) → Each Misnames tries → Names overwrite output name names → Keeps Pbfcutz overwrite output name (tries ++ names)
-kept_named overwrite output name tries names still n = (tries, names, [], ap (λ es. tries ++ es) (sym (append-nil names)), still, n, tt)
+-- ---- what is dropped or kept is quiet, and nothing is said
 
--- ---- what is dropped is quiet
+abbrev Mute : Event → Type 0
+Mute e = Quiet e × Silent e
 
-misname_quiet : (e : Event) → Misnames e → Quiet e
-misname_quiet e h1 = grind arith
+misname_mute : (e : Event) → Misnames e → Mute e
+misname_mute e h1 = grind arith
 
-misnamed_quiet : (tries : List Event) → Each Misnames tries → Each Quiet tries
-misnamed_quiet [] m = tt
-misnamed_quiet (e ∷ es) m = (misname_quiet e m.0, misnamed_quiet es m.1)
+misnamed_mute : (tries : List Event) → Each Misnames tries → Each Mute tries
+misnamed_mute tries m = each_weaker Misnames Mute misname_mute tries m
 
-end_quiet : (name : List ℕ) (end : Event) → IsEnd name end → Quiet end
-end_quiet name end (inl e) = subst (λ x. Quiet x) (sym e) tt
-end_quiet name end (inr e) = subst (λ x. Quiet x) (sym e) tt
+end_mute : (name : List ℕ) (end : Event) → IsEnd name end → Mute end
+end_mute name end (inl e) = subst (λ x. Mute x) (sym e) (tt, tt)
+end_mute name end (inr e) = subst (λ x. Mute x) (sym e) (tt, tt)
+
+dropped_mute : (program : Program) (name : Option (List ℕ)) (events : List Event) → IsDropped program name events → Each Mute events
+dropped_mute program None events d = subst (λ es. Each Mute es) (sym d) tt
+dropped_mute Pbfcut (Some name) events d = subst (λ es. Each Mute es) (sym d) tt
+dropped_mute Pbfcutz (Some name) events d = subst (λ es. Each Mute es) (sym d.2) (each_both Mute d.0 (d.1 ∷ []) (misnamed_mute d.0 d.3) (end_mute name d.1 d.4, tt))
+
+named_mute : (overwrite : Bool) (output name : List ℕ) (names : List Event) → Names overwrite output name names → Each Mute names
+named_mute overwrite output name names (inl n) = subst (λ es. Each Mute es) (sym n.2) ((tt, tt), (end_mute name n.0 n.1, tt))
+named_mute overwrite output name names (inr (inl e)) = subst (λ es. Each Mute es) (sym e) ((tt, tt), tt)
+named_mute overwrite output name names (inr (inr n)) = subst (λ es. Each Mute es) (sym n.1) ((tt, tt), tt)
+
+kept_mute : (program : Program) (overwrite : Bool) (output : List ℕ) (name : Option (List ℕ)) (events : List Event) → IsKept program overwrite output name events → Each Mute events
+kept_mute program overwrite output None events k = subst (λ es. Each Mute es) (sym k) tt
+kept_mute Pbfcut overwrite output (Some name) events k = subst (λ es. Each Mute es) (sym k) tt
+kept_mute Pbfcutz overwrite output (Some name) events k = subst (λ es. Each Mute es) (sym k.3) (each_both Mute k.0 (k.1 ++ k.2) (misnamed_mute k.0 k.4) (each_both Mute k.1 k.2 (named_mute overwrite output name k.1 k.5) (misnamed_mute k.2 k.6)))
 
 pub dropped_quiet : (program : Program) (name : Option (List ℕ)) (events : List Event) → IsDropped program name events → Each Quiet events
-dropped_quiet program None events d = subst (λ es. Each Quiet es) (sym d) tt
-dropped_quiet Pbfcut (Some name) events d = subst (λ es. Each Quiet es) (sym d) tt
-dropped_quiet Pbfcutz (Some name) events d = subst (λ es. Each Quiet es) (sym d.2) (each_both Quiet d.0 (d.1 ∷ []) (misnamed_quiet d.0 d.3) (end_quiet name d.1 d.4, tt))
-
-named_quiet : (overwrite : Bool) (output name : List ℕ) (names : List Event) → Names overwrite output name names → Each Quiet names
-named_quiet overwrite output name names (inl n) = subst (λ es. Each Quiet es) (sym n.2) (tt, (end_quiet name n.0 n.1, tt))
-named_quiet overwrite output name names (inr (inl e)) = subst (λ es. Each Quiet es) (sym e) (tt, tt)
-named_quiet overwrite output name names (inr (inr n)) = subst (λ es. Each Quiet es) (sym n.1) (tt, tt)
-
-pub kept_quiet : (program : Program) (overwrite : Bool) (output : List ℕ) (name : Option (List ℕ)) (events : List Event) → IsKept program overwrite output name events → Each Quiet events
-kept_quiet program overwrite output None events k = subst (λ es. Each Quiet es) (sym k) tt
-kept_quiet Pbfcut overwrite output (Some name) events k = subst (λ es. Each Quiet es) (sym k) tt
-kept_quiet Pbfcutz overwrite output (Some name) events k = subst (λ es. Each Quiet es) (sym k.3) (each_both Quiet k.0 (k.1 ++ k.2) (misnamed_quiet k.0 k.4) (each_both Quiet k.1 k.2 (named_quiet overwrite output name k.1 k.5) (misnamed_quiet k.2 k.6)))
-
--- ---- and nothing is said
-
-misname_silent : (e : Event) → Misnames e → Silent e
-misname_silent e h1 = grind arith
-
-misnamed_silent : (tries : List Event) → Each Misnames tries → Each Silent tries
-misnamed_silent [] m = tt
-misnamed_silent (e ∷ es) m = (misname_silent e m.0, misnamed_silent es m.1)
-
-end_silent : (name : List ℕ) (end : Event) → IsEnd name end → Silent end
-end_silent name end (inl e) = subst (λ x. Silent x) (sym e) tt
-end_silent name end (inr e) = subst (λ x. Silent x) (sym e) tt
+dropped_quiet program name events d = each_weaker Mute Quiet (λ e m. m.0) events (dropped_mute program name events d)
 
 pub dropped_silent : (program : Program) (name : Option (List ℕ)) (events : List Event) → IsDropped program name events → Each Silent events
-dropped_silent program None events d = subst (λ es. Each Silent es) (sym d) tt
-dropped_silent Pbfcut (Some name) events d = subst (λ es. Each Silent es) (sym d) tt
-dropped_silent Pbfcutz (Some name) events d = subst (λ es. Each Silent es) (sym d.2) (each_both Silent d.0 (d.1 ∷ []) (misnamed_silent d.0 d.3) (end_silent name d.1 d.4, tt))
+dropped_silent program name events d = each_weaker Mute Silent (λ e m. m.1) events (dropped_mute program name events d)
 
-named_silent : (overwrite : Bool) (output name : List ℕ) (names : List Event) → Names overwrite output name names → Each Silent names
-named_silent overwrite output name names (inl n) = subst (λ es. Each Silent es) (sym n.2) (tt, (end_silent name n.0 n.1, tt))
-named_silent overwrite output name names (inr (inl e)) = subst (λ es. Each Silent es) (sym e) (tt, tt)
-named_silent overwrite output name names (inr (inr n)) = subst (λ es. Each Silent es) (sym n.1) (tt, tt)
+pub kept_quiet : (program : Program) (overwrite : Bool) (output : List ℕ) (name : Option (List ℕ)) (events : List Event) → IsKept program overwrite output name events → Each Quiet events
+kept_quiet program overwrite output name events k = each_weaker Mute Quiet (λ e m. m.0) events (kept_mute program overwrite output name events k)
 
 pub kept_silent : (program : Program) (overwrite : Bool) (output : List ℕ) (name : Option (List ℕ)) (events : List Event) → IsKept program overwrite output name events → Each Silent events
-kept_silent program overwrite output None events k = subst (λ es. Each Silent es) (sym k) tt
-kept_silent Pbfcut overwrite output (Some name) events k = subst (λ es. Each Silent es) (sym k) tt
-kept_silent Pbfcutz overwrite output (Some name) events k = subst (λ es. Each Silent es) (sym k.3) (each_both Silent k.0 (k.1 ++ k.2) (misnamed_silent k.0 k.4) (each_both Silent k.1 k.2 (named_silent overwrite output name k.1 k.5) (misnamed_silent k.2 k.6)))
+kept_silent program overwrite output name events k = each_weaker Mute Silent (λ e m. m.1) events (kept_mute program overwrite output name events k)
 
 pub ends_silent : {A : Type 0} (program : Program) (overwrite : Bool) (output : List ℕ) (name : Option (List ℕ)) (fault : Option FinishFault) (result : Result A FinishFault) (events : List Event) → EndsOut program overwrite output name fault result events → Each Silent events
 ends_silent program overwrite output name (Some why) (Ok a) events e = absurd e

@@ -1,5 +1,5 @@
 -- What pbfcutz's calls report of what went through their devices.
-use Rattle.std.proofs.Common.{arith, ◌≡◌, inl, ℕ, ◌<◌, zero, suc, List, [], ◌∷◌, ◌++◌, map, take, drop, length, Bool, true, false, Option, Some, Result, Ok, Err, IfOk, IfErr, refl, subst, sym, ap}
+use Rattle.std.proofs.Common.{arith, ◌≡◌, inl, ℕ, ◌<◌, zero, suc, List, [], ◌∷◌, ◌++◌, map, take, drop, length, Bool, false, Option, Some, Result, Ok, Err, IfOk, IfErr, refl, subst, sym, ap}
 use Rattle.std.proofs.lemmas.List.{map-append}
 use Rattle.pbf_frame.specs.declared.device.Feed as feed
 use Rattle.pbf_frame.specs.declared.device.Drain as drain

@@ -10,7 +10,7 @@ use Rattle.pbfcut_program.specs.Events.{Event, printed}
 use Rattle.pbfcut_program.specs.Fails.{Calm, Each, FailsOpening, Quiet}
 use Rattle.pbfcut_program.specs.Files.{Still}
 use Rattle.pbfcut_program.specs.Telling.{BreaksOff, IsSaid, IsUnprinted, SaysLittle, Silent, TellsRefusal, ending_of_line}
-use Rattle.pbfcut_program.proofs.EventLemmas.{each_both, each_front}
+use Rattle.pbfcut_program.proofs.EventLemmas.{each_both, each_front, each_weaker}
 
 -- ---- nothing
 
@@ -18,8 +18,7 @@ calm_silent : (e : Event) → Calm e → Silent e
 calm_silent e h1 = grind arith
 
 pub silent_of : (xs : List Event) → Each Calm xs → Each Silent xs
-silent_of [] q = tt
-silent_of (x ∷ xs) q = (calm_silent x q.0, silent_of xs q.1)
+silent_of xs q = each_weaker Calm Silent calm_silent xs q
 
 pub silent_little : (digests : Bool) (es : List Event) → Each Silent es → SaysLittle digests es
 silent_little digests es s = record { before = es; last = []; happened = sym (append-nil es); silent = s; tells = inl refl }

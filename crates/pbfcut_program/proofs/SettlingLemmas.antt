@@ -21,7 +21,7 @@ use Rattle.pbfcut_program.specs.Telling.{Tells}
 use Rattle.pbfcut_program.proofs.Beginning.{calm_looks, calm_openings}
 use Rattle.pbfcut_program.proofs.Closing.{close_rest}
 use Rattle.pbfcut_program.proofs.DiskLemmas.{after_still}
-use Rattle.pbfcut_program.proofs.EventLemmas.{each_both}
+use Rattle.pbfcut_program.proofs.EventLemmas.{each_both, each_weaker}
 use Rattle.pbfcut_program.proofs.Logging.{and_then, then_none}
 use Rattle.pbfcut_program.proofs.SayingLemmas.{broken_still}
 use Rattle.pbfcut_program.proofs.SeveralSettling.{each_before}
@@ -30,8 +30,7 @@ calm_still : (e : Event) → Calm e → Still e
 calm_still e h1 = grind arith
 
 pub still_of : (xs : List Event) → Each Calm xs → Each Still xs
-still_of [] q = tt
-still_of (x ∷ xs) q = (calm_still x q.0, still_of xs q.1)
+still_of xs q = each_weaker Calm Still calm_still xs q
 
 reads_still : (rs : List Reading) → Each Still (map (λ r. read r) rs)
 reads_still [] = tt

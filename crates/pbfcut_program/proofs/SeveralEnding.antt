@@ -1,5 +1,5 @@
 -- How the OUTs of a run for several areas end: all are kept, or not all, or all are dropped.
-use Rattle.std.proofs.Common.{◌≡◌, ◌∙◌, ◌⊎◌, inl, inr, ℕ, List, [], ◌∷◌, ◌++◌, length, map, Bool, true, Option, Some, None, Result, Ok, Err, refl, sym, ap, subst, append_assoc}
+use Rattle.std.proofs.Common.{◌≡◌, ◌∙◌, ◌⊎◌, inl, inr, ℕ, List, [], ◌∷◌, ◌++◌, length, map, Bool, Option, Some, None, Err, refl, sym, ap, subst, append_assoc}
 use Rattle.std.proofs.lemmas.Grind.{flat_map-append}
 use Rattle.std.specs.List.{AllByRecursion, AllZip, flat_map, zip}
 use Rattle.std.specs.String.{string_bytes}
@@ -22,9 +22,9 @@ use Rattle.pbfcut_program.specs.declared.several_files.NotKept.{NotKept}
 use Rattle.pbfcut_program.specs.declared.several_files.OutPart.{OutPart}
 use Rattle.pbfcut_program.specs.declared.several_writing.DoneOut.{DoneOut}
 use Rattle.pbfcut_program.specs.Devices.{AreFresh, CloseAll}
-use Rattle.pbfcut_program.specs.Events.{Event, Reading, Writing, read, wrote, then_all}
+use Rattle.pbfcut_program.specs.Events.{Event, Writing, wrote, then_all}
 use Rattle.pbfcut_program.specs.Fails.{Each, Fails, FailsToFinish, Has, Quiet, judging}
-use Rattle.pbfcut_program.specs.Files.{EndsOut, IsDropped, IsKept, Still}
+use Rattle.pbfcut_program.specs.Files.{IsDropped, IsKept, Still}
 use Rattle.pbfcut_program.specs.Manner.{Manner, manner}
 use Rattle.pbfcut_program.specs.Outcomes.{ending_of_file}
 use Rattle.pbfcut_program.specs.SeveralEnds.{Ended, EndsEach, EndsKept, IsEndedPart, ReturnsEach, areas_into, done_of}

@@ -1,34 +1,61 @@
 -- What a run for several areas that ended well changes in the file system.
-use Rattle.std.proofs.Common.{◌≡◌, ◌∙◌, inl, ℕ, List, [], ◌∷◌, ◌++◌, map, Bool, true, false, Option, Some, refl, sym, ap, subst, append_assoc}
-use Rattle.std.proofs.lemmas.Bool.{false≢true}
+use Rattle.std.proofs.Common.{◌≡◌, ◌∙◌, inl, ℕ, List, [], ◌∷◌, ◌++◌, map, Bool, false, Option, Some, refl, sym, ap, subst, append_assoc}
 use Rattle.std.specs.List.{AllByRecursion, AllZip, flat_map}
 use Rattle.std.specs.Option.{is_some}
+use Rattle.osm_area.specs.Area.{AreaSpec}
 use Rattle.osm_ways.specs.Selection.{Strategy}
-use Rattle.clap.specs.Words.{Row, Text}
-use Rattle.pbfcut_cli.specs.Words.{ReadsAs, is_given}
 use Rattle.pbfcut_cli.specs.declared.programs.Program.TheVariants.{Pbfcutz}
 use Rattle.pbfcut_cli.specs.declared.words.ConfigFiles.{ConfigFiles}
-use Rattle.pbfcut_program.specs.Configured.{OutputArea}
+use Rattle.osm_config.specs.Areas.{AreaMember, in_box, in_polygons, in_file}
+use Rattle.osm_config.specs.Configs.{ExtractSpec}
+use Rattle.pbfcut_program.specs.Configured.{MeansConfig, MeansConfigured, MeansEach, OutputArea}
 use Rattle.pbfcut_program.specs.Events.{Event, openings, read, seeded, wrote}
 use Rattle.pbfcut_program.specs.Files.{AllowsAll, Disk, IsKept, IsMade, Still, after}
 use Rattle.pbfcut_program.specs.Fails.{Each}
 use Rattle.pbfcut_program.specs.declared.host.Screen.TheVariants.{Output}
 use Rattle.pbfcut_program.specs.Lines.{prints}
 use Rattle.pbfcut_program.specs.Manner.{Manner, manner, of_output}
+use Rattle.pbfcut_program.specs.OnDisk.{AreOutsOn, IsConfiguredOn, IsExtractOn}
 use Rattle.pbfcut_program.specs.SeveralChanges.{HandlesFiles, IsApart, IsHandled, IsKeptWhole, OneFile, Pairwise}
 use Rattle.pbfcut_program.specs.SeveralFiles.{looks_each}
 use Rattle.pbfcut_program.specs.SeveralGives.{GivesEach, GivesOne}
 use Rattle.pbfcut_program.specs.SeveralWrites.{ExtractsEach, OneOut, WritesOne, begun_each, each_lines, paths_of}
-use Rattle.pbfcut_program.proofs.ConfiguredLemmas.{config_calm}
+use Rattle.pbfcut_program.proofs.ConfiguredLemmas.{calm_area, config_calm}
 use Rattle.pbfcut_program.proofs.DiskLemmas.{allows_first, allows_past}
 use Rattle.pbfcut_program.proofs.EventLemmas.{each_both}
-use Rattle.pbfcut_program.proofs.GivingLemmas.{openings_had, openings_still, reads_still}
+use Rattle.pbfcut_program.proofs.GivingLemmas.{openings_had, reads_still}
 use Rattle.pbfcut_program.proofs.Printed.{still_prints}
 use Rattle.pbfcut_program.proofs.SettlingLemmas.{still_of}
 use Rattle.pbfcut_program.proofs.SeveralDisk.{kept_fresh, kept_there, others_back}
+use Rattle.pbfcut_program.proofs.SeveralFileLemmas.{calm_looks_each}
 use Rattle.pbfcut_program.proofs.SeveralMaking.{begun_calm}
 use Rattle.pbfcut_program.proofs.SeveralParts.{parts_are_new}
 use Rattle.pbfcut_program.proofs.TakingLemmas.{AllHad, all_had, holds_extract}
+
+-- ---- the texts that were read are those that the disk has
+
+module _ (disk : Disk) where
+  configured_on : (a : AreaMember) (es : List Event) (area : AreaSpec) → MeansConfigured a es area → AllowsAll disk es → IsConfiguredOn disk a area
+  configured_on (in_box box) es area m a = m.1
+  configured_on (in_polygons polygons) es area m a = m.1
+  configured_on (in_file path) es area m a = (m.0, m.1, (subst (λ l. AllowsAll disk l) m.2 a).0, m.3, m.4)
+
+  each_on : (xs : List ExtractSpec) (es : List Event) (os : List OutputArea) → MeansEach xs es os → AllowsAll disk es → AllZip (IsExtractOn disk) xs os
+  each_on [] es [] m a = tt
+  each_on [] es (o ∷ os) m a = absurd m
+  each_on (x ∷ xs) es [] m a = absurd m
+  each_on (x ∷ xs) es (o ∷ os) m a =
+      let allowed = subst (λ l. AllowsAll disk l) m.2 a in (
+        (m.3, configured_on x.area m.0 o.area m.4 (allows_first m.0 m.1 disk allowed)),
+        each_on xs m.1 os m.5 (allows_past m.0 m.1 disk (still_of m.0 (calm_area x.area m.0 o.area m.4)) allowed),
+      )
+
+  outs_on : (config : List ℕ) (folder : Option (List ℕ)) (es : List Event) (os : List OutputArea) → MeansConfig config folder es os → AllowsAll disk es → AreOutsOn disk config folder os
+  outs_on config folder es os m a =
+      let allowed = subst (λ l. AllowsAll disk l) m.happened a in
+      (m.text, m.extracts, allowed.0, m.are, each_on m.extracts m.later os m.each allowed.1)
+
+-- ---- the files
 
 abbrev files_of : List OneOut → List OneFile
 files_of ones = map (λ one. one.file) ones
@@ -130,11 +157,8 @@ module _ (packs digests : Bool) (s : Strategy) (files : ConfigFiles) (events : L
       let rest = flat_map (λ one. one.makes) (files_of ones) ++ (reads ++ (map (λ one. wrote one.out) (files_of ones) ++ (flat_map (λ one. one.ends) (files_of ones) ++ lines))) in
       let begins = allows_first (x.before ++ begun) rest disk (subst (λ es. AllowsAll disk es) events_are a) in
       let after_config = allows_past x.before begun disk (still_of x.before (config_calm _ _ x.before x.outs x.means)) begins in
-      let after_looks = allows_past looks (opened ++ seed) disk (looked_still files.overwrite (paths_of x.outs)) after_config in
-      openings_had file files.input.now 1 x.writes.has disk (allows_first opened seed disk after_looks) there where
-        looked_still : (overwrite : Bool) (outputs : List (List ℕ)) → Each Still (looks_each overwrite outputs)
-        looked_still overwrite [] = tt
-        looked_still overwrite (o ∷ outputs) = (tt, looked_still overwrite outputs)
+      let after_looks = allows_past looks (opened ++ seed) disk (still_of looks (calm_looks_each files.overwrite (paths_of x.outs))) after_config in
+      openings_had file files.input.now 1 x.writes.has disk (allows_first opened seed disk after_looks) there
 
   pub gives_each : GivesEach (manner Pbfcutz packs digests) s files file events disk
   gives_each = record {
@@ -143,6 +167,7 @@ module _ (packs digests : Bool) (s : Strategy) (files : ConfigFiles) (events : L
     later = x.after;
     happened = x.happened;
     means = x.means;
+    outs_on = outs_on disk _ _ x.before x.outs x.means (allows_first x.before x.after disk (subst (λ es. AllowsAll disk es) x.happened a));
     ones = files_of ones;
     paths = paths_are packs digests s files.overwrite x.writes.key x.writes.has x.writes.digest x.writes.raw x.outs ones x.writes.each;
     each = λ apart. given_each packs digests s files.overwrite x.writes.key x.writes.has x.writes.digest x.writes.raw file events disk a had [] x.outs ones x.writes.each handles apart;

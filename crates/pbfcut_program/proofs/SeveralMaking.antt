@@ -1,12 +1,11 @@
 -- What a run for several areas did from its first event to its last.
-use Rattle.std.proofs.Common.{◌≡◌, ◌∙◌, ◌⊎◌, inl, inr, ℕ, List, [], ◌∷◌, ◌++◌, length, map, Bool, true, false, Option, Some, None, refl, sym, ap, subst, append_assoc}
+use Rattle.std.proofs.Common.{◌≡◌, ◌∙◌, inl, inr, ℕ, List, [], ◌∷◌, ◌++◌, map, Bool, false, Option, Some, None, refl, sym, ap, subst, append_assoc}
 use Rattle.std.proofs.lemmas.List.{append-nil}
 use Rattle.std.specs.List.{AllByRecursion, AllZip, flat_map, zip}
 use Rattle.std.specs.String.{string_bytes}
 use Rattle.osm_area.specs.Area.{AreaSpec}
 use Rattle.osm_ways.specs.Selection.{Strategy}
 use Rattle.pbf_frame.specs.declared.device.Drain as drain
-use Rattle.pbf_pass.specs.declared.hashing.PassCheck.{PassCheck}
 use Rattle.pbfcut.specs.Several.{AllThree}
 use Rattle.pbfcut.specs.Tasks.{extracting}
 use Rattle.pbfcut.specs.declared.carrying.AreaOutput.{AreaOutput}
@@ -20,28 +19,27 @@ use Rattle.pbfcut_program.specs.declared.several_writing.DoneOut.{DoneOut}
 use Rattle.pbfcut_program.specs.ConfiguredCuts.{output_area_of}
 use Rattle.pbfcut_program.specs.Devices.{IsFreshOut}
 use Rattle.pbfcut_program.specs.Events.{Event, Reading, Writing, openings, read, seeded, wrote, then_all}
-use Rattle.pbfcut_program.specs.Fails.{Calm, CauseOfOpening, Each, Opens, Quiet, TookNothing}
+use Rattle.pbfcut_program.specs.Fails.{Calm, Each, Opens, Quiet, TookNothing}
 use Rattle.pbfcut_program.specs.Files.{IsDropped, IsKept, IsMade, Still}
 use Rattle.pbfcut_program.specs.Jobs.{area_of}
 use Rattle.pbfcut_program.specs.Leaving.{IsUnkept}
 use Rattle.pbfcut_program.specs.Lines.{out_lines}
 use Rattle.pbfcut_program.specs.Manner.{Manner, check_of}
 use Rattle.pbfcut_program.specs.Readings.{IsWork}
-use Rattle.pbfcut_program.specs.SeveralChanges.{HandlesEach, HandlesFiles, IsHandled, OneFile, SettlesOuts}
+use Rattle.pbfcut_program.specs.SeveralChanges.{HandlesEach, IsHandled, OneFile, SettlesOuts}
 use Rattle.pbfcut_program.specs.SeveralEnds.{Ended, EndsKept, FailsMaking, IsEndedPart, ReturnsEach, areas_into, outs_lines}
 use Rattle.pbfcut_program.specs.SeveralFiles.{ClosesEmpty, DropsPart, IsBegun, IsPartOf, MakesPart, UnmakesEach, flatten, looks_each}
-use Rattle.pbfcut_program.specs.SeveralOuts.{cut_into}
 use Rattle.pbfcut_program.specs.SeveralWrites.{AreLeft, LeavesOne, OneOut, WritesOne, areas_of, begun_each, paths_of}
-use Rattle.pbfcut_program.specs.Settling.{IsStill}
 use Rattle.pbfcut_program.specs.Telling.{Silent}
 use Rattle.pbfcut_program.proofs.Beginning.{calm_openings, opens_openings, quiet_makes, silent_makes}
-use Rattle.pbfcut_program.proofs.EventLemmas.{each_both, each_quiet, has_after, has_before, nothing_in, quiet_of}
+use Rattle.pbfcut_program.proofs.EventLemmas.{each_both, each_quiet, nothing_in, quiet_of}
 use Rattle.pbfcut_program.proofs.FailLemmas.{opens_after, opens_before}
 use Rattle.pbfcut_program.proofs.LeavingLemmas.{quiet_unkept}
 use Rattle.pbfcut_program.proofs.Logging.{and_then}
 use Rattle.pbfcut_program.proofs.OutLemmas.{dropped_quiet, dropped_silent}
 use Rattle.pbfcut_program.proofs.SayingLemmas.{silent_of}
 use Rattle.pbfcut_program.proofs.SeveralClosing.{all_of, cause_after, cause_before, writes}
+use Rattle.pbfcut_program.proofs.SeveralFileLemmas.{calm_looks_each}
 use Rattle.pbfcut_program.proofs.SettlingLemmas.{still_of}
 
 -- ---- what happens before OUTs are made
@@ -54,14 +52,10 @@ paths_same (o ∷ outs) = ap (λ ps. string_bytes o.output ∷ ps) (paths_same o
 pub begun_same : (files : ConfigFiles) (outs : List OutputCut) (has : List (Option (List ℕ))) (key : ℕ) → begun_each files (map (λ out. string_bytes out.output) outs) has key ≡ begun_each files (paths_of (map output_area_of outs)) has key
 begun_same files outs has key = ap (λ ps. begun_each files ps has key) (sym (paths_same outs))
 
-looks_calm : (overwrite : Bool) (outputs : List (List ℕ)) → Each Calm (looks_each overwrite outputs)
-looks_calm overwrite [] = tt
-looks_calm overwrite (o ∷ outputs) = (tt, looks_calm overwrite outputs)
-
 pub begun_calm : (files : ConfigFiles) (outputs : List (List ℕ)) (has : List (Option (List ℕ))) (key : ℕ) → Each Calm (begun_each files outputs has key)
 begun_calm files outputs has key =
     let opens = openings files.input.now 1 has in
-    each_both Calm (looks_each files.overwrite outputs) (opens ++ seeded (Some key) ∷ []) (looks_calm files.overwrite outputs) (each_both Calm opens (seeded (Some key) ∷ []) (calm_openings files.input.now 1 has) (tt, tt))
+    each_both Calm (looks_each files.overwrite outputs) (opens ++ seeded (Some key) ∷ []) (calm_looks_each files.overwrite outputs) (each_both Calm opens (seeded (Some key) ∷ []) (calm_openings files.input.now 1 has) (tt, tt))
 
 pub begun_opens : (files : ConfigFiles) (outputs : List (List ℕ)) (has : List (Option (List ℕ))) (key : ℕ) → Opens 1 has (begun_each files outputs has key)
 begun_opens files outputs has key =

@@ -1,10 +1,9 @@
 -- What a run for several areas did, once IN and all OUTs are returned.
-use Rattle.std.proofs.Common.{arith, ◌≡◌, ◌∙◌, ◌⊎◌, inl, inr, ℕ, ◌+◌, ◌<◌, List, [], ◌∷◌, ◌++◌, length, map, Bool, true, false, Option, Some, None, Result, Ok, Err, refl, sym, ap, subst, append_assoc}
+use Rattle.std.proofs.Common.{arith, ◌≡◌, ◌∙◌, ◌⊎◌, inl, inr, ℕ, ◌+◌, ◌<◌, List, [], ◌∷◌, ◌++◌, length, map, Bool, true, false, Option, Some, None, Ok, Err, refl, sym, ap, subst}
 use Rattle.std.specs.Prelude.{IfSome}
 use Rattle.std.specs.List.{AllByRecursion, AllZip, flat_map, zip}
 use Rattle.std.specs.Option.{is_some}
 use Rattle.std.specs.String.{string_bytes}
-use Rattle.osm_area.specs.Area.{AreaSpec}
 use Rattle.osm_ways.specs.Selection.{Strategy}
 use Rattle.pbf_frame.specs.declared.device.Drain as drain
 use Rattle.pbf_frame.specs.declared.device.Feed as feed
@@ -14,9 +13,8 @@ use Rattle.pbf_frame.specs.Verdict.{Verdict}
 use Rattle.pbf_pass.specs.declared.hashing.PassCheck.{PassCheck}
 use Rattle.pbf_unpack.specs.RawFrames.{IsNearLimit}
 use Rattle.pbf_wire.specs.declared.fault.Fault.{Fault}
-use Rattle.pbfcut.specs.Calls.{AllSupply}
 use Rattle.pbfcut.specs.Several.{AllThree, AnyZip}
-use Rattle.pbfcut.specs.Tasks.{Task, answer_of, extracting, spares}
+use Rattle.pbfcut.specs.Tasks.{answer_of, extracting, spares}
 use Rattle.pbfcut.specs.Receipts.{judge_by}
 use Rattle.pbfcut.specs.declared.carrying.AreaOutput.{AreaOutput}
 use Rattle.pbfcut_cli.specs.declared.endings.Ending.{Ending}
@@ -30,12 +28,11 @@ use Rattle.pbfcut_program.specs.declared.several.OutputArea.{OutputArea}
 use Rattle.pbfcut_program.specs.declared.several_files.OutPart.{OutPart}
 use Rattle.pbfcut_program.specs.Devices.{AreFresh, Change, ChangesBy, CloseAll, EndsFor, MeansBy, StopsFor, TakenBy}
 use Rattle.pbfcut_program.specs.Events.{Event, Reading, Writing, read, wrote, then_all}
-use Rattle.pbfcut_program.specs.Fails.{CauseOfWrite, Each, Fails, FailsToFinish, FailsToWrite, Has, NearsLimit, Quiet, TookNothing, judging, readings}
-use Rattle.pbfcut_program.specs.Leaving.{TookFront}
+use Rattle.pbfcut_program.specs.Fails.{CauseOfWrite, Each, Fails, FailsToFinish, FailsToWrite, Has, NearsLimit, TookNothing, judging, readings}
 use Rattle.pbfcut_program.specs.Lines.{digest_if_asked}
 use Rattle.pbfcut_program.specs.Manner.{AreDigests, Form, Manner, hashes_meaning, manner, of_input, of_output, output_form, packed_file, raw_file}
 use Rattle.pbfcut_program.specs.Readings.{IsWork}
-use Rattle.pbfcut_program.specs.Several.{report_with, result_with}
+use Rattle.pbfcut_program.specs.Several.{report_with}
 use Rattle.pbfcut_program.specs.SeveralEnds.{Ended, EndsKept, areas_into, done_of}
 use Rattle.pbfcut_program.specs.SeveralFiles.{FinishesPart, FinishesUnkept, FinishesUpTo, FinishesWhole, KeepsPart, OneByOne, flatten}
 use Rattle.pbfcut_program.specs.SeveralOuts.{RunsInto, cut_into}
@@ -43,7 +40,6 @@ use Rattle.pbfcut_program.specs.SeveralWrites.{AllGiveRaw, LeavesOne}
 use Rattle.pbfcut_program.specs.Tasks.{GivesRaw}
 use Rattle.pbfcut_program.specs.Telling.{Silent}
 use Rattle.pbfcut_program.proofs.Closing.{EndsWith, close_given, hashed_as, reads, stop_told}
-use Rattle.pbfcut_program.proofs.EventLemmas.{each_both, has_after, has_before}
 use Rattle.pbfcut_program.proofs.FailLemmas.{stop_fails}
 use Rattle.pbfcut_program.proofs.LeavingLemmas.{IsReturned, front_returned, taken_is}
 use Rattle.pbfcut_program.proofs.Logging.{and_then, then_none}

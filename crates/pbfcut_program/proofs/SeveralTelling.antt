@@ -1,5 +1,5 @@
 -- What a run for several areas prints, and how it breaks off at a line.
-use Rattle.std.proofs.Common.{◌≡◌, ◌∙◌, ◌⊎◌, inl, inr, ℕ, ◌+◌, List, [], ◌∷◌, ◌++◌, length, map, Bool, Option, None, refl, sym, ap, subst, append_assoc}
+use Rattle.std.proofs.Common.{◌≡◌, ◌∙◌, inl, inr, ℕ, ◌+◌, List, [], ◌∷◌, ◌++◌, length, map, Bool, Option, sym, ap, subst, append_assoc}
 use Rattle.std.proofs.lemmas.List.{append-nil}
 use Rattle.std.specs.List.{AllZip, flat_map, zip}
 use Rattle.std.specs.String.{string_bytes}
@@ -22,7 +22,7 @@ use Rattle.pbfcut_program.specs.Configured.{MeansConfig, OutputArea as Configure
 use Rattle.pbfcut_program.specs.ConfiguredCuts.{output_area_of}
 use Rattle.pbfcut_program.specs.Events.{Event, read, then_all, wrote}
 use Rattle.pbfcut_program.specs.Fails.{CauseOfOpening, Each, Fails, FailsFor, Judging, Opens, Quiet, TookNothing, judging}
-use Rattle.pbfcut_program.specs.Lines.{check_lines, out_lines, prints}
+use Rattle.pbfcut_program.specs.Lines.{check_lines, prints}
 use Rattle.pbfcut_program.specs.Manner.{Manner, check_of}
 use Rattle.pbfcut_program.specs.SeveralEnds.{EndsEach, outs_lines}
 use Rattle.pbfcut_program.specs.SeveralFiles.{MakesEach, flatten}

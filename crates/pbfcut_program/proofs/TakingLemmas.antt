@@ -1,5 +1,5 @@
 -- What a command wrote that ended well is made of the one file that its passes read.
-use Rattle.std.proofs.Common.{arith, ◌≡◌, ◌⊎◌, inl, inr, ℕ, ◌-◌, List, [], ◌∷◌, ◌++◌, map, Bool, true, Option, Some, None, refl, ap, sym, subst, ◌∙◌}
+use Rattle.std.proofs.Common.{◌≡◌, inl, inr, ℕ, ◌-◌, List, [], ◌∷◌, ◌++◌, map, Bool, Option, Some, None, refl, ap, sym, subst, ◌∙◌}
 use Rattle.std.proofs.lemmas.List.{append-nil}
 use Rattle.std.specs.Prelude.{IfSome}
 use Rattle.osm_area.specs.Area.{AreaSpec}
@@ -10,12 +10,12 @@ use Rattle.pbfcut.specs.Theorem.{IsConverted, IsExtraction}
 use Rattle.pbfcut_cli.specs.declared.words.Files.{Files}
 use Rattle.pbfcut_cli.specs.declared.words.Region.{Region}
 use Rattle.pbfcut_cli.specs.declared.words.Strategy.{Strategy}
-use Rattle.pbfcut_program.specs.Events.{Event, Reading, Writing, read, wrote}
+use Rattle.pbfcut_program.specs.Events.{Event, Reading, read, wrote}
 use Rattle.pbfcut_program.specs.Fails.{Each}
 use Rattle.pbfcut_program.specs.Manner.{Manner, of_input, of_output}
 use Rattle.pbfcut_program.specs.Program.{Extracts, Writes, WritesCounts, advice, begun, is_screen, screen_of, strategy_of}
 use Rattle.pbfcut_program.specs.Lines.{counts_text, done_lines, prints}
-use Rattle.pbfcut_program.specs.Readings.{IsWhole, IsWholeOrSpared, ReadAll, ReadLater}
+use Rattle.pbfcut_program.specs.Readings.{IsWhole, ReadAll, ReadLater}
 use Rattle.pbfcut_program.specs.Taking.{Happened, ReadOf, ReadsOnly, TookConversion, TookCopy, TookExtract, TookWhole}
 use Rattle.pbfcut.specs.Tasks.{Holds, Task, converting, copying, extracting}
 

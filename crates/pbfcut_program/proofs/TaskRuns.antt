@@ -1,5 +1,5 @@
 -- What each program's call of a task says of it.
-use Rattle.std.proofs.Common.{◌≡◌, ℕ, List, length, Bool, Result, subst, sym}
+use Rattle.std.proofs.Common.{◌≡◌, ℕ, List, length, Result, subst, sym}
 use Rattle.pbf_frame.specs.declared.device.Feed as feed
 use Rattle.pbf_frame.specs.declared.device.Drain as drain
 use Rattle.pbf_pass.specs.declared.hashing.PassCheck.{PassCheck}

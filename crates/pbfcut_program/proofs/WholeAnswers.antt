@@ -1,5 +1,5 @@
 -- What went out when a call of pbfcutz ended well, if its feeds had the same bytes.
-use Rattle.std.proofs.Common.{◌≡◌, ◌⊎◌, inl, inr, arith, ℕ, zero, suc, List, [], ◌∷◌, ◌++◌, map, take, drop, length, Bool, Option, Some, Result, Ok, Err, refl, sym, subst, ap, ◌∙◌}
+use Rattle.std.proofs.Common.{◌≡◌, inl, inr, arith, ℕ, zero, suc, List, [], ◌∷◌, ◌++◌, map, take, drop, length, Bool, Some, Result, Ok, Err, sym, subst, ap, ◌∙◌}
 use Rattle.pbf_block.specs.declared.counts.Counts.{Counts}
 use Rattle.pbf_frame.specs.declared.device.Feed as feed
 use Rattle.pbf_frame.specs.declared.device.Drain as drain

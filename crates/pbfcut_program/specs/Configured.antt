@@ -1,11 +1,10 @@
 -- What a configuration has cut out: the areas that it names, each with the path of its OUT.
-use Rattle.std.specs.Prelude.{◌≡◌, ◌⊎◌, ℕ, List, [], ◌∷◌, ◌++◌, Option, option_map, Ok, Err}
+use Rattle.std.specs.Prelude.{◌≡◌, ◌⊎◌, ℕ, List, [], ◌∷◌, ◌++◌, Option, Ok, Err}
 use Rattle.osm_area.specs.Area.{AreaSpec, box_area}
-use Rattle.osm_config.specs.Areas.{AreaSpec as ConfiguredArea, in_box, in_polygons, in_file}
+use Rattle.osm_config.specs.Areas.{AreaMember, in_box, in_polygons, in_file}
 use Rattle.osm_config.specs.Configs.{ExtractSpec}
 use Rattle.osm_config.specs.Paths.{extracts_of_text}
 use Rattle.osm_config.specs.Readings.{fault_of}
-use Rattle.osm_config.specs.declared.fault.ConfigFault.{ConfigFault}
 use Rattle.osm_polygon.specs.Polygon.{Rings}
 use Rattle.osm_polygon.specs.Polygons.{polygons_area, polygons_of}
 use Rattle.osm_polygon.specs.Texts.{polygons_of_text}
@@ -21,7 +20,7 @@ MeansFile path events area = (text : List ℕ) × (polygons : List Rings)
     × (events ≡ text_read path text ∷ []) × (polygons_of_text text ≡ Ok polygons) × (area ≡ polygons_area (polygons_of polygons))
 
 -- the area of one extract
-abbrev pub MeansConfigured : ConfiguredArea → List Event → AreaSpec → Type 0
+abbrev pub MeansConfigured : AreaMember → List Event → AreaSpec → Type 0
 MeansConfigured (in_box box) events area = (events ≡ []) × (area ≡ box_area box)
 MeansConfigured (in_polygons polygons) events area = (events ≡ []) × (area ≡ polygons_area (polygons_of polygons))
 MeansConfigured (in_file path) events area = MeansFile path events area

@@ -1,11 +1,11 @@
 -- The file system, as what happened changes it: this is to be believed. And how OUT is made, gets its name, or goes.
 use Rattle.std.specs.Prelude.{◌≡◌, ◌⊎◌, ℕ, List, [], ◌∷◌, ◌++◌, Bool, true, false, Option, Some, None, Result, Ok, Err, if◌then◌else◌}
-use Rattle.std.specs.Str.{bytes_eq}
+use Rattle.std.specs.Str.{bytes_eq, encode_utf8_all, is_utf8}
 use Rattle.pbf_frame.specs.Devices.{append}
 use Rattle.pbfcut_cli.specs.declared.programs.Program.{Program}
 use Rattle.pbfcut_cli.specs.declared.programs.Program.TheVariants.{Pbfcut, Pbfcutz}
 use Rattle.pbfcut_program.specs.declared.host.FinishFault.{FinishFault}
-use Rattle.pbfcut_program.specs.Events.{Event, Writing, opened, screened, made, not_made, not_named, not_synced, wrote, linked, moved, renamed, removed, stays}
+use Rattle.pbfcut_program.specs.Events.{Event, Writing, text_read, opened, screened, made, not_made, not_named, not_synced, wrote, linked, moved, renamed, removed, stays}
 use Rattle.pbfcut_program.specs.Fails.{Each, FailsToFinish, Has}
 
 -- what the file of each name has, if there is one
@@ -33,12 +33,21 @@ abbrev pub after : List Event → Disk → Disk
 after [] disk = disk
 after (e ∷ es) disk = after es (changed e disk)
 
+-- the text of a file that has these bytes: they are UTF-8, or if they aren't, Latin-1
+unfoldable pub text_of_bytes : List ℕ → List ℕ
+text_of_bytes bytes = if is_utf8 bytes then bytes else encode_utf8_all bytes
+
+-- the file of this path has this text
+abbrev pub HasText : Disk → (path text : List ℕ) → Type 0
+HasText disk path text = (bytes : List ℕ) × (disk path ≡ Some bytes) × (text ≡ text_of_bytes bytes)
+
 -- what is said of the file system is so
 abbrev pub Allows : Disk → Event → Type 0
 Allows disk (made name) = disk name ≡ None
 Allows disk (linked from to) = disk to ≡ None
 Allows disk (moved from to) = disk to ≡ None
 Allows disk (opened path pass has) = has ≡ disk path
+Allows disk (text_read path text) = HasText disk path text
 Allows disk _ = Unit {0}
 
 abbrev pub AllowsAll : Disk → List Event → Type 0

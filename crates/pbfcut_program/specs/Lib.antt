@@ -10,6 +10,7 @@ pub mod Jobs
 pub mod Leaving
 pub mod Lines
 pub mod Manner
+pub mod OnDisk
 pub mod Outcomes
 pub mod Program
 pub mod Readings

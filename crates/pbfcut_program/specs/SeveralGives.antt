@@ -9,6 +9,7 @@ use Rattle.pbfcut_program.specs.Configured.{MeansConfig, OutputArea}
 use Rattle.pbfcut_program.specs.Events.{Event, stays}
 use Rattle.pbfcut_program.specs.Files.{Disk, after}
 use Rattle.pbfcut_program.specs.Manner.{Manner, of_input, of_output}
+use Rattle.pbfcut_program.specs.OnDisk.{AreOutsOn}
 use Rattle.pbfcut_program.specs.SeveralChanges.{IsApart, OneFile, Pairwise}
 use Rattle.pbfcut_program.specs.SeveralWrites.{folder_of, paths_of}
 use Rattle.pbfcut_program.specs.Taking.{Happened}
@@ -20,7 +21,7 @@ pub record GivesOne (m : Manner) (s : Strategy) (overwrite : Bool) (file : List 
   pub extract : IsExtraction s out.area (of_input m file) counts (of_output m one.out.bytes)
   pub fresh : overwrite ≡ false → old out.output ≡ None
 
--- so do all OUTs that the configuration names, if no two of them have one path, and none has the path that another one has until it is whole. Each other
+-- so do all OUTs that the configuration on this disk names, if no two of them have one path, and none has the path that another one has until it is whole. Each other
 -- file has what it had, but a part that stays, which is new
 pub record GivesEach (m : Manner) (s : Strategy) (files : ConfigFiles) (file : List ℕ) (events : List Event) (old : Disk) : Type 0 where
   pub outs : List OutputArea
@@ -28,6 +29,7 @@ pub record GivesEach (m : Manner) (s : Strategy) (files : ConfigFiles) (file : L
   pub later : List Event
   pub happened : events ≡ first ++ later
   pub means : MeansConfig files.config.now (folder_of files) first outs
+  pub outs_on : AreOutsOn old files.config.now (folder_of files) outs
   pub ones : List OneFile
   pub paths : map (λ one. one.output) ones ≡ paths_of outs
   pub each : Pairwise IsApart ones → AllZip (GivesOne m s files.overwrite file events old) outs ones

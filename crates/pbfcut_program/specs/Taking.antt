@@ -1,5 +1,5 @@
 -- What OUT took of a command that ended well, if each pass read the same file.
-use Rattle.std.specs.Prelude.{◌≡◌, ◌⊎◌, ℕ, List, [], ◌∷◌, true, Option, Some, None}
+use Rattle.std.specs.Prelude.{◌≡◌, ◌⊎◌, ℕ, List, [], ◌∷◌, true, Some, None}
 use Rattle.osm_area.specs.Area.{AreaSpec}
 use Rattle.pbf_block.specs.declared.counts.Counts.{Counts}
 use Rattle.pbf_frame.specs.Devices.{prepend}

@@ -34,7 +34,7 @@ fn read_config_file<H: Host>(
     ensures ok { IfOk result (λ extracts. (text : List ℕ)
         × (H.log host.new ≡ then_all (H.log host.old) (text_read path.now text ∷ []))
         × (extracts_of_text path.now (option_map (λ s. s.now) folder.entry) text
-        ≡ Ok (map config.extract_of extracts.items))) }
+        ≡ Ok (map config.extract_member_of extracts.items))) }
     ensures err { IfErr result (λ how. (events : List Event)
         × (H.log host.new ≡ then_all (H.log host.old) events) × FailsOpening how events
         × FailsText path.now (option_map (λ s. s.now) folder.entry) how events) }
@@ -57,7 +57,7 @@ fn read_configured_area<H: Host>(
 ) -> Result<Cut, Ending>
     ensures ok { IfOk result (λ cut. (events : List Event)
         × (H.log host.new ≡ then_all (H.log host.old) events)
-        × MeansConfigured (config.area_of area.now) events (area_of cut)) }
+        × MeansConfigured (config.area_member_of area.now) events (area_of cut)) }
     ensures err { IfErr result (λ how. (events : List Event)
         × (H.log host.new ≡ then_all (H.log host.old) events) × FailsOpening how events) }
 {
@@ -82,7 +82,7 @@ fn read_extract<H: Host>(
 ) -> Result<OutputCut, Ending>
     ensures ok { IfOk result (λ out. (events : List Event)
         × (H.log host.new ≡ then_all (H.log host.old) events)
-        × MeansEach (config.extract_of extract.now ∷ []) events (output_area_of out ∷ [])) }
+        × MeansEach (config.extract_member_of extract.now ∷ []) events (output_area_of out ∷ [])) }
     ensures err { IfErr result (λ how. (events : List Event)
         × (H.log host.new ≡ then_all (H.log host.old) events) × FailsOpening how events) }
 {
@@ -99,7 +99,8 @@ fn read_each<H: Host>(
 ) -> Result<Vec<OutputCut>, Ending>
     ensures ok { IfOk result (λ outs. (events : List Event)
         × (H.log host.new ≡ then_all (H.log host.old) events)
-        × MeansEach (map config.extract_of extracts.now) events (map output_area_of outs.items)) }
+        × MeansEach (map config.extract_member_of extracts.now) events
+        (map output_area_of outs.items)) }
     ensures err { IfErr result (λ how. (events : List Event)
         × (H.log host.new ≡ then_all (H.log host.old) events) × FailsOpening how events) }
 {

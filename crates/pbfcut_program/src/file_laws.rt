@@ -125,7 +125,7 @@ pub fn any_run()
 {}
 
 /// What status 0 of `extract` says of a user's files: OUT has bytes that mean exactly the extract of those that IN has on the disk, by the area
-/// and the strategy of the words. Every other file is as it was, but a part may be left, which is new. Without `--overwrite` there was
+/// and the strategy of the words; the area of a polygon is that of the text that its file has on the disk. Every other file is as it was, but a part may be left, which is new. Without `--overwrite` there was
 /// nothing by OUT's name before. If OUT is standard output, it took the extract, and no file has changed. The words name no configuration.
 pub fn run_of_extract()
     ensures { (program : Program) (words : List Text) (rows : List Row) (events : List Event)
@@ -137,7 +137,7 @@ pub fn run_of_extract()
 {}
 
 /// What status 0 of `extract --config` says of them: each OUT has bytes that mean exactly the extract of those that IN has on the disk, by the
-/// area that the configuration gives it. Without `--overwrite` none was there before. Every other file is as it was, but a part may be
+/// area that the configuration gives it, as the disk has this and the files of polygons that it names. Without `--overwrite` none was there before. Every other file is as it was, but a part may be
 /// left, which is new. Two OUTs have two paths, and no OUT has the name that another one has until it is whole.
 pub fn run_of_extracts()
     ensures { (words : List Text) (rows : List Row) (events : List Event) (disk : Disk)

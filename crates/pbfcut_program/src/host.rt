@@ -6,7 +6,7 @@ ghost use Rattle.pbfcut_program.specs.Devices.{Finishes, IsFreshOut};
 ghost use Rattle.pbfcut_program.specs.Files.{IsEnd};
 ghost use Rattle.pbfcut_program.specs.declared.host.FinishFault.{FinishFault};
 ghost use Rattle.pbfcut_program.specs.declared.host.NameFault.TheVariants as name;
-ghost use Rattle.pbfcut_program.specs.Events.{Event, Reading, text_read, text_not_read, looked, opened, not_opened, seeded, screened, read, made, not_made, linked, moved, renamed, not_named, not_synced, printed, told, advised, then_one};
+ghost use Rattle.pbfcut_program.specs.Events.{Event, text_read, text_not_read, looked, opened, not_opened, seeded, screened, read, made, not_made, linked, moved, renamed, not_named, not_synced, printed, told, advised, then_one};
 
 use pbf_frame::{Drain, Feed};
 use pbfcut_cli::{Command, Ending, Region};

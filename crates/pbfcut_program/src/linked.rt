@@ -1,6 +1,6 @@
 //! A drain between a call and one that hashes.
 
-ghost use Rattle.std.specs.Prelude.{◌≡◌, ℕ, List};
+ghost use Rattle.std.specs.Prelude.{◌≡◌};
 ghost use Rattle.pbfcut_program.specs.Devices.{HasLinked};
 
 use pbf_frame::{Drain, DrainFault};

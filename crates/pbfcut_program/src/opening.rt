@@ -1,6 +1,6 @@
 //! What is opened before a command begins.
 
-ghost use Rattle.std.specs.Prelude.{◌≡◌, ◌∷◌, [], ℕ, List, length, map, IfOk, IfErr, Some, true};
+ghost use Rattle.std.specs.Prelude.{◌≡◌, ◌∷◌, [], List, length, map, IfOk, IfErr, Some, true};
 ghost use Rattle.pbf_published.specs.PublishedTasks.{below_of};
 ghost use Rattle.pbfcut_program.specs.Events.{Event, opened, screened, seeded, then_all, then_one, openings};
 ghost use Rattle.pbfcut_program.specs.Devices.{AreFresh, CloseAll, IsFresh, IsFreshOut};

@@ -1,6 +1,6 @@
 //! Several OUTs on the disk, of which all are whole before the first gets its name.
 
-ghost use Rattle.std.specs.Prelude.{◌≡◌, ◌<◌, ◌≤◌, [], ◌∷◌, ◌++◌, ℕ, List, None, length, map, IfErr, IfOk, OnOk, string_bytes};
+ghost use Rattle.std.specs.Prelude.{◌≡◌, ◌<◌, ◌≤◌, [], ◌∷◌, ◌++◌, List, None, length, map, IfErr, IfOk, OnOk, string_bytes};
 ghost use Rattle.std.specs.List.{zip};
 ghost use Rattle.std.specs.Vec.{vec_capacity};
 ghost use Rattle.pbfcut_program.specs.Devices.{IsFreshOut};

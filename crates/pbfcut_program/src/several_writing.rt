@@ -1,8 +1,8 @@
 //! The command that cuts out several areas, each into a file of its own. Before anything is written it is settled that all OUTs are new, IN
 //! is opened once for each pass, and there is a seed.
 
-ghost use Rattle.std.specs.Prelude.{◌≡◌, ◌∷◌, ◌++◌, ◌+◌, ◌⊎◌, [], ℕ, List, length, map, IfErr, IfOk, OnOk, string_bytes};
-ghost use Rattle.std.specs.List.{flat_map, zip};
+ghost use Rattle.std.specs.Prelude.{◌≡◌, ◌∷◌, ◌++◌, ◌+◌, ◌⊎◌, [], List, length, map, IfErr, IfOk, OnOk, string_bytes};
+ghost use Rattle.std.specs.List.{zip};
 ghost use Rattle.pbfcut.specs.EachReceipts.{each_strategy};
 ghost use Rattle.pbfcut.specs.Receipts.{judge_by};
 ghost use Rattle.pbfcut.specs.Tasks.{spares_by};
@@ -12,7 +12,7 @@ ghost use Rattle.pbfcut_program.specs.Devices.{AreFresh};
 ghost use Rattle.pbfcut_program.specs.Events.{Event, then_all};
 ghost use Rattle.pbfcut_program.specs.Fails.{Each, Fails, FailsFor, FailsOpening, Quiet, judging};
 ghost use Rattle.pbfcut_program.specs.Inputs.{AreReady, feeds_in};
-ghost use Rattle.pbfcut_program.specs.Lines.{check_lines, known_lines, named_counts_text, out_lines, prints};
+ghost use Rattle.pbfcut_program.specs.Lines.{check_lines, named_counts_text, out_lines, prints};
 ghost use Rattle.pbfcut_program.specs.Manner.{check_in, manner_of};
 ghost use Rattle.pbfcut_program.specs.Outcomes.{ending_of_file};
 ghost use Rattle.pbfcut_program.specs.Settling.{SettlesEach};

@@ -15,6 +15,7 @@ use pbfcut_program::{
     CreateFault, FinishFault, Host, NameFault, NotDone, OpenFault, PrintFault, Screen, Seed,
     TextFault, Turn,
 };
+use std::collections::BTreeSet;
 use std::fs::{self, File};
 use std::hash::{BuildHasher, RandomState};
 use std::io::{self, ErrorKind, IsTerminal, Write};
@@ -33,7 +34,7 @@ pub(crate) struct Os<'a> {
     /// The path of the OUT that the run came to last, for a hint.
     output: Option<String>,
     /// The OUTs that the run may make, as far as they could be noted.
-    outputs: Vec<Entry>,
+    outputs: BTreeSet<Entry>,
     /// What the run would have spoiled, for a hint.
     spoiled: Option<Spoiled>,
     /// The last write that failed, for a hint.
@@ -49,7 +50,7 @@ impl<'a> Os<'a> {
             input: None,
             text: None,
             output: None,
-            outputs: Vec::new(rt.alloc()),
+            outputs: BTreeSet::new(rt.alloc()),
             spoiled: None,
             failed: None,
         }
@@ -69,10 +70,9 @@ impl<'a> Os<'a> {
         let Some(entry) = Entry::at(self.rt, path) else {
             return false;
         };
-        let is_repeated = self.outputs.iter().any(|other| other.is(&entry));
         // If there is no memory for it, it isn't compared.
-        let _ = self.outputs.push(entry);
-        is_repeated
+        let is_new = self.outputs.insert(entry).unwrap_or(true);
+        !is_new
     }
 
     /// Notes the OUT that the run is at.

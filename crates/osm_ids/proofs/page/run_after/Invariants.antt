@@ -1,5 +1,5 @@
 use Rattle.std.proofs.Common.{◌≤◌, ◌<◌, ◌+◌, ◌-◌, length}
-use Rattle.osm_ids.specs.Windows.{IsRun}
+use Rattle.osm_ids.specs.Windows.{IsRunOfIds}
 use Rattle.osm_ids.proofs.page.run_after.Given as goal
 
 abbrev pub invariant-up : goal.invariant-up
@@ -7,7 +7,7 @@ invariant-up l = record {
   low : l.at ≤ l.to;
   high : l.to < length l.ids;
   step : l.step ≤ 8;
-  run : IsRun l.ids l.at l.to;
+  run : IsRunOfIds l.ids l.at l.to;
 }
 
 abbrev pub decreases-up : goal.decreases-up

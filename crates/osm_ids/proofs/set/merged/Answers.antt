@@ -1,7 +1,6 @@
 use Rattle.std.proofs.Common.{◌≡◌, ◌∷◌, ◌<ℤ◌, [], ℤ, Option, IfNone, Some, sym, ap, subst, ◌∙◌, arith, rules, to_z, of_z, w64}
 use mir.Val.{SFits}
 use Rattle.std.specs.List.{cons_option}
-use Rattle.std.specs.FinSet as set
 use Rattle.std.proofs.lemmas.Int.{to_z-of_z, ints}
 use Rattle.osm_ids.specs.Pages.{Rises}
 use Rattle.osm_ids.proofs.Rising.{rising_from_sorted}

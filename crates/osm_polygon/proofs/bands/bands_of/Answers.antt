@@ -10,7 +10,7 @@ use Rattle.osm_polygon.specs.declared.strips.Strip.{Strip}
 use Rattle.osm_polygon.specs.declared.bands.Band.{Band}
 use Rattle.osm_polygon.specs.Edges.{is_in_strip}
 use Rattle.osm_polygon.specs.Strips.{AreStrips, lists_of, held}
-use Rattle.osm_polygon.specs.Bands.{IsBand, AreBands, held_by, cells_by}
+use Rattle.osm_polygon.specs.Bands.{IsBand, AreBands, held_by_bands, cells_by}
 use Rattle.osm_polygon.proofs.StripLemmas.{strip_at}
 use Rattle.osm_polygon.proofs.BandLemmas.{bands_more, held_more, held_by_more, cells_by_more}
 use Rattle.osm_polygon.proofs.bands.bands_of.Goals as goal
@@ -57,7 +57,7 @@ loop-strip-preserved c =
       );
       few = omega (
         arith,
-        ap held_by c.in_ok-push.ensures.items,
+        ap held_by_bands c.in_ok-push.ensures.items,
         held_by_more bands band,
         ap held more,
         held_more (take i items) strip,

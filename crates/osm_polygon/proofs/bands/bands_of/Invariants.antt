@@ -1,6 +1,6 @@
 use Rattle.std.proofs.Common.{◌≡◌, ◌+◌, ◌*◌, ◌≤◌, length, take}
 use Rattle.osm_polygon.specs.Strips.{held}
-use Rattle.osm_polygon.specs.Bands.{AreBands, held_by, cells_by}
+use Rattle.osm_polygon.specs.Bands.{AreBands, held_by_bands, cells_by}
 use Rattle.osm_polygon.proofs.bands.bands_of.Given as goal
 
 -- the bands so far
@@ -10,5 +10,5 @@ invariant-loop-strip l = record {
   number : l.number ≡ l.cut.first + l.strip-index;
   equal : length l.bands.items ≡ l.strip-index;
   cells : cells_by l.bands.items ≤ held (take l.strip-index l.strip-items) + l.strip-index;
-  few : held_by l.bands.items ≤ 2 * held (take l.strip-index l.strip-items);
+  few : held_by_bands l.bands.items ≤ 2 * held (take l.strip-index l.strip-items);
 }

@@ -2,13 +2,13 @@ use Rattle.std.proofs.Common.{◌≡◌, List, sym, ap, ◌∙◌, rules}
 use Rattle.std.specs.List.{fold}
 use Rattle.pbf_dense.specs.declared.places.Place.{Place}
 use Rattle.pbf_dense.specs.Places.{places_left}
-use Rattle.pbf_pass.proofs.GatherLemmas.{with_place}
+use Rattle.pbf_pass.proofs.GatherLemmas.{node_placed}
 use Rattle.pbf_pass.proofs.in_area.take_each_place.Goals as goal
 
 pub loop-place-preserved : goal.loop-place-preserved
 loop-place-preserved g c =
     let so_far = c.loop-place.invariant in
-    let with = with_place g.A.Area.area g.P.NodeTaker.step in
+    let with = node_placed g.A.Area.area g.P.NodeTaker.step in
     let rest = places_left c.next.new.self in
     let step : c.take_place.new.self ≡ with c.loop-place.taking c.in-Some.place = search rules in
     record {

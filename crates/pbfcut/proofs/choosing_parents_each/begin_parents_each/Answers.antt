@@ -40,9 +40,9 @@ returns-clause-begun g c =
     let P = g.P.NodeTaker in
     let area = g.A.Area.area in
     let outputs = c.args.outputs.now in
-    let befores = c.new-each.result in
+    let befores = c.in_ok-each.each in
     let nows = c.judge.new.gathering in
-    let fresh = subst (λ l. AllZip (IsFreshTaking P.start P.step P.has_ways P.ended) outputs l) (sym c.new-each.ensures) c.in_ok-begin_phases.ensures in
+    let fresh = subst (λ l. AllZip (IsFreshTaking P.start P.step P.has_ways P.ended) outputs l) (sym c.in_ok-each.ensures) c.in_ok-takings.ensures in
     let ends = subst (λ l. AllZip (EndsTakingAll area P.start P.step P.has_ways P.ended g.P.RelationTaker.found (header_of c.in_ok-header.header.now)) l c.in_ok-phases.phases.items) c.into_members.ensures c.in_ok-phases.ensures in
     record {
       file = one.file;

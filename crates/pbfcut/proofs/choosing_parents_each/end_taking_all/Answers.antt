@@ -12,8 +12,8 @@ returns g c =
       ends = record {
         ways = c.in_ok-gathering.ensures.ways;
         done = c.has_all_ways-is_done.ensures;
-        header_is = c.in_ok-header.ensures ∙ ap (λ (area : BoundingBox). header_out_for_box area (header_of c.args.header.now)) c.bounds.ensures;
-        typed = subst (λ (area : BoundingBox). EdgesTyped (edges_of area)) c.bounds.ensures (edges_typed bounds (search rules) (search rules) (search rules) (search rules));
+        header_is = c.in_ok-header.ensures ∙ ap (λ (area : BoundingBox). header_out_for_box area (header_of c.args.header.now)) c.bounds.ensures.value;
+        typed = subst (λ (area : BoundingBox). EdgesTyped (edges_of area)) c.bounds.ensures.value (edges_typed bounds (search rules) (search rules) (search rules) (search rules));
       };
       found_is = c.in_ok-gathering.ensures.found;
       takes_all = c.in_ok-gathering.ensures.takes;

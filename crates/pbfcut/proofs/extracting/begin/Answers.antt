@@ -42,7 +42,7 @@ returns-clause-begun g c =
       supplied = one.supplied;
       digest_is = one.digest_is;
       holding = (
-        begins g.A.Area.area g.P.NodeTaker.step one.file c.in_ok-judged.judged.pass _ _ _ _ one.holding.1 c.in_ok-writable_header.ensures.header c.in_ok-writable_header.ensures.within (c.in_ok-header.ensures ∙ ap (λ (area : BoundingBox). header_out_for_box area (header_of c.in_ok-writable_header.field-0.now)) c.bounds-bounds.ensures) (search rules) (subst (λ (area : BoundingBox). EdgesTyped (edges_of area)) c.bounds-bounds.ensures (edges_typed bounds (search rules) (search rules) (search rules) (search rules))),
+        begins g.A.Area.area g.P.NodeTaker.step one.file c.in_ok-judged.judged.pass _ _ _ _ one.holding.1 c.in_ok-writable_header.ensures.header c.in_ok-writable_header.ensures.within (c.in_ok-header.ensures ∙ ap (λ (area : BoundingBox). header_out_for_box area (header_of c.in_ok-writable_header.field-0.now)) c.bounds-bounds.ensures.value) (search rules) (subst (λ (area : BoundingBox). EdgesTyped (edges_of area)) c.bounds-bounds.ensures.value (edges_typed bounds (search rules) (search rules) (search rules) (search rules))),
         subst (λ (h : Halt). RefusesOrder c.in_ok-judged.judged.digest h one.file) (sym c.unsorted.ensures) (refuses_order (with_seen_in g.A.Area.area g.P.NodeTaker.step) _ _ one.file c.in_ok-judged.judged _ one.holding.1 one.holding.0 c.in_ok-writable_header.ensures.header),
       );
     }

@@ -1,4 +1,4 @@
-use Rattle.std.proofs.Common.{[], ◌∷◌, arith, refl, sym, subst}
+use Rattle.std.proofs.Common.{[], ◌∷◌, arith, refl, subst}
 use Rattle.std.specs.List.{AllZip}
 use Rattle.osm_ways.specs.Selection.{all_parents}
 use Rattle.pbf_pass.specs.Hashing.{mark_by}

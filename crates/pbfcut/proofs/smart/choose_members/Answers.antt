@@ -1,4 +1,4 @@
-use Rattle.std.proofs.Common.{◌≡◌, Bool, true, false, arith, rules, [], ◌∷◌, refl, sym, ap, subst}
+use Rattle.std.proofs.Common.{◌≡◌, true, false, arith, rules, [], refl, sym, ap, subst}
 use Rattle.std.proofs.lemmas.Result.{err_from_is_err_and}
 use Rattle.osm_ways.specs.Phases.{KeptSets}
 use Rattle.osm_ways.specs.Sorted.{sorted_step, start_sorted}

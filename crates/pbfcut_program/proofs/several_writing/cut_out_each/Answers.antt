@@ -6,7 +6,7 @@ use Rattle.pbfcut.specs.Receipts.{judge_by}
 use Rattle.pbfcut.proofs.SeveralLemmas.{zip_length}
 use Rattle.pbfcut_program.specs.ConfiguredCuts.{output_area_of}
 use Rattle.pbfcut_program.specs.declared.host.Screen.TheVariants as screen
-use Rattle.pbfcut_program.specs.Fails.{Each, Fails, Quiet, TookNothing, judging}
+use Rattle.pbfcut_program.specs.Fails.{Fails, Quiet, TookNothing, judging}
 use Rattle.pbfcut_program.specs.Inputs.{feeds_in}
 use Rattle.pbfcut_program.specs.Leaving.{IsUnkept}
 use Rattle.pbfcut_program.specs.Lines.{check_lines}

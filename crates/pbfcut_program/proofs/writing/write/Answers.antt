@@ -1,4 +1,4 @@
-use Rattle.std.proofs.Common.{◌≡◌, ◌∙◌, [], ◌∷◌, ◌++◌, List, append_assoc, inl, inr, map, ap, subst, sym}
+use Rattle.std.proofs.Common.{◌≡◌, ◌∙◌, ◌∷◌, ◌++◌, List, append_assoc, inl, inr, map, ap, subst, sym}
 use Rattle.std.proofs.lemmas.Result.{err_from_is_err_and}
 use Rattle.pbfcut_program.specs.declared.host.Screen.{Screen}
 use Rattle.pbfcut_program.specs.Events.{Event, read, wrote, then_all}

@@ -1,5 +1,4 @@
 use Rattle.std.proofs.Common.{arith, w64}
-use Rattle.std.specs.FinSet as set
 use Rattle.std.proofs.lemmas.Int.{to_z-of_z}
 use Rattle.osm_ids.proofs.page.PageIds.find.Goals as goal
 

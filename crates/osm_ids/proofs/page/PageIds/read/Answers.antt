@@ -4,7 +4,7 @@ use Rattle.std.proofs.lemmas.Int.{to_z-of_z}
 use Rattle.std.proofs.lemmas.List.{take_more_set}
 use Rattle.pbf_wire.specs.Cursors.{numbers_left}
 use Rattle.pbf_wire.specs.Packed.{numbers_of}
-use Rattle.osm_ids.specs.Pages.{AllFit, Reads, raised}
+use Rattle.osm_ids.specs.Pages.{AllFit, ReadsPage, raised}
 use Rattle.osm_ids.specs.Windows.{held}
 use Rattle.osm_ids.proofs.Places.{last_at}
 use Rattle.std.proofs.Math.Seq.{take-nil}
@@ -34,8 +34,8 @@ ids-preserved c =
       few = omega (arith, c.rise-in-ids.ensures.count, singles.few, c.ids-test.true);
       reading = λ fits.
           c.rise-in-ids.ensures.ids _ _
-          (subst (Reads all _) left
-          (reads_next _ (held page) _ gap (take (127 - page.count) (numbers_left c.next.new.self)) _ (subst (Reads all (held page)) one (c.ids.invariant.reading fits)) (take_more_set page.ids page.count _ (omega (arith, long, c.ids-test.true)))
+          (subst (ReadsPage all _) left
+          (reads_next _ (held page) _ gap (take (127 - page.count) (numbers_left c.next.new.self)) _ (subst (ReadsPage all (held page)) one (c.ids.invariant.reading fits)) (take_more_set page.ids page.count _ (omega (arith, long, c.ids-test.true)))
           (wrapped_sum _ _ gap c.wrapping_add_unsigned.result last_is (subst (SFits w64) (sym low_is) last_fits) c.wrapping_add_unsigned.ensures)));
     }
 

@@ -3,7 +3,7 @@ use mir.Val.{SFits}
 use Rattle.std.proofs.lemmas.Int.{to_z-of_z}
 use Rattle.std.proofs.lemmas.List.{drop_all, drop_more, length-set, take_more_set}
 use Rattle.pbf_wire.specs.Packed.{last_from}
-use Rattle.osm_ids.specs.Pages.{Reads}
+use Rattle.osm_ids.specs.Pages.{ReadsPage}
 use Rattle.osm_ids.proofs.Places.{last_at, last_push}
 use Rattle.osm_ids.proofs.Reading.{reads_next, wrapped_sum}
 use Rattle.osm_ids.proofs.page.PageIds.rise.Goals as goal
@@ -29,7 +29,7 @@ loop-gap-preserved c =
       last_is = sym (ap (last_from (pos 0)) one ∙ last_push (pos 0) (take l.count l.self.ids) _);
       reading = λ all more r.
           reads_next all (take l.count l.self.ids) _ gap (drop (l.gap-index + 1) gaps ++ more) _
-          (subst (λ (ns : List ℕ). Reads all (take l.count l.self.ids) (ns ++ more)) next (l.invariant.reading all more r)) one
+          (subst (λ (ns : List ℕ). ReadsPage all (take l.count l.self.ids) (ns ++ more)) next (l.invariant.reading all more r)) one
           (wrapped_sum last _ gap c.wrapping_add_unsigned-last.result l.invariant.last_is last_fits c.wrapping_add_unsigned-last.ensures);
     }
 

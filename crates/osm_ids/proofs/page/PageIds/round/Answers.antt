@@ -2,7 +2,7 @@ use Rattle.std.proofs.Common.{◌≡◌, ◌-◌, pos, length, get_or, ap, arith
 use mir.Val.{SFits}
 use Rattle.std.proofs.lemmas.Int.{to_z-of_z, ints}
 use Rattle.std.proofs.lemmas.List.{length-take}
-use Rattle.osm_ids.specs.Windows.{IsNext, held}
+use Rattle.osm_ids.specs.Windows.{IsSameOrNext, held}
 use Rattle.osm_ids.proofs.Places.{any_at}
 use Rattle.osm_ids.proofs.Rounds.{not_there, some_before, gap_known, run_known, told_known}
 use Rattle.osm_ids.proofs.page.PageIds.round.Goals as goal
@@ -47,6 +47,6 @@ returns-clause-known c = λ ids kept.
     told_known ids _ _ _ _ _ _ c.told-2.ensures (to_z-of_z w64 _ low) (to_z-of_z w64 _ high)
     (λ x above below.
     let begins = subst (λ z. z ≤ℤ x) (to_z-of_z w64 _ first) (c.before-2.ensures x above) in
-    let next = subst (λ z. IsNext z c.after.result) (to_z-of_z w64 _ last) c.after.ensures in
+    let next = subst (λ z. IsSameOrNext z c.after.result) (to_z-of_z w64 _ last) c.after.ensures in
     let up = next.high in
     run_known ids page at to kept run.high.0 run.high.1 run.run x begins (omega (arith, ints, up, below)))

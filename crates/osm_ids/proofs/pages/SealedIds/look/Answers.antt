@@ -4,7 +4,7 @@ use mir.Val.{SFits}
 use Rattle.std.proofs.lemmas.Int.{ints, to_z-of_z}
 use Rattle.osm_ids.specs.declared.index.PageStart.{PageStart}
 use Rattle.osm_ids.specs.declared.page.Known.{Known}
-use Rattle.osm_ids.specs.Index.{ArePassed, HasPage, first_of}
+use Rattle.osm_ids.specs.Index.{ArePagesUpTo, HasPage, first_of}
 use Rattle.osm_ids.specs.Order.{IsAbove}
 use Rattle.osm_ids.specs.Pages.{rising}
 use Rattle.osm_ids.proofs.Sets.{Ids}
@@ -38,10 +38,10 @@ returns-then-begun-eq0-clause-some c =
     let value = c.deref.ensures.value in
     let first : HasPage (rising ids) 0 → c.first_id.result ≡ first_of (rising ids) 0 = λ lt.
     c.first_id.ensures d (omega (arith, begun _ _ _ s 0 lt, ap length value)) ∙ ap (λ (i : List PageStart). (get_or i 0 d).first) value ∙ ap (λ (a : PageStart). a.first) (start_is _ _ _ s 0 lt d) in
-    let passed = subst (λ z. ArePassed (rising ids) z c.begun-begun.result) (to_z-of_z w64 c.args.id c.ranges.id) c.begun-begun.ensures in (
+    let passed = subst (λ z. ArePagesUpTo (rising ids) z c.begun-begun.result) (to_z-of_z w64 c.args.id c.ranges.id) c.begun-begun.ensures in (
       record {
         known = told_known ids _ _ _ _ _ _ c.told-then-begun-eq0.ensures refl (to_z-of_z w64 _ least) (λ x _ below. absent_first ids x (λ lt. subst (λ z. x <ℤ z) (first lt) below));
-        there = absent_first ids c.args.id (subst (ArePassed (rising ids) c.args.id) c.if-begun-eq0.true passed).high ∙ sym (ap (λ (k : Known). k.there) c.told-then-begun-eq0.ensures);
+        there = absent_first ids c.args.id (subst (ArePagesUpTo (rising ids) c.args.id) c.if-begun-eq0.true passed).high ∙ sym (ap (λ (k : Known). k.there) c.told-then-begun-eq0.ensures);
       },
       refl,
     )
@@ -51,5 +51,5 @@ returns-clause-none c =
     let ids = c.args.self.now in
     let n = c.begun-begun.result in
     let same : n ≡ (n - 1) + 1 = omega (arith, c.if-begun-eq0.false) in
-    let passed = subst (λ z. ArePassed (rising ids) z n) (to_z-of_z w64 c.args.id c.ranges.id) c.begun-begun.ensures in
-    is_page_of ids (n - 1) (passed.there (omega (arith, c.if-begun-eq0.false))) c.read.new.ids c.read.ensures c.args.id (subst (ArePassed (rising ids) c.args.id) same passed)
+    let passed = subst (λ z. ArePagesUpTo (rising ids) z n) (to_z-of_z w64 c.args.id c.ranges.id) c.begun-begun.ensures in
+    is_page_of ids (n - 1) (passed.there (omega (arith, c.if-begun-eq0.false))) c.read.new.ids c.read.ensures c.args.id (subst (ArePagesUpTo (rising ids) c.args.id) same passed)
