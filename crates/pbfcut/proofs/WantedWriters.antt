@@ -1,5 +1,5 @@
 -- What several writers do with a block that is read once for all of them.
-use Rattle.std.proofs.Common.{◌≡◌, ◌⊎◌, inl, inr, ℕ, Option, ap, ap₂, List, [], ◌∷◌, ◌++◌, true, None, Ok, Err, sym, subst, ◌∙◌}
+use Rattle.std.proofs.Common.{◌≡◌, ◌⊎◌, inl, inr, ℕ, Option, ap, ap₂, List, [], ◌∷◌, ◌++◌, true, None, Ok, Err, Result, OnOk, IfErr, length, suc, sym, subst, ◌∙◌}
 use Rattle.std.specs.List.{AllByRecursion, AllZip, filter}
 use Rattle.osm_entity.specs.Entity.{EntitySpec}
 use Rattle.osm_entity.specs.Ranges.{EntityFits}
@@ -28,6 +28,10 @@ use Rattle.pbfcut.specs.Write.{FailsAtUnjudgedPayload, PacksUnjudgedPayload}
 use Rattle.pbfcut.proofs.SeveralLemmas.{zip_right, zip_with}
 use Rattle.pbfcut.proofs.WantedLemmas.{wanted_within}
 use Rattle.pbfcut.proofs.WritingLemmas.{fails_at_unjudged_payload}
+
+-- what a frame shows
+shown : (frame : Frame) (f : FrameSpec) → Shows frame f → payload_of f ≡ lent_by frame
+shown frame f s = ap (λ k. payload_as k (frame_payload_at f) (frame_payload f)) (sym s.kind) ∙ ap₂ (λ (at : ℕ) (m : List ℕ). payload_as frame.kind at m) (sym s.payload_at) (sym s.payload)
 
 -- what refuses bytes, if it says less of them
 refuses_more : (first then : List ℕ → Type 0) (before now : ℕ → List ℕ → Type 0) (old new : Option (List ℕ)) → ((bytes : List ℕ) → first bytes → then bytes) → Refuses first before now old new → Refuses then before now old new
@@ -103,10 +107,6 @@ module _ {A D S H : Type 0} (d : drain.Ghosts D) where
     one_frame stop [] news did = absurd did
     one_frame stop (old ∷ olds) [] did = absurd did
 
-  -- what a frame shows
-  shown : (frame : Frame) (f : FrameSpec) → Shows frame f → payload_of f ≡ lent_by frame
-  shown frame f s = ap (λ k. payload_as k (frame_payload_at f) (frame_payload f)) (sym s.kind) ∙ ap₂ (λ (at : ℕ) (m : List ℕ). payload_as frame.kind at m) (sym s.payload_at) (sym s.payload)
-
   pub each_shown : (frame : Frame) (f : FrameSpec) → Shows frame f → (olds news : List (AreaWriter A D S H)) → AllZip (WriterTakesPayload d (lent_by frame)) olds news → EachTook (WriterTakes d) olds f news
   each_shown frame f s olds news did = each_frame f (lent_by frame) (shown frame f s) olds news did
 
@@ -137,3 +137,19 @@ module _ {A D S H : Type 0} (d : drain.Ghosts D) where
   pub seen_rest : {F : Type 0} (g : feed.Ghosts F) (old new : F) (judge : List ℕ → Option Verdict) (a b : EachWriter A D S H) (stop : Stop) → KeepsFeed g old new → RefusesRest g old new (RefusesVisit (WritersTake d) (WritersFail d) judge a b) stop
       → RefusesRest g old new (RefusesVisit (EachTook (WriterTakes d)) (OneFailed (WriterTakes d) (WriterFails d)) judge a.writers.items b.writers.items) stop
   seen_rest g old new judge a b stop kept rest = rest_of g old new old new _ _ stop kept rest (λ t refuses. refuses_more _ _ _ _ _ _ (λ bytes is. seen_stops (judge bytes) ⊥ a b t is) refuses)
+
+-- ---- what is said of a result
+
+pub on_ok_more : {X E : Type 0} (r : Result X E) (P Q : Type 0) → (P → Q) → OnOk r P → OnOk r Q
+on_ok_more (Ok x) P Q h p = h p
+on_ok_more (Err e) P Q h p = tt
+
+pub if_err_more : {X E : Type 0} (r : Result X E) (P Q : E → Type 0) → ((e : E) → P e → Q e) → IfErr r P → IfErr r Q
+if_err_more (Ok x) P Q h p = tt
+if_err_more (Err e) P Q h p = h e p
+
+pub one_length : {V : Type 0} (did stopped : V → V → Type 0) (olds news : List V) → OneStopped did stopped olds news → length news ≡ length olds
+one_length did stopped (old ∷ olds) (new ∷ news) (inl here) = ap (λ l. suc (length l)) here.1
+one_length did stopped (old ∷ olds) (new ∷ news) (inr later) = ap suc (one_length did stopped olds news later.1)
+one_length did stopped [] news one = absurd one
+one_length did stopped (old ∷ olds) [] one = absurd one

@@ -361,7 +361,7 @@ fn pack_each<'a, A, F: Feed, D: Drain, S: BuildHasher>(
     writers: Vec<AreaWriter<'a, A, D, S>>,
 ) -> (Vec<AreaWriter<'a, A, D, S>>, Result<[u8; 32], Stop>)
     requires fresh { AllByRecursion (IsFreshWriter pass.number) writers.items }
-    requires among { AllByRecursion (PicksAmong (take_of all.entry)) writers.items }
+    requires among { AllByRecursion (PicksAmong (take_of all)) writers.items }
     ensures { WritesEachUnjudged (fed F.Feed feed.old feed.new) D.Drain pass
         writers.entry.items result.0.items result.1 }
 {
