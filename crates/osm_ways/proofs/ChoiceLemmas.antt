@@ -32,7 +32,7 @@ module _ (small large : KeptSets) (h : IsChoiceWithin small large) where
 
 -- ---- two choices together
 
--- a set that is alone
+-- a set and an empty one
 pub before_none : (ids : Ids) → set.union ids ids ≡ set.union ids set.empty
 before_none ids = same_ids _ _ (λ x. grind (arith, set.members))
 

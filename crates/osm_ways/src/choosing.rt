@@ -314,7 +314,7 @@ impl Chosen {
     }
 }
 
-/// The ids of two sets, where one that isn't there has none.
+/// The ids of two sets. One that is missing counts as empty.
 fn joined_ids(
     alloc: Global,
     one: &Option<SealedIds>,
