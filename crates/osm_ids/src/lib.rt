@@ -3,6 +3,7 @@
 #![tactic(auto)]
 
 mod index;
+mod joining;
 pub mod laws;
 mod links;
 mod page;

@@ -139,23 +139,11 @@ impl IdLookup for IdSet {
 
 /// The ids of a set and late ones beside it, in new pages.
 fn merged(alloc: Global, ids: &SealedIds, late: &BTreeSet<i64>) -> Result<SealedIds, AllocError>
-    requires { AreLate ids.now late.now.keys }
     ensures { IfOk result (λ all. all ≡ set.union ids.now (set.from_list late.now.keys)) }
 {
-    let mut all = SealedIds::new(alloc);
-    let mut late = late.iter();
-    let mut next = late.next().copied();
-    let mut walk = Walk::new(ids);
-    // Each late id is below one of the set, so none is left over.
-    'ids: while let Some(id) = walk.next() {
-        'late: while let Some(other) = next {
-            if id < other {
-                break 'late;
-            }
-            all.push(other)?;
-            next = late.next().copied();
-        }
-        all.push(id)?;
+    let mut others = SealedIds::new(alloc);
+    for id in late.iter() {
+        others.push(*id)?;
     }
-    Ok(all)
+    SealedIds::joined(alloc, ids, &others)
 }

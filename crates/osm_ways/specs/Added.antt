@@ -20,6 +20,10 @@ abbrev pub added_or_none : Option AddedSets → AddedSets
 added_or_none None = nothing_added
 added_or_none (Some added) = added
 
+-- what two choices have, together
+abbrev pub added_to_both : AddedSets → AddedSets → AddedSets
+added_to_both one other = record { nodes = set.union one.nodes other.nodes; ways = set.union one.ways other.ways }
+
 -- a member besides; one that is a relation is not added
 abbrev pub with_member : AddedSets → MemberSeen → AddedSets
 with_member added (node_member id) = record added { nodes = set.insert added.nodes id }

@@ -1,6 +1,7 @@
 pub mod Selection
 pub mod Parents
 pub mod Phases
+pub mod Choices
 pub mod First
 pub mod InArea
 pub mod Seen

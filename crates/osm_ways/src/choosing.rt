@@ -1,6 +1,6 @@
 //! Which entities are kept, for many of them one after another.
 
-ghost use Rattle.std.specs.Prelude.{◌≡◌, ℤ, true, false};
+ghost use Rattle.std.specs.Prelude.{◌≡◌, ℤ, true, false, IfOk};
 ghost use Rattle.std.specs.FinSet as set;
 ghost use Rattle.osm_entity.specs.Sources.{lent_member, refs_left};
 ghost use Rattle.osm_entity.specs.Views.{way_of, relation_of};
@@ -9,7 +9,8 @@ ghost use Rattle.pbf_wire.specs.Spans.{is_in};
 ghost use Rattle.osm_ids.specs.Looking.{LooksUp};
 ghost use Rattle.osm_ways.specs.Selection.{is_kept_way, is_selecting};
 ghost use Rattle.osm_ways.specs.Seen.{seen_way, seen_refs, seen_member, seen_relation};
-ghost use Rattle.osm_ways.specs.Added.{added_or_none};
+ghost use Rattle.osm_ways.specs.Added.{added_or_none, added_to_both};
+ghost use Rattle.osm_ways.specs.Choices.{IsChoiceWithin};
 ghost use Rattle.osm_ways.specs.Phases.{ids_or_none, is_chosen, is_taken, keeps_id};
 
 use crate::members::SealedAdded;
@@ -18,6 +19,7 @@ use crate::phases::{Chosen, SeenWay, is_kept_by};
 use osm_entity::{MemberKind, MemberRef, Refs, RelationRef, WayRef};
 use osm_ids::{SealedIds, Window};
 use pbf_wire::Span;
+use std::alloc::{AllocError, Global};
 use std::marker::Model;
 
 /// A set, and what look-ups in it learnt. Contracts see it as the set.
@@ -309,6 +311,62 @@ impl Chosen {
         ensures { result ≡ is_chosen self.now (seen_relation (relation_of relation.now)) }
     {
         self.chooser().keeps_relation(relation)
+    }
+}
+
+/// The ids of two sets. One that is missing counts as empty.
+fn joined_ids(
+    alloc: Global,
+    one: &Option<SealedIds>,
+    other: &Option<SealedIds>,
+) -> Result<Option<SealedIds>, AllocError>
+    ensures { IfOk result (λ all. ids_or_none all
+        ≡ set.union (ids_or_none one.now) (ids_or_none other.now)) }
+{
+    match (one, other) {
+        (Some(one), Some(other)) => Ok(Some(SealedIds::joined(alloc, one, other)?)),
+        (Some(ids), None) => Ok(Some(SealedIds::joined(alloc, ids, ids)?)),
+        (None, Some(ids)) => Ok(Some(SealedIds::joined(alloc, ids, ids)?)),
+        (None, None) => Ok(None),
+    }
+}
+
+/// What was added for two choices, if anything was.
+fn joined_added(
+    alloc: Global,
+    one: &Option<SealedAdded>,
+    other: &Option<SealedAdded>,
+) -> Result<Option<SealedAdded>, AllocError>
+    ensures { IfOk result (λ all. added_or_none all
+        ≡ added_to_both (added_or_none one.now) (added_or_none other.now)) }
+{
+    match (one, other) {
+        (Some(one), Some(other)) => Ok(Some(SealedAdded::joined(alloc, one, other)?)),
+        (Some(added), None) => Ok(Some(SealedAdded::joined(alloc, added, added)?)),
+        (None, Some(added)) => Ok(Some(SealedAdded::joined(alloc, added, added)?)),
+        (None, None) => Ok(None),
+    }
+}
+
+impl Chosen {
+    /// A choice that keeps all that one of two choices keeps, so that both can be asked at once.
+    pub fn joined(one: &Chosen, other: &Chosen) -> Result<Chosen, AllocError>
+        ensures { IfOk result (λ all. IsChoiceWithin one.now all × IsChoiceWithin other.now all) }
+    {
+        let alloc = one.alloc;
+        let box_ids = SealedIds::joined(alloc, &one.box_ids, &other.box_ids)?;
+        let refs = SealedIds::joined(alloc, &one.refs, &other.refs)?;
+        let way_ids = SealedIds::joined(alloc, &one.way_ids, &other.way_ids)?;
+        let relation_ids = joined_ids(alloc, &one.relation_ids, &other.relation_ids)?;
+        let added = joined_added(alloc, &one.added, &other.added)?;
+        Ok(Chosen {
+            box_ids,
+            refs,
+            way_ids,
+            relation_ids,
+            added,
+            alloc,
+        })
     }
 }
 

@@ -5,7 +5,7 @@ ghost use Rattle.std.specs.List.{fold};
 ghost use Rattle.std.specs.FinSet as set;
 ghost use Rattle.osm_entity.specs.Sources.{members_left, refs_left};
 ghost use Rattle.osm_entity.specs.Views.{way_of};
-ghost use Rattle.osm_ways.specs.Added.{nothing_added, with_member};
+ghost use Rattle.osm_ways.specs.Added.{added_to_both, nothing_added, with_member};
 ghost use Rattle.osm_ways.specs.Phases.{member_step};
 ghost use Rattle.osm_ways.specs.Seen.{seen_member, seen_refs, seen_way};
 
@@ -78,6 +78,21 @@ impl Model for SealedAdded {
     ghost coded = { added_code };
 
     ghost view = { λ a. record { nodes = a.nodes; ways = a.ways } };
+}
+
+impl SealedAdded {
+    /// What was added for two choices.
+    pub(crate) fn joined(
+        alloc: Global,
+        one: &SealedAdded,
+        other: &SealedAdded,
+    ) -> Result<SealedAdded, AllocError>
+        ensures { IfOk result (λ all. all ≡ added_to_both one.now other.now) }
+    {
+        let nodes = SealedIds::joined(alloc, &one.nodes, &other.nodes)?;
+        let ways = SealedIds::joined(alloc, &one.ways, &other.ways)?;
+        Ok(SealedAdded { nodes, ways })
+    }
 }
 
 /// The phase that takes ways again, after the phase of relations: the refs of those that were added for relations that are wanted whole.

@@ -1,6 +1,6 @@
 //! The pass that writes several extracts: each area has its writer, and each frame goes through all of them.
 
-ghost use Rattle.std.specs.Prelude.{◌≡◌, ◌≤◌, List, [], true, false, Ok, OnOk, IfErr, length};
+ghost use Rattle.std.specs.Prelude.{◌≡◌, ◌<◌, ◌≤◌, List, [], true, false, Ok, OnOk, IfOk, IfErr, length};
 ghost use Rattle.std.specs.List.{AllByRecursion, AllZip};
 ghost use Rattle.std.specs.Vec.{vec_capacity};
 ghost use Rattle.pbf_frame.specs.declared.stop.Stop.{Stop};
@@ -8,6 +8,7 @@ ghost use Rattle.pbf_header.specs.Header.{header_of};
 ghost use Rattle.pbf_pass.specs.HeaderLimit.{HasShortTexts};
 ghost use Rattle.pbfcut.specs.Calls.{fed};
 ghost use Rattle.osm_entity.specs.Entity.{EntitySpec};
+ghost use Rattle.osm_ways.specs.Choices.{IsChoiceWithin};
 ghost use Rattle.pbf_pass.specs.Payload.{Payload, lent_by};
 ghost use Rattle.pbfcut.specs.Pick.{IsReadyToPack, picks_of, take_of};
 ghost use Rattle.pbfcut.specs.Wanted.{listed_entities};
@@ -23,7 +24,7 @@ use osm_ways::Chosen;
 use pbf_block::{Counts, Kinds, Run, UnjudgedBlock};
 use pbf_frame::{Drain, Feed, Frame, FrameKind, Stop};
 use pbf_pass::{Visit, pass_over};
-use std::alloc::Global;
+use std::alloc::{AllocError, Global};
 use std::hash::BuildHasher;
 
 /// Writes the extract of one of several areas. It owns its drain, and gives it back in the end.
@@ -350,6 +351,24 @@ fn end_all<W: Ends>(writers: &mut [W]) -> Result<(), Stop>
     };
     first.end()?;
     end_all(later)
+}
+
+/// A choice that keeps all that one of these keeps. It is joined by halves, so that no set is copied often.
+fn all_of(choices: &[AreaChoice]) -> Result<Chosen, AllocError>
+    requires { 0 < length choices.now }
+    ensures { IfOk result (λ all. AllByRecursion
+        (λ choice. IsChoiceWithin choice.chosen all) choices.now) }
+{
+    if let [one, other] = choices {
+        return Chosen::joined(&one.chosen, &other.chosen);
+    }
+    let (front, back) = choices.split_at(choices.len() / 2);
+    if front.is_empty() {
+        return Chosen::joined(&back[0].chosen, &back[0].chosen);
+    }
+    let front = all_of(front)?;
+    let back = all_of(back)?;
+    Chosen::joined(&front, &back)
 }
 
 /// Puts the headers, what is picked of a whole file, and the last blocks through the writers.
