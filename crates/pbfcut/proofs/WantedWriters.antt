@@ -22,7 +22,7 @@ use Rattle.pbf_pass.proofs.HaltingLemmas.{rest_of}
 use Rattle.pbfcut.specs.declared.writing_each.AreaWriter.{AreaWriter}
 use Rattle.pbfcut.specs.declared.writing_each.EachWriter.{EachWriter}
 use Rattle.pbfcut.specs.Pick.{Pick, picked_in, picks_of}
-use Rattle.pbfcut.specs.Several.{IsReadyAmong, IsReadyWriter, OneStopped, PicksAmong, WriterFails, WriterFailsAtPayload, WriterPacks, WriterStops, WriterTakes, WriterTakesPayload, WritersFail, WritersTake}
+use Rattle.pbfcut.specs.Several.{IsReadyAmong, IsReadyWriter, OneStopped, PicksAmong, PutsHeader, WriterFails, WriterFailsAtPayload, WriterPacks, WriterStops, WriterTakes, WriterTakesPayload, WritersFail, WritersTake}
 use Rattle.pbfcut.specs.Wanted.{AreWanted}
 use Rattle.pbfcut.specs.Write.{FailsAtUnjudgedPayload, PacksUnjudgedPayload}
 use Rattle.pbfcut.proofs.SeveralLemmas.{zip_right, zip_with}
@@ -120,6 +120,13 @@ module _ {A D S H : Type 0} (d : drain.Ghosts D) where
 
   pub each_ready : (p : Payload) (all : Pick) (olds news : List (AreaWriter A D S H)) → AllZip (WriterTakesPayload d p) olds news → AllByRecursion (IsReadyAmong all) olds → AllByRecursion (IsReadyAmong all) news
   each_ready p all olds news did ready = zip_right (WriterTakesPayload d p) (IsReadyAmong all) (IsReadyAmong all) (still_ready p all) olds news did ready
+
+  -- after the header, which leaves what it picks
+  begun_ready : (all : Pick) (first start : AreaWriter A D S H) → PutsHeader d first start → PicksAmong all first → IsReadyAmong all start
+  begun_ready all first start put among = (put.ready, λ e is. among e (subst (λ n. picks_of n.picker e ≡ true) put.entities is))
+
+  pub ready_begun : (all : Pick) (firsts starts : List (AreaWriter A D S H)) → AllZip (PutsHeader d) firsts starts → AllByRecursion (PicksAmong all) firsts → AllByRecursion (IsReadyAmong all) starts
+  ready_begun all firsts starts put among = zip_right (PutsHeader d) (PicksAmong all) (IsReadyAmong all) (begun_ready all) firsts starts put among
 
   -- ---- the frames of a pass
 

@@ -1,6 +1,6 @@
 //! The pass that writes several extracts: each area has its writer, and each frame goes through all of them.
 
-ghost use Rattle.std.specs.Prelude.{◌≡◌, ◌<◌, ◌≤◌, List, [], true, false, Ok, OnOk, IfOk, IfErr, length};
+ghost use Rattle.std.specs.Prelude.{◌≡◌, ◌<◌, ◌≤◌, List, [], true, false, Ok, OnOk, IfOk, IfSome, IfErr, length};
 ghost use Rattle.std.specs.List.{AllByRecursion, AllZip};
 ghost use Rattle.std.specs.Vec.{vec_capacity};
 ghost use Rattle.pbf_frame.specs.declared.stop.Stop.{Stop};
@@ -371,6 +371,18 @@ fn all_of(choices: &[AreaChoice]) -> Result<Chosen, AllocError>
     Chosen::joined(&front, &back)
 }
 
+/// A choice that keeps all that these keep; none if they are fewer than two, of which nothing has to be looked for twice.
+fn all_if_several(choices: &[AreaChoice]) -> Result<Option<Chosen>, AllocError>
+    ensures { IfOk result (λ found. IfSome found (λ all. AllByRecursion
+        (λ choice. IsChoiceWithin choice.chosen all) choices.now)) }
+{
+    if choices.len() < 2 {
+        return Ok(None);
+    }
+    let all = all_of(choices)?;
+    Ok(Some(all))
+}
+
 /// Puts the headers, what is picked of a whole file, and the last blocks through the writers.
 #[tactic(auto, using(crate::proofs::SeveralLemmas::all_back))]
 fn pack_each<'a, A, F: Feed, D: Drain, S: BuildHasher>(
@@ -424,6 +436,9 @@ pub(crate) fn write_each<A: Drop, F: Feed, D: Drain + Drop, S: BuildHasher + Cop
     ) else {
         return (outputs, Err(Stop::Memory));
     };
-    let (writers, outcome) = pack_each(pass, feed, load(pass, choices, outputs, hasher, writers));
+    let Ok(all) = all_if_several(choices) else {
+        return (outputs, Err(Stop::Memory));
+    };
+    let (writers, outcome) = pack_each(pass, feed, all.as_ref(), load(pass, choices, outputs, hasher, writers));
     (unload(writers, back), pass.conclude(outcome))
 }
