@@ -4,3 +4,4 @@ pub mod Index
 pub mod Windows
 pub mod Links
 pub mod Looking
+pub mod Strips

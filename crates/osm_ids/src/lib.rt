@@ -8,10 +8,12 @@ mod links;
 mod page;
 mod pages;
 mod set;
+mod strips;
 mod walk;
 mod window;
 
 pub use links::{Link, Links};
 pub use pages::SealedIds;
 pub use set::IdSet;
+pub use strips::IdStrips;
 pub use window::{IdLookup, Window};

@@ -7,3 +7,4 @@ pub mod Seen
 pub mod Sorted
 pub mod Added
 pub mod Whole
+pub mod ChoiceStrips

@@ -3,7 +3,7 @@
 ghost use Rattle.std.specs.Prelude.{◌≡◌, Bool, ℤ, false, true, IfOk, OnOk};
 ghost use Rattle.osm_entity.specs.Views.{node_of, relation_of};
 ghost use Rattle.osm_ways.specs.InArea.{stepped};
-ghost use Rattle.osm_ways.specs.Phases.{Found, PassesOver, TakesAll, TakesFirst, TakesNode, TakesRelations, TakesWays, WaySets};
+ghost use Rattle.osm_ways.specs.Phases.{Found, Ids, LeavesOutWays, PassesOver, TakesAll, TakesFirst, TakesNode, TakesRelations, TakesWays, WaySets};
 ghost use Rattle.osm_ways.specs.Seen.{seen_as, seen_node, seen_refs};
 ghost use Rattle.osm_ways.specs.Selection.{Seen, a_node, none_whole};
 ghost use Rattle.osm_ways.specs.Whole.{is_wanted};
@@ -13,6 +13,7 @@ use crate::phases::{NodeIds, SeenWay, WayPhase};
 use crate::whole::WholeTypes;
 use osm_area::Area;
 use osm_entity::{BoundingBox, NodeRef, RelationRef};
+use osm_ids::IdSet;
 use std::alloc::{AllocError, Global};
 
 /// The first phase, which takes nodes, and maybe ways and relations. It takes ids, and knows of no area.
@@ -28,6 +29,9 @@ pub trait NodeTaker {
 
     /// What the phase of ways begins with.
     ghost ended: { Self → WaySets };
+
+    /// The ids of the nodes that lie in the area.
+    ghost inside: { Self → Ids };
 
     /// No entities yet. It allocates nothing yet.
     fn new(alloc: Global) -> Self
@@ -51,13 +55,19 @@ pub trait NodeTaker {
     fn takes_ways() -> bool
         ensures { TakesWays result step };
 
-    /// Takes a way.
+    /// Takes a way. Then a way without a ref to a node in the area changes nothing, until a node or a relation is taken.
     ///
     /// # Errors
     ///
     /// If memory is refused, the phase may only be dropped.
     fn take_refs(&mut self, way: SeenWay<'_>) -> Result<(), AllocError>
-        ensures { OnOk result (self.new ≡ step self.old (seen_refs way.entry)) };
+        ensures taken { OnOk result (self.new ≡ step self.old (seen_refs way.entry)) }
+        ensures begun { OnOk result (LeavesOutWays step inside self.new) }
+        ensures inside { OnOk result (inside self.new ≡ inside self.old) };
+
+    /// The ids of the nodes that lie in the area.
+    fn ids(&self) -> &IdSet
+        ensures { result.now ≡ inside self.now };
 
     /// Whether it takes relations.
     fn takes_relations() -> bool

@@ -1,6 +1,7 @@
 //! Which entities of a list are kept: the complete-ways extract, with and without all parents, and with the members of relations that are wanted whole.
 #![tactic(auto)]
 
+mod choice_strips;
 mod choosing;
 mod first;
 mod in_area;
@@ -11,6 +12,7 @@ mod phases;
 mod sorted;
 mod whole;
 
+pub use choice_strips::ChoiceStrips;
 pub use choosing::Chooser;
 pub use first::FirstPhase;
 pub use in_area::{InArea, NodePhase, NodeTaker, RelationTaker};

@@ -8,6 +8,7 @@ pub mod PickingLemmas
 pub mod PackingLemmas
 pub mod WritingLemmas
 pub mod SeveralLemmas
+pub mod JoinedLemmas
 pub mod WritingEachLemmas
 pub mod OutputLemmas
 pub mod AreaPhaseLemmas
@@ -27,3 +28,5 @@ pub mod CopyingLemmas
 pub mod SmartLemmas
 pub mod TaskLemmas
 pub mod EachTaskLemmas
+pub mod WantedLemmas
+pub mod WantedWriters

@@ -23,3 +23,4 @@ pub mod Receipts
 pub mod Tasks
 pub mod TaskCalls
 pub mod Copying
+pub mod Wanted

@@ -1,5 +1,5 @@
 -- Several drains that one call writes to: what it does to each of them, and why it stops.
-use Rattle.std.specs.Prelude.{◌≡◌, ◌⊎◌, ℕ, List, [], ◌∷◌, Option, Some, Result, OnOk, OnErr, IfOk, IfErr}
+use Rattle.std.specs.Prelude.{◌≡◌, ◌⊎◌, ℕ, List, [], ◌∷◌, true, Option, Some, Result, Ok, Err, OnOk, OnErr, IfOk, IfErr}
 use Rattle.std.specs.List.{AllZip}
 use Rattle.osm_pack.specs.Cuts.{at_end, header_frame}
 use Rattle.osm_pack.specs.Packing.{Pending}
@@ -13,10 +13,12 @@ use Rattle.pbf_frame.specs.Transfers.{Added}
 use Rattle.pbf_frame.specs.Verdict.{Verdict}
 use Rattle.pbf_header.specs.Header.{header_of}
 use Rattle.pbf_pass.specs.Counting.{counts_of}
+use Rattle.pbf_pass.specs.Each.{EachTook, OneFailed}
 use Rattle.pbf_pass.specs.Given.{Took}
 use Rattle.pbf_pass.specs.HeaderLimit.{HasShortTexts}
 use Rattle.pbf_pass.specs.Hashing.{mark_by}
 use Rattle.pbf_pass.specs.Judged.{judged_file}
+use Rattle.pbf_pass.specs.Payload.{Payload}
 use Rattle.pbf_pass.specs.Stops.{WriteFailed}
 use Rattle.pbf_pass.specs.Unjudged.{ReadsFaulty, StopsUnjudged}
 use Rattle.pbf_pass.specs.Visit.{Fails, Takes}
@@ -24,10 +26,11 @@ use Rattle.pbfcut.specs.declared.carrying.AreaChoice.{AreaChoice}
 use Rattle.pbfcut.specs.declared.carrying.AreaOutput.{AreaOutput}
 use Rattle.pbfcut.specs.declared.repeat.LaterPass.{LaterPass}
 use Rattle.pbfcut.specs.declared.writing_each.AreaWriter.{AreaWriter}
+use Rattle.pbfcut.specs.declared.writing_each.EachWriter.{EachWriter}
 use Rattle.pbfcut.specs.Calls.{FailedFeed, FeedUse, GaveBy, KeepsFed, supply_of}
-use Rattle.pbfcut.specs.Pick.{IsFreshPacker, IsReadyToPack, picks_of, taken_by}
+use Rattle.pbfcut.specs.Pick.{IsFreshPacker, IsReadyToPack, PacksEach, Pick, picks_of, taken_by}
 use Rattle.pbfcut.specs.Repeat.{StopsLater, digest_of}
-use Rattle.pbfcut.specs.Write.{FailsAtNext, Packed, PacksFront, PacksNext}
+use Rattle.pbfcut.specs.Write.{FailsAtNext, Packed, PacksFront, PacksNext, PacksUnjudged}
 
 -- ---- lists that go together
 
@@ -160,3 +163,40 @@ pub record WritesEach {A D : Type 0} (source : FeedUse) (d : drain.Ghosts D) (ag
   pub stops : IfErr result (StopsLater source.ghosts again source.old source.new (AnyZip (OutputFailed d) olds news))
   pub keeps : KeepsFed source
   pub outs : AllZip (KeepsOutput d) olds news
+
+-- ---- what several writers take of a block
+
+abbrev pub IsReadyWriter : {A D S H : Type 0} → AreaWriter A D S H → Type 0
+IsReadyWriter writer = IsReadyToPack writer.packer
+
+-- a writer picks nothing but what is picked so
+abbrev pub PicksAmong : {A D S H : Type 0} → Pick → AreaWriter A D S H → Type 0
+PicksAmong all writer = (e : EntitySpec) → picks_of writer.entities.picker e ≡ true → all e ≡ true
+
+abbrev pub IsReadyAmong : {A D S H : Type 0} → Pick → AreaWriter A D S H → Type 0
+IsReadyAmong all writer = IsReadyWriter writer × PicksAmong all writer
+
+-- it is that of the same area and choice
+abbrev pub IsSameWriter : {A D S H : Type 0} → AreaWriter A D S H → AreaWriter A D S H → Type 0
+IsSameWriter old new = (new.area ≡ old.area) × (new.choice.now ≡ old.choice.now)
+
+-- it packed what it picks of these entities, and counted that; or it stopped
+abbrev pub WriterPacks : {A D S H : Type 0} → drain.Ghosts D → List EntitySpec → AreaWriter A D S H → AreaWriter A D S H → Type 0
+WriterPacks d es old new = PacksEach {X = Unit {0}} d (picks_of old.entities.picker) es old.entities new.entities old.packer new.packer (Ok tt) × IsSameWriter old new
+
+abbrev pub WriterStops : {A D S H : Type 0} → drain.Ghosts D → List EntitySpec → Stop → AreaWriter A D S H → AreaWriter A D S H → Type 0
+WriterStops d es stop old new = PacksEach {X = Unit {0}} d (picks_of old.entities.picker) es old.entities new.entities old.packer new.packer (Err stop) × IsSameWriter old new
+
+-- the same of a payload that isn't judged
+abbrev pub WriterTakesPayload : {A D S H : Type 0} → drain.Ghosts D → Payload → AreaWriter A D S H → AreaWriter A D S H → Type 0
+WriterTakesPayload d p old new = PacksUnjudged {X = Unit {0}} d p old.entities new.entities old.packer new.packer (Ok tt) × IsSameWriter old new
+
+abbrev pub WriterFailsAtPayload : {A D S H : Type 0} → drain.Ghosts D → Payload → Stop → AreaWriter A D S H → AreaWriter A D S H → Type 0
+WriterFailsAtPayload d p stop old new = PacksUnjudged {X = Unit {0}} d p old.entities new.entities old.packer new.packer (Err stop) × IsSameWriter old new
+
+-- all of them took a frame, or one of them stopped at it
+abbrev pub WritersTake : {A D S H : Type 0} → drain.Ghosts D → Takes (EachWriter A D S H)
+WritersTake d old f new = EachTook (WriterTakes d) old.writers.items f new.writers.items × (new.all ≡ old.all)
+
+abbrev pub WritersFail : {A D S H : Type 0} → drain.Ghosts D → Fails (EachWriter A D S H)
+WritersFail d old f new stop = OneFailed (WriterTakes d) (WriterFails d) old.writers.items f new.writers.items stop

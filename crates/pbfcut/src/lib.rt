@@ -19,6 +19,7 @@ mod smart;
 mod sorted;
 mod summary;
 mod task;
+mod wanted;
 mod write;
 mod writing_each;
 

@@ -17,6 +17,7 @@ ghost use Rattle.pbf_pass.specs.Judged.{fault_in};
 ghost use Rattle.pbf_pass.specs.Payload.{primitive_block, lent_by};
 ghost use Rattle.pbf_dense.specs.Steady.{NumbersFit};
 ghost use Rattle.pbfcut.specs.Many.{AreEven, AreEvenAfter, PacksSome};
+ghost use Rattle.pbfcut.specs.Wanted.{listed_entities};
 ghost use Rattle.pbfcut.specs.Pick.{everything, pick_of, take_of, picks_of, picked_in, picks_id, picked_by, picked_by_some, IsReadyToPack, PacksAll, PacksEach, KeepsPacker, PacksPayload, FailsToPackPayload, JudgesAndPacks};
 
 use osm_entity::{EntityRef, HIGHEST_WEIGHT, NodeRef};
@@ -121,9 +122,31 @@ impl<'a> Picker<'a> {
         }
     }
 
+    /// Whether something of a run may be written; false if nothing is.
+    pub(crate) fn wants(&mut self, run: &Run<'_>) -> bool
+        ensures wanted { result ≡ false → filter (picks_of self.old) (run_entities run.now) ≡ [] }
+        ensures same { self.new ≡ self.old }
+    {
+        match run {
+            Run::Nothing => false,
+            Run::One(unmade) => self.wants_one(unmade),
+            Run::Way(unmade) => self.picks_way(unmade),
+            Run::Dense(dense) => unpicked(&dense.nodes(), self).is_some(),
+        }
+    }
+
+    /// Whether a node or a relation that is not made yet is written. It is a call, so that its room is cleared only here.
+    #[inline(never)]
+    fn wants_one(&mut self, unmade: &UnmadeEntity<'_>) -> bool
+        ensures picked { result ≡ picks_of self.old (entity_from unmade.now) }
+        ensures same { self.new ≡ self.old }
+    {
+        self.picks(&unmade.make())
+    }
+
     /// Whether all nodes are written, whatever their ids are.
     #[tactic(auto, unfolding(crate::specs::Pick::picks_id))]
-    fn picks_all(&self) -> bool
+    pub(crate) fn picks_all(&self) -> bool
         ensures { IsTrue result → (id : ℤ) → picks_id self.now id ≡ true }
     {
         self.chooser.is_none()
@@ -524,6 +547,22 @@ impl<'a> EntityPacker<'a> {
     {
         for run in runs {
             self.pack_run(&run, packer)?;
+        }
+        Ok(())
+    }
+
+    /// The same of runs that lie in a list.
+    pub(crate) fn pack_wanted<D: Drain, S: BuildHasher>(
+        &mut self,
+        wanted: &[Run<'_>],
+        packer: &mut Packer<D, S>,
+    ) -> Result<(), Stop>
+        requires { IsReadyToPack packer.old }
+        ensures { PacksEach D.Drain (picks_of self.old.picker) (listed_entities wanted.now)
+            self.old self.new packer.old packer.new result }
+    {
+        for run in wanted {
+            self.pack_run(run, packer)?;
         }
         Ok(())
     }

@@ -1,0 +1,41 @@
+-- Strips of ids: which of several sets may have an id.
+use Rattle.std.specs.Prelude.{◌≡◌, ◌<◌, ◌/◌, ℕ, ℤ, Bool, true, false, List, [], Option, Some, None, length, mod, nat_abs, nat_eq}
+use Rattle.std.specs.List.{get_or, list_any, slice_get}
+use Rattle.std.specs.FinSet as set
+use Rattle.std.specs.Global.{Vec}
+use Rattle.std.specs.Ordering.{int_cmp}
+use Rattle.osm_ids.specs.declared.strips.IdStrips.{IdStrips}
+
+-- the strip that an id is in
+abbrev pub id_strip : ℤ → ℕ
+id_strip id = mod (nat_abs id / 1024) 65536
+
+abbrev pub numbers_in : Option (Vec ℕ) → List ℕ
+numbers_in None = []
+numbers_in (Some strip) = strip.items
+
+-- the numbers of the sets that have an id in the strip of this one
+unfoldable pub named_at : IdStrips → ℤ → List ℕ
+named_at strips id = numbers_in (slice_get strips.strips.items (id_strip id))
+
+-- this set is named for an id
+abbrev pub IsNamed : IdStrips → ℤ → ℕ → Type 0
+IsNamed strips id number = list_any (nat_eq number) (named_at strips id) ≡ true
+
+-- the set of this number is named for each of its ids
+abbrev pub NamesAll : IdStrips → ℕ → set.FinSet int_cmp → Type 0
+NamesAll strips number ids = (id : ℤ) → set.contains ids id ≡ true → IsNamed strips id number
+
+-- what was named still is
+abbrev pub StillNames : IdStrips → IdStrips → Type 0
+StillNames old new = (id : ℤ) (number : ℕ) → IsNamed old id number → IsNamed new id number
+
+-- the mark with this number is set, if there is one
+abbrev pub IsMarked : List Bool → ℕ → Type 0
+IsMarked marks number = number < length marks → get_or marks number false ≡ true
+
+-- marks were set, and none was cleared
+pub record Marks (named : ℕ → Type 0) (old new : List Bool) : Type 0 where
+  pub set : (number : ℕ) → named number → IsMarked new number
+  pub kept : (number : ℕ) → IsMarked old number → IsMarked new number
+  pub as_many : length new ≡ length old

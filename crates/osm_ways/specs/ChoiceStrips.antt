@@ -1,0 +1,26 @@
+-- Which of several choices may keep an entity, by strips of ids.
+use Rattle.std.specs.Prelude.{◌≡◌, ℕ, Bool, true, false, List}
+use Rattle.osm_ids.specs.Strips.{Marks, NamesAll}
+use Rattle.osm_ways.specs.declared.choice_strips.ChoiceStrips.{ChoiceStrips}
+use Rattle.osm_ways.specs.Phases.{KeptSets}
+
+-- the choice with this number is named for each id that it has
+pub record NamesChoice (strips : ChoiceStrips) (number : ℕ) (sets : KeptSets) : Type 0 where
+  pub node_ids : NamesAll strips.nodes number sets.ways.node_ids
+  pub added_nodes : NamesAll strips.nodes number sets.added.nodes
+  pub way_ids : NamesAll strips.ways number sets.ways.way_ids
+  pub added_ways : NamesAll strips.ways number sets.added.ways
+  pub relation_ids : NamesAll strips.relations number sets.relation_ids
+
+-- what was named still is
+abbrev pub StillNamesChoices : ChoiceStrips → ChoiceStrips → Type 0
+StillNamesChoices old new = (number : ℕ) (sets : KeptSets) → NamesChoice old number sets → NamesChoice new number sets
+
+-- a choice with this number is named that keeps what is tested
+abbrev pub MayKeep : ChoiceStrips → (KeptSets → Bool) → ℕ → Type 0
+MayKeep strips test number = (sets : KeptSets) × NamesChoice strips number sets × (test sets ≡ true)
+
+-- those that may keep it were marked; if this is false, there are none
+pub record MarksKeepers (strips : ChoiceStrips) (test : KeptSets → Bool) (old new : List Bool) (some : Bool) : Type 0 where
+  pub marked : Marks (MayKeep strips test) old new
+  pub none : some ≡ false → (number : ℕ) → MayKeep strips test number → ⊥

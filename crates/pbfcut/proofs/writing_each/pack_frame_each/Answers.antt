@@ -1,0 +1,23 @@
+use Rattle.std.proofs.Common.{◌≡◌, Ok, false, rules, subst, sym}
+use Rattle.std.specs.Prelude.{IfErr, OnOk}
+use Rattle.std.specs.List.{AllByRecursion, AllZip}
+use Rattle.pbf_pass.specs.Payload.{lent_by}
+use Rattle.pbfcut.specs.Pick.{picks_of}
+use Rattle.pbfcut.specs.Several.{IsReadyAmong, IsReadyWriter, OneStopped, WriterFailsAtPayload, WriterTakesPayload}
+use Rattle.pbfcut.proofs.SeveralLemmas.{all_less}
+use Rattle.pbfcut.proofs.writing_each.pack_frame_each.Goals as goal
+
+pub pack_payload_each-requires : goal.pack_payload_each-requires
+pack_payload_each-requires g c =
+    let same : c.pack_together.new.writers ≡ c.args.writers.now = c.pack_together.ensures.left (search rules) in
+    subst (λ l. AllByRecursion IsReadyWriter l) (sym same) (all_less (IsReadyAmong (picks_of c.args.all.now)) IsReadyWriter (λ w ready. ready.0) c.args.writers.now c.requires)
+
+pub returns-clause-packed : goal.returns-clause-packed
+returns-clause-packed g c =
+    let same : c.pack_together.new.writers ≡ c.args.writers.now = c.pack_together.ensures.left (search rules) in
+    subst (λ l. OnOk c.pack_payload_each.result (AllZip (WriterTakesPayload g.D.Drain (lent_by c.args.frame.now)) l c.pack_payload_each.new.writers)) same c.pack_payload_each.ensures.took
+
+pub returns-clause-stopped : goal.returns-clause-stopped
+returns-clause-stopped g c =
+    let same : c.pack_together.new.writers ≡ c.args.writers.now = c.pack_together.ensures.left (search rules) in
+    subst (λ l. IfErr c.pack_payload_each.result (λ stop. OneStopped (WriterTakesPayload g.D.Drain (lent_by c.args.frame.now)) (WriterFailsAtPayload g.D.Drain (lent_by c.args.frame.now) stop) l c.pack_payload_each.new.writers)) same c.pack_payload_each.ensures.stopped
