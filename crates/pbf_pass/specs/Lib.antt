@@ -12,3 +12,4 @@ pub mod Hashing
 pub mod Given
 pub mod Refused
 pub mod EachArea
+pub mod WayStrips

@@ -14,6 +14,7 @@ mod pass;
 mod receipt;
 mod unjudged;
 mod visit;
+mod way_strips;
 
 pub use checking::{check, check_with_receipt};
 pub use each::Each;
@@ -28,4 +29,5 @@ pub use pass::{
 pub use pbf_block::Counts;
 pub use receipt::{Halt, InputReceipt, Passes, Refusal};
 pub use unjudged::{Later, gather_unjudged, step_unjudged};
+pub use way_strips::mark_refs;
 pub use visit::{FileRead, Visit, pass_over, step, visit_rest};

@@ -8,7 +8,6 @@ pub mod PickingLemmas
 pub mod PackingLemmas
 pub mod WritingLemmas
 pub mod SeveralLemmas
-pub mod JoinedLemmas
 pub mod WritingEachLemmas
 pub mod OutputLemmas
 pub mod AreaPhaseLemmas

@@ -1,6 +1,6 @@
 -- Several drains that one call writes to: what it does to each of them, and why it stops.
-use Rattle.std.specs.Prelude.{◌≡◌, ◌⊎◌, ℕ, List, [], ◌∷◌, true, Option, Some, Result, Ok, Err, OnOk, OnErr, IfOk, IfErr}
-use Rattle.std.specs.List.{AllZip}
+use Rattle.std.specs.Prelude.{◌≡◌, ◌⊎◌, ⊤, ℕ, List, [], ◌∷◌, Option, None, Some, Result, Ok, Err, OnOk, OnErr, IfOk, IfErr}
+use Rattle.std.specs.List.{AllByRecursion, AllZip}
 use Rattle.osm_pack.specs.Cuts.{at_end, header_frame}
 use Rattle.osm_pack.specs.Packing.{Pending}
 use Rattle.osm_pack.specs.Stops.{IsPackStop}
@@ -28,8 +28,11 @@ use Rattle.pbfcut.specs.declared.repeat.LaterPass.{LaterPass}
 use Rattle.pbfcut.specs.declared.writing_each.AreaWriter.{AreaWriter}
 use Rattle.pbfcut.specs.declared.writing_each.EachWriter.{EachWriter}
 use Rattle.pbfcut.specs.Calls.{FailedFeed, FeedUse, GaveBy, KeepsFed, supply_of}
-use Rattle.pbfcut.specs.Pick.{IsFreshPacker, IsReadyToPack, PacksEach, Pick, picks_of, taken_by}
+use Rattle.osm_ways.specs.declared.choice_strips.ChoiceStrips.{ChoiceStrips}
+use Rattle.osm_ways.specs.ChoiceStrips.{NamesChoice}
+use Rattle.pbfcut.specs.Pick.{IsFreshPacker, IsReadyToPack, PacksEach, picks_of, taken_by}
 use Rattle.pbfcut.specs.Repeat.{StopsLater, digest_of}
+use Rattle.pbfcut.specs.Wanted.{AllFrom}
 use Rattle.pbfcut.specs.Write.{FailsAtNext, Packed, PacksFront, PacksNext, PacksUnjudged}
 
 -- ---- lists that go together
@@ -169,12 +172,20 @@ pub record WritesEach {A D : Type 0} (source : FeedUse) (d : drain.Ghosts D) (ag
 abbrev pub IsReadyWriter : {A D S H : Type 0} → AreaWriter A D S H → Type 0
 IsReadyWriter writer = IsReadyToPack writer.packer
 
--- a writer picks nothing but what is picked so
-abbrev pub PicksAmong : {A D S H : Type 0} → Pick → AreaWriter A D S H → Type 0
-PicksAmong all writer = (e : EntitySpec) → picks_of writer.entities.picker e ≡ true → all e ≡ true
+-- its choice is named by strips with this number, and it picks what that keeps
+pub record IsNamedWriter {A D S H : Type 0} (strips : ChoiceStrips) (number : ℕ) (writer : AreaWriter A D S H) : Type 0 where
+  pub named : NamesChoice strips number writer.choice.now.chosen
+  pub picks : picks_of writer.entities.picker ≡ taken_by writer.choice.now.chosen
 
-abbrev pub IsReadyAmong : {A D S H : Type 0} → Pick → AreaWriter A D S H → Type 0
-IsReadyAmong all writer = IsReadyWriter writer × PicksAmong all writer
+-- all of them are, by their places, if there are strips
+abbrev pub AreNamed : {A D S H : Type 0} → Option ChoiceStrips → List (AreaWriter A D S H) → Type 0
+AreNamed None writers = ⊤
+AreNamed (Some strips) writers = AllFrom (IsNamedWriter strips) 0 writers
+
+-- they can write
+pub record AreReady {A D S H : Type 0} (strips : Option ChoiceStrips) (writers : List (AreaWriter A D S H)) : Type 0 where
+  pub each : AllByRecursion IsReadyWriter writers
+  pub named : AreNamed strips writers
 
 -- it is that of the same area and choice
 abbrev pub IsSameWriter : {A D S H : Type 0} → AreaWriter A D S H → AreaWriter A D S H → Type 0
@@ -194,9 +205,14 @@ WriterTakesPayload d p old new = PacksUnjudged {X = Unit {0}} d p old.entities n
 abbrev pub WriterFailsAtPayload : {A D S H : Type 0} → drain.Ghosts D → Payload → Stop → AreaWriter A D S H → AreaWriter A D S H → Type 0
 WriterFailsAtPayload d p stop old new = PacksUnjudged {X = Unit {0}} d p old.entities new.entities old.packer new.packer (Err stop) × IsSameWriter old new
 
+-- one of them stopped, each with an element of this list: those before it did this, and those after it are as they were
+abbrev pub OneStoppedWith : {L V : Type 0} → (did stopped : L → V → V → Type 0) → List L → List V → List V → Type 0
+OneStoppedWith did stopped (l ∷ ls) (old ∷ olds) (new ∷ news) = (stopped l old new × (news ≡ olds)) ⊎ (did l old new × OneStoppedWith did stopped ls olds news)
+OneStoppedWith did stopped _ _ _ = ⊥
+
 -- all of them took a frame, or one of them stopped at it
 abbrev pub WritersTake : {A D S H : Type 0} → drain.Ghosts D → Takes (EachWriter A D S H)
-WritersTake d old f new = EachTook (WriterTakes d) old.writers.items f new.writers.items × (new.all ≡ old.all)
+WritersTake d old f new = EachTook (WriterTakes d) old.writers.items f new.writers.items × (new.strips ≡ old.strips)
 
 abbrev pub WritersFail : {A D S H : Type 0} → drain.Ghosts D → Fails (EachWriter A D S H)
 WritersFail d old f new stop = OneFailed (WriterTakes d) (WriterFails d) old.writers.items f new.writers.items stop

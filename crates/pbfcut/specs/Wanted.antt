@@ -1,11 +1,38 @@
 -- What several areas want of a block, which is read once for all of them.
-use Rattle.std.specs.Prelude.{◌≡◌, List}
-use Rattle.std.specs.List.{AllByRecursion, filter, flat_map}
+use Rattle.std.specs.Prelude.{◌≡◌, ◌+◌, ℕ, Bool, true, false, if◌then◌else◌, List, [], ◌∷◌, ◌++◌, length}
+use Rattle.std.specs.List.{AllByRecursion, AllZip, filter, flat_map}
+use Rattle.std.specs.Global.{Vec}
 use Rattle.osm_entity.specs.Entity.{EntitySpec}
 use Rattle.osm_entity.specs.Ranges.{EntityFits}
+use Rattle.osm_ids.specs.Strips.{Marks}
+use Rattle.osm_ways.specs.declared.choice_strips.ChoiceStrips.{ChoiceStrips}
+use Rattle.osm_ways.specs.ChoiceStrips.{NamesChoice}
+use Rattle.osm_ways.specs.Phases.{KeptSets}
 use Rattle.pbf_block.specs.declared.runs.Run.{Run}
 use Rattle.pbf_block.specs.Runs.{run_entities}
-use Rattle.pbfcut.specs.Pick.{Pick}
+use Rattle.pbfcut.specs.Pick.{Pick, taken_by}
+
+-- ---- which choices are marked
+
+-- nothing of these is kept by a choice, in the file that it was made from
+abbrev pub TakesNone : List EntitySpec → KeptSets → Type 0
+TakesNone es sets = filter (taken_by sets) es ≡ []
+
+-- the choice with this number is named, and keeps one of these
+abbrev pub MayTake : ChoiceStrips → List EntitySpec → ℕ → Type 0
+MayTake strips es number = (sets : KeptSets) × NamesChoice strips number sets × (TakesNone es sets → ⊥)
+
+-- those that keep one of these were marked; if this is false, there are none
+pub record MarksTakers (strips : ChoiceStrips) (es : List EntitySpec) (old new : List Bool) (some : Bool) : Type 0 where
+  pub marked : Marks (MayTake strips es) old new
+  pub none : some ≡ false → (number : ℕ) (sets : KeptSets) → NamesChoice strips number sets → TakesNone es sets
+
+-- this holds of each element with its number, counted from this one
+abbrev pub AllFrom : {X : Type 0} → (ℕ → X → Type 0) → ℕ → List X → Type 0
+AllFrom R number [] = Unit {0}
+AllFrom R number (x ∷ xs) = R number x × AllFrom R (number + 1) xs
+
+-- ---- runs
 
 -- the entities of runs one after another
 abbrev pub listed_entities : List Run → List EntitySpec
@@ -15,3 +42,15 @@ listed_entities runs = flat_map run_entities runs
 pub record AreWanted (pick : Pick) (es wanted : List EntitySpec) : Type 0 where
   pub same : filter pick wanted ≡ filter pick es
   pub fit : AllByRecursion EntityFits es → AllByRecursion EntityFits wanted
+
+-- so each list has what is wanted for a choice
+abbrev pub AreWantedEach : List EntitySpec → List KeptSets → List (Vec Run) → Type 0
+AreWantedEach es choices lists = AllZip (λ sets list. AreWanted (taken_by sets) es (listed_entities list.items)) choices lists
+
+-- a run was added to the lists that are marked
+abbrev pub IsShared : Run → Bool → Vec Run → Vec Run → Type 0
+IsShared run mark old new = new.items ≡ (if mark then old.items ++ run ∷ [] else old.items)
+
+-- whatever the choices are that strips name, each list has what is wanted for one
+abbrev pub WantedLists : ChoiceStrips → ℕ → List EntitySpec → List (Vec Run) → Type 0
+WantedLists strips count es lists = (choices : List KeptSets) → length choices ≡ count → AllFrom (NamesChoice strips) 0 choices → AreWantedEach es choices lists

@@ -122,28 +122,6 @@ impl<'a> Picker<'a> {
         }
     }
 
-    /// Whether something of a run may be written; false if nothing is.
-    pub(crate) fn wants(&mut self, run: &Run<'_>) -> bool
-        ensures wanted { result ≡ false → filter (picks_of self.old) (run_entities run.now) ≡ [] }
-        ensures same { self.new ≡ self.old }
-    {
-        match run {
-            Run::Nothing => false,
-            Run::One(unmade) => self.wants_one(unmade),
-            Run::Way(unmade) => self.picks_way(unmade),
-            Run::Dense(dense) => unpicked(&dense.nodes(), self).is_some(),
-        }
-    }
-
-    /// Whether a node or a relation that is not made yet is written. It is a call, so that its room is cleared only here.
-    #[inline(never)]
-    fn wants_one(&mut self, unmade: &UnmadeEntity<'_>) -> bool
-        ensures picked { result ≡ picks_of self.old (entity_from unmade.now) }
-        ensures same { self.new ≡ self.old }
-    {
-        self.picks(&unmade.make())
-    }
-
     /// Whether all nodes are written, whatever their ids are.
     #[tactic(auto, unfolding(crate::specs::Pick::picks_id))]
     pub(crate) fn picks_all(&self) -> bool

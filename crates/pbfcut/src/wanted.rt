@@ -1,36 +1,139 @@
-//! The runs of a block of which one of several areas wants something: the block is read once to find them, and not once for each area.
+//! What several areas want of a block: it is read once to find that, and not once for each area.
 
-ghost use Rattle.std.specs.Prelude.{◌≡◌, IfOk, IfSome};
-ghost use Rattle.pbf_block.specs.Runs.{joined_runs, runs_left};
-ghost use Rattle.pbfcut.specs.Pick.{picks_of};
-ghost use Rattle.pbfcut.specs.Wanted.{AreWanted, listed_entities};
+ghost use Rattle.std.specs.Prelude.{◌≡◌, false, IfOk, IfSome, OnOk, length, map};
+ghost use Rattle.std.specs.List.{AllByRecursion};
+ghost use Rattle.osm_entity.specs.Entity.{node};
+ghost use Rattle.osm_ways.specs.ChoiceStrips.{NamesChoice};
+ghost use Rattle.pbf_block.specs.Runs.{entity_from, joined_runs, run_entities, runs_left};
+ghost use Rattle.pbf_dense.specs.Cursors.{dense_left};
+ghost use Rattle.pbfcut.specs.Several.{AllThree};
+ghost use Rattle.pbfcut.specs.Wanted.{AllFrom, IsShared, MarksTakers, WantedLists};
 
-use crate::pick::Picker;
-use pbf_block::{Run, Runs};
+use crate::carrying::AreaChoice;
+use osm_entity::{EntityRef, Refs};
+use osm_ways::ChoiceStrips;
+use pbf_block::{Run, Runs, UnmadeEntity};
+use pbf_dense::Dense;
+use pbf_pass::mark_refs;
 use std::alloc::{AllocError, Global};
 
-/// At most this many runs are kept: a block of more wanted ones is read for each area by itself.
-const MOST_WANTED: usize = 16_000;
+/// At most so many runs are listed: a block of which more is wanted is read for each area by itself.
+const MOST_LISTED: usize = 100_000;
 
-/// The runs of which something may be picked, in their order; `None` if they are too many.
-pub(crate) fn wanted_runs<'a>(
+/// The strips of these choices, which have the numbers of their places.
+pub(crate) fn strips_of(
     alloc: Global,
-    picker: &mut Picker<'_>,
-    runs: Runs<'a>,
-) -> Result<Option<Vec<Run<'a>>>, AllocError>
-    ensures wanted { IfOk result (λ found. IfSome found (λ wanted. AreWanted (picks_of picker.old)
-        (joined_runs (runs_left runs.entry)) (listed_entities wanted.items))) }
-    ensures same { picker.new ≡ picker.old }
+    choices: &[AreaChoice],
+) -> Result<ChoiceStrips, AllocError>
+    ensures { IfOk result (λ strips.
+        AllFrom (λ number choice. NamesChoice strips number choice.chosen) 0 choices.now) }
 {
-    let mut wanted = Vec::new(alloc);
+    let mut strips = ChoiceStrips::new(alloc);
+    let mut number = 0;
+    let mut rest = choices;
+    'choices: while let Some((choice, later)) = rest.split_first() {
+        strips.add(number, &choice.chosen)?;
+        number += 1;
+        rest = later;
+    }
+    Ok(strips)
+}
+
+/// Marks the choices that may keep a node of a dense message, and says whether there are any.
+fn mark_dense(strips: &ChoiceStrips, dense: &Dense<'_>, marks: &mut [bool]) -> bool
+    ensures { MarksTakers strips.now (map node (dense_left dense.now)) marks.old marks.new result }
+{
+    mark_refs(&strips.nodes, Refs::Summed(dense.ids()), marks)
+}
+
+/// The same of a node or a relation that is not made yet. It is a call, so that its room is cleared only here.
+#[inline(never)]
+fn mark_one(strips: &ChoiceStrips, unmade: &UnmadeEntity<'_>, marks: &mut [bool]) -> bool
+    ensures { MarksTakers strips.now (entity_from unmade.now ∷ []) marks.old marks.new result }
+{
+    match unmade.make() {
+        EntityRef::Node(node) => strips.nodes.mark(node.id(), marks),
+        EntityRef::Way(way) => strips.ways.mark(way.id(), marks),
+        EntityRef::Relation(relation) => strips.mark_relation(&relation, marks),
+    }
+}
+
+/// Marks the choices that may keep something of a run, and says whether there are any.
+fn mark_run(strips: &ChoiceStrips, run: &Run<'_>, marks: &mut [bool]) -> bool
+    ensures { MarksTakers strips.now (run_entities run.now) marks.old marks.new result }
+{
+    match run {
+        Run::Nothing => false,
+        Run::One(unmade) => mark_one(strips, unmade, marks),
+        Run::Way(unmade) => {
+            let (id, _) = unmade.id_and_refs();
+            strips.ways.mark(id, marks)
+        }
+        Run::Dense(dense) => mark_dense(strips, &dense.nodes(), marks),
+    }
+}
+
+/// Adds a run to the lists that are marked, clears the marks, and says how many these were.
+fn share<'a>(
+    run: &Run<'a>,
+    lists: &mut [Vec<Run<'a>>],
+    marks: &mut [bool],
+) -> Result<usize, AllocError>
+    requires { length marks.old ≡ length lists.old }
+    ensures shared { OnOk result (AllThree (IsShared run.now) marks.old lists.old lists.new) }
+    ensures as_many { OnOk result (length marks.new ≡ length marks.old) }
+{
+    let Some((list, later)) = lists.split_first_mut() else {
+        return Ok(0);
+    };
+    let Some((mark, more)) = marks.split_first_mut() else {
+        return Ok(0);
+    };
+    if !*mark {
+        return share(run, later, more);
+    }
+    *mark = false;
+    list.push(*run)?;
+    let count = share(run, later, more)?;
+    Ok(count.saturating_add(1))
+}
+
+/// For each of so many choices the runs of which it may keep something, in their order; `None` if they are too many.
+pub(crate) fn wanted_each<'a>(
+    alloc: Global,
+    strips: &ChoiceStrips,
+    count: usize,
+    runs: Runs<'a>,
+) -> Result<Option<Vec<Vec<Run<'a>>>>, AllocError>
+    ensures wanted { IfOk result (λ found. IfSome found (λ lists. WantedLists strips.now count
+        (joined_runs (runs_left runs.entry)) lists.items)) }
+    ensures as_many { IfOk result (λ found. IfSome found (λ lists. length lists.items ≡ count)) }
+{
+    let mut lists = empty_lists(alloc, count)?;
+    let mut marks = vec![in alloc; false; count]?;
+    let mut listed: usize = 0;
     for run in runs {
-        if !picker.wants(&run) {
+        let some = mark_run(strips, &run, &mut marks);
+        if !some {
             continue;
         }
-        if wanted.len() >= MOST_WANTED {
+        let more = share(&run, &mut lists, &mut marks)?;
+        listed = listed.saturating_add(more);
+        if listed > MOST_LISTED {
             return Ok(None);
         }
-        wanted.push(run)?;
     }
-    Ok(Some(wanted))
+    Ok(Some(lists))
+}
+
+/// So many empty lists.
+fn empty_lists<'a>(alloc: Global, count: usize) -> Result<Vec<Vec<Run<'a>>>, AllocError>
+    ensures many { IfOk result (λ lists. length lists.items ≡ count) }
+    ensures empty { IfOk result (λ lists. AllByRecursion (λ list. list.items ≡ []) lists.items) }
+{
+    let mut lists = Vec::new(alloc);
+    'lists: while lists.len() < count {
+        lists.push(Vec::new(alloc))?;
+    }
+    Ok(lists)
 }

@@ -1,6 +1,6 @@
 //! The pass that writes several extracts: each area has its writer, and each frame goes through all of them.
 
-ghost use Rattle.std.specs.Prelude.{◌≡◌, ◌<◌, ◌≤◌, List, [], true, false, Ok, OnOk, IfOk, IfSome, IfErr, length};
+ghost use Rattle.std.specs.Prelude.{◌≡◌, ◌<◌, ◌≤◌, List, Some, [], true, false, Ok, OnOk, IfOk, IfSome, IfErr, length};
 ghost use Rattle.std.specs.List.{AllByRecursion, AllZip};
 ghost use Rattle.std.specs.Vec.{vec_capacity};
 ghost use Rattle.pbf_frame.specs.declared.stop.Stop.{Stop};
@@ -8,19 +8,19 @@ ghost use Rattle.pbf_header.specs.Header.{header_of};
 ghost use Rattle.pbf_pass.specs.HeaderLimit.{HasShortTexts};
 ghost use Rattle.pbfcut.specs.Calls.{fed};
 ghost use Rattle.osm_entity.specs.Entity.{EntitySpec};
-ghost use Rattle.osm_ways.specs.Choices.{IsChoiceWithin};
+ghost use Rattle.osm_ways.specs.ChoiceStrips.{NamesChoice};
 ghost use Rattle.pbf_pass.specs.Payload.{Payload, lent_by};
-ghost use Rattle.pbfcut.specs.Pick.{IsReadyToPack, picks_of, take_of};
-ghost use Rattle.pbfcut.specs.Wanted.{listed_entities};
-ghost use Rattle.pbfcut.specs.Several.{AllThree, CanBegin, IsOutputOf, IsReadyAmong, IsReadyWriter, IsWriterOf, OneStopped, PicksAmong, PutsHeader, StopsAtHeader, StopsAtLast, WriterFailsAtPayload, WriterPacks, WriterStops, WriterTakesPayload, WritersFail, WritersTake, WritesEach, WritesEachUnjudged, WritesLast, IsFreshWriter};
+ghost use Rattle.pbfcut.specs.Pick.{IsReadyToPack};
+ghost use Rattle.pbfcut.specs.Wanted.{AllFrom, listed_entities};
+ghost use Rattle.pbfcut.specs.Several.{AllThree, AreNamed, AreReady, CanBegin, IsFreshWriter, IsOutputOf, IsReadyWriter, IsWriterOf, OneStopped, OneStoppedWith, PutsHeader, StopsAtHeader, StopsAtLast, WriterFailsAtPayload, WriterPacks, WriterStops, WriterTakesPayload, WritersFail, WritersTake, WritesEach, WritesEachUnjudged, WritesLast};
 
 use crate::carrying::{AreaChoice, AreaOutput};
 use crate::pick::{EntityPacker, Picker};
 use crate::repeat::LaterPass;
+use crate::wanted::{strips_of, wanted_each};
 use crate::write::pack_payload;
 use osm_pack::Packer;
-use crate::wanted::wanted_runs;
-use osm_ways::Chosen;
+use osm_ways::ChoiceStrips;
 use pbf_block::{Counts, Kinds, Run, UnjudgedBlock};
 use pbf_frame::{Drain, Feed, Frame, FrameKind, Stop};
 use pbf_pass::{Visit, pass_over};
@@ -70,12 +70,12 @@ impl<'a, A, D: Drain, S: BuildHasher> AreaWriter<'a, A, D, S> {
     }
 }
 
-/// The writers of several areas, in their order. What one of them wants of a block is looked for once.
+/// The writers of several areas, in their order.
 #[derive(Drop)]
 struct EachWriter<'a, A, D: Drain, S: BuildHasher> {
     writers: Vec<AreaWriter<'a, A, D, S>>,
-    /// Picks all that one of them picks, and maybe more.
-    all: Picker<'a>,
+    /// Name the writers that may pick an entity; none if there is one writer, which reads all by itself.
+    strips: Option<ChoiceStrips>,
 }
 
 impl<A, D: Drain, S: BuildHasher> Visit for EachWriter<'_, A, D, S> {
@@ -83,10 +83,10 @@ impl<A, D: Drain, S: BuildHasher> Visit for EachWriter<'_, A, D, S> {
 
     ghost failed = { WritersFail D.Drain };
 
-    ghost ready = { λ v. AllByRecursion (IsReadyAmong (picks_of v.all)) v.writers.items };
+    ghost ready = { λ v. AreReady v.strips v.writers.items };
 
     fn visit(&mut self, alloc: Global, frame: &Frame<'_>) -> Result<(), Stop> {
-        pack_frame_each(alloc, frame, &mut self.all, &mut self.writers)
+        pack_frame_each(alloc, frame, &self.strips, &mut self.writers)
     }
 }
 
@@ -142,19 +142,28 @@ impl<A, D: Drain, S: BuildHasher> PacksParts for AreaWriter<'_, A, D, S> {
     }
 }
 
-/// Packs what each of the writers picks of these runs, by one writer after another.
-fn pack_wanted_each<W: PacksParts>(wanted: &[Run<'_>], writers: &mut [W]) -> Result<(), Stop>
-    requires { AllByRecursion W.can_pack writers.old }
-    ensures packed { OnOk result (AllZip (W.packed (listed_entities wanted.now))
-        writers.old writers.new) }
-    ensures stopped { IfErr result (λ stop. OneStopped (W.packed (listed_entities wanted.now))
-        (W.not_packed (listed_entities wanted.now) stop) writers.old writers.new) }
+/// Packs what each of the writers picks of its runs, by one writer after another.
+fn pack_wanted_each<W: PacksParts>(
+    lists: &[Vec<Run<'_>>],
+    writers: &mut [W],
+) -> Result<(), Stop>
+    requires ready { AllByRecursion W.can_pack writers.old }
+    requires as_many { length lists.now ≡ length writers.old }
+    ensures packed { OnOk result (AllThree (λ list. W.packed (listed_entities list.items))
+        lists.now writers.old writers.new) }
+    ensures stopped { IfErr result (λ stop. OneStoppedWith
+        (λ list. W.packed (listed_entities list.items))
+        (λ list. W.not_packed (listed_entities list.items) stop)
+        lists.now writers.old writers.new) }
 {
     let Some((first, later)) = writers.split_first_mut() else {
         return Ok(());
     };
-    first.pack_wanted(wanted)?;
-    pack_wanted_each(wanted, later)
+    let Some((list, more)) = lists.split_first() else {
+        return Ok(());
+    };
+    first.pack_wanted(list)?;
+    pack_wanted_each(more, later)
 }
 
 /// Packs what each of the writers picks of the payload of a frame, which each of them reads by itself.
@@ -171,36 +180,33 @@ fn pack_payload_each<W: PacksParts>(frame: &Frame<'_>, writers: &mut [W]) -> Res
     pack_payload_each(frame, later)
 }
 
-/// Packs what each of the writers picks of a block, which is read once to find what `all` picks of it. It returns false, and nothing was done,
-/// if `all` picks everything or too much, if memory is refused, or if the frame has no block.
+/// Packs what each of the writers picks of a block, which is read once to find that. It returns false, and nothing was done, if too much of it
+/// is wanted, if memory is refused, or if the frame has no block.
 fn pack_together<A, D: Drain, S: BuildHasher>(
     alloc: Global,
     frame: &Frame<'_>,
-    all: &mut Picker<'_>,
+    strips: &ChoiceStrips,
     writers: &mut [AreaWriter<'_, A, D, S>],
 ) -> Result<bool, Stop>
-    requires { AllByRecursion (IsReadyAmong (picks_of all.old)) writers.old }
+    requires { AreReady (Some strips.now) writers.old }
     ensures packed { result ≡ Ok true → AllZip (WriterTakesPayload D.Drain (lent_by frame.now))
         writers.old writers.new }
     ensures left { result ≡ Ok false → writers.new ≡ writers.old }
     ensures stopped { IfErr result (λ stop. OneStopped
         (WriterTakesPayload D.Drain (lent_by frame.now))
         (WriterFailsAtPayload D.Drain (lent_by frame.now) stop) writers.old writers.new) }
-    ensures same { all.new ≡ all.old }
 {
-    if all.picks_all() {
-        return Ok(false);
-    }
     let FrameKind::Data = frame.kind else {
         return Ok(false);
     };
     let Ok(Some(block)) = UnjudgedBlock::open(alloc, frame.payload, frame.payload_at) else {
         return Ok(false);
     };
-    let Ok(Some(wanted)) = wanted_runs(alloc, all, block.runs_among(Kinds::all())) else {
+    let runs = block.runs_among(Kinds::all());
+    let Ok(Some(lists)) = wanted_each(alloc, strips, writers.len(), runs) else {
         return Ok(false);
     };
-    pack_wanted_each(&wanted, writers)?;
+    pack_wanted_each(&lists, writers)?;
     Ok(true)
 }
 
@@ -208,19 +214,20 @@ fn pack_together<A, D: Drain, S: BuildHasher>(
 fn pack_frame_each<A, D: Drain, S: BuildHasher>(
     alloc: Global,
     frame: &Frame<'_>,
-    all: &mut Picker<'_>,
+    strips: &Option<ChoiceStrips>,
     writers: &mut [AreaWriter<'_, A, D, S>],
 ) -> Result<(), Stop>
-    requires { AllByRecursion (IsReadyAmong (picks_of all.old)) writers.old }
+    requires { AreReady strips.now writers.old }
     ensures packed { OnOk result (AllZip (WriterTakesPayload D.Drain (lent_by frame.now))
         writers.old writers.new) }
     ensures stopped { IfErr result (λ stop. OneStopped
         (WriterTakesPayload D.Drain (lent_by frame.now))
         (WriterFailsAtPayload D.Drain (lent_by frame.now) stop) writers.old writers.new) }
-    ensures same { all.new ≡ all.old }
 {
-    if pack_together(alloc, frame, all, writers)? {
-        return Ok(());
+    if let Some(strips) = strips {
+        if pack_together(alloc, frame, strips, writers)? {
+            return Ok(());
+        }
     }
     pack_payload_each(frame, writers)
 }
@@ -353,34 +360,19 @@ fn end_all<W: Ends>(writers: &mut [W]) -> Result<(), Stop>
     end_all(later)
 }
 
-/// A choice that keeps all that one of these keeps. It is joined by halves, so that no set is copied often.
-fn all_of(choices: &[AreaChoice]) -> Result<Chosen, AllocError>
-    requires { 0 < length choices.now }
-    ensures { IfOk result (λ all. AllByRecursion
-        (λ choice. IsChoiceWithin choice.chosen all) choices.now) }
-{
-    if let [one, other] = choices {
-        return Chosen::joined(&one.chosen, &other.chosen);
-    }
-    let (front, back) = choices.split_at(choices.len() / 2);
-    if front.is_empty() {
-        return Chosen::joined(&back[0].chosen, &back[0].chosen);
-    }
-    let front = all_of(front)?;
-    let back = all_of(back)?;
-    Chosen::joined(&front, &back)
-}
-
-/// A choice that keeps all that these keep; none if they are fewer than two, of which nothing has to be looked for twice.
-fn all_if_several(choices: &[AreaChoice]) -> Result<Option<Chosen>, AllocError>
-    ensures { IfOk result (λ found. IfSome found (λ all. AllByRecursion
-        (λ choice. IsChoiceWithin choice.chosen all) choices.now)) }
+/// The strips of these choices, if they are two or more: otherwise nothing would be read twice.
+fn strips_if_several(
+    alloc: Global,
+    choices: &[AreaChoice],
+) -> Result<Option<ChoiceStrips>, AllocError>
+    ensures { IfOk result (λ found. IfSome found (λ strips. AllFrom
+        (λ number choice. NamesChoice strips number choice.chosen) 0 choices.now)) }
 {
     if choices.len() < 2 {
         return Ok(None);
     }
-    let all = all_of(choices)?;
-    Ok(Some(all))
+    let strips = strips_of(alloc, choices)?;
+    Ok(Some(strips))
 }
 
 /// Puts the headers, what is picked of a whole file, and the last blocks through the writers.
@@ -388,11 +380,11 @@ fn all_if_several(choices: &[AreaChoice]) -> Result<Option<Chosen>, AllocError>
 fn pack_each<'a, A, F: Feed, D: Drain, S: BuildHasher>(
     pass: LaterPass,
     feed: &mut F,
-    all: Option<&'a Chosen>,
+    strips: Option<ChoiceStrips>,
     writers: Vec<AreaWriter<'a, A, D, S>>,
 ) -> (Vec<AreaWriter<'a, A, D, S>>, Result<[u8; 32], Stop>)
     requires fresh { AllByRecursion (IsFreshWriter pass.number) writers.items }
-    requires among { AllByRecursion (PicksAmong (take_of all)) writers.items }
+    requires named { AreNamed strips writers.items }
     ensures { WritesEachUnjudged (fed F.Feed feed.old feed.new) D.Drain pass
         writers.entry.items result.0.items result.1 }
 {
@@ -400,10 +392,12 @@ fn pack_each<'a, A, F: Feed, D: Drain, S: BuildHasher>(
     if let Err(stop) = begin_all(&mut writers) {
         return (writers, Err(stop));
     }
-    let all = Picker::of_taken(all);
-    let mut each = EachWriter { writers, all };
+    let mut each = EachWriter { writers, strips };
     let outcome = pass_over(pass.passes, feed, &mut each);
-    let EachWriter { writers, all: _all } = each;
+    let EachWriter {
+        writers,
+        strips: _strips,
+    } = each;
     let mut writers = writers;
     let read = match outcome {
         Ok(read) => read,
@@ -436,9 +430,10 @@ pub(crate) fn write_each<A: Drop, F: Feed, D: Drain + Drop, S: BuildHasher + Cop
     ) else {
         return (outputs, Err(Stop::Memory));
     };
-    let Ok(all) = all_if_several(choices) else {
+    let Ok(strips) = strips_if_several(alloc, choices) else {
         return (outputs, Err(Stop::Memory));
     };
-    let (writers, outcome) = pack_each(pass, feed, all.as_ref(), load(pass, choices, outputs, hasher, writers));
+    let writers = load(pass, choices, outputs, hasher, writers);
+    let (writers, outcome) = pack_each(pass, feed, strips, writers);
     (unload(writers, back), pass.conclude(outcome))
 }
