@@ -1,6 +1,6 @@
 -- Strips of ids: which of several sets may have an id.
-use Rattle.std.specs.Prelude.{◌≡◌, ◌<◌, ◌/◌, ℕ, ℤ, Bool, true, false, List, [], Option, Some, None, length, mod, nat_abs, nat_eq}
-use Rattle.std.specs.List.{get_or, list_any, slice_get}
+use Rattle.std.specs.Prelude.{◌≡◌, ◌<◌, ◌/◌, ◌%◌, ℕ, ℤ, Bool, true, false, List, [], Option, Some, None, length, get_or, nat_abs, nat_eq}
+use Rattle.std.specs.List.{list_any, slice_get}
 use Rattle.std.specs.FinSet as set
 use Rattle.std.specs.Global.{Vec}
 use Rattle.std.specs.Ordering.{int_cmp}
@@ -8,19 +8,30 @@ use Rattle.osm_ids.specs.declared.strips.IdStrips.{IdStrips}
 
 -- the strip that an id is in
 abbrev pub id_strip : ℤ → ℕ
-id_strip id = mod (nat_abs id / 1024) 65536
+id_strip id = nat_abs id / 1024 % 65536
 
 abbrev pub numbers_in : Option (Vec ℕ) → List ℕ
 numbers_in None = []
 numbers_in (Some strip) = strip.items
 
+-- the numbers in the strip with this index
+abbrev pub listed_at : List (Vec ℕ) → ℕ → List ℕ
+listed_at strips index = numbers_in (slice_get strips index)
+
+abbrev pub HasNumber : List ℕ → ℕ → Type 0
+HasNumber numbers number = list_any (nat_eq number) numbers ≡ true
+
+-- each strip has the numbers that it had, and maybe more
+abbrev pub AlsoLists : (old new : List (Vec ℕ)) → Type 0
+AlsoLists old new = (index number : ℕ) → HasNumber (listed_at old index) number → HasNumber (listed_at new index) number
+
 -- the numbers of the sets that have an id in the strip of this one
 unfoldable pub named_at : IdStrips → ℤ → List ℕ
-named_at strips id = numbers_in (slice_get strips.strips.items (id_strip id))
+named_at strips id = listed_at strips.strips.items (id_strip id)
 
 -- this set is named for an id
 abbrev pub IsNamed : IdStrips → ℤ → ℕ → Type 0
-IsNamed strips id number = list_any (nat_eq number) (named_at strips id) ≡ true
+IsNamed strips id number = HasNumber (named_at strips id) number
 
 -- the set of this number is named for each of its ids
 abbrev pub NamesAll : IdStrips → ℕ → set.FinSet int_cmp → Type 0

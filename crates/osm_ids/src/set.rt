@@ -16,9 +16,9 @@ use std::marker::Model;
 /// order is kept beside them. Contracts see it as a finite set of numbers.
 #[derive(Drop)]
 pub struct IdSet {
-    pages: SealedIds,
+    pub(crate) pages: SealedIds,
     /// The ids that came after a greater one had been appended.
-    late: BTreeSet<i64>,
+    pub(crate) late: BTreeSet<i64>,
     /// The page in which the last of these was looked up.
     here: PageIds,
     alloc: Global,

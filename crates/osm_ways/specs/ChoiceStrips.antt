@@ -1,8 +1,9 @@
 -- Which of several choices may keep an entity, by strips of ids.
 use Rattle.std.specs.Prelude.{◌≡◌, ℕ, Bool, true, false, List}
-use Rattle.osm_ids.specs.Strips.{Marks, NamesAll}
+use Rattle.osm_ids.specs.Strips.{IsNamed, Marks, NamesAll}
 use Rattle.osm_ways.specs.declared.choice_strips.ChoiceStrips.{ChoiceStrips}
 use Rattle.osm_ways.specs.Phases.{KeptSets}
+use Rattle.osm_ways.specs.Selection.{MemberSeen, node_member, way_member, relation_member}
 
 -- the choice with this number is named for each id that it has
 pub record NamesChoice (strips : ChoiceStrips) (number : ℕ) (sets : KeptSets) : Type 0 where
@@ -20,7 +21,17 @@ StillNamesChoices old new = (number : ℕ) (sets : KeptSets) → NamesChoice old
 abbrev pub MayKeep : ChoiceStrips → (KeptSets → Bool) → ℕ → Type 0
 MayKeep strips test number = (sets : KeptSets) × NamesChoice strips number sets × (test sets ≡ true)
 
+-- the choices that are named were marked; if this is false, none is
+pub record MarksNamed (named : ℕ → Type 0) (old new : List Bool) (some : Bool) : Type 0 where
+  pub marked : Marks named old new
+  pub none : some ≡ false → (number : ℕ) → named number → ⊥
+
 -- those that may keep it were marked; if this is false, there are none
-pub record MarksKeepers (strips : ChoiceStrips) (test : KeptSets → Bool) (old new : List Bool) (some : Bool) : Type 0 where
-  pub marked : Marks (MayKeep strips test) old new
-  pub none : some ≡ false → (number : ℕ) → MayKeep strips test number → ⊥
+abbrev pub MarksKeepers : ChoiceStrips → (KeptSets → Bool) → (old new : List Bool) → Bool → Type 0
+MarksKeepers strips test = MarksNamed (MayKeep strips test)
+
+-- the choice of this number is named for a member
+abbrev pub IsNamedBy : ChoiceStrips → MemberSeen → ℕ → Type 0
+IsNamedBy strips (node_member id) number = IsNamed strips.nodes id number
+IsNamedBy strips (way_member id) number = IsNamed strips.ways id number
+IsNamedBy strips (relation_member id) number = IsNamed strips.relations id number
