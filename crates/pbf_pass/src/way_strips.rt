@@ -9,5 +9,13 @@ use osm_ids::IdStrips;
 pub fn mark_refs(strips: &IdStrips, refs: Refs<'_>, marks: &mut [bool]) -> bool
     ensures { MarksIds strips.now (refs_left refs.entry) marks.old marks.new result }
 {
-    todo!()
+    let mut rest = refs;
+    let mut some = false;
+    'refs: while let Some(id) = rest.next() {
+        if strips.mark(id, marks) {
+            some = true;
+        }
+        rest.pass_inside(strips.alike(id));
+    }
+    some
 }

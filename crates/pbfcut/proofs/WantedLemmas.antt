@@ -7,6 +7,7 @@ use Rattle.std.proofs.lemmas.List.Elements.{filter-append}
 use Rattle.std.proofs.lemmas.List.Concat.{flat_map-append}
 use Rattle.osm_entity.specs.Entity.{EntitySpec, NodeSpec, WaySpec, RelationSpec, node, way, relation}
 use Rattle.osm_entity.specs.Ranges.{EntityFits}
+use Rattle.osm_ids.specs.declared.strips.IdStrips.{IdStrips}
 use Rattle.osm_ids.specs.Strips.{IsMarked, IsNamed, Marks, named_at}
 use Rattle.osm_ways.specs.declared.choice_strips.ChoiceStrips.{ChoiceStrips}
 use Rattle.osm_ways.specs.ChoiceStrips.{MarksKeepers, MayKeep, NamesChoice}
@@ -97,7 +98,7 @@ by_names strips es old new some set kept as_many none = marks_takers strips es o
     of (inr bad) = absurd bad
 
 -- a list that names none has none
-not_named : (strips : ChoiceStrips) (id : ℤ) (number : ℕ) → named_at strips.nodes id ≡ [] → IsNamed strips.nodes id number → ⊥
+not_named : (strips : IdStrips) (id : ℤ) (number : ℕ) → named_at strips id ≡ [] → IsNamed strips id number → ⊥
 not_named strips id number none named = grind (none, named)
 
 -- nodes by ids that they begin with
@@ -109,4 +110,90 @@ pub dense_takers : (strips : ChoiceStrips) (ids : List ℤ) (ns : List NodeSpec)
 dense_takers strips ids ns old new some begin m = by_names strips (map node ns) old new some
     (λ number sets named. dense_each (λ id. (k : ℕ) → IsNamed strips.nodes id k → IsMarked new k) (λ e. taken_by sets e ≡ true → IsMarked new number) (λ n h is. h number (named_node strips number sets n.id named is)) ids ns begin m.marked)
     m.kept m.as_many
-    (λ is number sets named. dense_each (λ id. named_at strips.nodes id ≡ []) (λ e. taken_by sets e ≡ true → ⊥) (λ n h kept. not_named strips n.id number h (named_node strips number sets n.id named kept)) ids ns begin (m.none is))
+    (λ is number sets named. dense_each (λ id. named_at strips.nodes id ≡ []) (λ e. taken_by sets e ≡ true → ⊥) (λ n h kept. not_named strips.nodes n.id number h (named_node strips number sets n.id named kept)) ids ns begin (m.none is))
+
+-- one entity
+pub one_takers : (strips : ChoiceStrips) (e : EntitySpec) (old new : List Bool) (some : Bool) (Named : ℕ → Type 0)
+    → ((number : ℕ) (sets : KeptSets) → NamesChoice strips number sets → taken_by sets e ≡ true → Named number)
+    → Marks Named old new → (some ≡ false → (number : ℕ) → Named number → ⊥) → MarksTakers strips (e ∷ []) old new some
+one_takers strips e old new some Named h m none = by_names strips (e ∷ []) old new some
+    (λ number sets named. (λ is. m.set number (h number sets named is), tt)) m.kept m.as_many
+    (λ is number sets named. (λ kept. none is number (h number sets named kept), tt))
+
+pub node_takers : (strips : ChoiceStrips) (n : NodeSpec) (old new : List Bool) (some : Bool) → Marks (IsNamed strips.nodes n.id) old new → (some ≡ false → named_at strips.nodes n.id ≡ []) → MarksTakers strips (node n ∷ []) old new some
+node_takers strips n old new some m none = one_takers strips (node n) old new some (IsNamed strips.nodes n.id) (λ number sets named is. named_node strips number sets n.id named is) m (λ is number named. not_named strips.nodes n.id number (none is) named)
+
+pub way_takers : (strips : ChoiceStrips) (w : WaySpec) (old new : List Bool) (some : Bool) → Marks (IsNamed strips.ways w.id) old new → (some ≡ false → named_at strips.ways w.id ≡ []) → MarksTakers strips (way w ∷ []) old new some
+way_takers strips w old new some m none = one_takers strips (way w) old new some (IsNamed strips.ways w.id) (λ number sets named is. named_way strips number sets w.id w.refs named is) m (λ is number named. not_named strips.ways w.id number (none is) named)
+
+pub relation_takers : (strips : ChoiceStrips) (r : RelationSpec) (old new : List Bool) (some : Bool) → MarksKeepers strips (λ sets. is_taken sets (seen_relation r)) old new some → MarksTakers strips (relation r ∷ []) old new some
+relation_takers strips r old new some m = one_takers strips (relation r) old new some (MayKeep strips (λ sets. is_taken sets (seen_relation r))) (λ number sets named is. (sets, named, is)) m.marked m.none
+
+pub no_takers : (strips : ChoiceStrips) (marks : List Bool) → MarksTakers strips [] marks marks false
+no_takers strips marks = by_names strips [] marks marks false (λ number sets named. tt) (λ number is. is) refl (λ is number sets named. tt)
+
+-- ---- lists
+
+-- a choice whose mark is not set keeps nothing
+pub zip_left : (strips : ChoiceStrips) (es : List EntitySpec) (choices : List KeptSets) (marks : List Bool) (k : ℕ) → length choices ≡ length marks → AllFrom (NamesChoice strips) k choices
+    → ((i : ℕ) (sets : KeptSets) → i < length marks → NamesChoice strips (k + i) sets → get_or marks i false ≡ false → TakesNone es sets)
+    → AllZip (λ sets mark. mark ≡ false → TakesNone es sets) choices marks
+zip_left strips es [] [] k same named h = tt
+zip_left strips es (c ∷ cs) (m ∷ ms) k same named h =
+    (λ is. h 0 c (omega arith) (subst (λ n. NamesChoice strips n c) (omega arith) named.0) is,
+    zip_left strips es cs ms (k + 1) (omega (arith, same)) named.1 (λ i sets lt is left. h (i + 1) sets (omega (arith, lt)) (subst (λ n. NamesChoice strips n sets) (omega arith) is) (suc_get m ms i left))) where
+  suc_get : (m : Bool) (ms : List Bool) (i : ℕ) → get_or ms i false ≡ false → get_or (m ∷ ms) (i + 1) false ≡ false
+  suc_get m ms i is = grind (arith, is)
+zip_left strips es [] (m ∷ ms) k same named h = (let bad : ⊥ = omega (arith, same) in absurd bad)
+zip_left strips es (c ∷ cs) [] k same named h = (let bad : ⊥ = omega (arith, same) in absurd bad)
+
+-- the same from what was marked
+unmarked : (strips : ChoiceStrips) (es : List EntitySpec) (old new : List Bool) (some : Bool) → MarksTakers strips es old new some → (i : ℕ) (sets : KeptSets) → i < length new → NamesChoice strips i sets → get_or new i false ≡ false → TakesNone es sets
+unmarked strips es old new some m i sets lt named left = by (filter (taken_by sets) es) refl where
+  by : (l : List EntitySpec) → filter (taken_by sets) es ≡ l → TakesNone es sets
+  by [] is = is
+  by (x ∷ xs) is = (let marked = m.marked.set i (sets, named, λ none. (let bad : x ∷ xs ≡ [] = sym is ∙ none in absurd (grind bad))) lt in absurd (grind (marked, left)))
+
+pub left_out : (strips : ChoiceStrips) (es : List EntitySpec) (choices : List KeptSets) (old new : List Bool) (some : Bool) → length choices ≡ length new → AllFrom (NamesChoice strips) 0 choices → MarksTakers strips es old new some → AllZip (λ sets mark. mark ≡ false → TakesNone es sets) choices new
+left_out strips es choices old new some same named m = zip_left strips es choices new 0 same named (λ i sets lt is left. unmarked strips es old new some m i sets lt (subst (λ n. NamesChoice strips n sets) (omega arith) is) left)
+
+-- a run that was shared
+shared_one : (sets : KeptSets) (gone : List EntitySpec) (run : Run) (mark : Bool) (old new : Vec Run) → AreWanted (taken_by sets) gone (listed_entities old.items) → (mark ≡ false → TakesNone (run_entities run) sets) → IsShared run mark old new → AreWanted (taken_by sets) (gone ++ run_entities run) (listed_entities new.items)
+shared_one sets gone run true old new are left is =
+    let listed = ap listed_entities is ∙ (flat_map-append run_entities old.items (run ∷ []) ∙ ap (λ l. listed_entities old.items ++ l) (append-nil (run_entities run))) in
+    subst (λ l. AreWanted (taken_by sets) (gone ++ run_entities run) l) (sym listed) (wanted_more (taken_by sets) gone (run_entities run) (listed_entities old.items) are)
+shared_one sets gone run false old new are left is =
+    subst (λ l. AreWanted (taken_by sets) (gone ++ run_entities run) (listed_entities l)) (sym is) (wanted_none (taken_by sets) gone (run_entities run) (listed_entities old.items) (left refl) are)
+
+shared_each : (gone : List EntitySpec) (run : Run) (choices : List KeptSets) (marks : List Bool) (olds news : List (Vec Run)) → AreWantedEach gone choices olds → AllZip (λ sets mark. mark ≡ false → TakesNone (run_entities run) sets) choices marks → AllThree (IsShared run) marks olds news → AreWantedEach (gone ++ run_entities run) choices news
+shared_each gone run [] [] [] [] are left shared = tt
+shared_each gone run (c ∷ cs) (m ∷ ms) (o ∷ os) (n ∷ ns) are left shared = (shared_one c gone run m o n are.0 left.0 shared.0, shared_each gone run cs ms os ns are.1 left.1 shared.1)
+shared_each gone run [] [] [] (n ∷ ns) are left shared = absurd shared
+shared_each gone run [] [] (o ∷ os) news are left shared = absurd are
+shared_each gone run [] (m ∷ ms) olds news are left shared = absurd left
+shared_each gone run (c ∷ cs) marks [] news are left shared = absurd are
+shared_each gone run (c ∷ cs) [] (o ∷ os) news are left shared = absurd left
+shared_each gone run (c ∷ cs) (m ∷ ms) (o ∷ os) [] are left shared = absurd shared
+
+pub wanted_shared : (strips : ChoiceStrips) (count : ℕ) (gone : List EntitySpec) (run : Run) (start marks : List Bool) (some : Bool) (olds news : List (Vec Run)) → length marks ≡ count → MarksTakers strips (run_entities run) start marks some → AllThree (IsShared run) marks olds news → WantedLists strips count gone olds → WantedLists strips count (gone ++ run_entities run) news
+wanted_shared strips count gone run start marks some olds news many m shared are choices same named =
+    shared_each gone run choices marks olds news (are choices same named) (left_out strips (run_entities run) choices start marks some (same ∙ sym many) named m) shared
+
+-- a run that nobody wants
+nobody_each : (strips : ChoiceStrips) (gone es : List EntitySpec) (choices : List KeptSets) (lists : List (Vec Run)) (k : ℕ) → AllFrom (NamesChoice strips) k choices → ((number : ℕ) (sets : KeptSets) → NamesChoice strips number sets → TakesNone es sets) → AreWantedEach gone choices lists → AreWantedEach (gone ++ es) choices lists
+nobody_each strips gone es [] [] k named none are = tt
+nobody_each strips gone es (c ∷ cs) (l ∷ ls) k named none are = (wanted_none (taken_by c) gone es (listed_entities l.items) (none k c named.0) are.0, nobody_each strips gone es cs ls (k + 1) named.1 none are.1)
+nobody_each strips gone es [] (l ∷ ls) k named none are = absurd are
+nobody_each strips gone es (c ∷ cs) [] k named none are = absurd are
+
+pub wanted_nobody : (strips : ChoiceStrips) (count : ℕ) (gone es : List EntitySpec) (start marks : List Bool) (some : Bool) (lists : List (Vec Run)) → some ≡ false → MarksTakers strips es start marks some → WantedLists strips count gone lists → WantedLists strips count (gone ++ es) lists
+wanted_nobody strips count gone es start marks some lists is m are choices same named = nobody_each strips gone es choices lists 0 named (m.none is) (are choices same named)
+
+-- of no runs nothing is wanted
+pub wanted_empty : (strips : ChoiceStrips) (lists : List (Vec Run)) → AllByRecursion (λ list. list.items ≡ []) lists → WantedLists strips (length lists) [] lists
+wanted_empty strips lists empty choices same named = each choices lists same empty where
+  each : (choices : List KeptSets) (lists : List (Vec Run)) → length choices ≡ length lists → AllByRecursion (λ list. list.items ≡ []) lists → AreWantedEach [] choices lists
+  each [] [] same empty = tt
+  each (c ∷ cs) (l ∷ ls) same empty = (subst (λ m. AreWanted (taken_by c) [] (listed_entities m)) (sym empty.0) (record { same = refl; fit = λ all. tt }), each cs ls (omega (arith, same)) empty.1)
+  each [] (l ∷ ls) same empty = (let bad : ⊥ = omega (arith, same) in absurd bad)
+  each (c ∷ cs) [] same empty = (let bad : ⊥ = omega (arith, same) in absurd bad)

@@ -7,8 +7,7 @@ use Rattle.pbf_pass.specs.Refused.{stop_of}
 use Rattle.pbf_pass.specs.Unjudged.{ReadsFaulty, StopsUnjudged}
 use Rattle.pbf_pass.proofs.GivenLemmas.{gave_file_less, tells_file}
 use Rattle.pbfcut.specs.Calls.{fed}
-use Rattle.pbfcut.specs.Pick.{Pick, picks_of}
-use Rattle.pbfcut.specs.Several.{CanBegin, IsReadyAmong, IsReadyWriter, PicksAmong, IsFreshWriter, KeepsWriter, OneStopped, PutsHeader, StopsAtHeader, StopsAtLast, WriterTook, WritesEachUnjudged, WritesLast}
+use Rattle.pbfcut.specs.Several.{CanBegin, AreReady, IsReadyWriter, IsFreshWriter, KeepsWriter, OneStopped, PutsHeader, StopsAtHeader, StopsAtLast, WriterTook, WritesEachUnjudged, WritesLast}
 use Rattle.pbfcut.proofs.SeveralLemmas.{all_back, all_less, zip_length, zip_right}
 use Rattle.pbfcut.proofs.WantedWriters.{ready_begun, seen_rest, seen_stops, seen_visits}
 use Rattle.pbfcut.proofs.WritingEachLemmas.{began_each, began_ended, began_heads, faulty_each, faulty_ended, faulty_heads, kept_each, kept_ended, kept_heads, kept_lasts, kept_took, stops_each, stops_ended, stops_heads, took_each}
@@ -39,7 +38,7 @@ pass_over-outcome-requires g c =
     let begun = c.begin_all.new.writers in
     let put = subst (λ l. AllZip (PutsHeader g.D.Drain) l begun) c.deref_mut.ensures.value c.in_default.ensures.began in
     let back = all_back c.args.writers.len firsts begun c.args.writers.ok.0 (zip_length (PutsHeader g.D.Drain) firsts begun put) in
-    subst (λ l. AllByRecursion (IsReadyAmong (picks_of c.of_taken-all.result)) l) (sym back) (ready_begun g.D.Drain (picks_of c.of_taken-all.result) firsts begun put (subst (λ (p : Pick). AllByRecursion (PicksAmong p) firsts) (sym c.of_taken-all.ensures) c.requires.among))
+    subst (λ l. AreReady c.args.strips l) (sym back) (ready_begun g.D.Drain c.args.strips firsts begun put c.requires.named)
 
 pub returns-in-Err-outcome : goal.returns-in-Err-outcome
 returns-in-Err-outcome g c =
@@ -67,7 +66,7 @@ pub end_all-requires : goal.end_all-requires
 end_all-requires g c =
     let mids = c.pass_over-outcome.new.visitor.writers.items in
     let ready = (rw c.in-Ok.is at c.pass_over-outcome.ensures.visitor.ready) in
-    subst (λ l. AllByRecursion IsReadyWriter l) (sym c.deref_mut-2.ensures.value) (all_less (IsReadyAmong (picks_of c.pass_over-outcome.new.visitor.all)) IsReadyWriter (λ w r. r.0) mids ready)
+    subst (λ l. AllByRecursion IsReadyWriter l) (sym c.deref_mut-2.ensures.value) ready.each
 
 pub returns-in-Err-end_all : goal.returns-in-Err-end_all
 returns-in-Err-end_all g c =

@@ -1,10 +1,8 @@
-use Rattle.std.proofs.Common.{◌++◌, drop, length, sym, subst, take}
+use Rattle.std.proofs.Common.{◌++◌, drop, length, refl, sym, subst, take}
 use Rattle.std.specs.List.{AllByRecursion, AllZip}
 use Rattle.pbf_pass.specs.Each.{EachTook, OneFailed}
 use Rattle.pbf_pass.specs.Payload.{lent_by}
-use Rattle.pbfcut.specs.declared.pick.Picker.{Picker}
-use Rattle.pbfcut.specs.Pick.{picks_of}
-use Rattle.pbfcut.specs.Several.{IsReadyAmong, OneStopped, WriterFails, WriterFailsAtPayload, WriterTakes, WriterTakesPayload}
+use Rattle.pbfcut.specs.Several.{AreReady, OneStopped, WriterFails, WriterFailsAtPayload, WriterTakes, WriterTakesPayload}
 use Rattle.pbfcut.proofs.SeveralLemmas.{all_back, zip_length}
 use Rattle.pbfcut.proofs.WantedWriters.{each_ready, each_shown, if_err_more, on_ok_more, one_length, one_shown}
 use Rattle.pbfcut.proofs.writing_each.EachWriterVisit.visit.Goals as goal
@@ -17,7 +15,7 @@ returns-clause-took g c =
     let took = subst (λ l. AllZip (WriterTakesPayload g.D.Drain (lent_by c.args.frame.now)) l news) c.deref_mut.ensures.value in
     on_ok_more c.pack_frame_each.result _ _ (λ did f shows.
         let back = all_back self.writers.len olds news self.writers.ok.0 (zip_length (WriterTakesPayload g.D.Drain (lent_by c.args.frame.now)) olds news (took did)) in
-        (subst (λ l. EachTook (WriterTakes g.D.Drain) olds f l) (sym back) (each_shown g.D.Drain c.args.frame.now f shows olds news (took did)), c.pack_frame_each.ensures.same)) c.pack_frame_each.ensures.packed
+        (subst (λ l. EachTook (WriterTakes g.D.Drain) olds f l) (sym back) (each_shown g.D.Drain c.args.frame.now f shows olds news (took did)), refl)) c.pack_frame_each.ensures.packed
 
 pub returns-clause-failed : goal.returns-clause-failed
 returns-clause-failed g c =
@@ -39,4 +37,4 @@ returns-clause-ready g c =
     on_ok_more c.pack_frame_each.result _ _ (λ did.
         let took = subst (λ l. AllZip (WriterTakesPayload g.D.Drain p) l news) c.deref_mut.ensures.value did in
         let back = all_back self.writers.len olds news self.writers.ok.0 (zip_length (WriterTakesPayload g.D.Drain p) olds news took) in
-        subst (λ (k : Picker). AllByRecursion (IsReadyAmong {A = g.row.A.Denot} {D = g.row.D.Denot} {S = g.row.S.Denot} {H = g.row.S-Hasher.Denot} (picks_of k)) (take self.writers.len (news ++ drop (length news) olds))) (sym c.pack_frame_each.ensures.same) (subst (λ l. AllByRecursion (IsReadyAmong (picks_of self.all)) l) (sym back) (each_ready g.D.Drain p (picks_of self.all) olds news took c.requires))) c.pack_frame_each.ensures.packed
+        subst (λ l. AreReady self.strips l) (sym back) (each_ready g.D.Drain p self.strips olds news took c.requires)) c.pack_frame_each.ensures.packed
