@@ -124,11 +124,11 @@ pub record PassesOver {S : Type 0} (step : S → Seen → S) : Type 0 where
   pub before : (s : S) (id other : ℤ) (inside : Bool) → step (step s (a_node id false)) (a_node other inside) ≡ step s (a_node other inside)
   pub after : (s : S) (id other : ℤ) (inside : Bool) → step (step s (a_node id inside)) (a_node other false) ≡ step s (a_node id inside)
 
--- ways change nothing unless they are taken
 -- after this, a way without a ref to a node in the area changes nothing
 abbrev pub LeavesOutWays : {S : Type 0} → (S → Seen → S) → (inside : S → Ids) → S → Type 0
 LeavesOutWays step inside s = (id : ℤ) (refs : List ℤ) → is_kept_way (set.contains (inside s)) refs ≡ false → step s (a_way id refs) ≡ s
 
+-- ways change nothing unless they are taken
 abbrev pub TakesWays : {S : Type 0} → Bool → (S → Seen → S) → Type 0
 TakesWays {S} takes step = takes ≡ false → (s : S) (id : ℤ) (refs : List ℤ) → step s (a_way id refs) ≡ s
 

@@ -126,6 +126,8 @@ impl NodeTaker for FirstPhase {
 
     ghost ended = { λ sets. sets.ways };
 
+    ghost inside = { λ sets. sets.ways.box_ids };
+
     fn new(alloc: Global) -> FirstPhase {
         FirstPhase {
             box_ids: IdSet::new(alloc),
@@ -174,6 +176,10 @@ impl NodeTaker for FirstPhase {
             self.way_ids.add(way.id)?;
         }
         Ok(())
+    }
+
+    fn ids(&self) -> &IdSet {
+        &self.box_ids
     }
 
     fn takes_relations() -> bool {

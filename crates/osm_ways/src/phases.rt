@@ -44,6 +44,8 @@ impl NodeTaker for NodeIds {
 
     ghost ended = { start_ways };
 
+    ghost inside = { λ ids. ids };
+
     fn new(alloc: Global) -> NodeIds {
         NodeIds {
             box_ids: IdSet::new(alloc),
@@ -64,6 +66,10 @@ impl NodeTaker for NodeIds {
 
     fn take_refs(&mut self, _way: SeenWay<'_>) -> Result<(), AllocError> {
         Ok(())
+    }
+
+    fn ids(&self) -> &IdSet {
+        &self.box_ids
     }
 
     fn takes_relations() -> bool {

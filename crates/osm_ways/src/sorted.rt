@@ -8,6 +8,7 @@ use crate::in_area::{NodeTaker, RelationTaker};
 use crate::parents::FoundRelations;
 use crate::phases::{SeenWay, WayPhase};
 use osm_entity::RelationRef;
+use osm_ids::IdSet;
 use std::alloc::{AllocError, Global};
 use std::marker::Model;
 
@@ -61,6 +62,8 @@ impl NodeTaker for SortedPhase {
 
     ghost ended = { λ sets. sets.first.ways };
 
+    ghost inside = { λ sets. sets.first.ways.box_ids };
+
     fn new(alloc: Global) -> SortedPhase {
         SortedPhase {
             first: FirstPhase::new(alloc),
@@ -90,6 +93,10 @@ impl NodeTaker for SortedPhase {
     fn take_refs(&mut self, way: SeenWay<'_>) -> Result<(), AllocError> {
         self.begin_more();
         self.first.take_refs(way)
+    }
+
+    fn ids(&self) -> &IdSet {
+        self.first.ids()
     }
 
     fn takes_relations() -> bool {
