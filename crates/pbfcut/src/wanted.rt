@@ -29,12 +29,8 @@ pub(crate) fn strips_of(
         AllFrom (λ number choice. NamesChoice strips number choice.chosen) 0 choices.now) }
 {
     let mut strips = ChoiceStrips::new(alloc);
-    let mut number = 0;
-    let mut rest = choices;
-    'choices: while let Some((choice, later)) = rest.split_first() {
-        strips.add(number, &choice.chosen)?;
-        number += 1;
-        rest = later;
+    'choices: for number in 0..choices.len() {
+        strips.add(number, &choices[number].chosen)?;
     }
     Ok(strips)
 }
@@ -73,7 +69,23 @@ fn mark_run(strips: &ChoiceStrips, run: &Run<'_>, marks: &mut [bool]) -> bool
     }
 }
 
-/// Adds a run to the lists that are marked, clears the marks, and says how many these were.
+/// Adds a run to a list if that is marked, clears the mark, and says how many were added.
+fn share_with<'a>(
+    run: &Run<'a>,
+    list: &mut Vec<Run<'a>>,
+    mark: &mut bool,
+) -> Result<usize, AllocError>
+    ensures { OnOk result (IsShared run.now mark.old list.old list.new) }
+{
+    if !*mark {
+        return Ok(0);
+    }
+    *mark = false;
+    list.push(*run)?;
+    Ok(1)
+}
+
+/// The same of all lists and their marks.
 fn share<'a>(
     run: &Run<'a>,
     lists: &mut [Vec<Run<'a>>],
@@ -89,13 +101,9 @@ fn share<'a>(
     let Some((mark, more)) = marks.split_first_mut() else {
         return Ok(0);
     };
-    if !*mark {
-        return share(run, later, more);
-    }
-    *mark = false;
-    list.push(*run)?;
-    let count = share(run, later, more)?;
-    Ok(count.saturating_add(1))
+    let one = share_with(run, list, mark)?;
+    let others = share(run, later, more)?;
+    Ok(one.saturating_add(others))
 }
 
 /// For each of so many choices the runs of which it may keep something, in their order; `None` if they are too many.
