@@ -1,6 +1,7 @@
 -- Which of several choices may keep an entity, by strips of ids.
-use Rattle.std.specs.Prelude.{◌≡◌, ℕ, Bool, true, false, List}
-use Rattle.osm_ids.specs.Strips.{IsNamed, Marks, NamesAll}
+use Rattle.std.specs.Prelude.{◌≡◌, ℕ, Bool, true, false, List, nat_eq}
+use Rattle.std.specs.List.{list_any}
+use Rattle.osm_ids.specs.Strips.{Marks, NamesAll, named_at}
 use Rattle.osm_ways.specs.declared.choice_strips.ChoiceStrips.{ChoiceStrips}
 use Rattle.osm_ways.specs.Phases.{KeptSets}
 use Rattle.osm_ways.specs.Selection.{MemberSeen, node_member, way_member, relation_member}
@@ -30,8 +31,11 @@ pub record MarksNamed (named : ℕ → Type 0) (old new : List Bool) (some : Boo
 abbrev pub MarksKeepers : ChoiceStrips → (KeptSets → Bool) → (old new : List Bool) → Bool → Type 0
 MarksKeepers strips test = MarksNamed (MayKeep strips test)
 
--- the choice of this number is named for a member
+-- whether the choice of this number is named for a member
+abbrev pub names_member : ChoiceStrips → ℕ → MemberSeen → Bool
+names_member strips number (node_member id) = list_any (nat_eq number) (named_at strips.nodes id)
+names_member strips number (way_member id) = list_any (nat_eq number) (named_at strips.ways id)
+names_member strips number (relation_member id) = list_any (nat_eq number) (named_at strips.relations id)
+
 abbrev pub IsNamedBy : ChoiceStrips → MemberSeen → ℕ → Type 0
-IsNamedBy strips (node_member id) number = IsNamed strips.nodes id number
-IsNamedBy strips (way_member id) number = IsNamed strips.ways id number
-IsNamedBy strips (relation_member id) number = IsNamed strips.relations id number
+IsNamedBy strips member number = names_member strips number member ≡ true

@@ -1,0 +1,32 @@
+use Rattle.std.proofs.Common.{Bool, false, List, map, subst}
+use Rattle.osm_entity.specs.Entity.{MemberSpec}
+use Rattle.osm_entity.specs.Sources.{lent_member, members_left}
+use Rattle.osm_entity.specs.Views.{relation_of}
+use Rattle.osm_ways.specs.ChoiceStrips.{IsNamedBy, MarksNamed}
+use Rattle.osm_ways.specs.Seen.{seen_member}
+use Rattle.osm_ways.proofs.ChoiceStripLemmas.{IsPassed, passed_all, passed_more}
+use Rattle.osm_ways.proofs.choice_strips.ChoiceStrips.mark_relation.Goals as goal
+
+pub loop-member-preserved : goal.loop-member-preserved
+loop-member-preserved c =
+    let strips = c.args.self.now in
+    let all = map seen_member (relation_of c.args.relation.now).members in
+    let left = map seen_member (members_left c.next.new.self) in
+    let l = c.loop-member in
+    let member = seen_member (lent_member c.in-Some.member) in
+    record {
+      can = tt;
+      ends = tt;
+      so_far = passed_more strips all left member c.args.marks.now l.marks c.mark_member.new.marks l.some false
+        (subst (λ (left : List MemberSpec). MarksNamed (IsPassed strips all (map seen_member left)) c.args.marks.now l.marks l.some) c.in-Some.ensures.steps l.invariant.so_far)
+        (subst (λ (b : Bool). MarksNamed (IsNamedBy strips member) l.marks c.mark_member.new.marks b) c.if-mark_member.false c.mark_member.ensures);
+    }
+
+pub returns : goal.returns
+returns c =
+    let l = c.loop-member in
+    let strips = c.args.self.now in
+    let relation = relation_of c.args.relation.now in
+    let all = map seen_member relation.members in
+    passed_all strips all relation.id false c.args.marks.now l.marks l.some
+      (subst (λ (left : List MemberSpec). MarksNamed (IsPassed strips all (map seen_member left)) c.args.marks.now l.marks l.some) c.in-None.ensures.steps.0 l.invariant.so_far)
