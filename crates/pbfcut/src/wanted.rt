@@ -1,6 +1,6 @@
 //! What several areas want of a block: it is read once to find that, and not once for each area.
 
-ghost use Rattle.std.specs.Prelude.{◌≡◌, false, IfOk, IfSome, OnOk, length, map};
+ghost use Rattle.std.specs.Prelude.{◌≡◌, [], ◌∷◌, IfOk, IfSome, OnOk, length, map};
 ghost use Rattle.std.specs.List.{AllByRecursion};
 ghost use Rattle.osm_entity.specs.Entity.{node};
 ghost use Rattle.osm_ways.specs.ChoiceStrips.{NamesChoice};
