@@ -38,6 +38,16 @@ fn grow(strips: &mut Vec<Vec<usize>>, index: usize, alloc: Global) -> Result<(),
     Ok(())
 }
 
+/// Whether this number is the last one.
+fn is_last(numbers: &[usize], number: usize) -> bool
+    ensures { result ≡ true → HasNumber numbers.now number }
+{
+    match numbers.last() {
+        Some(last) => *last == number,
+        None => false,
+    }
+}
+
 /// Adds a number to the strip with this index, if there is one.
 fn list_at(strips: &mut Vec<Vec<usize>>, index: usize, number: usize) -> Result<(), AllocError>
     ensures listed { OnOk result (index < length strips.old.items
@@ -48,7 +58,7 @@ fn list_at(strips: &mut Vec<Vec<usize>>, index: usize, number: usize) -> Result<
         return Ok(());
     };
     // Ids of a set come in order, so that those of a strip mostly come together.
-    if strip.last() == Some(&number) {
+    if is_last(strip, number) {
         return Ok(());
     }
     strip.push(number)?;
@@ -59,8 +69,8 @@ fn list_at(strips: &mut Vec<Vec<usize>>, index: usize, number: usize) -> Result<
 fn set_mark(marks: &mut [bool], number: usize)
     ensures { Marks (λ other. other ≡ number) marks.old marks.new }
 {
-    if let Some(mark) = marks.get_mut(number) {
-        *mark = true;
+    if number < marks.len() {
+        marks[number] = true;
     }
 }
 
@@ -160,10 +170,10 @@ impl IdStrips {
         if id < 0 || id > LAST_ALIKE {
             return EMPTY_SPAN;
         }
-        let past = (id.unsigned_abs() % STRIP_IDS) as i64;
+        let start = (id.unsigned_abs() / STRIP_IDS * STRIP_IDS) as i64;
         Span {
-            above: id - past - 1,
-            below: id - past + 1024,
+            above: start - 1,
+            below: start + 1024,
         }
     }
 }
