@@ -11,9 +11,14 @@ use Rattle.osm_ids.specs.declared.strips.IdStrips.{IdStrips}
 use Rattle.osm_ids.specs.Pages.{rising}
 use Rattle.osm_ids.specs.Strips.{AlsoLists, HasNumber, IsMarked, IsNamed, Marks, NamesAll, StillNames, id_strip, listed_at, named_at, numbers_in}
 use Rattle.osm_ids.proofs.Sets.{Ids}
+use Rattle.osm_ids.proofs.Kept.{has_rising}
 use Rattle.osm_ids.proofs.OrderLemmas.{with_late, contains-with_late}
 
 -- ---- the numbers in strips
+
+pub no_numbers : (numbers : List ℕ) → length numbers ≡ 0 → numbers ≡ []
+no_numbers [] none = refl
+no_numbers (number ∷ numbers) none = absurd (omega (arith, none))
 
 none_listed : (number : ℕ) → HasNumber [] number → ⊥
 none_listed number there = true≢false (sym there)
@@ -64,14 +69,14 @@ marks_same marks at past = record {
 set_kept : (marks : List Bool) (at number : ℕ) → at < length marks → IsMarked marks number → IsMarked (set_at marks at true) number
 set_kept marks at number within is below = elim (cases_eq number at) [
   | inl e ↦ rw e (get_or-set_same marks at true false within)
-  | inr other ↦ get_or-set_other marks at number true false other ∙ is (subst (λ n. number < n) (length-set_at marks at true) below)
+  | inr other ↦ get_or-set_other marks at number true false other ∙ is (subst (λ n. number < n) (length-set marks at true) below)
 ]
 
 pub marks_set : (marks : List Bool) (at : ℕ) → at < length marks → Marks (λ (other : ℕ). other ≡ at) marks (set_at marks at true)
 marks_set marks at within = record {
   set = λ number is below. rw is (get_or-set_same marks at true false within);
   kept = λ number. set_kept marks at number within;
-  as_many = length-set_at marks at true;
+  as_many = length-set marks at true;
 }
 
 -- one of these numbers, and none of those that are left
