@@ -1,5 +1,5 @@
 -- Strips of ids: what is named in them, and what stays named.
-use Rattle.std.proofs.Common.{◌≡◌, ◌<◌, ◌≤◌, ◌++◌, ◌||◌, ◌+◌, ◌*◌, ◌/◌, ◌%◌, ℕ, zero, suc, ℤ, Bool, true, false, List, [], ◌∷◌, None, Some, nat_abs, refl, sym, ap, ◌∙◌, subst, length, length-set, get_or, set as set_at, get_or-set_same, get_or-set_other, inl, inr, true≢false, nat_eq, arith}
+use Rattle.std.proofs.Common.{◌≡◌, ◌<◌, ◌≤◌, ◌++◌, ◌||◌, ◌+◌, ◌*◌, ◌/◌, ◌%◌, ℕ, zero, suc, ℤ, pos, negsuc, ◌+ℤ◌, ◌-ℤ◌, ◌<ℤ◌, Bool, true, false, List, [], ◌∷◌, None, Some, nat_abs, refl, sym, ap, ◌∙◌, subst, length, length-set, get_or, set as set_at, get_or-set_same, get_or-set_other, inl, inr, true≢false, nat_eq, arith}
 use Rattle.std.specs.Global.{Vec}
 use Rattle.std.specs.List.{list_any, slice_get}
 use Rattle.std.specs.Ordering.{int_eq}
@@ -120,8 +120,9 @@ same_id : (x y : ℤ) → int_eq x y ≡ true → x ≡ y
 same_id x y e = grind (arith, Decides-int_eq x y, e)
 
 -- the ids of one strip
-pub same_strip : (n m : ℕ) → n / 1024 * 1024 ≤ m → m < n / 1024 * 1024 + 1024 → m / 1024 ≡ n / 1024
-same_strip n m from to = omega (arith, from, to)
+pub same_strip : (n : ℕ) (other : ℤ) → (pos (n / 1024 * 1024) -ℤ pos 1) <ℤ other → other <ℤ (pos (n / 1024 * 1024) +ℤ pos 1024) → nat_abs other / 1024 ≡ n / 1024
+same_strip n (pos m) from to = omega (arith, ints, from, to)
+same_strip n (negsuc m) from to = absurd (omega (arith, ints, from, to))
 
 -- what is named is what is in the strip
 pub named_in : (strips : IdStrips) (id : ℤ) (strip : Vec ℕ) → slice_get strips.strips.items (id_strip id) ≡ Some strip → named_at strips id ≡ strip.items
