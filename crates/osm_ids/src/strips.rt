@@ -16,7 +16,7 @@ const STRIP_IDS: u64 = 1024;
 /// There are so many strips; then the first one comes again.
 const STRIPS: u64 = 65_536;
 
-/// The greatest id of which `IdStrips::alike` says something.
+/// The greatest id that `IdStrips::alike` says something of.
 const LAST_ALIKE: i64 = i64::MAX - 1024;
 
 /// The strip that an id is in.
@@ -86,7 +86,7 @@ fn set_marks(numbers: &[usize], marks: &mut [bool])
     }
 }
 
-/// Which of several sets, by their numbers, have an id in each strip of ids. Strips that end without a number aren't kept.
+/// Which of several sets, by their numbers, have an id in each strip of ids. Strips past the last that has a number aren't kept.
 #[derive(Drop)]
 pub struct IdStrips {
     strips: Vec<Vec<usize>>,
@@ -162,7 +162,7 @@ impl IdStrips {
         true
     }
 
-    /// Ids round this one for which the same sets are named; none if it is below 0.
+    /// Ids round this one for which the same sets are named; none if it is below 0, or among the last 1,024 that there are.
     pub fn alike(&self, id: i64) -> Span
         ensures { (other : ℤ) → is_in result other ≡ true
             → named_at self.now other ≡ named_at self.now id }
