@@ -11,3 +11,4 @@ pub mod Walking
 pub mod MergeLemmas
 pub mod LinkOrder
 pub mod Closing
+pub mod StripLemmas

@@ -16,7 +16,7 @@ const STRIP_IDS: u64 = 1024;
 /// There are so many strips; then the first one comes again.
 const STRIPS: u64 = 65_536;
 
-/// The greatest id of which `IdStrips::alike` says something.
+/// The greatest id that `IdStrips::alike` says something of.
 const LAST_ALIKE: i64 = i64::MAX - 1024;
 
 /// The strip that an id is in.
@@ -38,6 +38,16 @@ fn grow(strips: &mut Vec<Vec<usize>>, index: usize, alloc: Global) -> Result<(),
     Ok(())
 }
 
+/// Whether this number is the last one.
+fn is_last(numbers: &[usize], number: usize) -> bool
+    ensures { result ≡ true → HasNumber numbers.now number }
+{
+    match numbers.last() {
+        Some(last) => *last == number,
+        None => false,
+    }
+}
+
 /// Adds a number to the strip with this index, if there is one.
 fn list_at(strips: &mut Vec<Vec<usize>>, index: usize, number: usize) -> Result<(), AllocError>
     ensures listed { OnOk result (index < length strips.old.items
@@ -48,7 +58,7 @@ fn list_at(strips: &mut Vec<Vec<usize>>, index: usize, number: usize) -> Result<
         return Ok(());
     };
     // Ids of a set come in order, so that those of a strip mostly come together.
-    if strip.last() == Some(&number) {
+    if is_last(strip, number) {
         return Ok(());
     }
     strip.push(number)?;
@@ -59,8 +69,8 @@ fn list_at(strips: &mut Vec<Vec<usize>>, index: usize, number: usize) -> Result<
 fn set_mark(marks: &mut [bool], number: usize)
     ensures { Marks (λ other. other ≡ number) marks.old marks.new }
 {
-    if let Some(mark) = marks.get_mut(number) {
-        *mark = true;
+    if number < marks.len() {
+        marks[number] = true;
     }
 }
 
@@ -76,7 +86,7 @@ fn set_marks(numbers: &[usize], marks: &mut [bool])
     }
 }
 
-/// Which of several sets, by their numbers, have an id in each strip of ids. Strips that end without a number aren't kept.
+/// Which of several sets, by their numbers, have an id in each strip of ids. Strips past the last that has a number aren't kept.
 #[derive(Drop)]
 pub struct IdStrips {
     strips: Vec<Vec<usize>>,
@@ -152,7 +162,7 @@ impl IdStrips {
         true
     }
 
-    /// Ids round this one for which the same sets are named; none if it is below 0.
+    /// Ids round this one for which the same sets are named; none if it is below 0, or among the last 1,024 that there are.
     pub fn alike(&self, id: i64) -> Span
         ensures { (other : ℤ) → is_in result other ≡ true
             → named_at self.now other ≡ named_at self.now id }
@@ -160,10 +170,10 @@ impl IdStrips {
         if id < 0 || id > LAST_ALIKE {
             return EMPTY_SPAN;
         }
-        let past = (id.unsigned_abs() % STRIP_IDS) as i64;
+        let start = (id.unsigned_abs() / STRIP_IDS * STRIP_IDS) as i64;
         Span {
-            above: id - past - 1,
-            below: id - past + 1024,
+            above: start - 1,
+            below: start + 1024,
         }
     }
 }

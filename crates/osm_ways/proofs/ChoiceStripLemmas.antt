@@ -1,12 +1,12 @@
 -- What strips of choices name.
-use Rattle.std.proofs.Common.{◌≡◌, true, false, Bool, ◌&&◌, ◌||◌, ℕ, ℤ, List, [], ◌∷◌, Option, None, refl, sym, ap, ◌∙◌, inl, inr, true≢false, arith}
+use Rattle.std.proofs.Common.{◌≡◌, true, false, Bool, ◌&&◌, ◌||◌, ℕ, ℤ, List, [], ◌∷◌, Option, None, refl, sym, ◌∙◌, inl, inr, true≢false}
 use Rattle.std.specs.List.{list_any}
 use Rattle.std.specs.Ordering.{int_cmp}
 use Rattle.std.specs.Cmp.{int_cmp_total}
 use Rattle.std.specs.FinSet as set
 use Rattle.std.proofs.lemmas.Bool.{or_cases, and_parts, cases_Bool, or_from, or_left, or_parts, or_right}
 use Rattle.osm_ids.specs.declared.strips.IdStrips.{IdStrips}
-use Rattle.osm_ids.specs.Strips.{IsNamed, Marks, NamesAll}
+use Rattle.osm_ids.specs.Strips.{IsNamed, NamesAll}
 use Rattle.osm_ways.specs.declared.choice_strips.ChoiceStrips.{ChoiceStrips}
 use Rattle.osm_ways.specs.Added.{AddedSets, added_or_none}
 use Rattle.osm_ways.specs.ChoiceStrips.{IsNamedBy, MarksKeepers, MarksNamed, NamesChoice, names_member}

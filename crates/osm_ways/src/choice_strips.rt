@@ -1,18 +1,16 @@
 //! Strips of the ids that several choices have: they name the choices that may keep an entity.
 
-ghost use Rattle.std.specs.Prelude.{◌≡◌, OnOk, false};
+ghost use Rattle.std.specs.Prelude.{OnOk};
 ghost use Rattle.osm_entity.specs.Sources.{lent_member};
 ghost use Rattle.osm_entity.specs.Views.{relation_of};
-ghost use Rattle.osm_ids.specs.Strips.{Marks, NamesAll, StillNames};
-ghost use Rattle.osm_ways.specs.Added.{added_or_none};
+ghost use Rattle.osm_ids.specs.Strips.{NamesAll, StillNames};
 ghost use Rattle.osm_ways.specs.ChoiceStrips.{IsNamedBy, MarksKeepers, MarksNamed, NamesChoice, StillNamesChoices};
-ghost use Rattle.osm_ways.specs.Phases.{ids_or_none, is_taken, sets_of};
+ghost use Rattle.osm_ways.specs.Phases.{is_taken};
 ghost use Rattle.osm_ways.specs.Seen.{seen_member, seen_relation};
 
-use crate::members::SealedAdded;
 use crate::phases::Chosen;
 use osm_entity::{MemberKind, MemberRef, RelationRef};
-use osm_ids::{IdStrips, SealedIds};
+use osm_ids::IdStrips;
 use std::alloc::{AllocError, Global};
 
 /// Names the choice of this number for its nodes: those of the box, refs of kept ways, and those that were added.
