@@ -14,6 +14,7 @@ mod pass;
 mod receipt;
 mod unjudged;
 mod visit;
+mod way_strips;
 
 pub use checking::{check, check_with_receipt};
 pub use each::Each;
