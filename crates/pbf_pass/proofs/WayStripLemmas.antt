@@ -1,6 +1,6 @@
 -- Several areas in one pass, of which only some take a way.
 use Rattle.std.proofs.Common.{◌≡◌, ◌∙◌, ◌<◌, ℕ, zero, suc, ◌+◌, ℤ, Bool, true, false, true≢false, ◌||◌, List, [], ◌∷◌, length, drop, take, map, refl, sym, ap, ap₂, subst, arith, rules}
-use Rattle.std.specs.Prelude.{get_or, nat_eq}
+use Rattle.std.specs.Prelude.{get_or, nat_eq, replicate}
 use Rattle.std.specs.List.{AllByRecursion, AllZip, list_any}
 use Rattle.std.specs.FinSet as set
 use Rattle.std.proofs.lemmas.Bool.{or_parts}
@@ -111,6 +111,17 @@ module _ (strips : IdStrips) where
         skip_each members marks (number + 1) skips.1 named.1 (λ k asked within. set (suc k) (subst (λ n. is_asked strips refs n ≡ true) (omega arith) asked) (omega (arith, within))) (omega (arith, as_many)))
 
 -- ---- all phases
+
+pub as_many_zipped : {A B : Type 0} (R : A → B → Type 0) (xs : List A) (ys : List B) → AllZip R xs ys → length xs ≡ length ys
+as_many_zipped R [] [] all = refl
+as_many_zipped R [] (y ∷ ys) all = absurd all
+as_many_zipped R (x ∷ xs) [] all = absurd all
+as_many_zipped R (x ∷ xs) (y ∷ ys) all = ap suc (as_many_zipped R xs ys all.1)
+
+-- before there are strips all take the way
+pub all_marked : {A S : Type 0} (step : S → Seen → S) (inside : S → Ids) (seen : Seen) (members : List (InArea A S)) → AllZip (CanSkip step inside seen) members (replicate (length members) true)
+all_marked step inside seen [] = tt
+all_marked step inside seen (of ∷ members) = ((λ none. absurd (true≢false none)), all_marked step inside seen members)
 
 module _ {A S : Type 0} (step : S → Seen → S) (inside : S → Ids) (members : List (InArea A S)) where
   -- marks don't matter to what strips find
