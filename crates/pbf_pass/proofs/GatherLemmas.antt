@@ -56,10 +56,6 @@ pub beside : {A S : Type 0} (area : A → AreaSpec) (step : S → Seen → S) (o
 beside area step of [] = refl
 beside area step of (e ∷ es) = beside area step (with_seen_in area step of e) es
 
--- by their places
-abbrev pub node_placed : {A S : Type 0} → (A → AreaSpec) → (S → Seen → S) → InArea A S → Place → InArea A S
-node_placed area step of p = stepped step of (a_node p.id ((area of.area).has p.lat p.lon))
-
 nothing_more : (p : Place) (ps : List Place) → ◌≡◌ {A = List Place} [] (p ∷ ps) → ⊥
 nothing_more p ps e = search rules
 

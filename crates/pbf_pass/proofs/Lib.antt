@@ -13,3 +13,4 @@ pub mod HashLemmas
 pub mod EachLemmas
 pub mod SortedFileLemmas
 pub mod EachAreaLemmas
+pub mod WayStripLemmas

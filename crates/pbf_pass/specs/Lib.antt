@@ -12,4 +12,3 @@ pub mod Hashing
 pub mod Given
 pub mod Refused
 pub mod EachArea
-pub mod WayStrips

@@ -11,8 +11,9 @@ ghost use Rattle.pbf_pass.specs.Each.{each_gathered};
 ghost use Rattle.pbf_pass.specs.EachArea.{AreEnough, IsBounded, IsReady, MayAsk, member_areas, node_placed};
 ghost use Rattle.pbf_pass.specs.Pass.{with_seen_in};
 
-use crate::each::{gather_dense_each, gather_each, gather_way_each};
-use crate::pass::Gather;
+use crate::each::{gather_dense_each, gather_each};
+use crate::pass::{Gather, seen};
+use crate::way_strips::{WayStrips, take_way_each};
 use osm_area::{Area, AreaStrips};
 use osm_entity::{BoundingBox, EntityRef};
 use osm_ways::{InArea, NodeTaker};
@@ -20,28 +21,31 @@ use pbf_block::{Kinds, UnmadeWay};
 use pbf_dense::{Dense, Place};
 use std::alloc::{AllocError, Global};
 use std::marker::Model;
+use std::mem;
 
 /// Each of fewer areas looks through all nodes by itself, which costs less.
 const FEW_AREAS: usize = 4;
 
-/// The first phases of several areas, as one gatherer. It does what `Each` of them does, and gives a place only to the areas that may have one of
-/// its longitude. Contracts see the list of the phases.
+/// The first phases of several areas, as one gatherer. It does what `Each` of them does, but gives a place only to the areas that may have one of
+/// its longitude, and a way only to those that may have one of its refs. Contracts see the list of the phases.
 #[derive(Drop)]
-pub struct EachArea<A: Area, P> {
+pub struct EachArea<A: Area, P: NodeTaker> {
     members: Vec<InArea<A, P>>,
     strips: Option<AreaStrips>,
+    ways: WayStrips,
 }
 
-impl<A: Area, P> Model for EachArea<A, P> {
+impl<A: Area, P: NodeTaker> Model for EachArea<A, P> {
     ghost use Rattle.std.specs.Prelude.{List};
     ghost use Rattle.osm_ways.specs.declared.in_area.InArea as in_area;
-    ghost use Rattle.pbf_pass.specs.EachArea.{MayAsk, member_areas};
+    ghost use Rattle.pbf_pass.specs.EachArea.{MayAsk, MayFind, member_areas};
 
     ghost Value = { List (in_area.InArea A P) };
 
     ghost view = { λ each. each.members.items };
 
-    ghost invariant = { λ each. MayAsk (member_areas A.area each.members.items) each.strips };
+    ghost invariant = { λ each. MayAsk (member_areas A.area each.members.items) each.strips
+        × MayFind P.step P.inside each.members.items each.ways };
 }
 
 /// The boxes of the areas of phases.
@@ -77,8 +81,9 @@ fn strips_for<A: Area, P>(
     Ok(Some(strips))
 }
 
-impl<A: Area, P> EachArea<A, P> {
-    /// These, in the order of their turns. If there are more than a few, the strips of their areas are made.
+impl<A: Area, P: NodeTaker> EachArea<A, P> {
+    /// These, in the order of their turns. If there are more than a few, the strips of their areas are made, and at the first way those of
+    /// their nodes.
     ///
     /// # Errors
     ///
@@ -90,7 +95,12 @@ impl<A: Area, P> EachArea<A, P> {
         ensures { IfOk result (λ each. each ≡ members.items) }
     {
         let strips = strips_for(alloc, members.as_slice())?;
-        Ok(EachArea { members, strips })
+        let ways = WayStrips::beside(&strips, alloc);
+        Ok(EachArea {
+            members,
+            strips,
+            ways,
+        })
     }
 
     /// Those that it has, in the same order.
@@ -203,22 +213,29 @@ impl<A: Area, P: NodeTaker> Gather for EachArea<A, P> {
     /// If memory is refused, no strips are left: then nothing is known of the areas.
     #[tactic(auto, using(crate::proofs::EachLemmas::all_back))]
     fn gather(&mut self, entity: &EntityRef<'_>) -> Result<(), AllocError> {
+        self.ways.end();
         let strips = self.strips.take();
         gather_each(&mut self.members, entity)?;
         self.strips = strips;
         Ok(())
     }
 
+    /// Of most ways no ref is near a node of an area: then none of the phases is looked at.
     #[tactic(auto, using(crate::proofs::EachLemmas::all_back))]
     fn gather_way(&mut self, unmade: &UnmadeWay<'_>) -> Result<(), AllocError> {
+        if self.ways.leave_out(seen(unmade).refs) {
+            return Ok(());
+        }
         let strips = self.strips.take();
-        gather_way_each(&mut self.members, unmade)?;
+        let ways = mem::replace(&mut self.ways, WayStrips::Never);
+        self.ways = take_way_each(&mut self.members, ways, unmade)?;
         self.strips = strips;
         Ok(())
     }
 
     #[tactic(auto, using(crate::proofs::EachLemmas::all_back, crate::proofs::EachLemmas::fold_each))]
     fn gather_dense(&mut self, dense: &Dense<'_>) -> Result<(), AllocError> {
+        self.ways.end();
         let strips = self.strips.take();
         take_dense_each(&mut self.members, &strips, dense)?;
         self.strips = strips;

@@ -1,21 +1,216 @@
-//! stub
-ghost use Rattle.osm_entity.specs.Sources.{refs_left};
-ghost use Rattle.pbf_pass.specs.WayStrips.{MarksIds};
+//! Which of several first phases take a way: those that may have one of its refs among their nodes.
 
+ghost use Rattle.std.specs.Prelude.{◌≡◌, ◌<◌, ◌+◌, ◌^◌, ℕ, false, true, IfOk, OnOk, length, map};
+ghost use Rattle.std.specs.List.{AllByRecursion, AllZip};
+ghost use Rattle.osm_entity.specs.Entity.{way};
+ghost use Rattle.osm_entity.specs.Sources.{refs_left};
+ghost use Rattle.osm_ids.specs.Strips.{StillNames};
+ghost use Rattle.osm_ways.specs.InArea.{stepped};
+ghost use Rattle.osm_ways.specs.Seen.{seen_refs, seen_way};
+ghost use Rattle.pbf_block.specs.Runs.{way_from};
+ghost use Rattle.pbf_pass.specs.EachArea.{CanSkip, HasMarked, HasNone, MarksRefs, MayFind, MaySkip, NamesEach, NamesNone, SkipsWays, is_asked, member_ids};
+ghost use Rattle.pbf_pass.specs.Pass.{with_seen_in};
+ghost use Rattle.pbf_pass.specs.declared.way_strips.WayStrips.TheVariants.{Made};
+
+use crate::each::gather_way_each;
+use crate::pass::seen;
+use osm_area::{Area, AreaStrips};
 use osm_entity::Refs;
 use osm_ids::IdStrips;
+use osm_ways::{InArea, NodeTaker, SeenWay};
+use pbf_block::UnmadeWay;
+use std::alloc::{AllocError, Global};
 
-/// Marks the sets that may have one of these refs, and says whether there are any.
-pub fn mark_refs(strips: &IdStrips, refs: Refs<'_>, marks: &mut [bool]) -> bool
-    ensures { MarksIds strips.now (refs_left refs.entry) marks.old marks.new result }
+/// Strips of the ids of phases' nodes, and which phases take a way.
+#[derive(Drop)]
+pub(crate) struct MadeStrips {
+    /// They name the phases by their numbers.
+    strips: IdStrips,
+    /// For each phase whether it takes the way. All are cleared before the next one.
+    marks: Vec<bool>,
+}
+
+/// Strips of the ids of phases' nodes. They are made at most once: otherwise a file that alternates nodes and ways would have them made for
+/// each way.
+#[derive(Drop)]
+pub(crate) enum WayStrips {
+    /// They are made at the first way, of this memory.
+    Unmade(Global),
+    /// They are made, and only ways came since.
+    Made(MadeStrips),
+    /// They are not made any more: there are few areas, or a node or a relation came after a way.
+    Never,
+}
+
+/// Marks the phases that may have one of these refs, and says whether there are any.
+pub fn mark_refs(strips: &IdStrips, marks: &mut [bool], refs: Refs<'_>) -> bool
+    ensures marked { MarksRefs strips.now (refs_left refs.entry) marks.old marks.new }
+    ensures none { result ≡ false
+        → (number : ℕ) → is_asked strips.now (refs_left refs.entry) number ≡ false }
 {
+    let mut is_any = false;
     let mut rest = refs;
-    let mut some = false;
     'refs: while let Some(id) = rest.next() {
-        if strips.mark(id, marks) {
-            some = true;
-        }
+        is_any |= strips.mark(id, marks);
+        // Refs of the same strip are mostly together: they needn't be looked up.
         rest.pass_inside(strips.alike(id));
     }
-    some
+    is_any
+}
+
+impl WayStrips {
+    /// They will be made at the first way, of this memory, if the strips of the areas are.
+    pub(crate) fn beside(areas: &Option<AreaStrips>, alloc: Global) -> WayStrips
+        ensures { HasNone result }
+    {
+        match areas {
+            Some(_) => WayStrips::Unmade(alloc),
+            None => WayStrips::Never,
+        }
+    }
+
+    /// Marks the phases that may have one of these refs. Whether there are none, so that a way with these refs changes nothing; it may do so
+    /// too if false is returned.
+    pub(crate) fn leave_out(&mut self, refs: Refs<'_>) -> bool
+        ensures marked { HasMarked (refs_left refs.entry) self.old self.new }
+        ensures none { result ≡ true → NamesNone (refs_left refs.entry) self.old }
+    {
+        match self {
+            WayStrips::Made(made) => {
+                !mark_refs(&made.strips, made.marks.as_mut_slice(), refs)
+            }
+            WayStrips::Unmade(_) | WayStrips::Never => false,
+        }
+    }
+
+    /// A node or a relation comes: if strips are made, they are dropped.
+    pub(crate) fn end(&mut self)
+        ensures { HasNone self.new }
+    {
+        let is_made = matches!(self, WayStrips::Made(_));
+        if is_made {
+            *self = WayStrips::Never;
+        }
+    }
+}
+
+/// Takes a way by a phase if it is marked, and clears the mark.
+#[inline(always)]
+fn take_if_marked<A: Area, P: NodeTaker>(
+    member: &mut InArea<A, P>,
+    mark: &mut bool,
+    way: SeenWay<'_>,
+) -> Result<(), AllocError>
+    requires { CanSkip P.step P.inside (seen_refs way) member.old mark.old }
+    ensures taken { OnOk result (member.new ≡ stepped P.step member.old (seen_refs way.entry)) }
+    ensures skips { OnOk result (SkipsWays P.step P.inside member.new) }
+    ensures inside { OnOk result
+        (P.inside member.new.phase ≡ P.inside member.old.phase) }
+{
+    if !*mark {
+        return Ok(());
+    }
+    *mark = false;
+    member.phase.take_refs(way)
+}
+
+/// Takes a way by the phases that are marked, and clears the marks.
+fn take_marked<A: Area, P: NodeTaker>(
+    members: &mut [InArea<A, P>],
+    marks: &mut [bool],
+    way: SeenWay<'_>,
+) -> Result<(), AllocError>
+    requires { AllZip (CanSkip P.step P.inside (seen_refs way)) members.old marks.old }
+    ensures taken { OnOk result (members.new
+        ≡ map (λ of. stepped P.step of (seen_refs way.entry)) members.old) }
+    ensures skips { OnOk result (AllByRecursion (SkipsWays P.step P.inside) members.new) }
+    ensures inside { OnOk result
+        (member_ids P.inside members.new ≡ member_ids P.inside members.old) }
+{
+    let Some((member, others)) = members.split_first_mut() else {
+        return Ok(());
+    };
+    let Some((mark, later)) = marks.split_first_mut() else {
+        return Ok(());
+    };
+    take_if_marked(member, mark, way)?;
+    take_marked(others, later, way)
+}
+
+/// Names phases, whose numbers count from this one, for the nodes in their areas.
+fn add_each<A: Area, P: NodeTaker>(
+    strips: &mut IdStrips,
+    number: usize,
+    members: &[InArea<A, P>],
+) -> Result<(), AllocError>
+    requires { number + length members.now < 2 ^ 64 }
+    ensures named { OnOk result
+        (NamesEach strips.new number (member_ids P.inside members.now)) }
+    ensures still { OnOk result (StillNames strips.old strips.new) }
+{
+    let Some((member, others)) = members.split_first() else {
+        return Ok(());
+    };
+    strips.add(number, member.phase.ids())?;
+    add_each(strips, number + 1, others)
+}
+
+/// Takes a way by each of the phases, and makes the strips.
+fn take_first<A: Area, P: NodeTaker>(
+    alloc: Global,
+    members: &mut [InArea<A, P>],
+    way: SeenWay<'_>,
+) -> Result<MadeStrips, AllocError>
+    ensures taken { OnOk result (members.new
+        ≡ map (λ of. stepped P.step of (seen_refs way.entry)) members.old) }
+    ensures find { IfOk result (λ made. MayFind P.step P.inside members.new (Made made)) }
+{
+    let mut marks = vec![in alloc; true; members.len()]?;
+    take_marked(members, marks.as_mut_slice(), way)?;
+    let mut strips = IdStrips::new(alloc);
+    add_each(&mut strips, 0, members)?;
+    Ok(MadeStrips { strips, marks })
+}
+
+/// Takes a way by the phases that are marked.
+fn take_found<A: Area, P: NodeTaker>(
+    members: &mut [InArea<A, P>],
+    made: MadeStrips,
+    way: SeenWay<'_>,
+) -> Result<MadeStrips, AllocError>
+    requires { MaySkip P.step P.inside (seen_refs way) members.old (Made made) }
+    ensures taken { OnOk result (members.new
+        ≡ map (λ of. stepped P.step of (seen_refs way.entry)) members.old) }
+    ensures find { IfOk result (λ made. MayFind P.step P.inside members.new (Made made)) }
+{
+    let MadeStrips { strips, mut marks } = made;
+    take_marked(members, marks.as_mut_slice(), way)?;
+    Ok(MadeStrips { strips, marks })
+}
+
+/// Takes a way by the phases that are marked, or by each of them if no strips are made, which may be made then.
+pub(crate) fn take_way_each<A: Area, P: NodeTaker>(
+    members: &mut [InArea<A, P>],
+    strips: WayStrips,
+    unmade: &UnmadeWay<'_>,
+) -> Result<WayStrips, AllocError>
+    requires { MaySkip P.step P.inside (seen_way (way_from unmade.now)) members.old strips }
+    ensures taken { OnOk result (members.new
+        ≡ map (λ of. with_seen_in A.area P.step of (way (way_from unmade.now))) members.old) }
+    ensures find { IfOk result (MayFind P.step P.inside members.new) }
+{
+    match strips {
+        WayStrips::Unmade(alloc) => {
+            let made = take_first(alloc, members, seen(unmade))?;
+            Ok(WayStrips::Made(made))
+        }
+        WayStrips::Made(made) => {
+            let made = take_found(members, made, seen(unmade))?;
+            Ok(WayStrips::Made(made))
+        }
+        WayStrips::Never => {
+            gather_way_each(members, unmade)?;
+            Ok(WayStrips::Never)
+        }
+    }
 }

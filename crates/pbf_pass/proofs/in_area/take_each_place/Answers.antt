@@ -2,7 +2,7 @@ use Rattle.std.proofs.Common.{◌≡◌, List, sym, ap, ◌∙◌, rules}
 use Rattle.std.specs.List.{fold}
 use Rattle.pbf_dense.specs.declared.places.Place.{Place}
 use Rattle.pbf_dense.specs.Places.{places_left}
-use Rattle.pbf_pass.proofs.GatherLemmas.{node_placed}
+use Rattle.pbf_pass.specs.EachArea.{node_placed}
 use Rattle.pbf_pass.proofs.in_area.take_each_place.Goals as goal
 
 pub loop-place-preserved : goal.loop-place-preserved

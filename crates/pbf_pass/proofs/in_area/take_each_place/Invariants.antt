@@ -2,7 +2,7 @@ use Rattle.std.proofs.Common.{◌≡◌, map}
 use Rattle.std.specs.List.{fold}
 use Rattle.pbf_dense.specs.Cursors.{dense_left}
 use Rattle.pbf_dense.specs.Places.{node_place, places_left}
-use Rattle.pbf_pass.proofs.GatherLemmas.{node_placed}
+use Rattle.pbf_pass.specs.EachArea.{node_placed}
 use Rattle.pbf_pass.proofs.in_area.take_each_place.Given as goal
 
 -- the places that are left give what all of the message give
