@@ -1,8 +1,8 @@
 -- What several areas want of a block.
-use Rattle.std.proofs.Common.{◌≡◌, ◌<◌, ◌+◌, ◌⊎◌, inl, inr, ℕ, ℤ, suc, List, [], ◌∷◌, ◌++◌, Bool, true, false, if◌then◌else◌, length, take, drop, get_or, map, append-nil, append_assoc, sym, ap, subst, ◌∙◌, refl, arith}
-use Rattle.std.specs.List.{AllByRecursion, AllZip, filter, flat_map}
+use Rattle.std.proofs.Common.{◌≡◌, ◌<◌, ◌+◌, ◌⊎◌, inl, inr, ℕ, ℤ, suc, List, [], ◌∷◌, ◌++◌, Bool, true, false, if◌then◌else◌, length, take, drop, get_or, map, nat_eq, append-nil, append_assoc, sym, ap, subst, ◌∙◌, refl, arith}
+use Rattle.std.specs.List.{AllByRecursion, AllZip, filter, flat_map, list_any}
 use Rattle.std.specs.Global.{Vec}
-use Rattle.std.proofs.lemmas.List.{take_more, take-append-drop}
+use Rattle.std.proofs.lemmas.List.{length-take-le, take_more, take-append-drop}
 use Rattle.std.proofs.lemmas.List.Elements.{filter-append}
 use Rattle.std.proofs.lemmas.List.Concat.{flat_map-append}
 use Rattle.osm_entity.specs.Entity.{EntitySpec, NodeSpec, WaySpec, RelationSpec, node, way, relation}
@@ -10,15 +10,17 @@ use Rattle.osm_entity.specs.Ranges.{EntityFits}
 use Rattle.osm_ids.specs.declared.strips.IdStrips.{IdStrips}
 use Rattle.osm_ids.specs.Strips.{IsMarked, IsNamed, Marks, named_at}
 use Rattle.osm_ways.specs.declared.choice_strips.ChoiceStrips.{ChoiceStrips}
-use Rattle.osm_ways.specs.ChoiceStrips.{MarksKeepers, MayKeep, NamesChoice}
+use Rattle.osm_ways.specs.ChoiceStrips.{MarksKeepers, MayKeep, NamesChoice, StillNamesChoices}
+use Rattle.pbfcut.specs.declared.carrying.AreaChoice.{AreaChoice}
 use Rattle.osm_ways.specs.Phases.{KeptSets, is_taken, keeps_id}
 use Rattle.osm_ways.specs.Seen.{seen_relation}
 use Rattle.osm_ways.proofs.ChoiceStripLemmas.{named_node, named_way}
 use Rattle.pbf_block.specs.declared.runs.Run.{Run}
 use Rattle.pbf_block.specs.Runs.{run_entities}
 use Rattle.pbf_dense.specs.Places.{BeginWithIds, id_of}
-use Rattle.pbf_pass.specs.WayStrips.{MarksIds}
+use Rattle.pbf_pass.specs.EachArea.{MarksRefs, is_asked}
 use Rattle.pbfcut.specs.Pick.{Pick, taken_by}
+use Rattle.pbfcut.proofs.SeveralLemmas.{all_less, three_length}
 use Rattle.pbfcut.specs.Several.{AllThree}
 use Rattle.pbfcut.specs.Wanted.{AllFrom, AreWanted, AreWantedEach, IsShared, MarksTakers, MayTake, TakesNone, WantedLists, listed_entities}
 
@@ -87,9 +89,9 @@ by_names : (strips : ChoiceStrips) (es : List EntitySpec) (old new : List Bool) 
     → MarksTakers strips es old new some
 by_names strips es old new some set kept as_many none = marks_takers strips es old new some is_set kept as_many is_none where
   is_set : (number : ℕ) → MayTake strips es number → IsMarked new number
-  is_set number may = of (takes_or may.0 (IsMarked new number) es (set number may.0 may.1.0)) where
+  is_set number may = of (takes_or may.0 (IsMarked new number) es (set number may.0 may.1)) where
     of : TakesNone es may.0 ⊎ IsMarked new number → IsMarked new number
-    of (inl nothing) = absurd (may.1.1 nothing)
+    of (inl nothing) = absurd (may.2 nothing)
     of (inr marked) = marked
   is_none : some ≡ false → (number : ℕ) (sets : KeptSets) → NamesChoice strips number sets → TakesNone es sets
   is_none is number sets named = of (takes_or sets ⊥ es (none is number sets named)) where
@@ -99,18 +101,33 @@ by_names strips es old new some set kept as_many none = marks_takers strips es o
 
 -- a list that names none has none
 not_named : (strips : IdStrips) (id : ℤ) (number : ℕ) → named_at strips id ≡ [] → IsNamed strips id number → ⊥
-not_named strips id number none named = grind (none, named)
+not_named strips id number none named = grind (arith, none, named)
 
 -- nodes by ids that they begin with
 dense_each : (P : ℤ → Type 0) (Q : EntitySpec → Type 0) → ((n : NodeSpec) → P n.id → Q (node n)) → (ids : List ℤ) (ns : List NodeSpec) → BeginWithIds ids ns → AllByRecursion P ids → AllByRecursion Q (map node ns)
 dense_each P Q h ids [] begin all = tt
 dense_each P Q h ids (n ∷ ns) begin all = let here = subst (AllByRecursion P) begin.1 all in (h n here.0, dense_each P Q h (map id_of ns ++ begin.0) ns (begin.0, refl) here.1)
 
-pub dense_takers : (strips : ChoiceStrips) (ids : List ℤ) (ns : List NodeSpec) (old new : List Bool) (some : Bool) → BeginWithIds ids ns → MarksIds strips.nodes ids old new some → MarksTakers strips (map node ns) old new some
-dense_takers strips ids ns old new some begin m = by_names strips (map node ns) old new some
-    (λ number sets named. dense_each (λ id. (k : ℕ) → IsNamed strips.nodes id k → IsMarked new k) (λ e. taken_by sets e ≡ true → IsMarked new number) (λ n h is. h number (named_node strips number sets n.id named is)) ids ns begin m.marked)
-    m.kept m.as_many
-    (λ is number sets named. dense_each (λ id. named_at strips.nodes id ≡ []) (λ e. taken_by sets e ≡ true → ⊥) (λ n h kept. not_named strips.nodes n.id number h (named_node strips number sets n.id named kept)) ids ns begin (m.none is))
+-- one of a list that passes a test
+first_any : {X : Type 0} (P : X → Bool) (x : X) (xs : List X) → P x ≡ true → list_any P (x ∷ xs) ≡ true
+first_any P x xs is = grind (arith, is)
+
+later_any : {X : Type 0} (P : X → Bool) (x : X) (xs : List X) → list_any P xs ≡ true → list_any P (x ∷ xs) ≡ true
+later_any P x xs is = grind (arith, is)
+
+each_any : {X : Type 0} (P : X → Bool) (xs : List X) → AllByRecursion (λ x. P x ≡ true → list_any P xs ≡ true) xs
+each_any P [] = tt
+each_any P (x ∷ xs) = (first_any P x xs, all_less (λ y. P y ≡ true → list_any P xs ≡ true) (λ y. P y ≡ true → list_any P (x ∷ xs) ≡ true) (λ y h is. later_any P x xs (h is)) xs (each_any P xs))
+
+-- the marks of nodes by ids that they begin with
+pub dense_takers : (strips : ChoiceStrips) (ids : List ℤ) (ns : List NodeSpec) (old new : List Bool) (some : Bool) → BeginWithIds ids ns → MarksRefs strips.nodes ids old new → (some ≡ false → (number : ℕ) → is_asked strips.nodes ids number ≡ false) → MarksTakers strips (map node ns) old new some
+dense_takers strips ids ns old new some begin m none = by_names strips (map node ns) old new some
+    (λ number sets named. each number sets named (IsMarked new number) (m.set number)) m.kept m.as_many
+    (λ is number sets named. each number sets named ⊥ (λ asked. not_both asked (none is number))) where
+  not_both : {b : Bool} → b ≡ true → b ≡ false → ⊥
+  not_both is not = grind (arith, is, not)
+  each : (number : ℕ) (sets : KeptSets) → NamesChoice strips number sets → (Q : Type 0) → (is_asked strips.nodes ids number ≡ true → Q) → AllByRecursion (λ e. taken_by sets e ≡ true → Q) (map node ns)
+  each number sets named Q q = dense_each (λ id. IsNamed strips.nodes id number → is_asked strips.nodes ids number ≡ true) (λ e. taken_by sets e ≡ true → Q) (λ n h kept. q (h (named_node strips number sets n.id named kept))) ids ns begin (each_any (λ id. list_any (nat_eq number) (named_at strips.nodes id)) ids)
 
 -- one entity
 pub one_takers : (strips : ChoiceStrips) (e : EntitySpec) (old new : List Bool) (some : Bool) (Named : ℕ → Type 0)
@@ -152,7 +169,7 @@ unmarked : (strips : ChoiceStrips) (es : List EntitySpec) (old new : List Bool) 
 unmarked strips es old new some m i sets lt named left = by (filter (taken_by sets) es) refl where
   by : (l : List EntitySpec) → filter (taken_by sets) es ≡ l → TakesNone es sets
   by [] is = is
-  by (x ∷ xs) is = (let marked = m.marked.set i (sets, named, λ none. (let bad : x ∷ xs ≡ [] = sym is ∙ none in absurd (grind bad))) lt in absurd (grind (marked, left)))
+  by (x ∷ xs) is = (let marked = m.marked.set i (sets, named, λ none. (let bad : x ∷ xs ≡ [] = sym is ∙ none in absurd (grind (arith, bad)))) lt in absurd (grind (arith, marked, left)))
 
 pub left_out : (strips : ChoiceStrips) (es : List EntitySpec) (choices : List KeptSets) (old new : List Bool) (some : Bool) → length choices ≡ length new → AllFrom (NamesChoice strips) 0 choices → MarksTakers strips es old new some → AllZip (λ sets mark. mark ≡ false → TakesNone es sets) choices new
 left_out strips es choices old new some same named m = zip_left strips es choices new 0 same named (λ i sets lt is left. unmarked strips es old new some m i sets lt (subst (λ n. NamesChoice strips n sets) (omega arith) is) left)
@@ -175,9 +192,10 @@ shared_each gone run (c ∷ cs) marks [] news are left shared = absurd are
 shared_each gone run (c ∷ cs) [] (o ∷ os) news are left shared = absurd left
 shared_each gone run (c ∷ cs) (m ∷ ms) (o ∷ os) [] are left shared = absurd shared
 
-pub wanted_shared : (strips : ChoiceStrips) (count : ℕ) (gone : List EntitySpec) (run : Run) (start marks : List Bool) (some : Bool) (olds news : List (Vec Run)) → length marks ≡ count → MarksTakers strips (run_entities run) start marks some → AllThree (IsShared run) marks olds news → WantedLists strips count gone olds → WantedLists strips count (gone ++ run_entities run) news
-wanted_shared strips count gone run start marks some olds news many m shared are choices same named =
-    shared_each gone run choices marks olds news (are choices same named) (left_out strips (run_entities run) choices start marks some (same ∙ sym many) named m) shared
+pub wanted_shared : (strips : ChoiceStrips) (gone : List EntitySpec) (run : Run) (start marks : List Bool) (some : Bool) (olds news : List (Vec Run)) → length marks ≡ length olds → MarksTakers strips (run_entities run) start marks some → AllThree (IsShared run) marks olds news → WantedLists strips gone olds → WantedLists strips (gone ++ run_entities run) news
+wanted_shared strips gone run start marks some olds news many m shared are choices same named =
+    let all : length choices ≡ length olds = omega (arith, same, three_length (IsShared run) marks olds news shared) in
+    shared_each gone run choices marks olds news (are choices all named) (left_out strips (run_entities run) choices start marks some (all ∙ sym many) named m) shared
 
 -- a run that nobody wants
 nobody_each : (strips : ChoiceStrips) (gone es : List EntitySpec) (choices : List KeptSets) (lists : List (Vec Run)) (k : ℕ) → AllFrom (NamesChoice strips) k choices → ((number : ℕ) (sets : KeptSets) → NamesChoice strips number sets → TakesNone es sets) → AreWantedEach gone choices lists → AreWantedEach (gone ++ es) choices lists
@@ -186,14 +204,29 @@ nobody_each strips gone es (c ∷ cs) (l ∷ ls) k named none are = (wanted_none
 nobody_each strips gone es [] (l ∷ ls) k named none are = absurd are
 nobody_each strips gone es (c ∷ cs) [] k named none are = absurd are
 
-pub wanted_nobody : (strips : ChoiceStrips) (count : ℕ) (gone es : List EntitySpec) (start marks : List Bool) (some : Bool) (lists : List (Vec Run)) → some ≡ false → MarksTakers strips es start marks some → WantedLists strips count gone lists → WantedLists strips count (gone ++ es) lists
-wanted_nobody strips count gone es start marks some lists is m are choices same named = nobody_each strips gone es choices lists 0 named (m.none is) (are choices same named)
+pub wanted_nobody : (strips : ChoiceStrips) (gone es : List EntitySpec) (start marks : List Bool) (some : Bool) (lists : List (Vec Run)) → some ≡ false → MarksTakers strips es start marks some → WantedLists strips gone lists → WantedLists strips (gone ++ es) lists
+wanted_nobody strips gone es start marks some lists is m are choices same named = nobody_each strips gone es choices lists 0 named (m.none is) (are choices same named)
 
 -- of no runs nothing is wanted
-pub wanted_empty : (strips : ChoiceStrips) (lists : List (Vec Run)) → AllByRecursion (λ list. list.items ≡ []) lists → WantedLists strips (length lists) [] lists
+pub wanted_empty : (strips : ChoiceStrips) (lists : List (Vec Run)) → AllByRecursion (λ list. list.items ≡ []) lists → WantedLists strips [] lists
 wanted_empty strips lists empty choices same named = each choices lists same empty where
   each : (choices : List KeptSets) (lists : List (Vec Run)) → length choices ≡ length lists → AllByRecursion (λ list. list.items ≡ []) lists → AreWantedEach [] choices lists
   each [] [] same empty = tt
   each (c ∷ cs) (l ∷ ls) same empty = (subst (λ m. AreWanted (taken_by c) [] (listed_entities m)) (sym empty.0) (record { same = refl; fit = λ all. tt }), each cs ls (omega (arith, same)) empty.1)
   each [] (l ∷ ls) same empty = (let bad : ⊥ = omega (arith, same) in absurd bad)
   each (c ∷ cs) [] same empty = (let bad : ⊥ = omega (arith, same) in absurd bad)
+
+-- ---- strips
+
+still_from : (old new : ChoiceStrips) (k : ℕ) (choices : List AreaChoice) → StillNamesChoices old new → AllFrom (λ n choice. NamesChoice old n choice.chosen) k choices → AllFrom (λ n choice. NamesChoice new n choice.chosen) k choices
+still_from old new k [] still named = tt
+still_from old new k (c ∷ cs) still named = (still k c.chosen named.0, still_from old new (k + 1) cs still named.1)
+
+one_from : (strips : ChoiceStrips) (k n : ℕ) (choices : List AreaChoice) (c : AreaChoice) → n ≡ k + length choices → AllFrom (λ n choice. NamesChoice strips n choice.chosen) k choices → NamesChoice strips n c.chosen → AllFrom (λ n choice. NamesChoice strips n choice.chosen) k (choices ++ c ∷ [])
+one_from strips k n [] c is named one = (subst (λ m. NamesChoice strips m c.chosen) (omega (arith, is)) one, tt)
+one_from strips k n (d ∷ ds) c is named one = (named.0, one_from strips (k + 1) n ds c (omega (arith, is)) named.1 one)
+
+pub named_more : (old new : ChoiceStrips) (n : ℕ) (choices : List AreaChoice) (c : AreaChoice) → n < length choices → c ≡ get_or choices n c → StillNamesChoices old new → NamesChoice new n c.chosen → AllFrom (λ n choice. NamesChoice old n choice.chosen) 0 (take n choices) → AllFrom (λ n choice. NamesChoice new n choice.chosen) 0 (take (n + 1) choices)
+named_more old new n choices c lt is still one named =
+    let many : n ≡ 0 + length (take n choices) = omega (arith, lt, length-take-le n choices (omega (arith, lt))) in
+    subst (λ l. AllFrom (λ m choice. NamesChoice new m choice.chosen) 0 l) (ap (λ x. take n choices ++ x ∷ []) is ∙ sym (take_more choices n c lt)) (one_from new 0 n (take n choices) c many (still_from old new 0 (take n choices) still named) one)

@@ -48,9 +48,9 @@ abbrev pub AreWantedEach : List EntitySpec → List KeptSets → List (Vec Run) 
 AreWantedEach es choices lists = AllZip (λ sets list. AreWanted (taken_by sets) es (listed_entities list.items)) choices lists
 
 -- a run was added to the lists that are marked
-abbrev pub IsShared : Run → Bool → Vec Run → Vec Run → Type 0
+abbrev pub IsShared : {T : Type 0} → T → Bool → Vec T → Vec T → Type 0
 IsShared run mark old new = new.items ≡ (if mark then old.items ++ run ∷ [] else old.items)
 
 -- whatever the choices are that strips name, each list has what is wanted for one
-abbrev pub WantedLists : ChoiceStrips → ℕ → List EntitySpec → List (Vec Run) → Type 0
-WantedLists strips count es lists = (choices : List KeptSets) → length choices ≡ count → AllFrom (NamesChoice strips) 0 choices → AreWantedEach es choices lists
+abbrev pub WantedLists : ChoiceStrips → List EntitySpec → List (Vec Run) → Type 0
+WantedLists strips es lists = (choices : List KeptSets) → length choices ≡ length lists → AllFrom (NamesChoice strips) 0 choices → AreWantedEach es choices lists

@@ -1,8 +1,8 @@
 //! What several areas want of a block: it is read once to find that, and not once for each area.
 
-ghost use Rattle.std.specs.Prelude.{◌≡◌, [], ◌∷◌, IfOk, IfSome, OnOk, length, map};
+ghost use Rattle.std.specs.Prelude.{◌≡◌, List, [], ◌∷◌, ◌++◌, IfOk, IfSome, OnOk, length, map};
 ghost use Rattle.std.specs.List.{AllByRecursion};
-ghost use Rattle.osm_entity.specs.Entity.{node};
+ghost use Rattle.osm_entity.specs.Entity.{EntitySpec, node};
 ghost use Rattle.osm_ways.specs.ChoiceStrips.{NamesChoice};
 ghost use Rattle.pbf_block.specs.Runs.{entity_from, joined_runs, run_entities, runs_left};
 ghost use Rattle.pbf_dense.specs.Cursors.{dense_left};
@@ -39,7 +39,7 @@ pub(crate) fn strips_of(
 fn mark_dense(strips: &ChoiceStrips, dense: &Dense<'_>, marks: &mut [bool]) -> bool
     ensures { MarksTakers strips.now (map node (dense_left dense.now)) marks.old marks.new result }
 {
-    mark_refs(&strips.nodes, Refs::Summed(dense.ids()), marks)
+    mark_refs(&strips.nodes, marks, Refs::Summed(dense.ids()))
 }
 
 /// The same of a node or a relation that is not made yet. It is a call, so that its room is cleared only here.
@@ -69,41 +69,64 @@ fn mark_run(strips: &ChoiceStrips, run: &Run<'_>, marks: &mut [bool]) -> bool
     }
 }
 
-/// Adds a run to a list if that is marked, clears the mark, and says how many were added.
-fn share_with<'a>(
-    run: &Run<'a>,
-    list: &mut Vec<Run<'a>>,
+/// Adds a run to a list if that is marked, clears the mark, and counts it. Nothing of runs matters here.
+fn share_with<T: Copy>(
+    run: &T,
+    list: &mut Vec<T>,
     mark: &mut bool,
-) -> Result<usize, AllocError>
+    listed: &mut usize,
+) -> Result<(), AllocError>
     ensures { OnOk result (IsShared run.now mark.old list.old list.new) }
 {
     if !*mark {
-        return Ok(0);
+        return Ok(());
     }
     *mark = false;
+    *listed = listed.saturating_add(1);
     list.push(*run)?;
-    Ok(1)
+    Ok(())
 }
 
 /// The same of all lists and their marks.
-fn share<'a>(
-    run: &Run<'a>,
-    lists: &mut [Vec<Run<'a>>],
+fn share<T: Copy>(
+    run: &T,
+    lists: &mut [Vec<T>],
     marks: &mut [bool],
-) -> Result<usize, AllocError>
+    listed: &mut usize,
+) -> Result<(), AllocError>
     requires { length marks.old ≡ length lists.old }
     ensures shared { OnOk result (AllThree (IsShared run.now) marks.old lists.old lists.new) }
     ensures as_many { OnOk result (length marks.new ≡ length marks.old) }
 {
     let Some((list, later)) = lists.split_first_mut() else {
-        return Ok(0);
+        return Ok(());
     };
     let Some((mark, more)) = marks.split_first_mut() else {
-        return Ok(0);
+        return Ok(());
     };
-    let one = share_with(run, list, mark)?;
-    let others = share(run, later, more)?;
-    Ok(one.saturating_add(others))
+    share_with(run, list, mark, listed)?;
+    share(run, later, more, listed)
+}
+
+/// Adds a run to the lists of the choices that may keep something of it, and says to how many.
+fn list_run<'a>(
+    strips: &ChoiceStrips,
+    run: &Run<'a>,
+    lists: &mut [Vec<Run<'a>>],
+    marks: &mut [bool],
+) -> Result<usize, AllocError>
+    requires { length marks.old ≡ length lists.old }
+    ensures wanted { OnOk result ((es : List EntitySpec) → WantedLists strips.now es lists.old
+        → WantedLists strips.now (es ++ run_entities run.now) lists.new) }
+    ensures lists { OnOk result (length lists.new ≡ length lists.old) }
+    ensures marks { OnOk result (length marks.new ≡ length marks.old) }
+{
+    let mut listed = 0;
+    let some = mark_run(strips, run, marks);
+    if some {
+        share(run, lists, marks, &mut listed)?;
+    }
+    Ok(listed)
 }
 
 /// For each of so many choices the runs of which it may keep something, in their order; `None` if they are too many.
@@ -113,7 +136,7 @@ pub(crate) fn wanted_each<'a>(
     count: usize,
     runs: Runs<'a>,
 ) -> Result<Option<Vec<Vec<Run<'a>>>>, AllocError>
-    ensures wanted { IfOk result (λ found. IfSome found (λ lists. WantedLists strips.now count
+    ensures wanted { IfOk result (λ found. IfSome found (λ lists. WantedLists strips.now
         (joined_runs (runs_left runs.entry)) lists.items)) }
     ensures as_many { IfOk result (λ found. IfSome found (λ lists. length lists.items ≡ count)) }
 {
@@ -121,11 +144,7 @@ pub(crate) fn wanted_each<'a>(
     let mut marks = vec![in alloc; false; count]?;
     let mut listed: usize = 0;
     for run in runs {
-        let some = mark_run(strips, &run, &mut marks);
-        if !some {
-            continue;
-        }
-        let more = share(&run, &mut lists, &mut marks)?;
+        let more = list_run(strips, &run, &mut lists, &mut marks)?;
         listed = listed.saturating_add(more);
         if listed > MOST_LISTED {
             return Ok(None);

@@ -6,7 +6,7 @@ use Rattle.pbfcut.proofs.wanted.strips_of.Given as goal
 -- the choices up to this one are named
 abbrev pub invariant-choices : goal.invariant-choices
 invariant-choices l = record {
-  named : AllFrom (λ number choice. NamesChoice l.strips number choice.chosen) 0 (take l.number l.choices.now);
+  named : AllFrom (λ number choice. NamesChoice l.strips number choice.chosen) 0 (take l.number l.choices);
   ends : l.number ≤ l.number-end;
-  all : l.number-end ≡ length l.choices.now;
+  all : l.number-end ≡ length l.choices;
 }

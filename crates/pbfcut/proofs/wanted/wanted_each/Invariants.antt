@@ -13,5 +13,5 @@ invariant-loop-run l = record {
   split : gone ++ joined_runs (runs_left l.run-iterator) ≡ joined_runs (runs_left l.fn.runs);
   lists : length l.lists.items ≡ l.count;
   marks : length l.marks.items ≡ l.count;
-  wanted : WantedLists l.strips l.count gone l.lists.items;
+  wanted : WantedLists l.strips gone l.lists.items;
 }
