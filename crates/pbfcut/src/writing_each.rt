@@ -210,6 +210,27 @@ fn pack_together<A, D: Drain, S: BuildHasher>(
     Ok(true)
 }
 
+/// The same if there are strips; it returns false if there are none.
+fn pack_by_strips<A, D: Drain, S: BuildHasher>(
+    alloc: Global,
+    frame: &Frame<'_>,
+    strips: &Option<ChoiceStrips>,
+    writers: &mut [AreaWriter<'_, A, D, S>],
+) -> Result<bool, Stop>
+    requires { AreReady strips.now writers.old }
+    ensures packed { result ≡ Ok true → AllZip (WriterTakesPayload D.Drain (lent_by frame.now))
+        writers.old writers.new }
+    ensures left { result ≡ Ok false → writers.new ≡ writers.old }
+    ensures stopped { IfErr result (λ stop. OneStopped
+        (WriterTakesPayload D.Drain (lent_by frame.now))
+        (WriterFailsAtPayload D.Drain (lent_by frame.now) stop) writers.old writers.new) }
+{
+    match strips {
+        Some(strips) => pack_together(alloc, frame, strips, writers),
+        None => Ok(false),
+    }
+}
+
 /// Packs what each of the writers picks of the payload of a frame, which is read once if that can be.
 fn pack_frame_each<A, D: Drain, S: BuildHasher>(
     alloc: Global,
@@ -224,10 +245,8 @@ fn pack_frame_each<A, D: Drain, S: BuildHasher>(
         (WriterTakesPayload D.Drain (lent_by frame.now))
         (WriterFailsAtPayload D.Drain (lent_by frame.now) stop) writers.old writers.new) }
 {
-    if let Some(strips) = strips {
-        if pack_together(alloc, frame, strips, writers)? {
-            return Ok(());
-        }
+    if pack_by_strips(alloc, frame, strips, writers)? {
+        return Ok(());
     }
     pack_payload_each(frame, writers)
 }

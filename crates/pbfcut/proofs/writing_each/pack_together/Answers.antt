@@ -21,13 +21,14 @@ returns-in_err-pack_wanted_each-clause-stopped g c =
     let block = c.in-Ok-Some.block in
     let is = rw c.in-Ok-Some.field-0-is at c.in-Ok-Some.ensures.payload in
     let here : block_fault block.at block.payload.now ≡ block_fault frame.payload_at frame.payload.now = ap₂ (λ (at : ℕ) (m : List ℕ). block_fault at m) is.1 is.0 in
-    let es = joined_runs (runs_left c.runs_among.result) in
+    let es = joined_runs (runs_left c.runs_among-runs.result) in
     let p = primitive_block frame.payload_at frame.payload.now in
     let olds = c.args.writers.now in
     let found = rw c.in-Ok-Some-wanted_each.field-0-is at c.in-Ok-Some-wanted_each.ensures.wanted in
-    let are = subst (λ (l : List (Vec Run)). AllZip (Wants es) olds l) (sym c.deref.ensures.value) (wanted_by c.args.strips.now 0 es olds _ c.requires.named (found (chosen_by olds) (chosen_length olds ∙ sym c.len.ensures) (chosen_named c.args.strips.now 0 olds c.requires.named))) in
-    let fits = λ (sound : fault_in p ≡ None). c.runs_among.ensures.fits (here ∙ sound) in
-    let same = λ (pick : Pick) (sound : fault_in p ≡ None). picked_runs pick c.all.result es frame.payload_at block.at frame.payload.now block.payload.now c.all.ensures is (c.runs_among.ensures.exact (here ∙ sound)) in
+    let many = rw c.in-Ok-Some-wanted_each.field-0-is at c.in-Ok-Some-wanted_each.ensures.as_many in
+    let are = subst (λ (l : List (Vec Run)). AllZip (Wants es) olds l) (sym c.deref.ensures.value) (wanted_by c.args.strips.now 0 es olds _ c.requires.named (found (chosen_by olds) (chosen_length olds ∙ sym many) (chosen_named c.args.strips.now 0 olds c.requires.named))) in
+    let fits = λ (sound : fault_in p ≡ None). c.runs_among-runs.ensures.fits (here ∙ sound) in
+    let same = λ (pick : Pick) (sound : fault_in p ≡ None). picked_runs pick c.all.result es frame.payload_at block.at frame.payload.now block.payload.now c.all.ensures is (c.runs_among-runs.ensures.exact (here ∙ sound)) in
     let lent : lent_by frame ≡ p = ap (λ k. payload_as k frame.payload_at frame.payload.now) c.in-Data.is in
     rw (e.1, e.2) (subst (λ q. OneStopped (WriterTakesPayload g.D.Drain q) (WriterFailsAtPayload g.D.Drain q c.in_err-pack_wanted_each.field-0.0) c.args.writers.now c.pack_wanted_each.new.writers) (sym lent) (one_payload g.D.Drain p es fits same c.in_err-pack_wanted_each.field-0.0 _ olds c.pack_wanted_each.new.writers are c.in_err-pack_wanted_each.ensures.stopped))
 
@@ -37,12 +38,13 @@ returns-clause-packed g c is_true =
     let block = c.in-Ok-Some.block in
     let is = rw c.in-Ok-Some.field-0-is at c.in-Ok-Some.ensures.payload in
     let here : block_fault block.at block.payload.now ≡ block_fault frame.payload_at frame.payload.now = ap₂ (λ (at : ℕ) (m : List ℕ). block_fault at m) is.1 is.0 in
-    let es = joined_runs (runs_left c.runs_among.result) in
+    let es = joined_runs (runs_left c.runs_among-runs.result) in
     let p = primitive_block frame.payload_at frame.payload.now in
     let olds = c.args.writers.now in
     let found = rw c.in-Ok-Some-wanted_each.field-0-is at c.in-Ok-Some-wanted_each.ensures.wanted in
-    let are = subst (λ (l : List (Vec Run)). AllZip (Wants es) olds l) (sym c.deref.ensures.value) (wanted_by c.args.strips.now 0 es olds _ c.requires.named (found (chosen_by olds) (chosen_length olds ∙ sym c.len.ensures) (chosen_named c.args.strips.now 0 olds c.requires.named))) in
-    let fits = λ (sound : fault_in p ≡ None). c.runs_among.ensures.fits (here ∙ sound) in
-    let same = λ (pick : Pick) (sound : fault_in p ≡ None). picked_runs pick c.all.result es frame.payload_at block.at frame.payload.now block.payload.now c.all.ensures is (c.runs_among.ensures.exact (here ∙ sound)) in
+    let many = rw c.in-Ok-Some-wanted_each.field-0-is at c.in-Ok-Some-wanted_each.ensures.as_many in
+    let are = subst (λ (l : List (Vec Run)). AllZip (Wants es) olds l) (sym c.deref.ensures.value) (wanted_by c.args.strips.now 0 es olds _ c.requires.named (found (chosen_by olds) (chosen_length olds ∙ sym many) (chosen_named c.args.strips.now 0 olds c.requires.named))) in
+    let fits = λ (sound : fault_in p ≡ None). c.runs_among-runs.ensures.fits (here ∙ sound) in
+    let same = λ (pick : Pick) (sound : fault_in p ≡ None). picked_runs pick c.all.result es frame.payload_at block.at frame.payload.now block.payload.now c.all.ensures is (c.runs_among-runs.ensures.exact (here ∙ sound)) in
     let lent : lent_by frame ≡ p = ap (λ k. payload_as k frame.payload_at frame.payload.now) c.in-Data.is in
     subst (λ q. AllZip (WriterTakesPayload g.D.Drain q) c.args.writers.now c.pack_wanted_each.new.writers) (sym lent) (each_payload g.D.Drain p es fits same _ olds c.pack_wanted_each.new.writers are c.in_ok-pack_wanted_each.ensures.packed)
