@@ -1,9 +1,6 @@
-use Rattle.std.proofs.Common.{◌≡◌, ◌++◌, ◌∙◌, List, sym, ap, length, take, drop, map, subst, arith, rules}
+use Rattle.std.proofs.Common.{◌≡◌, ◌++◌, ◌∙◌, sym, ap, length, take, drop, map, subst, arith, rules}
 use Rattle.osm_entity.specs.Entity.{way}
-use Rattle.osm_entity.specs.Sources.{refs_left}
-use Rattle.osm_ways.specs.InArea.{stepped}
-use Rattle.osm_ways.specs.Selection.{Seen}
-use Rattle.osm_ways.specs.Seen.{seen_refs}
+use Rattle.osm_ways.specs.Seen.{seen_way}
 use Rattle.pbf_block.specs.Runs.{way_from}
 use Rattle.pbf_pass.specs.Each.{each_gathered}
 use Rattle.pbf_pass.specs.EachArea.{MayFind, MaySkip}
@@ -17,11 +14,10 @@ pub take_way_each-requires : goal.take_way_each-requires
 take_way_each-requires g c =
     let step = g.P.NodeTaker.step in
     let inside = g.P.NodeTaker.inside in
-    let seen = c.seen.result in
-    let skip = may_skip step inside c.self.inside.members.items seen.id (refs_left seen.refs) c.self.inside.ways c.leave_out.new.self c.leave_out.ensures.marked c.self.invariant.1 in
-    subst (λ (s : Seen). MaySkip step inside s c.deref_mut.result.now c.replace-ways.result) c.seen.ensures
-    (subst (λ l. MaySkip step inside (seen_refs seen) l c.replace-ways.result) (sym c.deref_mut.ensures.value)
-    (subst (MaySkip step inside (seen_refs seen) c.self.inside.members.items) (sym c.replace-ways.ensures.value) skip))
+    let w = way_from c.args.unmade.now in
+    let skip = may_skip step inside c.self.inside.members.items w.id w.refs c.self.inside.ways c.leave_out.new.self c.leave_out.ensures.marked c.self.invariant.1 in
+    subst (λ l. MaySkip step inside (seen_way w) l c.replace-ways.result) (sym c.deref_mut.ensures.value)
+    (subst (MaySkip step inside (seen_way w) c.self.inside.members.items) (sym c.replace-ways.ensures.value) skip)
 
 pub invariant_of-self-2 : goal.invariant_of-self-2
 invariant_of-self-2 g c =
@@ -38,8 +34,6 @@ invariant_of-self-2 g c =
 pub returns-then-leave_out : goal.returns-then-leave_out
 returns-then-leave_out g c =
     let step = g.P.NodeTaker.step in
-    let olds = c.self.inside.members.items in
-    let seen = c.seen.result in
-    all_left_out step g.P.NodeTaker.inside olds seen.id (refs_left seen.refs) c.self.inside.ways (c.leave_out.ensures.none c.if-leave_out.true) c.self.invariant.1
-    ∙ ap (λ (s : Seen). map (λ of. stepped step of s) olds) c.seen.ensures
-    ∙ ap (λ l. each_gathered (with_seen_in g.A.Area.area step) l (way (way_from c.args.unmade.now))) c.self.view_is
+    let w = way_from c.args.unmade.now in
+    all_left_out step g.P.NodeTaker.inside c.self.inside.members.items w.id w.refs c.self.inside.ways (c.leave_out.ensures.none c.if-leave_out.true) c.self.invariant.1
+    ∙ ap (λ l. each_gathered (with_seen_in g.A.Area.area step) l (way w)) c.self.view_is
