@@ -124,14 +124,6 @@ all_marked step inside seen [] = tt
 all_marked step inside seen (of ∷ members) = ((λ none. absurd (true≢false none)), all_marked step inside seen members)
 
 module _ {A S : Type 0} (step : S → Seen → S) (inside : S → Ids) (members : List (InArea A S)) where
-  -- marks don't matter to what strips find
-  pub find_still : (refs : List ℤ) (old new : WayStrips) → HasMarked refs old new → MayFind step inside members old → MayFind step inside members new
-  find_still refs (Made old) (Made new) marked find = (find.0, subst (λ s. NamesEach s 0 (member_ids inside members)) (sym marked.0) find.1, marked.1.as_many ∙ find.2)
-  find_still refs (Made old) (Unmade alloc) marked find = tt
-  find_still refs (Made old) Never marked find = tt
-  find_still refs (Unmade alloc) new marked find = subst (MayFind step inside members) (sym marked) find
-  find_still refs Never new marked find = subst (MayFind step inside members) (sym marked) find
-
   pub find_none : (strips : WayStrips) → HasNone strips → MayFind step inside members strips
   find_none (Made made) none = absurd none
   find_none (Unmade alloc) none = tt

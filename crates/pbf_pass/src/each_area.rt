@@ -12,7 +12,7 @@ ghost use Rattle.pbf_pass.specs.EachArea.{AreEnough, IsBounded, IsReady, MayAsk,
 ghost use Rattle.pbf_pass.specs.Pass.{with_seen_in};
 
 use crate::each::{gather_dense_each, gather_each};
-use crate::pass::{Gather, seen};
+use crate::pass::Gather;
 use crate::way_strips::{WayStrips, take_way_each};
 use osm_area::{Area, AreaStrips};
 use osm_entity::{BoundingBox, EntityRef};
@@ -223,7 +223,7 @@ impl<A: Area, P: NodeTaker> Gather for EachArea<A, P> {
     /// Of most ways no ref is near a node of an area: then none of the phases is looked at.
     #[tactic(auto, using(crate::proofs::EachLemmas::all_back))]
     fn gather_way(&mut self, unmade: &UnmadeWay<'_>) -> Result<(), AllocError> {
-        if self.ways.leave_out(seen(unmade).refs) {
+        if self.ways.leave_out(unmade) {
             return Ok(());
         }
         let strips = self.strips.take();

@@ -69,15 +69,14 @@ impl WayStrips {
         }
     }
 
-    /// Marks the phases that may have one of these refs. Whether there are none, so that a way with these refs changes nothing; it may do so
-    /// too if false is returned.
-    pub(crate) fn leave_out(&mut self, refs: Refs<'_>) -> bool
-        ensures marked { HasMarked (refs_left refs.entry) self.old self.new }
-        ensures none { result ≡ true → NamesNone (refs_left refs.entry) self.old }
+    /// Marks the phases that may have one of the way's refs. Whether it is known that there are none: then the way changes nothing.
+    pub(crate) fn leave_out(&mut self, unmade: &UnmadeWay<'_>) -> bool
+        ensures marked { HasMarked (way_from unmade.now).refs self.old self.new }
+        ensures none { result ≡ true → NamesNone (way_from unmade.now).refs self.old }
     {
         match self {
             WayStrips::Made(made) => {
-                !mark_refs(&made.strips, made.marks.as_mut_slice(), refs)
+                !mark_refs(&made.strips, made.marks.as_mut_slice(), unmade.refs())
             }
             WayStrips::Unmade(_) | WayStrips::Never => false,
         }
@@ -99,10 +98,10 @@ impl WayStrips {
 fn take_if_marked<A: Area, P: NodeTaker>(
     member: &mut InArea<A, P>,
     mark: &mut bool,
-    way: SeenWay<'_>,
+    way: &SeenWay<'_>,
 ) -> Result<(), AllocError>
-    requires { CanSkip P.step P.inside (seen_refs way) member.old mark.old }
-    ensures taken { OnOk result (member.new ≡ stepped P.step member.old (seen_refs way.entry)) }
+    requires { CanSkip P.step P.inside (seen_refs way.now) member.old mark.old }
+    ensures taken { OnOk result (member.new ≡ stepped P.step member.old (seen_refs way.now)) }
     ensures skips { OnOk result (SkipsWays P.step P.inside member.new) }
     ensures inside { OnOk result
         (P.inside member.new.phase ≡ P.inside member.old.phase) }
@@ -111,18 +110,18 @@ fn take_if_marked<A: Area, P: NodeTaker>(
         return Ok(());
     }
     *mark = false;
-    member.phase.take_refs(way)
+    member.phase.take_refs(*way)
 }
 
 /// Takes a way by the phases that are marked, and clears the marks.
 fn take_marked<A: Area, P: NodeTaker>(
     members: &mut [InArea<A, P>],
     marks: &mut [bool],
-    way: SeenWay<'_>,
+    way: &SeenWay<'_>,
 ) -> Result<(), AllocError>
-    requires { AllZip (CanSkip P.step P.inside (seen_refs way)) members.old marks.old }
+    requires { AllZip (CanSkip P.step P.inside (seen_refs way.now)) members.old marks.old }
     ensures taken { OnOk result (members.new
-        ≡ map (λ of. stepped P.step of (seen_refs way.entry)) members.old) }
+        ≡ map (λ of. stepped P.step of (seen_refs way.now)) members.old) }
     ensures skips { OnOk result (AllByRecursion (SkipsWays P.step P.inside) members.new) }
     ensures inside { OnOk result
         (member_ids P.inside members.new ≡ member_ids P.inside members.old) }
@@ -159,10 +158,10 @@ fn add_each<A: Area, P: NodeTaker>(
 fn take_first<A: Area, P: NodeTaker>(
     alloc: Global,
     members: &mut [InArea<A, P>],
-    way: SeenWay<'_>,
+    way: &SeenWay<'_>,
 ) -> Result<MadeStrips, AllocError>
     ensures taken { OnOk result (members.new
-        ≡ map (λ of. stepped P.step of (seen_refs way.entry)) members.old) }
+        ≡ map (λ of. stepped P.step of (seen_refs way.now)) members.old) }
     ensures find { IfOk result (λ made. MayFind P.step P.inside members.new (Made made)) }
 {
     let mut marks = vec![in alloc; true; members.len()]?;
@@ -176,11 +175,11 @@ fn take_first<A: Area, P: NodeTaker>(
 fn take_found<A: Area, P: NodeTaker>(
     members: &mut [InArea<A, P>],
     made: MadeStrips,
-    way: SeenWay<'_>,
+    way: &SeenWay<'_>,
 ) -> Result<MadeStrips, AllocError>
-    requires { MaySkip P.step P.inside (seen_refs way) members.old (Made made) }
+    requires { MaySkip P.step P.inside (seen_refs way.now) members.old (Made made) }
     ensures taken { OnOk result (members.new
-        ≡ map (λ of. stepped P.step of (seen_refs way.entry)) members.old) }
+        ≡ map (λ of. stepped P.step of (seen_refs way.now)) members.old) }
     ensures find { IfOk result (λ made. MayFind P.step P.inside members.new (Made made)) }
 {
     let MadeStrips { strips, mut marks } = made;
@@ -201,11 +200,11 @@ pub(crate) fn take_way_each<A: Area, P: NodeTaker>(
 {
     match strips {
         WayStrips::Unmade(alloc) => {
-            let made = take_first(alloc, members, seen(unmade))?;
+            let made = take_first(alloc, members, &seen(unmade))?;
             Ok(WayStrips::Made(made))
         }
         WayStrips::Made(made) => {
-            let made = take_found(members, made, seen(unmade))?;
+            let made = take_found(members, made, &seen(unmade))?;
             Ok(WayStrips::Made(made))
         }
         WayStrips::Never => {

@@ -12,4 +12,4 @@ take_marked-requires g c =
     let inside = g.P.NodeTaker.inside in
     let members = c.args.members.now in
     let are : c.as_mut_slice.result.now ≡ replicate (length members) true = search rules in
-    subst (λ (marks : List Bool). AllZip (CanSkip step inside (seen_refs c.args.way)) members marks) (sym are) (all_marked step inside (seen_refs c.args.way) members)
+    subst (λ (marks : List Bool). AllZip (CanSkip step inside (seen_refs c.args.way.now)) members marks) (sym are) (all_marked step inside (seen_refs c.args.way.now) members)
