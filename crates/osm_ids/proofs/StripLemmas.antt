@@ -140,6 +140,18 @@ named_alike strips id other same = ap (λ (n : ℕ). listed_at strips.strips.ite
 pub marks_named : (strips : IdStrips) (id : ℤ) (numbers : List ℕ) (old new : List Bool) → named_at strips id ≡ numbers → Marks (HasNumber numbers) old new → Marks (IsNamed strips id) old new
 marks_named strips id numbers old new named marks = subst (λ (ns : List ℕ). Marks (HasNumber ns) old new) (sym named) marks
 
+-- where no set is named, none of any number is
+pub not_named : (strips : IdStrips) (id : ℤ) (number : ℕ) → named_at strips id ≡ [] → IsNamed strips id number → ⊥
+not_named strips id number none named = none_listed number (subst (λ (ns : List ℕ). HasNumber ns number) none named)
+
+-- those that are marked besides don't matter
+pub marks_fewer : (some more : ℕ → Type 0) (old new : List Bool) → ((number : ℕ) → some number → more number) → Marks more old new → Marks some old new
+marks_fewer some more old new within marks = record {
+  set = λ number is. marks.set number (within number is);
+  kept = marks.kept;
+  as_many = marks.as_many;
+}
+
 -- the set is named for each of the ids but those that are left
 abbrev pub NamesBut : IdStrips → ℕ → Ids → List ℤ → Type 0
 NamesBut strips number ids left = (id : ℤ) → set.contains ids id ≡ true → list_any (int_eq id) left ≡ false → IsNamed strips id number

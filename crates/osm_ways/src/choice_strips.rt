@@ -107,7 +107,7 @@ impl ChoiceStrips {
     {
         let mut some = false;
         for member in relation.members() {
-            some = self.mark_member(&member, marks) || some;
+            some |= self.mark_member(&member, marks);
         }
         some
     }
