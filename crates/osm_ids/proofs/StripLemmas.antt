@@ -1,5 +1,5 @@
 -- Strips of ids: what is named in them, and what stays named.
-use Rattle.std.proofs.Common.{◌≡◌, ◌<◌, ◌≤◌, ◌++◌, ◌+◌, ◌*◌, ◌-◌, ◌/◌, ℕ, zero, suc, ℤ, pos, negsuc, ◌+ℤ◌, ◌-ℤ◌, ◌<ℤ◌, Bool, true, false, List, [], ◌∷◌, None, Some, nat_abs, refl, sym, ap, ◌∙◌, subst, length, length-set, set as set_at, get_or-set_same, get_or-set_other, inl, inr, true≢false, nat_eq, arith}
+use Rattle.std.proofs.Common.{◌≡◌, ◌<◌, ◌≤◌, ◌++◌, ◌+◌, ◌*◌, ◌-◌, ◌/◌, ℕ, zero, suc, ℤ, pos, negsuc, ◌-ℤ◌, ◌<ℤ◌, Bool, true, false, List, [], ◌∷◌, None, Some, nat_abs, refl, sym, ap, ◌∙◌, subst, length, length-set, set as set_at, get_or-set_same, get_or-set_other, inl, inr, true≢false, nat_eq, arith}
 use Rattle.std.specs.Global.{Vec}
 use Rattle.std.specs.List.{list_any, slice_get}
 use Rattle.std.specs.Ordering.{int_eq}

@@ -80,7 +80,7 @@ impl IdSet {
         Ok(self.late.insert(id)?)
     }
 
-    /// How many ids the set has; the greatest number, if it can't be said.
+    /// How many ids the set has, at most the greatest number of 64 bits.
     pub fn size(&self) -> u64 {
         self.pages.count().saturating_add(self.late.len() as u64)
     }

@@ -1,4 +1,4 @@
-use Rattle.std.proofs.Common.{◌≡◌, ◌<◌, ◌≤◌, ◌*◌, ◌/◌, ◌^◌, ◌+◌, ◌-ℤ◌, ◌<ℤ◌, ◌∙◌, ap, pos, nat_abs, to_z, of_z, w64, arith, rules}
+use Rattle.std.proofs.Common.{◌≡◌, ◌<◌, ◌*◌, ◌/◌, ◌^◌, ◌+◌, ◌-ℤ◌, ◌<ℤ◌, ◌∙◌, ap, pos, nat_abs, to_z, of_z, w64, arith, rules}
 use mir.Val.{SFits}
 use Rattle.std.proofs.Math.Nat.{one-le-pow}
 use Rattle.std.proofs.lemmas.Int.{to_z-of_z, ints}
