@@ -1,5 +1,5 @@
 -- Strips of ids: what is named in them, and what stays named.
-use Rattle.std.proofs.Common.{◌≡◌, ◌<◌, ◌≤◌, ◌++◌, ◌+◌, ◌*◌, ◌/◌, ◌%◌, ℕ, zero, suc, ℤ, pos, negsuc, ◌+ℤ◌, ◌-ℤ◌, ◌<ℤ◌, Bool, true, false, List, [], ◌∷◌, None, Some, nat_abs, refl, sym, ap, ◌∙◌, subst, length, length-set, set as set_at, get_or-set_same, get_or-set_other, inl, inr, true≢false, nat_eq, arith}
+use Rattle.std.proofs.Common.{◌≡◌, ◌<◌, ◌≤◌, ◌++◌, ◌+◌, ◌*◌, ◌-◌, ◌/◌, ℕ, zero, suc, ℤ, pos, negsuc, ◌-ℤ◌, ◌<ℤ◌, Bool, true, false, List, [], ◌∷◌, None, Some, nat_abs, refl, sym, ap, ◌∙◌, subst, length, length-set, set as set_at, get_or-set_same, get_or-set_other, inl, inr, true≢false, nat_eq, arith}
 use Rattle.std.specs.Global.{Vec}
 use Rattle.std.specs.List.{list_any, slice_get}
 use Rattle.std.specs.Ordering.{int_eq}
@@ -7,9 +7,11 @@ use Rattle.std.specs.FinSet as set
 use Rattle.std.proofs.lemmas.Bool.{cases_Bool, cases_eq, eqb-true, or_from, or_left, or_right, or_cases}
 use Rattle.std.proofs.lemmas.Bool.Decides.{Decides-int_eq}
 use Rattle.std.proofs.lemmas.Int.{ints}
+use Rattle.std.proofs.lemmas.Nat.{div-mul-add}
+use Rattle.std.specs.Int.Bits.{bit_and}
 use Rattle.osm_ids.specs.declared.strips.IdStrips.{IdStrips}
 use Rattle.osm_ids.specs.Pages.{rising}
-use Rattle.osm_ids.specs.Strips.{AlsoLists, HasNumber, IsMarked, IsNamed, Marks, NamesAll, StillNames, id_strip, listed_at, named_at, numbers_in}
+use Rattle.osm_ids.specs.Strips.{AlsoLists, HasNumber, IsMarked, IsNamed, Marks, NamesAll, StillNames, id_run, id_strip, listed_at, named_at, numbers_in}
 use Rattle.osm_ids.proofs.Sets.{Ids}
 use Rattle.osm_ids.proofs.Kept.{has_rising}
 use Rattle.osm_ids.proofs.OrderLemmas.{with_late, contains-with_late}
@@ -119,26 +121,46 @@ marks_none marks = record {
 same_id : (x y : ℤ) → int_eq x y ≡ true → x ≡ y
 same_id x y e = grind (arith, Decides-int_eq x y, e)
 
--- the ids of one strip
-pub same_strip : (n : ℕ) (other : ℤ) → (pos (n / 1024 * 1024) -ℤ pos 1) <ℤ other → other <ℤ (pos (n / 1024 * 1024) +ℤ pos 1024) → nat_abs other / 1024 ≡ n / 1024
-same_strip n (pos m) from to = omega (arith, ints, from, to)
-same_strip n (negsuc m) from to = absurd (omega (arith, ints, from, to))
+-- the ids of one run
+in_run : (start end : ℕ) (other : ℤ) → (pos start -ℤ pos 1) <ℤ other → other <ℤ pos end → (start ≤ nat_abs other) × (nat_abs other < end)
+in_run start end (pos m) from to = (omega (arith, ints, from), omega (arith, ints, to))
+in_run start end (negsuc m) from to = absurd (omega (arith, ints, from))
+
+pub same_run : (n width : ℕ) (other : ℤ) → 0 < width → (pos (n / width * width) -ℤ pos 1) <ℤ other → other <ℤ pos (n / width * width + width) → nat_abs other / width ≡ n / width
+same_run n width other some from to =
+    let within = in_run (n / width * width) (n / width * width + width) other from to in
+    let past = nat_abs other - n / width * width in
+    let is : nat_abs other ≡ n / width * width + past = omega (arith, within.0) in
+    let few : past < width = omega (arith, within.0, within.1) in
+    rw is (div-mul-add (n / width) width past few)
 
 -- what is named is what is in the strip
-pub named_in : (strips : IdStrips) (id : ℤ) (strip : Vec ℕ) → slice_get strips.strips.items (id_strip id) ≡ Some strip → named_at strips id ≡ strip.items
+pub named_in : (strips : IdStrips) (id : ℤ) (strip : Vec ℕ) → slice_get strips.strips.items (id_strip strips.runs id) ≡ Some strip → named_at strips id ≡ strip.items
 unfolding named_at
 named_in strips id strip is = ap numbers_in is
 
-pub none_named : (strips : IdStrips) (id : ℤ) → slice_get strips.strips.items (id_strip id) ≡ None → named_at strips id ≡ []
+pub none_named : (strips : IdStrips) (id : ℤ) → slice_get strips.strips.items (id_strip strips.runs id) ≡ None → named_at strips id ≡ []
 unfolding named_at
 none_named strips id none = ap numbers_in none
 
-pub named_alike : (strips : IdStrips) (id other : ℤ) → nat_abs other / 1024 ≡ nat_abs id / 1024 → named_at strips other ≡ named_at strips id
+pub named_alike : (strips : IdStrips) (id other : ℤ) → id_run strips.runs other ≡ id_run strips.runs id → named_at strips other ≡ named_at strips id
 unfolding named_at
-named_alike strips id other same = ap (λ (n : ℕ). listed_at strips.strips.items (n % 65536)) same
+named_alike strips id other same = ap (λ (run : ℕ). listed_at strips.strips.items (bit_and run strips.runs.mask)) same
 
 pub marks_named : (strips : IdStrips) (id : ℤ) (numbers : List ℕ) (old new : List Bool) → named_at strips id ≡ numbers → Marks (HasNumber numbers) old new → Marks (IsNamed strips id) old new
 marks_named strips id numbers old new named marks = subst (λ (ns : List ℕ). Marks (HasNumber ns) old new) (sym named) marks
+
+-- where no set is named, none of any number is
+pub not_named : (strips : IdStrips) (id : ℤ) (number : ℕ) → named_at strips id ≡ [] → IsNamed strips id number → ⊥
+not_named strips id number none named = none_listed number (subst (λ (ns : List ℕ). HasNumber ns number) none named)
+
+-- those that are marked besides don't matter
+pub marks_fewer : (some more : ℕ → Type 0) (old new : List Bool) → ((number : ℕ) → some number → more number) → Marks more old new → Marks some old new
+marks_fewer some more old new within marks = record {
+  set = λ number is. marks.set number (within number is);
+  kept = marks.kept;
+  as_many = marks.as_many;
+}
 
 -- the set is named for each of the ids but those that are left
 abbrev pub NamesBut : IdStrips → ℕ → Ids → List ℤ → Type 0

@@ -1,14 +1,20 @@
 -- Strips of ids: which of several sets may have an id.
-use Rattle.std.specs.Prelude.{◌≡◌, ◌<◌, ◌/◌, ◌%◌, ℕ, ℤ, Bool, true, false, List, [], Option, Some, None, length, get_or, nat_abs, nat_eq}
+use Rattle.std.specs.Prelude.{◌≡◌, ◌<◌, ◌/◌, ◌^◌, ℕ, ℤ, Bool, true, false, List, [], Option, Some, None, length, get_or, nat_abs, nat_eq}
 use Rattle.std.specs.List.{list_any, slice_get}
+use Rattle.std.specs.Int.Bits.{bit_and}
 use Rattle.std.specs.FinSet as set
 use Rattle.std.specs.Global.{Vec}
 use Rattle.std.specs.Ordering.{int_cmp}
+use Rattle.osm_ids.specs.declared.id_runs.IdRuns.{IdRuns}
 use Rattle.osm_ids.specs.declared.strips.IdStrips.{IdStrips}
 
+-- the run of ids that an id is in
+abbrev pub id_run : IdRuns → ℤ → ℕ
+id_run runs id = nat_abs id / 2 ^ runs.shift
+
 -- the strip that an id is in
-abbrev pub id_strip : ℤ → ℕ
-id_strip id = nat_abs id / 1024 % 65536
+abbrev pub id_strip : IdRuns → ℤ → ℕ
+id_strip runs id = bit_and (id_run runs id) runs.mask
 
 abbrev pub numbers_in : Option (Vec ℕ) → List ℕ
 numbers_in None = []
@@ -27,7 +33,7 @@ AlsoLists old new = (index number : ℕ) → HasNumber (listed_at old index) num
 
 -- the numbers of the sets that have an id in the strip of this one
 unfoldable pub named_at : IdStrips → ℤ → List ℕ
-named_at strips id = listed_at strips.strips.items (id_strip id)
+named_at strips id = listed_at strips.strips.items (id_strip strips.runs id)
 
 -- this set is named for an id
 abbrev pub IsNamed : IdStrips → ℤ → ℕ → Type 0

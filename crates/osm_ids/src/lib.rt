@@ -2,6 +2,7 @@
 //! ids name.
 #![tactic(auto)]
 
+mod id_runs;
 mod index;
 pub mod laws;
 mod links;

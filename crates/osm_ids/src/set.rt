@@ -80,6 +80,11 @@ impl IdSet {
         Ok(self.late.insert(id)?)
     }
 
+    /// How many ids the set has, at most the greatest number of 64 bits.
+    pub fn size(&self) -> u64 {
+        self.pages.count().saturating_add(self.late.len() as u64)
+    }
+
     /// The ids, in no order.
     pub(crate) fn to_vec(&self) -> Result<Vec<i64>, AllocError>
         ensures { IfOk result (λ ids. set.from_list ids.items ≡ self.now) }

@@ -1,30 +1,86 @@
 //! Strips of ids, each with the numbers of the sets that have an id in it: they name the sets that may have an id.
 
-ghost use Rattle.std.specs.Prelude.{◌≡◌, ◌<◌, [], ℤ, false, length, true, OnOk};
-ghost use Rattle.osm_ids.specs.Strips.{AlsoLists, HasNumber, IsNamed, Marks, NamesAll, StillNames, id_strip, listed_at, named_at};
+ghost use Rattle.std.specs.Prelude.{◌≡◌, ◌<◌, ◌≤◌, ◌*◌, ◌/◌, ◌^◌, [], ℤ, false, length, true, OnOk};
+ghost use Rattle.osm_ids.specs.Strips.{AlsoLists, HasNumber, IsNamed, Marks, NamesAll, StillNames, id_run, id_strip, listed_at, named_at};
 ghost use Rattle.pbf_wire.specs.Spans.{is_in};
 
+use crate::id_runs::IdRuns;
 use crate::pages::SealedIds;
 use crate::set::IdSet;
 use crate::walk::Walk;
 use pbf_wire::{EMPTY_SPAN, Span};
 use std::alloc::{AllocError, Global};
 
-/// So many ids that lie together are in one strip.
-const STRIP_IDS: u64 = 1024;
+/// There are at least 2^10 strips.
+const LEAST_BITS: u32 = 10;
 
-/// There are so many strips; then the first one comes again.
-const STRIPS: u64 = 65_536;
+/// There are at most 2^20 strips.
+const MOST_BITS: u32 = 20;
 
-/// The greatest id that `IdStrips::alike` says something of.
-const LAST_ALIKE: i64 = i64::MAX - 1024;
+/// A run has at least 2^6 ids.
+const LEAST_SHIFT: u32 = 6;
+
+/// No run has more than 2^63 ids.
+const MOST_SHIFT: u32 = 63;
+
+/// How many bits a number takes; 0 takes none.
+fn bits_of(number: u64) -> u32 {
+    64 - number.leading_zeros()
+}
+
+/// How so many ids lie in strips: there are two to four strips for each id, as far as there may be so many.
+fn runs_for(ids: u64) -> IdRuns
+    ensures few { result.mask < 2 ^ 20 }
+    ensures wide { 6 ≤ result.shift }
+{
+    let bits = bits_of(ids.saturating_mul(2)).clamp(LEAST_BITS, MOST_BITS);
+    let needed = bits_of((ids >> bits).saturating_add(1));
+    IdRuns {
+        shift: needed.clamp(LEAST_SHIFT, MOST_SHIFT),
+        mask: (1 << bits) - 1,
+    }
+}
 
 /// The strip that an id is in.
 #[inline(always)]
-fn strip_of(id: i64) -> usize
-    ensures { result ≡ id_strip id }
+fn strip_of(runs: IdRuns, id: i64) -> usize
+    ensures { result ≡ id_strip runs id }
 {
-    (id.unsigned_abs() / STRIP_IDS % STRIPS) as usize
+    ((id.unsigned_abs() >> runs.shift) & runs.mask) as usize
+}
+
+/// How many ids a run has.
+fn width_of(runs: IdRuns) -> u64
+    ensures value { result ≡ 2 ^ runs.shift }
+    ensures most { result ≤ 2 ^ 63 }
+{
+    1 << runs.shift
+}
+
+/// The least number of the run that a number is in.
+fn start_of(runs: IdRuns, number: u64) -> u64
+    ensures value { result ≡ number / 2 ^ runs.shift * 2 ^ runs.shift }
+    ensures most { result ≤ number }
+{
+    number >> runs.shift << runs.shift
+}
+
+/// The ids of the run that an id is in; none if the id is below 0, or if the greatest one there is lies in the run.
+fn run_of(runs: IdRuns, id: i64) -> Span
+    ensures { (other : ℤ) → is_in result other ≡ true → id_run runs other ≡ id_run runs id }
+{
+    if id < 0 {
+        return EMPTY_SPAN;
+    }
+    let start = start_of(runs, id.unsigned_abs());
+    let end = start + width_of(runs);
+    if end > i64::MAX as u64 {
+        return EMPTY_SPAN;
+    }
+    Span {
+        above: start as i64 - 1,
+        below: end as i64,
+    }
 }
 
 /// Adds empty strips until there is one with this index.
@@ -89,14 +145,17 @@ fn set_marks(numbers: &[usize], marks: &mut [bool])
 /// Which of several sets, by their numbers, have an id in each strip of ids. Strips past the last that has a number aren't kept.
 #[derive(Drop)]
 pub struct IdStrips {
+    runs: IdRuns,
     strips: Vec<Vec<usize>>,
     alloc: Global,
 }
 
 impl IdStrips {
-    /// The strips of no sets. It allocates nothing.
-    pub fn new(alloc: Global) -> IdStrips {
+    /// The strips of no sets, for about so many ids of all sets together: there are strips enough for these, and others fit too.
+    /// It allocates nothing.
+    pub fn new(alloc: Global, ids: u64) -> IdStrips {
         IdStrips {
+            runs: runs_for(ids),
             strips: Vec::new(alloc),
             alloc,
         }
@@ -107,7 +166,7 @@ impl IdStrips {
         ensures named { OnOk result (IsNamed self.new id number) }
         ensures still { OnOk result (StillNames self.old self.new) }
     {
-        let index = strip_of(id);
+        let index = strip_of(self.runs, id);
         grow(&mut self.strips, index, self.alloc)?;
         list_at(&mut self.strips, index, number)?;
         Ok(())
@@ -152,7 +211,7 @@ impl IdStrips {
         ensures marked { Marks (IsNamed self.now id) marks.old marks.new }
         ensures none { result ≡ false → named_at self.now id ≡ [] }
     {
-        let Some(strip) = self.strips.get(strip_of(id)) else {
+        let Some(strip) = self.strips.get(strip_of(self.runs, id)) else {
             return false;
         };
         if strip.is_empty() {
@@ -162,18 +221,11 @@ impl IdStrips {
         true
     }
 
-    /// Ids round this one for which the same sets are named; none if it is below 0, or among the last 1,024 that there are.
+    /// Ids round this one for which the same sets are named; none if it is below 0, or near the greatest id that there is.
     pub fn alike(&self, id: i64) -> Span
         ensures { (other : ℤ) → is_in result other ≡ true
             → named_at self.now other ≡ named_at self.now id }
     {
-        if id < 0 || id > LAST_ALIKE {
-            return EMPTY_SPAN;
-        }
-        let start = (id.unsigned_abs() / STRIP_IDS * STRIP_IDS) as i64;
-        Span {
-            above: start - 1,
-            below: start + 1024,
-        }
+        run_of(self.runs, id)
     }
 }

@@ -6,7 +6,8 @@ use Rattle.std.specs.Cmp.{int_cmp_total}
 use Rattle.std.specs.FinSet as set
 use Rattle.std.proofs.lemmas.Bool.{or_cases, and_parts, cases_Bool, or_from, or_left, or_parts, or_right}
 use Rattle.osm_ids.specs.declared.strips.IdStrips.{IdStrips}
-use Rattle.osm_ids.specs.Strips.{IsNamed, NamesAll}
+use Rattle.osm_ids.specs.Strips.{IsNamed, Marks, NamesAll, named_at}
+use Rattle.osm_ids.proofs.StripLemmas.{marks_fewer, not_named}
 use Rattle.osm_ways.specs.declared.choice_strips.ChoiceStrips.{ChoiceStrips}
 use Rattle.osm_ways.specs.Added.{AddedSets, added_or_none}
 use Rattle.osm_ways.specs.ChoiceStrips.{IsNamedBy, MarksKeepers, MarksNamed, NamesChoice, names_member}
@@ -46,6 +47,20 @@ named_relation strips number sets (member ∷ members) names kept =
       | inr more ↦ or_right (names_member strips number member) (list_any (names_member strips number) members) (named_relation strips number sets members names more)
     ]
 
+-- ---- what marks the keepers
+
+pub node_keepers : (strips : ChoiceStrips) (id : ℤ) (old new : List Bool) (some : Bool) → Marks (IsNamed strips.nodes id) old new → (some ≡ false → named_at strips.nodes id ≡ []) → MarksKeepers strips (λ sets. keeps_id sets id) old new some
+node_keepers strips id old new some marks none = record {
+  marked = marks_fewer _ (IsNamed strips.nodes id) old new (λ number keeps. named_node strips number keeps.0 id keeps.1 keeps.2) marks;
+  none = λ told number keeps. not_named strips.nodes id number (none told) (named_node strips number keeps.0 id keeps.1 keeps.2);
+}
+
+pub way_keepers : (strips : ChoiceStrips) (id : ℤ) (refs : List ℤ) (old new : List Bool) (some : Bool) → Marks (IsNamed strips.ways id) old new → (some ≡ false → named_at strips.ways id ≡ []) → MarksKeepers strips (λ sets. is_taken sets (a_way id refs)) old new some
+way_keepers strips id refs old new some marks none = record {
+  marked = marks_fewer _ (IsNamed strips.ways id) old new (λ number keeps. named_way strips number keeps.0 id refs keeps.1 keeps.2) marks;
+  none = λ told number keeps. not_named strips.ways id number (none told) (named_way strips number keeps.0 id refs keeps.1 keeps.2);
+}
+
 -- ---- sets that are named together
 
 pub union_named : (strips : IdStrips) (number : ℕ) (some more : Ids) → NamesAll strips number some → NamesAll strips number more → NamesAll strips number (set.union some more)
@@ -84,7 +99,7 @@ passed_none strips all marks = record {
 }
 
 -- the next member: either the choice is named for it, or it was passed before
-pub passed_more : (strips : ChoiceStrips) (all left : List MemberSeen) (member : MemberSeen) (old now new : List Bool) (some more : Bool) → MarksNamed (IsPassed strips all (member ∷ left)) old now some → MarksNamed (IsNamedBy strips member) now new more → MarksNamed (IsPassed strips all left) old new (more || some)
+pub passed_more : (strips : ChoiceStrips) (all left : List MemberSeen) (member : MemberSeen) (old now new : List Bool) (some more : Bool) → MarksNamed (IsPassed strips all (member ∷ left)) old now some → MarksNamed (IsNamedBy strips member) now new more → MarksNamed (IsPassed strips all left) old new (some || more)
 passed_more strips all left member old now new some more so_far next = record {
   marked = record {
     set = λ number passed. elim (cases_Bool (names_member strips number member)) [
@@ -95,8 +110,8 @@ passed_more strips all left member old now new some more so_far next = record {
     as_many = next.marked.as_many ∙ so_far.marked.as_many;
   };
   none = λ none number passed. elim (cases_Bool (names_member strips number member)) [
-    | inl e ↦ next.none (or_parts more some none).0 number e
-    | inr e ↦ so_far.none (or_parts more some none).1 number (passed.0, or_from _ _ e passed.1)
+    | inl e ↦ next.none (or_parts some more none).1 number e
+    | inr e ↦ so_far.none (or_parts some more none).0 number (passed.0, or_from _ _ e passed.1)
   ];
 }
 

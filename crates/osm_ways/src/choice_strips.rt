@@ -63,12 +63,12 @@ pub struct ChoiceStrips {
 }
 
 impl ChoiceStrips {
-    /// The strips of no choices. It allocates nothing.
-    pub fn new(alloc: Global) -> ChoiceStrips {
+    /// The strips of no choices, for about so many ids of all choices together, as `Chosen::count` says. It allocates nothing.
+    pub fn new(alloc: Global, ids: u64) -> ChoiceStrips {
         ChoiceStrips {
-            nodes: IdStrips::new(alloc),
-            ways: IdStrips::new(alloc),
-            relations: IdStrips::new(alloc),
+            nodes: IdStrips::new(alloc, ids),
+            ways: IdStrips::new(alloc, ids),
+            relations: IdStrips::new(alloc, ids),
         }
     }
 
@@ -107,7 +107,7 @@ impl ChoiceStrips {
     {
         let mut some = false;
         for member in relation.members() {
-            some = self.mark_member(&member, marks) || some;
+            some |= self.mark_member(&member, marks);
         }
         some
     }

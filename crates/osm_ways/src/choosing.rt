@@ -288,6 +288,24 @@ impl Chosen {
         }
     }
 
+    /// How many ids there are of nodes, ways and relations, each as often as it was chosen or added; at most the greatest number.
+    pub fn count(&self) -> u64 {
+        let mut count = self
+            .box_ids
+            .count()
+            .saturating_add(self.refs.count())
+            .saturating_add(self.way_ids.count());
+        if let Some(ids) = &self.relation_ids {
+            count = count.saturating_add(ids.count());
+        }
+        if let Some(added) = &self.added {
+            count = count
+                .saturating_add(added.nodes.count())
+                .saturating_add(added.ways.count());
+        }
+        count
+    }
+
     /// Whether nodes of this id are kept: it is that of a node in the box, a ref of a kept way, or that of one that was added. The choice
     /// stays the same.
     pub fn keeps_node(&self, id: i64) -> bool

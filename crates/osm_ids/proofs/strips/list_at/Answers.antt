@@ -18,4 +18,4 @@ returns-clause-still c =
     let below : c.args.index < length strips = search (rules, item.0) in
     let is : strip ≡ get_or strips c.args.index strip = search rules in
     also_set strips c.args.index strip c.push.new.self (slice_get_read strips (length strips) c.args.index strip refl below is)
-      (λ number there. subst (λ (numbers : List ℕ). HasNumber numbers number) (sym c.in_ok-push.ensures.items) (has_more strip.items _ number there))
+    (λ number there. subst (λ (numbers : List ℕ). HasNumber numbers number) (sym c.in_ok-push.ensures.items) (has_more strip.items _ number there))

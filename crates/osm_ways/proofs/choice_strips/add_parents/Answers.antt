@@ -7,4 +7,4 @@ use Rattle.osm_ways.proofs.choice_strips.add_parents.Goals as goal
 pub returns-in_default-clause-kept : goal.returns-in_default-clause-kept
 returns-in_default-clause-kept c =
     subst (λ (s : KeptSets). NamesAll c.args.strips.now c.args.number s.relation_ids) c.chosen.view_is
-      (no_relations c.args.strips.now c.args.number c.chosen.inside.relation_ids c.in_default.is)
+    (no_relations c.args.strips.now c.args.number c.chosen.inside.relation_ids c.in_default.is)

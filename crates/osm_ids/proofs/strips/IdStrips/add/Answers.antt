@@ -10,6 +10,6 @@ loop-id-init c =
     let parts = named_late strips c.args.number c.ids.inside.pages c.ids.inside.late.keys c.in_ok-add_sealed.ensures.named in
     record {
       named = subst (λ (late : List ℤ). NamesBut strips c.args.number c.args.ids.now late) (sym left)
-        (subst (λ (s : Ids). NamesBut strips c.args.number s c.ids.inside.late.keys) c.ids.view_is parts);
+          (subst (λ (s : Ids). NamesBut strips c.args.number s c.ids.inside.late.keys) c.ids.view_is parts);
       still = c.in_ok-add_sealed.ensures.still;
     }

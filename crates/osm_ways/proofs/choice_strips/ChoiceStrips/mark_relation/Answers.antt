@@ -1,8 +1,8 @@
-use Rattle.std.proofs.Common.{Bool, false, List, map, subst}
+use Rattle.std.proofs.Common.{false, List, map, subst}
 use Rattle.osm_entity.specs.Entity.{MemberSpec}
 use Rattle.osm_entity.specs.Sources.{lent_member, members_left}
 use Rattle.osm_entity.specs.Views.{relation_of}
-use Rattle.osm_ways.specs.ChoiceStrips.{IsNamedBy, MarksNamed}
+use Rattle.osm_ways.specs.ChoiceStrips.{MarksNamed}
 use Rattle.osm_ways.specs.Seen.{seen_member}
 use Rattle.osm_ways.proofs.ChoiceStripLemmas.{IsPassed, passed_all, passed_more}
 use Rattle.osm_ways.proofs.choice_strips.ChoiceStrips.mark_relation.Goals as goal
@@ -17,9 +17,9 @@ loop-member-preserved c =
     record {
       can = tt;
       ends = tt;
-      so_far = passed_more strips all left member c.args.marks.now l.marks c.mark_member.new.marks l.some false
-        (subst (λ (left : List MemberSpec). MarksNamed (IsPassed strips all (map seen_member left)) c.args.marks.now l.marks l.some) c.in-Some.ensures.steps l.invariant.so_far)
-        (subst (λ (b : Bool). MarksNamed (IsNamedBy strips member) l.marks c.mark_member.new.marks b) c.if-mark_member.false c.mark_member.ensures);
+      so_far = passed_more strips all left member c.args.marks.now l.marks c.mark_member-some.new.marks l.some c.mark_member-some.result
+          (subst (λ (left : List MemberSpec). MarksNamed (IsPassed strips all (map seen_member left)) c.args.marks.now l.marks l.some) c.in-Some.ensures.steps l.invariant.so_far)
+          c.mark_member-some.ensures;
     }
 
 pub returns : goal.returns
@@ -29,4 +29,4 @@ returns c =
     let relation = relation_of c.args.relation.now in
     let all = map seen_member relation.members in
     passed_all strips all relation.id false c.args.marks.now l.marks l.some
-      (subst (λ (left : List MemberSpec). MarksNamed (IsPassed strips all (map seen_member left)) c.args.marks.now l.marks l.some) c.in-None.ensures.steps.0 l.invariant.so_far)
+    (subst (λ (left : List MemberSpec). MarksNamed (IsPassed strips all (map seen_member left)) c.args.marks.now l.marks l.some) c.in-None.ensures.steps.0 l.invariant.so_far)
