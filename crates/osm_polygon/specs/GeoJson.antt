@@ -23,7 +23,7 @@ use Rattle.osm_polygon.specs.Polygon.{Point, Rings}
 abbrev pub OrShapeFault : Type 0 → Type 0
 OrShapeFault A = Result A PolyFault
 
-abbrev pub and_then : {A B : Type 0} → OrShapeFault A → (A → OrShapeFault B) → OrShapeFault B
+abbrev pub and_then : {A B E : Type 0} → Result A E → (A → Result B E) → Result B E
 and_then (Ok x) next = next x
 and_then (Err fault) next = Err fault
 

@@ -1,7 +1,7 @@
 -- Why a command fails, by what happened.
 use Rattle.std.specs.Prelude.{◌≡◌, ◌⊎◌, ℕ, ◌+◌, ◌<◌, List, [], ◌∷◌, ◌++◌, length, true, false, Option, None, Some, Err}
 use Rattle.osm_config.specs.Paths.{extracts_of_text}
-use Rattle.osm_config.specs.Readings.{fault_of}
+use Rattle.osm_config.specs.Readings.{fault_spec_of}
 use Rattle.osm_config.specs.declared.fault.ConfigFault.{ConfigFault}
 use Rattle.osm_polygon.specs.declared.fault.PolyFault.{PolyFault}
 use Rattle.osm_polygon.specs.Texts.{polygons_of_text}
@@ -91,7 +91,7 @@ FailsAsPolygon fault _ = ⊥
 
 -- the text that was read is no configuration, by this fault, for some folder
 abbrev pub FailsAsConfig : ConfigFault → Event → Type 0
-FailsAsConfig fault (text_read path text) = (folder : Option (List ℕ)) × (extracts_of_text path folder text ≡ Err (fault_of fault))
+FailsAsConfig fault (text_read path text) = (folder : Option (List ℕ)) × (extracts_of_text path folder text ≡ Err (fault_spec_of fault))
 FailsAsConfig fault _ = ⊥
 
 abbrev pub FailsToRead : Event → Type 0
