@@ -6,7 +6,7 @@ ghost use Rattle.std.specs.Result.{result_map_both};
 ghost use Rattle.json.specs.Json.{document};
 ghost use Rattle.json.specs.Value.{items_view, value_view};
 ghost use Rattle.osm_polygon.specs.Edges.{point_of};
-ghost use Rattle.osm_polygon.specs.GeoJson.{and_polygon, fold_items, fault_after, geojson_polygons, if_closed, if_some, is_closed, is_same_place, items_in};
+ghost use Rattle.osm_polygon.specs.GeoJson.{and_polygon, fault_after, fold_items, geojson_polygons, if_closed, if_some, is_closed, is_same_place, items_in};
 ghost use Rattle.osm_polygon.specs.GeoJson.{geometry_named, geometry_of, member, number_at, position, ring_places};
 ghost use Rattle.osm_polygon.specs.GeoJson.{document_by};
 ghost use Rattle.osm_polygon.specs.GeoJson.{polygon_coordinates, multi_polygon_coordinates};

@@ -13,7 +13,7 @@ use Rattle.pbfcut_cli.specs.declared.words.Strategy.{Strategy}
 use Rattle.pbfcut_program.specs.Events.{Event, Reading, read, wrote}
 use Rattle.pbfcut_program.specs.Fails.{Each}
 use Rattle.pbfcut_program.specs.Manner.{Manner, of_input, of_output}
-use Rattle.pbfcut_program.specs.Program.{Extracts, Writes, WritesCounts, advice, begun, is_screen, screen_of, strategy_of}
+use Rattle.pbfcut_program.specs.Program.{RunsExtract, Writes, WritesCounts, advice, begun, is_screen, screen_of, strategy_of}
 use Rattle.pbfcut_program.specs.Lines.{counts_text, done_lines, prints}
 use Rattle.pbfcut_program.specs.Readings.{IsWhole, ReadAll, ReadLater}
 use Rattle.pbfcut_program.specs.Taking.{Happened, ReadOf, ReadsOnly, TookConversion, TookCopy, TookExtract, TookWhole}
@@ -165,7 +165,7 @@ module _ (file : List ℕ) where
 
   -- ---- of `extract`
 
-  module _ (m : Manner) (cut : Region) (by : Strategy) (files : Files) (events : List Event) (x : Extracts m cut by files events) where
+  module _ (m : Manner) (cut : Region) (by : Strategy) (files : Files) (events : List Event) (x : RunsExtract m cut by files events) where
     abbrev task : Task
     task = extracting (strategy_of by) x.area
 

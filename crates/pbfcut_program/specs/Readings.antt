@@ -38,8 +38,8 @@ pub record IsWork (m : Manner) (by : PassCheck) (task : Task) (has : List (Optio
   pub holds : Holds task (map (of_input m) files) counts (of_output m written)
 
 -- this has that fault first, whatever follows it; or by itself, and it is all of IN
-abbrev pub IsFaulty : (Option (List ℕ) → Option Verdict) → Fault → (bytes : List ℕ) → (left : Option (List ℕ)) → Type 0
-IsFaulty judge fault bytes left = ((rest : List ℕ) → FaultOf (judge (Some (bytes ++ rest))) fault) ⊎ (IsAtEnd left × FaultOf (judge (Some bytes)) fault)
+abbrev pub ShowsFault : (Option (List ℕ) → Option Verdict) → Fault → (bytes : List ℕ) → (left : Option (List ℕ)) → Type 0
+ShowsFault judge fault bytes left = ((rest : List ℕ) → FaultOf (judge (Some (bytes ++ rest))) fault) ⊎ (IsAtEnd left × FaultOf (judge (Some bytes)) fault)
 
 -- this isn't the file: the file doesn't begin so; or this is all of IN, and another list
 abbrev pub IsOther : (file bytes : List ℕ) → (left : Option (List ℕ)) → Type 0

@@ -49,7 +49,7 @@ pub record IsUnhashed {D : Type 0} (over : AreaOutput OutputArea (LinkedDrain (H
 -- ---- drains that pack
 
 -- a packing drain that took nothing is put over that of an output
-pub record IsPacking {D : Type 0} {d : drain.Ghosts D} (below : AreaOutput OutputArea D) (over : AreaOutput OutputArea (PackedDrain D d)) : Type 0 where
+pub record IsPackingOver {D : Type 0} {d : drain.Ghosts D} (below : AreaOutput OutputArea D) (over : AreaOutput OutputArea (PackedDrain D d)) : Type 0 where
   pub area : over.area ≡ below.area
   pub drain : over.drain.below.drain ≡ below.drain
   pub taken : taken_raw over.drain ≡ d.taken below.drain

@@ -9,7 +9,7 @@ use Rattle.osm_polygon.specs.declared.edge.Axis.TheVariants.{Latitude}
 use Rattle.osm_polygon.specs.declared.strips.Strip.{Strip}
 use Rattle.osm_polygon.specs.declared.bands.Band.{Band}
 use Rattle.osm_polygon.specs.Edges.{is_in_strip}
-use Rattle.osm_polygon.specs.Strips.{AreStrips, lists_of, edges_held}
+use Rattle.osm_polygon.specs.Strips.{AreStrips, edges_held, lists_of}
 use Rattle.osm_polygon.specs.Bands.{IsBand, AreBands, held_by_bands, cells_by}
 use Rattle.osm_polygon.proofs.StripLemmas.{strip_at}
 use Rattle.osm_polygon.proofs.BandLemmas.{bands_more, held_more, held_by_more, cells_by_more}

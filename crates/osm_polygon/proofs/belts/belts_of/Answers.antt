@@ -8,7 +8,7 @@ use Rattle.osm_polygon.specs.declared.edge.Axis.TheVariants.{Latitude}
 use Rattle.osm_polygon.specs.declared.strips.Strip.{Strip}
 use Rattle.osm_polygon.specs.declared.belts.Belt.{Belt}
 use Rattle.osm_polygon.specs.Edges.{is_in_strip}
-use Rattle.osm_polygon.specs.Strips.{AreStrips, lists_of, edges_held}
+use Rattle.osm_polygon.specs.Strips.{AreStrips, edges_held, lists_of}
 use Rattle.osm_polygon.specs.Belts.{IsBelt, AreBelts, held_in, cells_in}
 use Rattle.osm_polygon.proofs.StripLemmas.{strip_at}
 use Rattle.osm_polygon.proofs.BandLemmas.{held_more}

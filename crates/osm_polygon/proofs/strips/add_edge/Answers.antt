@@ -1,7 +1,7 @@
 use Rattle.std.proofs.Common.{◌≡◌, ◌+◌, ◌-◌, ◌≤◌, ◌<◌, ◌∙◌, ap, sym, arith, rules}
 use Rattle.std.specs.Prelude.{max}
 use Rattle.std.proofs.lemmas.List.{length-map}
-use Rattle.osm_polygon.specs.Strips.{lists_of, pushed_at, edges_held}
+use Rattle.osm_polygon.specs.Strips.{edges_held, lists_of, pushed_at}
 use Rattle.osm_polygon.specs.Edges.{lowest, highest}
 use Rattle.osm_polygon.proofs.StripLemmas.{in_strip_below, with_none, none_below, next_pushed, pushed_held, all_pushed}
 use Rattle.osm_polygon.proofs.strips.add_edge.Goals as goal

@@ -1,6 +1,6 @@
 use Rattle.std.proofs.Common.{◌≡◌, ◌+◌, ◌≤◌}
 use Rattle.std.specs.Prelude.{max}
-use Rattle.osm_polygon.specs.Strips.{lists_of, with_edge, edges_held}
+use Rattle.osm_polygon.specs.Strips.{edges_held, lists_of, with_edge}
 use Rattle.osm_polygon.proofs.StripLemmas.{in_strip_below}
 use Rattle.osm_polygon.proofs.strips.add_edge.Given as goal
 

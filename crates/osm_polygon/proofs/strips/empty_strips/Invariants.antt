@@ -1,6 +1,6 @@
 use Rattle.std.proofs.Common.{◌≡◌, ◌+◌, ◌≤◌, length, []}
 use Rattle.std.specs.Prelude.{max}
-use Rattle.osm_polygon.specs.Strips.{AreStrips, lists_of, edges_held}
+use Rattle.osm_polygon.specs.Strips.{AreStrips, edges_held, lists_of}
 use Rattle.osm_polygon.proofs.strips.empty_strips.Given as goal
 
 abbrev pub invariant-loop-number : goal.invariant-loop-number

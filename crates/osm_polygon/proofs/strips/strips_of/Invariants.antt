@@ -1,5 +1,5 @@
 use Rattle.std.proofs.Common.{◌≡◌, ◌-◌, length, take, ◌≤◌}
-use Rattle.osm_polygon.specs.Strips.{AreStrips, lists_of, edges_held, spans_of}
+use Rattle.osm_polygon.specs.Strips.{AreStrips, edges_held, lists_of, spans_of}
 use Rattle.osm_polygon.proofs.strips.strips_of.Given as goal
 
 -- the strips have the edges so far
