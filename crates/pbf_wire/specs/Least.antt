@@ -46,6 +46,6 @@ NoneLess rank f [] = Unit {0}
 NoneLess rank f (g ∷ gs) = (is_less (rank g) (rank f) ≡ false) × NoneLess rank f gs
 
 -- one of the list, with none less; of no list nothing
-abbrev pub IsLeast : {X : Type 0} → (X → List ℕ) → Option X → List X → Type 0
-IsLeast rank None fs = fs ≡ []
-IsLeast rank (Some f) fs = IsOne f fs × NoneLess rank f fs
+abbrev pub IsLeastBy : {X : Type 0} → (X → List ℕ) → Option X → List X → Type 0
+IsLeastBy rank None fs = fs ≡ []
+IsLeastBy rank (Some f) fs = IsOne f fs × NoneLess rank f fs

@@ -20,7 +20,7 @@ use Rattle.pbf_unpack.specs.Unpacked.{Unpacked}
 use Rattle.pbf_unpack.proofs.UnpackedLemmas.{nothing_more}
 use Rattle.pbfcut.specs.Calls.{ChangedLater, GaveEach, GaveEachOrNot, IfMore, TookBy, drained, fed, used}
 use Rattle.pbfcut.specs.TaskCalls.{DoesTask}
-use Rattle.pbfcut.specs.Tasks.{Holds, Task, checking, judge_of, spares}
+use Rattle.pbfcut.specs.Tasks.{Task, TaskHolds, checking, judge_of, spares}
 use Rattle.pbfcut.specs.Changes.{ChangedAt, GaveOther}
 use Rattle.pbfcut.specs.Ends.{EndsPasses, TookNothing}
 use Rattle.pbfcut_cli.specs.declared.endings.Ending.TheVariants as ending
@@ -178,7 +178,7 @@ module _ {F D : Type 0} (f : feed.Ghosts F) (d : drain.Ghosts D) (out out_now : 
       let known : List ℕ → Type 0 = AreDigests m by receipt.input report.raw in
       let is : (file : List ℕ) → IsDigestOf (mark_by by receipt.input) file → known file = λ file digest. (digest, r.2) in
       let given = does.receipt in
-      let more = some_gives f known (mark_by by receipt.input) is given.file (spares task) receipt.spared olds news (λ some files. TookBy (drained d out out_now) (λ written. Holds task (given.file ∷ some ++ files) receipt.counts written)) fresh.1 (omega (arith, many)) given.holding in
+      let more = some_gives f known (mark_by by receipt.input) is given.file (spares task) receipt.spared olds news (λ some files. TookBy (drained d out out_now) (λ written. TaskHolds task (given.file ∷ some ++ files) receipt.counts written)) fresh.1 (omega (arith, many)) given.holding in
       let took = more.3 in
       let files = given.file ∷ more.0 ++ more.1 in
       rw (r.0, r.1) record {
@@ -186,7 +186,7 @@ module _ {F D : Type 0} (f : feed.Ghosts F) (d : drain.Ghosts D) (out out_now : 
         written = took.written;
         gave = (gives_its f known is fresh.0.0 given, more.2);
         took_them = took.added.logged log [] start;
-        holds = subst (λ fs. Holds task fs receipt.counts took.written) (sym (map-id files)) took.holding;
+        holds = subst (λ fs. TaskHolds task fs receipt.counts took.written) (sym (map-id files)) took.holding;
       }
   raw_works task (old ∷ olds) (now ∷ news) (Err h) (Err halted) many does r fresh =
       reported_ends f (judge_of task) (old ∷ olds) (now ∷ news) (d.has_taken out_now log []) (WriteFailed d out out_now) h halted r (call_ends old now fresh.0.0 (judge_of task) olds news h fresh.1 (omega (arith, many)) does.ends)

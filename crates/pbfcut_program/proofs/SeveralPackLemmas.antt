@@ -11,7 +11,7 @@ use Rattle.pbf_frame.specs.Devices.{IsFront}
 use Rattle.pbf_frame.proofs.Beginnings.{front_whole}
 use Rattle.pbf_pass.specs.declared.hashing.PassCheck.{PassCheck}
 use Rattle.pbf_unpack.specs.declared.drain.PackedDrain.{PackedDrain}
-use Rattle.pbf_unpack.specs.Packing.{GaveAll, HasPacked, failures_of_drain, taken_raw}
+use Rattle.pbf_unpack.specs.Packing.{GaveAll, HasCompressed, failures_of_drain, taken_raw}
 use Rattle.pbf_unpack.specs.Unpacked.{unpacked}
 use Rattle.pbfcut.specs.declared.carrying.AreaOutput.{AreaOutput}
 use Rattle.pbfcut.specs.Calls.{AllSupply}
@@ -36,7 +36,7 @@ use Rattle.pbfcut_program.proofs.Weaker.{Finished, front_lost, whole_lost, works
 
 -- what is said of a drain that packs
 abbrev pub packing : {D : Type 0} → (d : drain.Ghosts D) → drain.Ghosts (PackedDrain D d)
-packing d = record { taken = λ p. taken_raw p; failures = λ p. failures_of_drain p; lender = λ p. d.lender p.below.drain; has_taken = λ p log raw. HasPacked p log raw }
+packing d = record { taken = λ p. taken_raw p; failures = λ p. failures_of_drain p; lender = λ p. d.lender p.below.drain; has_taken = λ p log raw. HasCompressed p log raw }
 
 -- ---- lists that grow
 

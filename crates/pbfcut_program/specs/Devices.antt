@@ -8,7 +8,7 @@ use Rattle.pbf_frame.specs.declared.stop.Stop.TheVariants as stop
 use Rattle.pbf_frame.specs.Devices.{IsAtEnd, IsFront, append}
 use Rattle.pbf_frame.specs.Verdict.{Verdict}
 use Rattle.pbf_pass.specs.Stops.{Caused, WriteFailed}
-use Rattle.pbf_published.specs.Published.{ChangedOf}
+use Rattle.pbf_published.specs.Published.{PassChanged}
 use Rattle.pbf_unpack.specs.declared.drain.PackedDrain.{PackedDrain}
 use Rattle.pbf_unpack.specs.Packing.{GaveAll, failures_of_drain, taken_raw}
 use Rattle.pbf_unpack.specs.RawFrames.{IsNearLimit, IsRawFile}
@@ -28,7 +28,7 @@ use Rattle.pbfcut_program.specs.Fails.{CauseOfWrite, EndsAsStop, FirstFault}
 use Rattle.pbfcut_program.specs.Leaving.{IsFrontAs}
 use Rattle.pbfcut_program.specs.Manner.{AreDigests, Form, Manner, input_form, meant, of_input, of_output, packed_file, raw_file, to_raw}
 use Rattle.pbfcut_program.specs.Readings.{ShowsFault, IsOther}
-use Rattle.pbfcut.specs.Tasks.{Task, Holds, answer_of, judge_of, spares}
+use Rattle.pbfcut.specs.Tasks.{Task, TaskHolds, answer_of, judge_of, spares}
 use Rattle.pbfcut_program.specs.Tasks.{GivesRaw}
 
 -- ---- devices of which nothing was read, and that took nothing
@@ -131,7 +131,7 @@ RefusesBy Pbfcutz f judge fault olds news = FirstFault packed_file judge fault (
 -- the same of a change
 abbrev pub ChangesBy : {F : Type 0} → Program → feed.Ghosts F → (nothing : Type 0) → ℕ → (olds news : List F) → Type 0
 ChangesBy Pbfcut f nothing pass olds news = Change f nothing pass olds news
-ChangesBy Pbfcutz f nothing pass olds news = ChangedOf (map f.remaining olds) pass
+ChangesBy Pbfcutz f nothing pass olds news = PassChanged (map f.remaining olds) pass
 
 abbrev pub StopsFor : {F : Type 0} → Program → feed.Ghosts F → (Option (List ℕ) → Option Verdict) → (olds news : List F) → (nothing failed : Type 0) → Stop → Type 0
 StopsFor program f judge olds news nothing failed s = Caused (λ fault. RefusesBy program f judge fault olds news × nothing) (AnyFailed (used f olds news)) failed (λ pass. ChangesBy program f nothing pass olds news) s
@@ -148,7 +148,7 @@ pub record Reports {F : Type 0} (f : feed.Ghosts F) (m : Manner) (by : PassCheck
   pub written : List ℕ
   pub gave : GiveAll f (AreDigests m by report.input report.raw) (spares task) olds news files
   pub took_them : took written
-  pub holds : Holds task (map (of_input m) files) report.counts (of_output m written)
+  pub holds : TaskHolds task (map (of_input m) files) report.counts (of_output m written)
 
 abbrev pub Works : {F : Type 0} → Manner → PassCheck → feed.Ghosts F → Task → (olds news : List F) → (took : List ℕ → Type 0) → (failed : Type 0) → Result Report Halted → Type 0
 Works m by f task olds news took failed (Ok report) = Reports f m by task olds news took report

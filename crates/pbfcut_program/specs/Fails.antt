@@ -11,7 +11,7 @@ use Rattle.pbf_frame.specs.Verdict.{Verdict, judged_known}
 use Rattle.pbf_frame.specs.declared.stop.Stop.{Stop}
 use Rattle.pbf_frame.specs.declared.stop.Stop.TheVariants as stop
 use Rattle.pbf_pass.specs.Stops.{Caused, FaultOf, unchanged}
-use Rattle.pbf_published.specs.Published.{ChangedOf}
+use Rattle.pbf_published.specs.Published.{PassChanged}
 use Rattle.pbf_unpack.specs.RawFrames.{IsNearLimit}
 use Rattle.pbf_unpack.specs.Unpacked.{unpacked}
 use Rattle.pbfcut.specs.Calls.{AllSupply}
@@ -160,7 +160,7 @@ IsRefusedBy Pbfcutz judge has fault events = FirstFault packed_file judge fault 
 -- what a change says: of pbfcut by what was read; of pbfcutz by what IN has for the passes, and not what was written
 abbrev pub IsChangedBy : Program → (has : List (Option (List ℕ))) → ℕ → List Event → Type 0
 IsChangedBy Pbfcut has pass events = IsChanged pass events
-IsChangedBy Pbfcutz has pass events = ChangedOf has pass
+IsChangedBy Pbfcutz has pass events = PassChanged has pass
 
 -- ---- why
 
