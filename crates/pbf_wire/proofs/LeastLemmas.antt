@@ -2,7 +2,7 @@
 use Rattle.std.proofs.Common.{◌≡◌, ℕ, List, [], ◌∷◌, ◌++◌, Bool, refl, ap, sym, ◌∙◌, arith, inl, inr}
 use Rattle.std.specs.Prelude.{true, false, Option, Some, None, if◌then◌else◌}
 use Rattle.pbf_wire.specs.declared.fault.Fault.{Fault}
-use Rattle.pbf_wire.specs.Least.{is_less, lesser_by, least_by, lesser, least, rank, IsLeastBy, NoneLess, IsOne}
+use Rattle.pbf_wire.specs.Least.{is_less, lesser_by, least_by, lesser, least, fault_rank, IsLeastBy, NoneLess, IsOne}
 
 pub less_less : (xs ys zs : List ℕ) → is_less ys xs ≡ true → is_less zs ys ≡ true → is_less zs xs ≡ true
 less_less [] [] zs p q = absurd (cc)
@@ -33,15 +33,15 @@ least_joined key (x ∷ xs) ys = ap (λ w. lesser_by key (Some x) w) (least_join
 
 -- a least so far, and the parts still to come
 pub least_more : (f : Option Fault) (xs ys : List Fault) → lesser (lesser f (least xs)) (least ys) ≡ lesser f (least (xs ++ ys))
-least_more f xs ys = lesser_joined rank f (least xs) (least ys) ∙ ap (λ w. lesser f w) (sym (least_joined rank xs ys))
+least_more f xs ys = lesser_joined fault_rank f (least xs) (least ys) ∙ ap (λ w. lesser f w) (sym (least_joined fault_rank xs ys))
 
 -- nothing is to come
 pub lesser_nothing : (f : Option Fault) → lesser f (least []) ≡ f
-lesser_nothing f = lesser_none rank f
+lesser_nothing f = lesser_none fault_rank f
 
 -- two parts
 pub lesser_parts : (xs ys : List Fault) → lesser (least xs) (least ys) ≡ least (xs ++ ys)
-lesser_parts xs ys = sym (least_joined rank xs ys)
+lesser_parts xs ys = sym (least_joined fault_rank xs ys)
 
 -- ---- the least of a list is one of it, and none of it is less
 

@@ -10,7 +10,7 @@ use Rattle.pbf_wire.specs.Occurrence.{Occurrence, Item, items, items_past, items
 use Rattle.pbf_wire.specs.Columns.{placed, numbers_in, joined}
 use Rattle.pbf_wire.specs.Signed.{delta_in}
 use Rattle.pbf_wire.specs.Sums.{sums_from}
-use Rattle.pbf_wire.specs.Least.{lesser, least, rank}
+use Rattle.pbf_wire.specs.Least.{lesser, least, fault_rank}
 use Rattle.pbf_wire.specs.Faults.{fault, fault_where, faults_of_sums, fields_in}
 use Rattle.pbf_wire.proofs.Cutting.{front_ok}
 use Rattle.pbf_wire.proofs.LeastLemmas.{lesser_joined}
@@ -95,7 +95,7 @@ module _ (is_good : ℤ → Bool) (reason : Reason) (narrow : Bool) where
   one_more : (b : Bool) (p q : ℕ) (fs : List Fault) → p ≤ q → lesser (Some (fault p reason)) (least fs) ≡ Some (fault p reason)
       → lesser (Some (fault p reason)) (least (fault_where b q reason ++ fs)) ≡ Some (fault p reason)
   one_more false p q fs le h = h
-  one_more true p q fs le h = cc (lesser_joined rank (Some (fault p reason)) (Some (fault q reason)) (least fs), no_sooner p q le, h)
+  one_more true p q fs le h = cc (lesser_joined fault_rank (Some (fault p reason)) (Some (fault q reason)) (least fs), no_sooner p q le, h)
 
   first_is_least : (p : ℕ) (start : ℤ) (xs : List (ℕ × ℕ)) → RisingFrom p xs → lesser (Some (fault p reason)) (least (running start xs)) ≡ Some (fault p reason)
   first_is_least p start [] h = refl

@@ -17,7 +17,7 @@ use Rattle.pbf_wire.proofs.FaultLemmas.{leaf_is_wire, ends}
 use Rattle.pbf_wire.specs.Reading.{last_of}
 use Rattle.pbf_wire.specs.Signed.{IsWithin, is_within, delta_in}
 use Rattle.pbf_wire.specs.Sums.{sums, sums_from}
-use Rattle.pbf_wire.specs.Least.{least, lesser_by, rank}
+use Rattle.pbf_wire.specs.Least.{fault_rank, least, lesser_by}
 use Rattle.pbf_wire.specs.Faults.{fault_where, or_more, message_faults, ends_in, ends_of, column_count, fields_in, faults_of_sums}
 use Rattle.pbf_wire.proofs.Columns.{entries_none, entries_ok, entries_err}
 use Rattle.pbf_wire.proofs.Spellings.{varint_ok}
@@ -27,7 +27,7 @@ use Rattle.pbf_wire.proofs.AllLemmas.{all_weaker}
 
 -- ---- no fault
 
-some_least : (f : Fault) (g : Option Fault) → lesser_by rank (Some f) g ≡ None → ⊥
+some_least : (f : Fault) (g : Option Fault) → lesser_by fault_rank (Some f) g ≡ None → ⊥
 some_least f None e = absurd (cc)
 some_least f (Some g) e = absurd (grind arith)
 
