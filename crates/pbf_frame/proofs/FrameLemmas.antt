@@ -7,7 +7,7 @@ use Rattle.pbf_frame.specs.declared.header.Head.{Head}
 use Rattle.pbf_frame.specs.declared.frame_parts.BufferedFrame.{BufferedFrame}
 use Rattle.pbf_frame.specs.Devices.{IsAtEnd, Passes}
 use Rattle.pbf_wire.specs.Least.{least}
-use Rattle.pbf_wire.specs.Occurrence.{items, found}
+use Rattle.pbf_wire.specs.Occurrence.{◌>>=◌, items, found}
 use Rattle.pbf_wire.specs.Reading.{last_of}
 use Rattle.pbf_wire.specs.Wire.{wire}
 use Rattle.pbf_frame.specs.declared.header.TheConstants.{DATASIZE, HEADER_KINDS}
@@ -15,7 +15,7 @@ use Rattle.pbf_frame.specs.Header.{frame_type_at, head_says, header_faults, kind
 use Rattle.pbf_frame.specs.Frames.{next_of}
 use Rattle.pbf_frame.specs.Reads.{Gives, GaveBlob, GaveFrame, GaveEnd, BufferHolds}
 use Rattle.pbf_frame.specs.Sound.{IsFrame}
-use Rattle.pbf_frame.specs.Steps.{unless, ◌>>=◌, head_of, prefix_at, header_after, blob_of, after_prefix, steps_of}
+use Rattle.pbf_frame.specs.Steps.{unless, head_of, prefix_at, header_after, blob_of, after_prefix, steps_of}
 use Rattle.pbf_frame.proofs.Passed.{passes_three}
 use Rattle.pbf_frame.proofs.Stepping.{after_blob, after_header, as_some, frame_steps, after_some, after_none, next_is_steps}
 
