@@ -121,7 +121,7 @@ module _ (program : Program) (rows : List Row) (events : List Event) where
   ran name words done t s (inl (z, (command, inl h, d))) = absurd (h.1 t)
   ran name words done t s (inl (z, (command, inr r, d))) = done command (subst (λ x. IsRead x command) s r) d
 
-  pub run_extracts : (words : List Text) → is_given (codes "config") rows ≡ false → takes (program_app program) (normalized words) ≡ true → subcommand_of (program_app program) (normalized words) ≡ Some (codes "extract", rows) → IsRun program words events 0 → RunsExtract program rows events
+  pub run_extracts : (words : List Text) → is_given (codes "config") rows ≡ false → takes (program_app program) (normalized words) ≡ true → subcommand_of (program_app program) (normalized words) ≡ Some (codes "extract", rows) → IsRun program words events 0 → RunsRegion program rows events
   run_extracts words plain = ran (codes "extract") words (extract_done plain)
 
   module _ (words : List Text) (disk : Disk) (file : List ℕ) where
