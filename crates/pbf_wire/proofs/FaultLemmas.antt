@@ -10,7 +10,7 @@ use Rattle.pbf_wire.specs.declared.fault.Reason.TheVariants.{TwiceMessage}
 use Rattle.pbf_wire.specs.declared.kind.Kind.{Kind}
 use Rattle.pbf_wire.specs.Varint.{IsVarint, varint_at}
 use Rattle.pbf_wire.specs.Occurrence.{Content, Occurrence, Item, IsBody, IsSpelled, Joins}
-use Rattle.pbf_wire.specs.Columns.{Entry, entries_from, entries_past, read_entries, numbers_in, column_of, joined}
+use Rattle.pbf_wire.specs.Columns.{Entry, entries_from, entries_past, read_entries, content_numbers, column_of, joined}
 use Rattle.pbf_wire.specs.Wire.{kind_of, reason_in, or_at, wire}
 use Rattle.pbf_wire.specs.Reading.{bytes_held}
 use Rattle.pbf_wire.specs.Least.{lesser, least, fault_rank}
@@ -70,7 +70,7 @@ numbers_within skip [] = omega arith
 numbers_within (suc skip) (b ∷ bs) = omega (arith, numbers_within skip bs)
 numbers_within zero (b ∷ bs) = front_within (varint_at (b ∷ bs)) (λ skip. entries_past skip bs) (length bs) (λ skip. numbers_within skip bs)
 
-numbers_short : (c : Content) (kind end : ℕ) (s : List ℕ) → IsBody c kind end s → length (numbers_in c) ≤ length s
+numbers_short : (c : Content) (kind end : ℕ) (s : List ℕ) → IsBody c kind end s → length (content_numbers c) ≤ length s
 numbers_short c kind end s h = grind (arith, spelled_long, numbers_within, length-append)
 
 one_column_short : (k : ℕ) (o : Occurrence) (s : List ℕ) → IsSpelled o s → length (column_of k o) ≤ length s

@@ -7,7 +7,7 @@ use Rattle.pbf_wire.specs.declared.fault.Reason.{Reason}
 use Rattle.pbf_wire.specs.declared.fields.Fields.{Fields}
 use Rattle.pbf_wire.specs.Cursors.{fields_left}
 use Rattle.pbf_wire.specs.Occurrence.{Occurrence, Item, items, items_past, items_from, occurrence_at, found}
-use Rattle.pbf_wire.specs.Columns.{placed, numbers_in, joined}
+use Rattle.pbf_wire.specs.Columns.{placed, content_numbers, joined}
 use Rattle.pbf_wire.specs.Signed.{delta_in}
 use Rattle.pbf_wire.specs.Sums.{sums_from}
 use Rattle.pbf_wire.specs.Least.{lesser, least, fault_rank}
@@ -62,7 +62,7 @@ chosen_rise false p q ns rest le h = rises_before p q rest le h
 
 joined_rise : (k p : ℕ) (os : List Occurrence) → Follow p os → RisingFrom p (joined k os)
 joined_rise k p [] h = tt
-joined_rise k p (o ∷ os) h = chosen_rise (o.number == k) p o.place (numbers_in o.content) (joined k os) h.0 (joined_rise k o.place os h.1)
+joined_rise k p (o ∷ os) h = chosen_rise (o.number == k) p o.place (content_numbers o.content) (joined k os) h.0 (joined_rise k o.place os h.1)
 
 pub column_rises : (k at : ℕ) (m : List ℕ) → Rising (joined k (fields_in at m))
 column_rises k at m = rises at (joined k (found (items at m))) (joined_rise k at (found (items at m)) (follows 0 at m))
