@@ -121,7 +121,7 @@ CALLS_OF_LAYERS = {
 # this many other names stand in two files or more, most of them short words such as `State`, `Place` and `put`
 MOST_SHARED_NAMES = 20
 # and this many names of definitions
-MOST_SHARED_DEFINITIONS = 47
+MOST_SHARED_DEFINITIONS = 3
 OF_EXAMPLES = {"digest_pass", "pbf_examples", "pbf_vectors", "run_examples", "zlib_examples", "zlib_streams"}
 ITEM = re.compile(r"(?:pub(?:\([a-z]+\))? )?(?:const )?(?:fn|struct|enum|trait|const|static|type) (\w+)")
 DEFINITION = re.compile(r"(?:(?:abbrev|unfoldable) pub|pub record|pub data|pub(?! (?:record|data|mod) )) (\S+)")

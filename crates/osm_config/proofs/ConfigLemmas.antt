@@ -10,7 +10,7 @@ use Rattle.osm_config.specs.declared.fault.ConfigError.TheVariants as error
 use Rattle.osm_config.specs.declared.fault.ConfigStop.{ConfigStop}
 use Rattle.osm_config.specs.declared.fault.ConfigStop.TheVariants as stop
 use Rattle.osm_config.specs.Faults.{OrFault}
-use Rattle.osm_config.specs.Readings.{IsNamed, Reads, ReadsConfig, extract_member_of}
+use Rattle.osm_config.specs.Readings.{IsStopError, Reads, ReadsConfig, extract_member_of}
 use Rattle.osm_polygon.specs.Texts.{without_mark}
 
 outputs_are : (es : List ConfiguredExtract) → map (λ e. e.output) (map extract_member_of es) ≡ map (λ e. string_bytes e.output) es
@@ -28,7 +28,7 @@ unfolding config_of_text
 means_value text rest value e h = ap (λ t. config_of_json (document t)) (sym e) ∙ ap config_of_json h
 
 -- the error is for what the stop was for
-pub named_reads : {A : Type 0} (text : OrFault A) (s : ConfigStop) (e : ConfigError) → IsNamed s e → Reads text (Err s) → ReadsConfig text (Err e)
+pub named_reads : {A : Type 0} (text : OrFault A) (s : ConfigStop) (e : ConfigError) → IsStopError s e → Reads text (Err s) → ReadsConfig text (Err e)
 named_reads text (stop.Refused extract name reason) (error.Refused f) named reads = reads ∙ ap (λ g. Err g) (sym named)
 named_reads text (stop.Refused extract name reason) error.Memory named reads = tt
 named_reads text stop.Memory (error.Refused f) named reads = absurd named

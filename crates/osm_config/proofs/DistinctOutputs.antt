@@ -8,8 +8,9 @@ use Rattle.std.proofs.lemmas.List.Folds.{list_any-append}
 use Rattle.json.specs.Json.{Json, Items, document}
 use Rattle.osm_config.specs.declared.names.ConfigObject.TheVariants as kind
 use Rattle.osm_config.specs.Configs.{ConfigSpec, ExtractSpec, config_of_json, config_of_text, extracts_after, extracts_in, if_some_and_distinct, repeated_after, unless_repeated}
-use Rattle.osm_config.specs.Faults.{FaultSpec, OrFault, and_then}
+use Rattle.osm_config.specs.Faults.{FaultSpec, OrFault}
 use Rattle.osm_config.specs.Members.{judge_object, list_in, optional_string, required}
+use Rattle.osm_polygon.specs.GeoJson.{and_then}
 use Rattle.osm_polygon.specs.Texts.{without_mark}
 
 -- ---- names that don't come before are distinct

@@ -9,9 +9,9 @@ use Rattle.osm_box.specs.declared.bounding_box.BoxFault.{BoxFault}
 use Rattle.osm_box.specs.Degrees.{Parts, box_of_text}
 use Rattle.osm_config.specs.declared.fault.ConfigReason.TheVariants as reason
 use Rattle.osm_config.specs.declared.names.ConfigObject.TheVariants as kind
-use Rattle.osm_config.specs.Faults.{OrFault, fault, and_then, or_fault}
+use Rattle.osm_config.specs.Faults.{OrFault, config_fault, or_fault}
 use Rattle.osm_config.specs.Members.{file_name_in, judge_object, optional_string, required}
-use Rattle.osm_polygon.specs.GeoJson.{polygon_coordinates, multi_polygon_coordinates}
+use Rattle.osm_polygon.specs.GeoJson.{and_then, polygon_coordinates, multi_polygon_coordinates}
 use Rattle.osm_polygon.specs.PolyFile.{PolygonsOrFault}
 use Rattle.osm_polygon.specs.Polygon.{Rings}
 
@@ -34,7 +34,7 @@ edge_at extract index value =
 -- there are four, and so no fifth
 abbrev pub edges_of_items : (extract : ℕ) → Json → OrFault Parts
 edges_of_items extract value =
-    if is_some (at 4 value) then fault extract (codes "bbox") reason.Shape
+    if is_some (at 4 value) then config_fault extract (codes "bbox") reason.Shape
     else and_then (edge_at extract 0 value) (λ l.
     and_then (edge_at extract 1 value) (λ b.
     and_then (edge_at extract 2 value) (λ r.
@@ -63,11 +63,11 @@ with_commas edges =
 
 abbrev pub or_box_fault : (extract : ℕ) → Result BoundingBox BoxFault → OrFault AreaMember
 or_box_fault extract (Ok bounds) = Ok (in_box bounds)
-or_box_fault extract (Err wrong) = fault extract (codes "bbox") (reason.BadBox wrong)
+or_box_fault extract (Err wrong) = config_fault extract (codes "bbox") (reason.BadBox wrong)
 
 -- the box that `--box=left,bottom,right,top` is
-abbrev pub box_in : (extract : ℕ) → Json → OrFault AreaMember
-box_in extract value =
+abbrev pub box_of_json : (extract : ℕ) → Json → OrFault AreaMember
+box_of_json extract value =
     and_then (edges_in extract value) (λ edges.
     or_box_fault extract (box_of_text (with_commas edges)))
 
@@ -83,11 +83,11 @@ file_in extract name value =
     and_then (file_name_in extract (codes "file_name") value) (λ file.
     and_then (optional_string extract (codes "file_type") value) (λ type.
     if is_polygon_type type then Ok (in_file file)
-    else fault extract (codes "file_type") reason.FileType)))
+    else config_fault extract (codes "file_type") reason.FileType)))
 
 abbrev pub or_polygon_fault : (extract : ℕ) → (name : List ℕ) → PolygonsOrFault → OrFault AreaMember
 or_polygon_fault extract name (Ok polygons) = Ok (in_polygons polygons)
-or_polygon_fault extract name (Err wrong) = fault extract name (reason.BadPolygon wrong)
+or_polygon_fault extract name (Err wrong) = config_fault extract name (reason.BadPolygon wrong)
 
 abbrev pub polygon_in : (extract : ℕ) → Json → OrFault AreaMember
 polygon_in extract (array items) =
@@ -102,10 +102,10 @@ multi_polygon_in extract value = file_in extract (codes "multipolygon") value
 -- ---- exactly one of them
 
 abbrev pub area_by : (extract : ℕ) → (bbox polygon multipolygon : Option Json) → OrFault AreaMember
-area_by extract (Some value) None None = box_in extract value
+area_by extract (Some value) None None = box_of_json extract value
 area_by extract None (Some value) None = polygon_in extract value
 area_by extract None None (Some value) = multi_polygon_in extract value
-area_by extract _ _ _ = fault extract [] reason.Area
+area_by extract _ _ _ = config_fault extract [] reason.Area
 
 abbrev pub area_in : (extract : ℕ) → Json → OrFault AreaMember
 area_in extract value =

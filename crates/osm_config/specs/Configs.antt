@@ -7,8 +7,9 @@ use Rattle.json.specs.Json.{Json, Items, no_items, item, document}
 use Rattle.osm_config.specs.declared.fault.ConfigReason.TheVariants as reason
 use Rattle.osm_config.specs.declared.names.ConfigObject.TheVariants as kind
 use Rattle.osm_config.specs.Areas.{AreaMember, area_in}
-use Rattle.osm_config.specs.Faults.{OrFault, fault, and_then}
+use Rattle.osm_config.specs.Faults.{OrFault, config_fault}
 use Rattle.osm_config.specs.Members.{file_name_in, judge_object, list_in, optional_string, required}
+use Rattle.osm_polygon.specs.GeoJson.{and_then}
 use Rattle.osm_polygon.specs.Texts.{without_mark}
 
 -- an extract: the name of its output file, and its area
@@ -32,7 +33,7 @@ abbrev pub judge_strings : (extract : ℕ) → Json → OrFault Unit
 judge_strings extract value =
     and_then (optional_string extract (codes "description") value) (λ _.
     and_then (optional_string extract (codes "output_format") value) (λ format.
-    if is_pbf format then Ok tt else fault extract (codes "output_format") reason.Format))
+    if is_pbf format then Ok tt else config_fault extract (codes "output_format") reason.Format))
 
 abbrev pub extract_in : (extract : ℕ) → Json → OrFault ExtractSpec
 extract_in extract value =
@@ -62,11 +63,11 @@ repeated_after before (output ∷ more) =
 
 abbrev pub unless_repeated : List ExtractSpec → Option ℕ → OrFault (List ExtractSpec)
 unless_repeated extracts None = Ok extracts
-unless_repeated extracts (Some number) = fault number (codes "output") reason.SameOutput
+unless_repeated extracts (Some number) = config_fault number (codes "output") reason.SameOutput
 
 -- there is an extract, and no two have the same output
 abbrev pub if_some_and_distinct : List ExtractSpec → OrFault (List ExtractSpec)
-if_some_and_distinct [] = fault 0 (codes "extracts") reason.Empty
+if_some_and_distinct [] = config_fault 0 (codes "extracts") reason.Empty
 if_some_and_distinct (e ∷ more) =
     unless_repeated (e ∷ more) (repeated_after [] (map (λ e. e.output) (e ∷ more)))
 
@@ -86,7 +87,7 @@ config_in value =
     Ok (record { directory = directory; extracts = extracts }))))
 
 abbrev pub config_of_json : Option Json → OrFault ConfigSpec
-config_of_json None = fault 0 [] reason.Json
+config_of_json None = config_fault 0 [] reason.Json
 config_of_json (Some value) = config_in value
 
 -- the configuration of the JSON that a text is, after a byte order mark or none, or its first fault

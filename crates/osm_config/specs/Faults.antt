@@ -11,14 +11,10 @@ pub record FaultSpec : Type 0 where
 abbrev pub OrFault : Type 0 → Type 0
 OrFault A = Result A FaultSpec
 
-abbrev pub fault : {A : Type 0} → (extract : ℕ) → (name : List ℕ) → ConfigReason → OrFault A
-fault extract name reason = Err (record { extract = extract; member = name; reason = reason })
-
-abbrev pub and_then : {A B : Type 0} → OrFault A → (A → OrFault B) → OrFault B
-and_then (Ok x) next = next x
-and_then (Err f) next = Err f
+abbrev pub config_fault : {A : Type 0} → (extract : ℕ) → (name : List ℕ) → ConfigReason → OrFault A
+config_fault extract name reason = Err (record { extract = extract; member = name; reason = reason })
 
 -- what is there, or this fault
 abbrev pub or_fault : {A : Type 0} → (extract : ℕ) → (name : List ℕ) → ConfigReason → Option A → OrFault A
-or_fault extract name reason None = fault extract name reason
+or_fault extract name reason None = config_fault extract name reason
 or_fault extract name reason (Some x) = Ok x

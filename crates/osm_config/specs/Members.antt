@@ -8,7 +8,8 @@ use Rattle.json.specs.Find.{get, as_array, as_object, as_str}
 use Rattle.osm_config.specs.declared.fault.ConfigReason.TheVariants as reason
 use Rattle.osm_config.specs.declared.names.ConfigObject.{ConfigObject}
 use Rattle.osm_config.specs.declared.names.ConfigObject.TheVariants as object
-use Rattle.osm_config.specs.Faults.{OrFault, fault, and_then, or_fault}
+use Rattle.osm_config.specs.Faults.{OrFault, config_fault, or_fault}
+use Rattle.osm_polygon.specs.GeoJson.{and_then}
 
 -- ---- names
 
@@ -27,8 +28,8 @@ is_known object name = list_any (bytes_eq name) (names_of object)
 -- the names so far, with one more, which has to be known and new
 abbrev pub with_name : (extract : ℕ) → ConfigObject → List (List ℕ) → List ℕ → OrFault (List (List ℕ))
 with_name extract object seen name =
-    if not (is_known object name) then fault extract name reason.Unknown
-    else if list_any (λ s. bytes_eq s name) seen then fault extract name reason.Repeated
+    if not (is_known object name) then config_fault extract name reason.Unknown
+    else if list_any (λ s. bytes_eq s name) seen then config_fault extract name reason.Repeated
     else Ok (seen ++ name ∷ [])
 
 abbrev pub names_after : (extract : ℕ) → ConfigObject → List (List ℕ) → Members → OrFault (List (List ℕ))
@@ -72,4 +73,4 @@ abbrev pub file_name_in : (extract : ℕ) → (name : List ℕ) → Json → OrF
 file_name_in extract name value =
     and_then (required extract name value) (λ found.
     and_then (string_in extract name found) (λ file.
-    if is_file_name file then Ok file else fault extract name reason.FileName))
+    if is_file_name file then Ok file else config_fault extract name reason.FileName))

@@ -3,7 +3,8 @@ use Rattle.std.specs.Prelude.{ℕ, List, [], map, Option, unwrap_or}
 use Rattle.std.specs.Path.{path_join, path_with_file_name}
 use Rattle.osm_config.specs.Areas.{AreaMember, in_file}
 use Rattle.osm_config.specs.Configs.{ExtractSpec, config_of_text, if_some_and_distinct}
-use Rattle.osm_config.specs.Faults.{OrFault, and_then}
+use Rattle.osm_config.specs.Faults.{OrFault}
+use Rattle.osm_polygon.specs.GeoJson.{and_then}
 
 -- where a relative output begins: in the folder that is given, otherwise in the one that the configuration names, otherwise where the program runs
 abbrev pub folder_of_outputs : (given named : Option (List ℕ)) → List ℕ

@@ -15,8 +15,8 @@ use Rattle.osm_config.specs.Areas.{AreaMember, in_box, in_polygons, in_file}
 use Rattle.osm_config.specs.Configs.{ConfigSpec, ExtractSpec}
 use Rattle.osm_config.specs.Faults.{FaultSpec, OrFault}
 
-abbrev pub fault_of : ConfigFault → FaultSpec
-fault_of f = record { extract = f.extract; member = string_bytes f.member; reason = f.reason }
+abbrev pub fault_spec_of : ConfigFault → FaultSpec
+fault_spec_of f = record { extract = f.extract; member = string_bytes f.member; reason = f.reason }
 
 abbrev pub area_member_of : ConfiguredArea → AreaMember
 area_member_of (InBox bounds) = in_box bounds
@@ -42,12 +42,12 @@ Reads text (Err stop.Memory) = Unit {0}
 -- the same of what a caller is given
 abbrev pub ReadsConfig : {A : Type 0} → OrFault A → Result A ConfigError → Type 0
 ReadsConfig text (Ok found) = text ≡ Ok found
-ReadsConfig text (Err (error.Refused f)) = text ≡ Err (fault_of f)
+ReadsConfig text (Err (error.Refused f)) = text ≡ Err (fault_spec_of f)
 ReadsConfig text (Err error.Memory) = Unit {0}
 
 -- the error says what the stop says, or memory was refused
-abbrev pub IsNamed : ConfigStop → ConfigError → Type 0
-IsNamed (stop.Refused extract name reason) (error.Refused f) =
-    fault_of f ≡ record { extract = extract; member = name.now; reason = reason }
-IsNamed stop.Memory (error.Refused f) = ⊥
-IsNamed stop error.Memory = Unit {0}
+abbrev pub IsStopError : ConfigStop → ConfigError → Type 0
+IsStopError (stop.Refused extract name reason) (error.Refused f) =
+    fault_spec_of f ≡ record { extract = extract; member = name.now; reason = reason }
+IsStopError stop.Memory (error.Refused f) = ⊥
+IsStopError stop error.Memory = Unit {0}

@@ -4,10 +4,10 @@ ghost use Rattle.std.specs.Prelude.{◌≡◌, IfOk, option_map};
 ghost use Rattle.std.specs.Result.{result_map_both};
 ghost use Rattle.std.specs.String.{string_bytes};
 ghost use Rattle.json.specs.Value.{value_view};
-ghost use Rattle.osm_config.specs.Areas.{area_in, box_in, edge_at, edge_in, edge_named, edges_in, edges_of_items, edges_of_members};
+ghost use Rattle.osm_config.specs.Areas.{area_in, box_of_json, edge_at, edge_in, edge_named, edges_in, edges_of_items, edges_of_members};
 ghost use Rattle.osm_config.specs.Areas.{file_in, is_polygon_type, multi_polygon_in, polygon_in, with_commas};
 ghost use Rattle.osm_config.specs.Readings.{Reads, area_member_of};
-ghost use Rattle.osm_config.specs.Edges.{edges_of};
+ghost use Rattle.osm_config.specs.Edges.{edge_parts};
 
 use crate::config::ConfiguredArea;
 use crate::fault::{ConfigReason, ConfigStop};
@@ -59,7 +59,7 @@ fn edges_of_items<'v, 'a>(
     value: &'v Value<'a>,
 ) -> Result<EdgeTexts<'v>, ConfigStop<'v>>
     ensures { Reads (edges_of_items extract (value_view value.now))
-        (result_map_both edges_of (λ e. e) result) }
+        (result_map_both edge_parts (λ e. e) result) }
 {
     let None = value.at(4) else {
         return Err(ConfigStop::Refused(extract, "bbox", ConfigReason::Shape));
@@ -95,7 +95,7 @@ fn edges_of_members<'v, 'a>(
     value: &'v Value<'a>,
 ) -> Result<EdgeTexts<'v>, ConfigStop<'v>>
     ensures { Reads (edges_of_members extract (value_view value.now))
-        (result_map_both edges_of (λ e. e) result) }
+        (result_map_both edge_parts (λ e. e) result) }
 {
     judge_object(alloc, extract, "bbox", ConfigObject::Edges, value)?;
     let left = edge_named(extract, "left", value)?;
@@ -117,7 +117,7 @@ fn edges_in<'v, 'a>(
     value: &'v Value<'a>,
 ) -> Result<EdgeTexts<'v>, ConfigStop<'v>>
     ensures { Reads (edges_in extract (value_view value.now))
-        (result_map_both edges_of (λ e. e) result) }
+        (result_map_both edge_parts (λ e. e) result) }
 {
     match value {
         Value::Array(_) => edges_of_items(extract, value),
@@ -127,7 +127,7 @@ fn edges_in<'v, 'a>(
 
 /// The edges as one text, as a command line has them.
 fn with_commas(alloc: Global, edges: &EdgeTexts<'_>) -> Result<String, AllocError>
-    ensures { IfOk result (λ text. string_bytes text ≡ with_commas (edges_of edges.now)) }
+    ensures { IfOk result (λ text. string_bytes text ≡ with_commas (edge_parts edges.now)) }
 {
     let mut text = String::from_str(alloc, edges.left)?;
     text.push_str(",")?;
@@ -145,7 +145,7 @@ fn bounds_in<'v, 'a>(
     extract: usize,
     value: &'v Value<'a>,
 ) -> Result<ConfiguredArea, ConfigStop<'v>>
-    ensures { Reads (box_in extract (value_view value.now))
+    ensures { Reads (box_of_json extract (value_view value.now))
         (result_map_both area_member_of (λ e. e) result) }
 {
     let edges = edges_in(alloc, extract, value)?;

@@ -3,7 +3,7 @@
 ghost use Rattle.std.specs.Prelude.{◌≡◌};
 ghost use Rattle.osm_config.specs.declared.fault.ConfigError.TheVariants as error;
 ghost use Rattle.osm_config.specs.declared.fault.ConfigStop.TheVariants as stop;
-ghost use Rattle.osm_config.specs.Readings.{IsNamed};
+ghost use Rattle.osm_config.specs.Readings.{IsStopError};
 
 use osm_box::BoxFault;
 use osm_polygon::PolyFault;
@@ -107,7 +107,7 @@ impl<'v, T: Drop> From<AllocFailed<T>> for ConfigStop<'v> {
 
 /// The error of a stop, with a copy of the member's name.
 pub(crate) fn config_error(alloc: Global, stop: &ConfigStop<'_>) -> ConfigError
-    ensures { IsNamed stop.now result }
+    ensures { IsStopError stop.now result }
 {
     let ConfigStop::Refused(extract, name, reason) = stop else {
         return ConfigError::Memory;

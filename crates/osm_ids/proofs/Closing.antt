@@ -10,7 +10,7 @@ use Rattle.std.proofs.lemmas.Bool.Decides.{Decides-int_eq}
 use Rattle.std.proofs.lemmas.List.Folds.{list_any-append}
 use Rattle.std.proofs.lemmas.List.Sums.{sum_by-cons}
 use Rattle.osm_ids.specs.declared.links.Link.{Link}
-use Rattle.osm_ids.specs.Links.{link_cmp, HoldsOfEach, IsClosed, IsLeast, is_link_among, is_of, is_in, missing_parents, GrowsToLeast, to_follow}
+use Rattle.osm_ids.specs.Links.{link_cmp, HoldsOfEach, IsClosed, IsLeast, is_link_among, is_of, is_in_work, missing_parents, GrowsToLeast, to_follow}
 use Rattle.osm_ids.proofs.Sets.{Ids, ids_of, contains-ids_of, insert_cases, insert_has}
 use Rattle.osm_ids.proofs.LinkOrder.{found_is, found_itself, kept_among}
 
@@ -21,14 +21,14 @@ insert_new s p = grind (arith, ints, set.members)
 pub insert_same : (s : Ids) (p : ℤ) → set.contains s p ≡ true → set.insert s p ≡ s
 insert_same s p h = set.same_set int_cmp_total set.int_cmp-IsAntisymmetric _ _ (λ x. grind (arith, set.members, h, Decides-int_eq x p))
 
-push_has : (work : List ℤ) (p x : ℤ) → is_in work x ≡ true → is_in (work ++ p ∷ []) x ≡ true
+push_has : (work : List ℤ) (p x : ℤ) → is_in_work work x ≡ true → is_in_work (work ++ p ∷ []) x ≡ true
 push_has work p x h = grind (arith, list_any-append (int_eq x) work (p ∷ []))
 
-push_new : (work : List ℤ) (p : ℤ) → is_in (work ++ p ∷ []) p ≡ true
+push_new : (work : List ℤ) (p : ℤ) → is_in_work (work ++ p ∷ []) p ≡ true
 push_new work p = grind (arith, list_any-append (int_eq p) work (p ∷ []), Decides-int_eq p p)
 
-pub push_cases : (work : List ℤ) (p x : ℤ) → is_in (work ++ p ∷ []) x ≡ true → (is_in work x ≡ true) ⊎ (x ≡ p)
-push_cases work p x h = grind (arith, or_cases (is_in work x) (int_eq x p) (grind (arith, list_any-append (int_eq x) work (p ∷ []), h)), list_any-append (int_eq x) work (p ∷ []))
+pub push_cases : (work : List ℤ) (p x : ℤ) → is_in_work (work ++ p ∷ []) x ≡ true → (is_in_work work x ≡ true) ⊎ (x ≡ p)
+push_cases work p x h = grind (arith, or_cases (is_in_work work x) (int_eq x p) (grind (arith, list_any-append (int_eq x) work (p ∷ []), h)), list_any-append (int_eq x) work (p ∷ []))
 
 abbrev lacks : Ids → Link → Bool
 lacks s l = not (set.contains s l.parent)

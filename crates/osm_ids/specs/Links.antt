@@ -41,8 +41,8 @@ abbrev pub is_of : ℤ → Link → Bool
 is_of id l = int_eq l.member id
 
 -- whether an id is in a list of work
-abbrev pub is_in : List ℤ → ℤ → Bool
-is_in work id = list_any (int_eq id) work
+abbrev pub is_in_work : List ℤ → ℤ → Bool
+is_in_work work id = list_any (int_eq id) work
 
 -- links whose parent the set lacks
 abbrev pub missing_parents : List Link → set.FinSet int_cmp → ℕ
@@ -51,9 +51,9 @@ missing_parents links ids = count_by (λ (l : Link). not (set.contains ids l.par
 -- a set grows towards the least one: the work has ids whose links are still to be followed, and of one more id these links are
 pub record GrowsToLeast (links rest : List Link) (start ids : set.FinSet int_cmp) (work : List ℤ) : Type 0 where
   pub holds : HoldsOfEach start (set.contains ids)
-  pub known : (x : ℤ) → is_in work x ≡ true → set.contains ids x ≡ true
+  pub known : (x : ℤ) → is_in_work work x ≡ true → set.contains ids x ≡ true
   pub left : (l : Link) → is_link_among rest l ≡ true → (is_link_among links l ≡ true) × (set.contains ids l.member ≡ true)
-  pub done : (l : Link) → is_link_among links l ≡ true → set.contains ids l.member ≡ true → (is_in work l.member ≡ true) ⊎ ((set.contains ids l.parent ≡ true) ⊎ (is_link_among rest l ≡ true))
+  pub done : (l : Link) → is_link_among links l ≡ true → set.contains ids l.member ≡ true → (is_in_work work l.member ≡ true) ⊎ ((set.contains ids l.parent ≡ true) ⊎ (is_link_among rest l ≡ true))
   pub least : (test : ℤ → Bool) → HoldsOfEach start test → IsClosed (is_link_among links) test → HoldsOfEach ids test
 
 -- a measure of what is to be done

@@ -13,7 +13,7 @@ use Rattle.osm_polygon.specs.declared.place.Place.{Place}
 use Rattle.osm_polygon.specs.declared.strips.Strip.{Strip}
 use Rattle.osm_polygon.specs.declared.strips.StripRange.{StripRange}
 use Rattle.osm_polygon.specs.Edges.{along, strip_number, lowest, highest, is_in_strip}
-use Rattle.osm_polygon.specs.Strips.{AreStrips, AreWithin, lists_of, cut_at, pushed_at, with_edge, end_of, span_of, spans_of, held}
+use Rattle.osm_polygon.specs.Strips.{AreStrips, AreWithin, lists_of, cut_at, pushed_at, with_edge, end_strip, span_of, spans_of, edges_held}
 
 pub le_true : (a b : ℕ) → a ≤ b → nat_le a b ≡ true
 le_true a b h = search rules
@@ -131,11 +131,11 @@ all_few axis first last times edges small some =
       le_self : (n : ℕ) → n ≤ n
       le_self n = omega arith
 
-pub none_held : (strips : List Strip) (strip : Strip) → held strips ≡ 0 → strip.edges.items ≡ [] → held (strips ++ strip ∷ []) ≡ 0
+pub none_held : (strips : List Strip) (strip : Strip) → edges_held strips ≡ 0 → strip.edges.items ≡ [] → edges_held (strips ++ strip ∷ []) ≡ 0
 none_held [] strip none is = rw is refl
 none_held (first ∷ strips) strip none is =
-    let here : held (first ∷ strips) ≡ length first.edges.items + held strips = sum_by-cons length first.edges.items (lists_of strips) in
-    let more : held ((first ∷ strips) ++ strip ∷ []) ≡ length first.edges.items + held (strips ++ strip ∷ []) = sum_by-cons length first.edges.items (lists_of (strips ++ strip ∷ [])) in
+    let here : edges_held (first ∷ strips) ≡ length first.edges.items + edges_held strips = sum_by-cons length first.edges.items (lists_of strips) in
+    let more : edges_held ((first ∷ strips) ++ strip ∷ []) ≡ length first.edges.items + edges_held (strips ++ strip ∷ []) = sum_by-cons length first.edges.items (lists_of (strips ++ strip ∷ [])) in
     omega (arith, here, more, none, none_held strips strip (omega (arith, here, none)) is)
 
 pub spans_more : (cut : StripRange) (edges : List Edge) (e : Edge) → spans_of cut (edges ++ e ∷ []) ≡ spans_of cut edges + span_of cut e
@@ -276,7 +276,7 @@ past_all true false n high first end number size is low below all past = refl
 past_all true true n high first end number size is low below all past =
     lt_true n number (let most = nat_le_is n high is in omega (arith, most, low, below, all, past))
 
-pub all_pushed : (cut : StripRange) (e : Edge) (number : ℕ) (l : List (List Edge)) → length l ≡ cut.end - cut.first → end_of cut e ≤ number
+pub all_pushed : (cut : StripRange) (e : Edge) (number : ℕ) (l : List (List Edge)) → length l ≡ cut.end - cut.first → end_strip cut e ≤ number
     → with_edge (in_strip_below cut.axis cut.shift e number) e cut.first l ≡ with_edge (λ n. is_in_strip cut.axis cut.shift n e) e cut.first l
 all_pushed cut e number l all past =
     with_upto (in_strip_below cut.axis cut.shift e number) (λ n. is_in_strip cut.axis cut.shift n e) e cut.first l

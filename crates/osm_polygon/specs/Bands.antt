@@ -9,7 +9,7 @@ use Rattle.osm_polygon.specs.declared.bands.Probe.{Probe}
 use Rattle.osm_polygon.specs.declared.bands.Border.{Border}
 use Rattle.osm_polygon.specs.Polygon.{Point, Side, is_odd, is_on, crosses}
 use Rattle.osm_polygon.specs.Edges.{point_of, side_of, strip_number, highest, is_in_strip}
-use Rattle.osm_polygon.specs.Strips.{AreStrips, AreWithin, lists_of, held}
+use Rattle.osm_polygon.specs.Strips.{AreStrips, AreWithin, edges_held, lists_of}
 
 -- one of two, and not the other
 abbrev pub differ : Bool → Bool → Bool
@@ -97,7 +97,7 @@ AreClosed sides =
 
 -- how many edges the cells of all bands have together
 abbrev pub held_by_bands : List Band → ℕ
-held_by_bands bands = sum_by (λ b. held b.cells.items) bands
+held_by_bands bands = sum_by (λ b. edges_held b.cells.items) bands
 
 -- how many cells that are
 abbrev pub cells_by : List Band → ℕ

@@ -11,7 +11,7 @@ use Rattle.osm_polygon.specs.declared.belts.Belt.TheVariants.{One, Many}
 use Rattle.osm_polygon.specs.declared.belts.BeltBands.{BeltBands}
 use Rattle.osm_polygon.specs.Polygon.{is_amid_edges}
 use Rattle.osm_polygon.specs.Edges.{point_of, side_of, strip_number, is_in_strip}
-use Rattle.osm_polygon.specs.Strips.{held}
+use Rattle.osm_polygon.specs.Strips.{edges_held}
 use Rattle.osm_polygon.specs.Bands.{IsBand, AreBands, AreClosed, held_by_bands, cells_by}
 
 -- the bands of the belt with this number, if these are the edges of the polygon: each place of it is in one of them
@@ -65,7 +65,7 @@ BeltTells belt asked told =
 
 -- how many edges the cells of a belt have together
 abbrev pub held_of : Belt → ℕ
-held_of (One band) = held band.cells.items
+held_of (One band) = edges_held band.cells.items
 held_of (Many parts) = held_by_bands parts.bands.items
 
 abbrev pub held_in : List Belt → ℕ

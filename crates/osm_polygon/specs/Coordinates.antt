@@ -3,13 +3,13 @@ use Rattle.std.specs.Prelude.{ℤ, ◌-ℤ◌, ◌-◌, Bool, false, ◌&&◌, n
 use Rattle.std.specs.List.{slice_get}
 use Rattle.osm_polygon.specs.declared.fault.PolyReason.{PolyReason}
 use Rattle.osm_polygon.specs.declared.fault.PolyReason.TheVariants.{Number, Range}
-use Rattle.osm_polygon.specs.Earth.{is_within}
+use Rattle.osm_polygon.specs.Earth.{magnitude_up_to}
 use Rattle.osm_polygon.specs.Polygon.{Point}
 
 -- a latitude or longitude in nanodegrees, at most `limit` from 0
 abbrev pub coordinate : (limit : ℤ) → Option ℤ → Result ℤ PolyReason
 coordinate limit None = Err Number
-coordinate limit (Some n) = if is_within limit n then Ok n else Err Range
+coordinate limit (Some n) = if magnitude_up_to limit n then Ok n else Err Range
 
 -- an edge from one place to the other would be shorter round the other side of the earth. One of 360
 -- degrees, along a whole parallel, has no other side

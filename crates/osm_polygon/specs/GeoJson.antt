@@ -23,7 +23,7 @@ use Rattle.osm_polygon.specs.Polygon.{Point, Rings}
 abbrev pub OrShapeFault : Type 0 → Type 0
 OrShapeFault A = Result A PolyFault
 
-abbrev pub and_then : {A B : Type 0} → OrShapeFault A → (A → OrShapeFault B) → OrShapeFault B
+abbrev pub and_then : {A B E : Type 0} → Result A E → (A → Result B E) → Result B E
 and_then (Ok x) next = next x
 and_then (Err fault) next = Err fault
 
@@ -43,8 +43,8 @@ abbrev pub member : List ℕ → Json → OrShapeFault Json
 member name value = or_shape (get name value)
 
 -- what there is so far, with what each item has
-abbrev pub each : {A : Type 0} → (A → Json → OrShapeFault A) → A → Json → OrShapeFault A
-each step done value = and_then (items_in value) (each_item step done)
+abbrev pub fold_items : {A : Type 0} → (A → Json → OrShapeFault A) → A → Json → OrShapeFault A
+fold_items step done value = and_then (items_in value) (each_item step done)
 
 -- ---- a ring
 
@@ -117,7 +117,7 @@ and_polygon polygons (ring ∷ rings) = polygons ++ (ring ∷ rings) ∷ []
 
 abbrev pub with_polygon : List Rings → Json → PolygonsOrFault
 with_polygon polygons value =
-    and_then (rings_after (sum_by length polygons) (each with_ring [] value)) (λ rings.
+    and_then (rings_after (sum_by length polygons) (fold_items with_ring [] value)) (λ rings.
     Ok (and_polygon polygons rings))
 
 -- ---- what has polygons
@@ -142,7 +142,7 @@ geometry_of value = kind_by (option_and_then as_str (get (codes "type") value))
 abbrev pub shape_by : GeometryKind → List Rings → Json → PolygonsOrFault
 shape_by kind.Polygon polygons value = and_then (member (codes "coordinates") value) (with_polygon polygons)
 shape_by kind.MultiPolygon polygons value =
-    and_then (member (codes "coordinates") value) (each with_polygon polygons)
+    and_then (member (codes "coordinates") value) (fold_items with_polygon polygons)
 shape_by _ polygons value = or_shape None
 
 abbrev pub with_shape : List Rings → Json → PolygonsOrFault
@@ -150,7 +150,7 @@ with_shape polygons value = shape_by (geometry_of value) polygons value
 
 abbrev pub geometry_by : GeometryKind → List Rings → Json → PolygonsOrFault
 geometry_by kind.GeometryCollection polygons value =
-    and_then (member (codes "geometries") value) (each with_shape polygons)
+    and_then (member (codes "geometries") value) (fold_items with_shape polygons)
 geometry_by _ polygons value = with_shape polygons value
 
 abbrev pub with_geometry : List Rings → Json → PolygonsOrFault
@@ -165,7 +165,7 @@ with_feature polygons value = feature_by (geometry_of value) polygons value
 
 abbrev pub document_by : GeometryKind → Json → PolygonsOrFault
 document_by kind.FeatureCollection value =
-    and_then (member (codes "features") value) (each with_feature [])
+    and_then (member (codes "features") value) (fold_items with_feature [])
 document_by kind.Feature value = with_feature [] value
 document_by _ value = with_geometry [] value
 
@@ -180,7 +180,7 @@ abbrev pub polygon_coordinates : Json → PolygonsOrFault
 polygon_coordinates value = and_then (with_polygon [] value) if_some
 
 abbrev pub multi_polygon_coordinates : Json → PolygonsOrFault
-multi_polygon_coordinates value = and_then (each with_polygon [] value) if_some
+multi_polygon_coordinates value = and_then (fold_items with_polygon [] value) if_some
 
 -- the polygons of the JSON that a text is, or its first fault
 abbrev pub geojson_polygons : Option Json → PolygonsOrFault

@@ -56,19 +56,19 @@ with_edge test e number (near ∷ more) =
 -- ---- how much that is
 
 -- the first of these strips that an edge has a place in, and the one after the last
-abbrev pub first_of : StripRange → Edge → ℕ
-first_of cut e = max (lowest cut.axis cut.shift e) cut.first
+abbrev pub first_strip : StripRange → Edge → ℕ
+first_strip cut e = max (lowest cut.axis cut.shift e) cut.first
 
-abbrev pub end_of : StripRange → Edge → ℕ
-end_of cut e = min (highest cut.axis cut.shift e + 1) cut.end
+abbrev pub end_strip : StripRange → Edge → ℕ
+end_strip cut e = min (highest cut.axis cut.shift e + 1) cut.end
 
 -- how many of them it has a place in
 abbrev pub span_of : StripRange → Edge → ℕ
-span_of cut e = end_of cut e - first_of cut e
+span_of cut e = end_strip cut e - first_strip cut e
 
 abbrev pub spans_of : StripRange → List Edge → ℕ
 spans_of cut edges = sum_by (span_of cut) edges
 
 -- how many edges the strips have together
-abbrev pub held : List Strip → ℕ
-held strips = sum_by length (lists_of strips)
+abbrev pub edges_held : List Strip → ℕ
+edges_held strips = sum_by length (lists_of strips)

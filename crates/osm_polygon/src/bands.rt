@@ -6,7 +6,7 @@
 
 ghost use Rattle.std.specs.Prelude.{◌≡◌, ◌<◌, ◌≤◌, ◌+◌, ◌-◌, ◌*◌, IfOk, length};
 ghost use Rattle.osm_polygon.specs.declared.edge.Axis.TheVariants.{Latitude};
-ghost use Rattle.osm_polygon.specs.Strips.{held, spans_of};
+ghost use Rattle.osm_polygon.specs.Strips.{edges_held, spans_of};
 ghost use Rattle.osm_polygon.specs.Bands.{differ, is_south_of, crosses_border, is_beside, is_told, is_odd_of, is_last, IsBand, AreBands, held_by_bands, cells_by, TellsOfPlace};
 
 use crate::edge::{Axis, Edge, Meeting, strip_of};
@@ -139,7 +139,7 @@ fn is_odd_here(edges: &[Edge], shift: u32, cell: u64, border: Border) -> bool
 pub(crate) fn band_of(alloc: Global, edges: &[Edge], border: Border) -> Result<Band, AllocError>
     requires { border.shift < 64 }
     ensures is { IfOk result (λ band. IsBand border edges.now band) }
-    ensures few { IfOk result (λ band. held band.cells.items ≤ 2 * length edges.now) }
+    ensures few { IfOk result (λ band. edges_held band.cells.items ≤ 2 * length edges.now) }
     ensures number { IfOk result (λ band. length band.cells.items ≤ length edges.now + 1) }
 {
     let cut = choose_cut(edges, Axis::Longitude, 2);

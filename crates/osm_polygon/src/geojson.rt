@@ -6,7 +6,7 @@ ghost use Rattle.std.specs.Result.{result_map_both};
 ghost use Rattle.json.specs.Json.{document};
 ghost use Rattle.json.specs.Value.{items_view, value_view};
 ghost use Rattle.osm_polygon.specs.Edges.{point_of};
-ghost use Rattle.osm_polygon.specs.GeoJson.{and_polygon, each, fault_after, geojson_polygons, if_closed, if_some, is_closed, is_same_place, items_in};
+ghost use Rattle.osm_polygon.specs.GeoJson.{and_polygon, fault_after, fold_items, geojson_polygons, if_closed, if_some, is_closed, is_same_place, items_in};
 ghost use Rattle.osm_polygon.specs.GeoJson.{geometry_named, geometry_of, member, number_at, position, ring_places};
 ghost use Rattle.osm_polygon.specs.GeoJson.{document_by};
 ghost use Rattle.osm_polygon.specs.GeoJson.{polygon_coordinates, multi_polygon_coordinates};
@@ -189,7 +189,7 @@ fn with_rings(
     mut rings: Vec<Ring>,
     value: &Value<'_>,
 ) -> Result<Vec<Ring>, PolyError>
-    ensures { ReadsText (each with_ring (map places_of rings.items) (value_view value.now))
+    ensures { ReadsText (fold_items with_ring (map places_of rings.items) (value_view value.now))
         (result_map_both (λ rings. map places_of rings.items) (λ e. e) result) }
 {
     for item in items_in(value)? {
@@ -269,7 +269,7 @@ fn with_polygons(
     mut polygons: Vec<Vec<Ring>>,
     value: &Value<'_>,
 ) -> Result<Vec<Vec<Ring>>, PolyError>
-    ensures { ReadsText (each with_polygon (map rings_of polygons.items) (value_view value.now))
+    ensures { ReadsText (fold_items with_polygon (map rings_of polygons.items) (value_view value.now))
         (result_map_both (λ polygons. map rings_of polygons.items) (λ e. e) result) }
 {
     for item in items_in(value)? {
@@ -300,7 +300,7 @@ fn with_shapes(
     mut polygons: Vec<Vec<Ring>>,
     value: &Value<'_>,
 ) -> Result<Vec<Vec<Ring>>, PolyError>
-    ensures { ReadsText (each with_shape (map rings_of polygons.items) (value_view value.now))
+    ensures { ReadsText (fold_items with_shape (map rings_of polygons.items) (value_view value.now))
         (result_map_both (λ polygons. map rings_of polygons.items) (λ e. e) result) }
 {
     for item in items_in(value)? {
@@ -349,7 +349,7 @@ fn with_features(
     mut polygons: Vec<Vec<Ring>>,
     value: &Value<'_>,
 ) -> Result<Vec<Vec<Ring>>, PolyError>
-    ensures { ReadsText (each with_feature (map rings_of polygons.items) (value_view value.now))
+    ensures { ReadsText (fold_items with_feature (map rings_of polygons.items) (value_view value.now))
         (result_map_both (λ polygons. map rings_of polygons.items) (λ e. e) result) }
 {
     for item in items_in(value)? {

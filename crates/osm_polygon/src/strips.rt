@@ -1,7 +1,7 @@
 //! Strips of latitude or of longitude, each with the edges that have a place in it.
 
 ghost use Rattle.std.specs.Prelude.{◌≡◌, ◌<◌, ◌≤◌, ◌+◌, ◌-◌, ◌*◌, ◌^◌, true, [], IfOk, OnOk, length};
-ghost use Rattle.osm_polygon.specs.Strips.{AreStrips, AreWithin, lists_of, cut_at, parts_at, pushed_at, with_edge, first_of, end_of, span_of, spans_of, held};
+ghost use Rattle.osm_polygon.specs.Strips.{AreStrips, AreWithin, lists_of, cut_at, parts_at, pushed_at, with_edge, first_strip, end_strip, span_of, spans_of, edges_held};
 ghost use Rattle.osm_polygon.specs.Edges.{is_in_strip};
 
 use crate::edge::{Axis, Edge};
@@ -35,7 +35,7 @@ impl StripRange {
     /// The number of the first of its strips that an edge has a place in.
     fn first_of(self, edge: &Edge) -> u64
         requires { self.shift < 64 }
-        ensures { result ≡ first_of self edge.now }
+        ensures { result ≡ first_strip self edge.now }
     {
         edge.lowest(self.axis, self.shift).max(self.first)
     }
@@ -43,7 +43,7 @@ impl StripRange {
     /// The number after that of the last one.
     fn end_of(self, edge: &Edge) -> u64
         requires { self.shift < 64 }
-        ensures { result ≡ end_of self edge.now }
+        ensures { result ≡ end_strip self edge.now }
     {
         (edge.highest(self.axis, self.shift) + 1).min(self.end)
     }
@@ -172,7 +172,7 @@ fn empty_strips(alloc: Global, cut: StripRange) -> Result<Vec<Strip>, AllocError
     ensures are { IfOk result (λ strips.
         AreStrips cut.axis cut.shift cut.first [] (lists_of strips.items)) }
     ensures number { IfOk result (λ strips. length strips.items ≡ cut.end - cut.first) }
-    ensures none { IfOk result (λ strips. held strips.items ≡ 0) }
+    ensures none { IfOk result (λ strips. edges_held strips.items ≡ 0) }
 {
     let mut strips = Vec::new(alloc);
     for _number in cut.first..cut.end {
@@ -202,7 +202,7 @@ fn add_edge(strips: &mut Vec<Strip>, cut: StripRange, edge: Edge) -> Result<(), 
         ≡ with_edge (λ n. is_in_strip cut.axis cut.shift n edge) edge cut.first
         (lists_of strips.old.items)) }
     ensures few { OnOk result
-        (held strips.new.items ≤ held strips.old.items + span_of cut edge) }
+        (edges_held strips.new.items ≤ edges_held strips.old.items + span_of cut edge) }
 {
     let from = cut.first_of(&edge);
     let end = cut.end_of(&edge);
@@ -223,7 +223,7 @@ pub(crate) fn strips_of(
         AreStrips cut.axis cut.shift cut.first edges.now (lists_of strips.items)) }
     ensures number { IfOk result (λ strips. length strips.items ≡ cut.end - cut.first) }
     ensures few { IfOk result (λ strips.
-        held strips.items ≤ spans_of cut edges.now) }
+        edges_held strips.items ≤ spans_of cut edges.now) }
 {
     let mut strips = empty_strips(alloc, cut)?;
     for edge in edges {

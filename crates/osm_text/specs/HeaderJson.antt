@@ -6,8 +6,8 @@ use Rattle.pbf_header.specs.declared.header.HeaderBox.{HeaderBox}
 use Rattle.pbf_header.specs.Header.{HeaderSpec}
 use Rattle.osm_text.specs.Quoted.{json_string}
 
-abbrev pub member : (word value : List ℕ) → List ℕ
-member word value = codes "\"" ++ word ++ codes "\":" ++ value ++ codes ","
+abbrev pub json_member : (word value : List ℕ) → List ℕ
+json_member word value = codes "\"" ++ word ++ codes "\":" ++ value ++ codes ","
 
 -- texts with commas between
 abbrev pub listed : List (List ℕ) → List ℕ
@@ -15,17 +15,17 @@ listed [] = []
 listed (text ∷ more) = json_string text ++ flat_map (λ next. 44 ∷ json_string next) more
 
 abbrev pub list_member : (word : List ℕ) → List (List ℕ) → List ℕ
-list_member word texts = member word (codes "[" ++ listed texts ++ codes "]")
+list_member word texts = json_member word (codes "[" ++ listed texts ++ codes "]")
 
 -- of what may be absent
 
 abbrev pub maybe_text_member : (word : List ℕ) → Option (List ℕ) → List ℕ
 maybe_text_member word None = []
-maybe_text_member word (Some text) = member word (json_string text)
+maybe_text_member word (Some text) = json_member word (json_string text)
 
 abbrev pub maybe_number_member : (word : List ℕ) → Option ℤ → List ℕ
 maybe_number_member word None = []
-maybe_number_member word (Some number) = member word (signed_decimal number)
+maybe_number_member word (Some number) = json_member word (signed_decimal number)
 
 unfoldable pub number_pair : ℤ → ℤ → List ℕ
 number_pair first second = signed_decimal first ++ codes "," ++ signed_decimal second
@@ -38,7 +38,7 @@ edges_value box =
 
 abbrev pub maybe_box_member : Option HeaderBox → List ℕ
 maybe_box_member None = []
-maybe_box_member (Some box) = member (codes "bbox") (edges_value box)
+maybe_box_member (Some box) = json_member (codes "bbox") (edges_value box)
 
 -- all members, by the words of the lines and in their order
 unfoldable pub header_members : HeaderSpec → List ℕ

@@ -6,7 +6,7 @@ use Rattle.osm_area.specs.Area.{AreaSpec, IsAreaWithin, box_area}
 use Rattle.osm_box.specs.declared.bounding_box.BoundingBox.{BoundingBox}
 use Rattle.osm_box.specs.BoundingBox.{is_between, is_inside, is_box_within}
 use Rattle.osm_entity.specs.Entity.{TagSpec, decoded, node_at, way_through, relation_among}
-use Rattle.osm_ways.specs.Selection.{IsWithin, WantsMore}
+use Rattle.osm_ways.specs.Selection.{AreSeenWithin, WantsMore}
 use Rattle.osm_ways.specs.Seen.{seen_decoded, seen_entity}
 use Rattle.osm_entity.proofs.ScaleLemmas.{between, ends}
 
@@ -22,10 +22,10 @@ inside_wider small large h lat lon e =
     let place = and_parts (is_between small.bottom small.top lat) (is_between small.left small.right lon) e in
     and_from _ _ (between_wider small.bottom small.top large.bottom large.top lat low.0 high.0 place.0) (between_wider small.left small.right large.left large.right lon low.1 high.1 place.1)
 
-pub seen_decoded-within : (some more : List TagSpec → Bool) → WantsMore some more → (small large : AreaSpec) → IsAreaWithin small large → IsWithin (seen_decoded some small) (seen_decoded more large)
+pub seen_decoded-within : (some more : List TagSpec → Bool) → WantsMore some more → (small large : AreaSpec) → IsAreaWithin small large → AreSeenWithin (seen_decoded some small) (seen_decoded more large)
 seen_decoded-within some more w small large h (node_at id lat lon meta tags) = (refl, h lat lon)
 seen_decoded-within some more w small large h (way_through id meta tags refs locations) = refl
 seen_decoded-within some more w small large h (relation_among id meta tags members) = (refl, (w tags, refl))
 
-pub seen_entity-within : (some more : List TagSpec → Bool) → WantsMore some more → (small large : AreaSpec) → IsAreaWithin small large → IsWithin (seen_entity some small) (seen_entity more large)
+pub seen_entity-within : (some more : List TagSpec → Bool) → WantsMore some more → (small large : AreaSpec) → IsAreaWithin small large → AreSeenWithin (seen_entity some small) (seen_entity more large)
 seen_entity-within some more w small large h e = seen_decoded-within some more w small large h (decoded e)

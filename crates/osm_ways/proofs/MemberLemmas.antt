@@ -1,19 +1,17 @@
 -- The passes gather what is added for relations that are wanted whole.
-use Rattle.std.proofs.Common.{arith, ◌≡◌, ℤ, Bool, true, false, ◌||◌, List, [], ◌∷◌, length, refl, sym, ap, subst, ◌∙◌}
+use Rattle.std.proofs.Common.{arith, ◌≡◌, ℤ, Bool, true, false, ◌||◌, List, [], ◌∷◌, length, refl, sym, ap, ◌∙◌}
 use Rattle.std.specs.List.{list_any, fold}
-use Rattle.std.specs.Ordering.{int_eq, int_cmp}
-use Rattle.std.specs.Cmp.{int_cmp_total}
+use Rattle.std.specs.Ordering.{int_cmp}
 use Rattle.std.specs.FinSet as set
 use Rattle.osm_entity.specs.Entity.{TagSpec}
-use Rattle.osm_ids.specs.declared.links.Link.{Link}
 use Rattle.osm_ids.specs.Links.{IsLeast}
 use Rattle.osm_ids.specs.Pages.{rising}
 use Rattle.osm_ids.proofs.Rising.{ids_of-rising}
 use Rattle.osm_ids.proofs.Sets.{ids_of}
 use Rattle.osm_ids.proofs.Walking.{len_is}
-use Rattle.osm_ways.specs.Added.{AddedSets, with_added_refs, with_member}
-use Rattle.osm_ways.specs.Phases.{Ids, KeptSets, RelationSets, WaySets, begun_members, is_chosen, keeps_id, member_pass, member_step, relation_pass, relation_step, sets_with_relation, start_relations, way_pass}
-use Rattle.osm_ways.specs.Selection.{MemberSeen, node_member, way_member, relation_member, Seen, a_node, a_way, a_relation, all_levels, box_ids, has_member, is_added, is_kept_relation, is_kept_way, is_member, is_ref, keeps, keeps_node, keeps_way, node_ids, smart, way_ids}
+use Rattle.osm_ways.specs.Added.{AddedSets, with_member}
+use Rattle.osm_ways.specs.Phases.{Ids, KeptSets, RelationSets, WaySets, begun_members, is_chosen, member_pass, member_step, relation_pass, relation_step, sets_with_relation, start_relations, way_pass}
+use Rattle.osm_ways.specs.Selection.{MemberSeen, node_member, way_member, relation_member, Seen, a_node, a_way, a_relation, box_ids, has_member, is_added, is_kept_relation, is_kept_way, is_member, is_ref, keeps, keeps_way, node_ids, smart, way_ids}
 use Rattle.osm_ways.proofs.Passes.{contains-insert_all, node_ids-after, way_ids-after, all_nodes-after, all_ways-after, inside-after, levels-after}
 
 -- ---- the members of a relation

@@ -9,8 +9,8 @@ use Rattle.osm_ids.specs.Links.{link_cmp, IsLeast}
 use Rattle.osm_ids.proofs.LinkOrder.{link_cmp_total}
 use Rattle.osm_ways.specs.Selection.{MemberSeen, node_member, way_member, relation_member, Seen, a_node, a_way, a_relation, complete_ways, all_parents, no_ids, box_ids, node_ids, way_ids, is_box_node, is_kept_way, is_kept_ref, is_kept_id, is_kept_relation, is_selected, all_levels, keeps}
 use Rattle.osm_ways.specs.Parents.{is_relation_member, links_in, start_in}
-use Rattle.osm_ways.specs.Added.{AddedSets, nothing_added, with_member}
-use Rattle.osm_ways.specs.Phases.{Ids, LinkSet, WaySets, RelationSets, KeptSets, member_step, member_pass, keeps_id, sets_with_way, with_link, sets_with_relation, node_step, way_step, relation_step, start_ways, start_relations, node_pass, way_pass, relation_pass, without_parents, is_chosen}
+use Rattle.osm_ways.specs.Added.{nothing_added}
+use Rattle.osm_ways.specs.Phases.{Ids, LinkSet, WaySets, RelationSets, sets_with_way, with_link, sets_with_relation, node_step, way_step, relation_step, start_ways, start_relations, node_pass, way_pass, relation_pass, without_parents, is_chosen}
 use Rattle.osm_ways.proofs.ParentLaws.{links_are_parents}
 
 pub contains-insert_all : (s : Ids) (ids : List ℤ) (id : ℤ) → set.contains (fold set.insert s ids) id ≡ (set.contains s id || list_any (int_eq id) ids)

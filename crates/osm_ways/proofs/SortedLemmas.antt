@@ -5,8 +5,8 @@ use Rattle.std.specs.List.{fold, list_all}
 use Rattle.std.specs.FinSet as set
 use Rattle.osm_ways.specs.Selection.{Seen, a_node, a_way, a_relation}
 use Rattle.osm_ways.specs.Phases.{Found, Ids, RelationSets, TakesAll, TakesFirst, WaySets, PassesOver, found_with, node_step, nothing_found, relation_step, relations_from, start_relations, start_ways, way_step}
-use Rattle.osm_ways.specs.First.{FirstSets, before_node, first_step}
-use Rattle.osm_ways.specs.Sorted.{SortedSets, before_more, is_sorted, rank, sorted_pass, sorted_step, start_sorted, without_ways}
+use Rattle.osm_ways.specs.First.{FirstSets, before_node}
+use Rattle.osm_ways.specs.Sorted.{SortedSets, is_sorted, rank, sorted_pass, sorted_step, start_sorted, without_ways}
 use Rattle.osm_ways.proofs.FirstLemmas.{broken, first_step-passes_over, fresh, going}
 
 abbrev sorted : Bool → FirstSets → Found → SortedSets
@@ -147,13 +147,6 @@ pub dropped_before : (sets : FirstSets) → sets.has_ways ≡ true → without_w
 dropped_before sets e = ap (λ b. record (without_ways sets) { in_order = b }) (none sets.in_order sets.has_ways e) where
   none : (o h : Bool) → h ≡ true → false ≡ (o && not h)
   none o h e = grind (arith, e)
-
--- a node was taken, and then what came before it is dropped: that is as the other way round
-pub dropped_after : (sets : SortedSets) (id : ℤ) (inside : Bool) → before_more (record sets { first = first_step sets.first (a_node id inside) }) ≡ sorted_step sets (a_node id inside)
-dropped_after sets id inside = by_relations sets.has_relations sets.first sets.found where
-  by_relations : (has_relations : Bool) (first : FirstSets) (found : Found) → before_more (sorted has_relations (first_step first (a_node id inside)) found) ≡ sorted_step (sorted has_relations first found) (a_node id inside)
-  by_relations true first found = refl
-  by_relations false first found = refl
 
 -- a node that is outside comes, and then another: that is as one
 pub sorted_step-passes_over : PassesOver sorted_step

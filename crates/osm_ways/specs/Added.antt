@@ -1,5 +1,5 @@
 -- What is added for relations that are wanted whole: their nodes and ways, and the refs of these ways.
-use Rattle.std.specs.Prelude.{Bool, false, ◌||◌, if◌then◌else◌, ℤ, List, Option, Some, None, refl}
+use Rattle.std.specs.Prelude.{Bool, ◌||◌, if◌then◌else◌, ℤ, List, Option, Some, None, refl}
 use Rattle.std.specs.Coded.{Coded, code_by, coded×, coded_ℤ}
 use Rattle.std.specs.List.{fold}
 use Rattle.std.specs.Ordering.{int_cmp}

@@ -174,5 +174,5 @@ IsSeenWithin (a_relation id whole members) (a_relation own wider others) = (id �
 IsSeenWithin some other = some ≡ other
 
 -- so they see each element
-abbrev pub IsWithin : {X : Type 0} → (X → Seen) → (X → Seen) → Type 0
-IsWithin {X} small large = (x : X) → IsSeenWithin (small x) (large x)
+abbrev pub AreSeenWithin : {X : Type 0} → (X → Seen) → (X → Seen) → Type 0
+AreSeenWithin {X} small large = (x : X) → IsSeenWithin (small x) (large x)

@@ -10,7 +10,7 @@ ghost use Rattle.osm_box.specs.declared.bounding_box.BoundingBox.{BoundingBox};
 ghost use Rattle.osm_box.specs.BoundingBox.{is_box_within};
 ghost use Rattle.osm_entity.specs.Entity.{EntitySpec, TagSpec, decoded};
 ghost use Rattle.osm_ids.specs.Links.{IsLeast};
-ghost use Rattle.osm_ways.specs.Selection.{Seen, Strategy, complete_ways, all_parents, smart, node_ids, way_ids, all_levels, keeps, extract, IsWider, IsWithin, WantsMore};
+ghost use Rattle.osm_ways.specs.Selection.{Seen, Strategy, complete_ways, all_parents, smart, node_ids, way_ids, all_levels, keeps, extract, IsWider, AreSeenWithin, WantsMore};
 ghost use Rattle.osm_ways.specs.Seen.{seen_entity, seen_decoded};
 ghost use Rattle.osm_ways.specs.Parents.{IsLeastSelected, links_in, start_in};
 ghost use Rattle.osm_ways.specs.Added.{nothing_added};
@@ -28,7 +28,7 @@ pub fn extract_twice_is_once<X>()
 /// look's extract of it is its extract of the whole list.
 pub fn extract_of_larger_is_extract<X>()
     ensures { (narrow wide : Strategy) → IsWider narrow wide
-        → (small large : X → Seen) → IsWithin small large → (xs : List X)
+        → (small large : X → Seen) → AreSeenWithin small large → (xs : List X)
         → extract narrow small (extract wide large xs) ≡ extract narrow small xs }
 {}
 
@@ -58,7 +58,7 @@ pub fn strategies_are_a_chain()
 /// A large look's extract of a small look's extract is all of it, if it is by a strategy that is as wide.
 pub fn extract_is_kept_by_larger<X>()
     ensures { (narrow wide : Strategy) → IsWider narrow wide
-        → (small large : X → Seen) → IsWithin small large → (xs : List X)
+        → (small large : X → Seen) → AreSeenWithin small large → (xs : List X)
         → extract wide large (extract narrow small xs) ≡ extract narrow small xs }
 {}
 
@@ -67,10 +67,10 @@ pub fn extract_is_kept_by_larger<X>()
 pub fn area_within_area()
     ensures stored { (some more : List TagSpec → Bool) → WantsMore some more
         → (small large : AreaSpec) → IsAreaWithin small large
-        → IsWithin (seen_entity some small) (seen_entity more large) }
+        → AreSeenWithin (seen_entity some small) (seen_entity more large) }
     ensures meant { (some more : List TagSpec → Bool) → WantsMore some more
         → (small large : AreaSpec) → IsAreaWithin small large
-        → IsWithin (seen_decoded some small) (seen_decoded more large) }
+        → AreSeenWithin (seen_decoded some small) (seen_decoded more large) }
 {}
 
 /// A box lies in a larger one if its corners do.

@@ -18,7 +18,7 @@ use Rattle.pbf_wire.proofs.NoFaultLemmas.{field_at, SlotQuiet, each_gives, field
 use Rattle.osm_entity.specs.declared.scale.Scale.{Scale}
 use Rattle.osm_entity.specs.Entity.{EntitySpec, WaySpec, RelationSpec, node, way, relation, entity_scale, NodeSpec}
 use Rattle.pbf_block.specs.declared.group.TheConstants.{GROUP_KINDS, DENSE, CHANGESETS, WAYS, RELATIONS}
-use Rattle.pbf_block.specs.Group.{member_wire, group_wire, member_structure, is_member, first_member, is_other, entities_structure, group_structure, member_values, weight_fault, member_weights, member_entities}
+use Rattle.pbf_block.specs.Group.{member_wire, group_wire, member_structure, holds_entities, first_member, is_of_other_kind, entities_structure, group_structure, member_values, weight_fault, member_weights, member_entities}
 use Rattle.pbf_block.specs.PrimitiveBlock.{indexed}
 use Rattle.std.proofs.lemmas.Bool.{le-ltb}
 use Rattle.std.proofs.lemmas.List.Concat.{flat_map_single}
@@ -59,12 +59,12 @@ all_numbered k at (m ∷ ms) = (refl, all_numbered k (at + length (spelling (Who
 first_same : (k : ℕ) (os : List Occurrence) → AllByRecursion (λ o. o.number ≡ k) os → unwrap_or (first_member os) k ≡ k
 first_same k [] h = refl
 first_same k (o ∷ os) h =
-    elim (is_member o.number) as (λ b. unwrap_or (option_map (λ (o : Occurrence). o.number) (if b then Some o else find (λ o. is_member o.number) os)) k ≡ k) [ true ↦ h.0 | false ↦ first_same k os h.1 ]
+    elim (holds_entities o.number) as (λ b. unwrap_or (option_map (λ (o : Occurrence). o.number) (if b then Some o else find (λ o. holds_entities o.number) os)) k ≡ k) [ true ↦ h.0 | false ↦ first_same k os h.1 ]
 
-pub not_mixed : (k : ℕ) (os : List Occurrence) → AllByRecursion (λ o. o.number ≡ k) os → is_other (first_member os) k ≡ false
+pub not_mixed : (k : ℕ) (os : List Occurrence) → AllByRecursion (λ o. o.number ≡ k) os → is_of_other_kind (first_member os) k ≡ false
 not_mixed k os h =
     let same : (k == k) ≡ true = grind arith in
-    rw (first_same k os h, same) (and-false (is_member k))
+    rw (first_same k os h, same) (and-false (holds_entities k))
 
 -- ---- a group of one field
 

@@ -35,7 +35,7 @@ use Rattle.pbf_wire.specs.Wire.{kind_of, reason_in}
 use Rattle.pbf_wire.proofs.SoundLemmas.{both_nil, ends_are_numbers, fields_sound, no_least, IsSound}
 use Rattle.pbf_block.specs.declared.group.TheConstants.{DENSE, WAYS, GROUP_KINDS}
 use Rattle.pbf_block.specs.declared.primitive_block.TheConstants.{BLOCK_KINDS, GRANULARITY, DATE_GRANULARITY, PRIMITIVEGROUP, STRINGTABLE}
-use Rattle.pbf_block.specs.Clean.{AreCleanWays, AreTags, HoldsCleanWay, IsCleanBlock, IsCleanMember, IsCleanWay, IsNamed, part_faults}
+use Rattle.pbf_block.specs.Clean.{AreCleanWays, AreTags, HoldsCleanWay, IsCleanBlock, IsCleanMember, IsCleanWay, NamesTexts, part_faults}
 use Rattle.pbf_block.specs.Group.{entities_structure, first_member, group_structure, in_group, member_structure, member_values, member_wire}
 use Rattle.pbf_block.specs.PrimitiveBlock.{part_structure, part_wire, positive, structure_faults, value_faults, wire_faults}
 use Rattle.pbf_wire.proofs.AllLemmas.{all_weaker}
@@ -219,7 +219,7 @@ named_more limit count v n left all h some within read below =
       room = omega (arith, h.room, some, within, length-drop n left);
     }
 
-pub named_all : (limit count : ℕ) (left all : List ℕ) → NamedSoFar limit count left all → length left ≡ 0 → IsNamed limit count all
+pub named_all : (limit count : ℕ) (left all : List ℕ) → NamedSoFar limit count left all → length left ≡ 0 → NamesTexts limit count all
 named_all limit count left all h none =
     let e = entries_none left none in
     record {

@@ -40,7 +40,7 @@ use Rattle.std.proofs.lemmas.List.Elements.{recursion_from_All}
 use Rattle.std.proofs.lemmas.List.Sums.{AllPass-from_list_all}
 use Rattle.pbf_strings.proofs.UsedTexts.{has_used}
 use Rattle.osm_entity.specs.EntityTexts.{entity_texts}
-use Rattle.pbf_dense.specs.WrittenDense.{AreAlike}
+use Rattle.pbf_dense.specs.WrittenDense.{HaveSameFields}
 use Rattle.pbf_block.specs.declared.group.TheConstants.{DENSE}
 use Rattle.pbf_block.proofs.LengthLaw.{once_few, parts_are, block_parts, block_fits}
 
@@ -233,7 +233,7 @@ fields_same m n h =
     let a = and_parts (iff (is_some m.version) (is_some n.version)) _ b.0 in
     record { version = both_are _ _ a.0; timestamp = both_are _ _ a.1; changeset = both_are _ _ b.1; uid = both_are _ _ c.1; user = both_are _ _ d.1; visible = both_are _ _ e.1 }
 
-alike_fields : (m : MetaSpec) (metas : List MetaSpec) → AllByRecursion (SameFields m) metas → AreAlike (m ∷ metas)
+alike_fields : (m : MetaSpec) (metas : List MetaSpec) → AllByRecursion (SameFields m) metas → HaveSameFields (m ∷ metas)
 alike_fields m metas h =
     let all = λ (there : MetaSpec → Bool) (same : (n : MetaSpec) → SameFields m n → there n ≡ there m). all_weaker (SameFields m) (λ n. there n ≡ there m) same metas h in
     record {

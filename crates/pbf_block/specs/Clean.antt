@@ -14,7 +14,7 @@ use Rattle.pbf_block.specs.PrimitiveBlock.{part_wire, part_structure, structure_
 use Rattle.pbf_block.specs.Way.{way_structure, way_values}
 
 -- a packed column of so many numbers, each of which names a text of a table with as many texts as the limit
-pub record IsNamed (limit count : ℕ) (packed : List ℕ) : Type 0 where
+pub record NamesTexts (limit count : ℕ) (packed : List ℕ) : Type 0 where
   pub whole : entry_fault (entries packed) ≡ None
   pub counted : count ≡ length (read_entries (entries packed))
   pub named : (place : ℕ) → index_faults limit (placed place (read_entries (entries packed)) ++ []) ≡ []
@@ -22,8 +22,8 @@ pub record IsNamed (limit count : ℕ) (packed : List ℕ) : Type 0 where
 -- keys and values of tags
 pub record AreTags (limit : ℕ) (keys vals : List ℕ) : Type 0 where
   pub count : ℕ
-  pub keys_named : IsNamed limit count keys
-  pub vals_named : IsNamed limit count vals
+  pub keys_named : NamesTexts limit count keys
+  pub vals_named : NamesTexts limit count vals
 
 -- a way whose field is at this place
 pub record IsCleanWay (limit place at : ℕ) (m : List ℕ) : Type 0 where

@@ -37,16 +37,16 @@ group_wire place at m = message_faults GROUP_KINDS member_wire (items at m)
 -- ---- structure
 
 -- a field that holds entities
-abbrev pub is_member : ℕ → Bool
-is_member k = k == NODES || k == DENSE || k == WAYS || k == RELATIONS
+abbrev pub holds_entities : ℕ → Bool
+holds_entities k = k == NODES || k == DENSE || k == WAYS || k == RELATIONS
 
 -- the number of the first of them
 abbrev pub first_member : List Occurrence → Option ℕ
-first_member os = option_map (λ o. o.number) (find (λ o. is_member o.number) os)
+first_member os = option_map (λ o. o.number) (find (λ o. holds_entities o.number) os)
 
 -- it holds entities of another kind than the first, if there is a first
-abbrev pub is_other : Option ℕ → ℕ → Bool
-is_other first k = is_member k && not (k == unwrap_or first k)
+abbrev pub is_of_other_kind : Option ℕ → ℕ → Bool
+is_of_other_kind first k = holds_entities k && not (k == unwrap_or first k)
 
 abbrev pub entities_structure : Occurrence → List Fault
 entities_structure o = entered NODES node_structure o ++ entered DENSE dense_structure o ++ entered WAYS way_structure o ++ entered RELATIONS relation_structure o
@@ -54,7 +54,7 @@ entities_structure o = entered NODES node_structure o ++ entered DENSE dense_str
 -- a field of entities of another kind than the first, a field of changesets, and the entities that a field holds
 abbrev pub member_structure : Option ℕ → Occurrence → List Fault
 member_structure first o =
-    fault_where (is_other first o.number) o.place MixedGroup ++ fault_where (o.number == CHANGESETS) o.place Changesets ++ entities_structure o
+    fault_where (is_of_other_kind first o.number) o.place MixedGroup ++ fault_where (o.number == CHANGESETS) o.place Changesets ++ entities_structure o
 
 abbrev pub group_structure : ℕ → ℕ → List ℕ → List Fault
 group_structure place at m = let os = fields_in at m in twice DENSE os ++ flat_map (member_structure (first_member os)) os

@@ -7,7 +7,7 @@ ghost use Rattle.pbf_wire.specs.Faults.{found_in};
 ghost use Rattle.pbf_strings.specs.Texts.{longest as longest_of};
 ghost use Rattle.osm_entity.specs.Views.{entity_of};
 ghost use Rattle.pbf_block.specs.Clean.{AreCleanWays, IsCleanMember};
-ghost use Rattle.pbf_block.specs.Group.{member_wire, is_member, first_member, is_other, entities_structure, member_structure, group_structure, member_values, weight_fault, member_weights};
+ghost use Rattle.pbf_block.specs.Group.{member_wire, holds_entities, first_member, is_of_other_kind, entities_structure, member_structure, group_structure, member_values, weight_fault, member_weights};
 ghost use Rattle.pbf_block.specs.PrimitiveBlock.{streaming};
 ghost use Rattle.pbf_wire.specs.declared.limits.TheConstants.{SUM_LIMIT};
 
@@ -70,7 +70,7 @@ impl Judge for GroupFieldForm {
 
 /// Whether a field of this number holds entities.
 fn is_member(number: u64) -> bool
-    ensures { result ≡ is_member number }
+    ensures { result ≡ holds_entities number }
 {
     number == NODES || number == DENSE || number == WAYS || number == RELATIONS
 }
@@ -86,7 +86,7 @@ fn first_member(message: Message<'_>) -> Option<u64>
 
 /// Whether a field holds entities of another kind than the first.
 fn is_other(first: Option<u64>, number: u64) -> bool
-    ensures { result ≡ is_other first number }
+    ensures { result ≡ is_of_other_kind first number }
 {
     is_member(number) && number != first.unwrap_or(number)
 }

@@ -12,7 +12,7 @@ ghost use Rattle.pbf_block.specs.Entity.{tags_in, values_in};
 ghost use Rattle.pbf_block.specs.Info.{info_in, info_values};
 ghost use Rattle.pbf_block.specs.Plain.{IsTag, BeginsWithNumber, BeginsWithBytes, IsPlainWay, IsPlainInfo};
 ghost use Rattle.pbf_block.specs.PrimitiveBlock.{streaming};
-ghost use Rattle.pbf_block.specs.Clean.{AreTags, IsCleanWay, IsNamed};
+ghost use Rattle.pbf_block.specs.Clean.{AreTags, IsCleanWay, NamesTexts};
 ghost use Rattle.pbf_block.specs.declared.entity.TheConstants.{INFO};
 ghost use Rattle.pbf_block.specs.declared.way.TheConstants.{REFS};
 
@@ -211,7 +211,7 @@ fn is_info_valued(info: PlainInfo, limit: u64) -> bool
 
 /// How many numbers a packed column has, if its bytes are whole varints and a table of `limit` texts has one for each number.
 fn named_count(packed: &[u8], limit: u64) -> Option<usize>
-    ensures { IfSome result (λ count. IsNamed limit count packed.now) }
+    ensures { IfSome result (λ count. NamesTexts limit count packed.now) }
 {
     let mut count = 0;
     let mut rest = packed;

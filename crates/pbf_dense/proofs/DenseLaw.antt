@@ -31,7 +31,7 @@ use Rattle.pbf_wire.proofs.AllLemmas.{all_append, all_left, all_right, all_map, 
 use Rattle.pbf_dense.specs.declared.dense_nodes.TheConstants.{DENSE_KINDS, ID, DENSEINFO, LAT, LON, KEYS_VALS}
 use Rattle.pbf_dense.specs.declared.dense_info.TheConstants.{DENSEINFO_KINDS}
 use Rattle.pbf_dense.specs.Judged.{dense_wire, dense_structure, dense_values, coordinate_counts, are_runs, are_tag_runs, run_faults, info_counts, texts_named, dense_info_values, node_weight_fault, dense_weights, as_stored, fault_before_weights, dense_fault}
-use Rattle.pbf_dense.specs.WrittenDense.{bit_of, info_columns, dense_info_slots, dense_info_message, tag_numbers, run_of, DenseColumns, columns_of, dense_slots, dense_message, AreAlike, NodesHeld, are_some, has_tag}
+use Rattle.pbf_dense.specs.WrittenDense.{bit_of, info_columns, dense_info_slots, dense_info_message, tag_numbers, run_of, DenseColumns, columns_of, dense_slots, dense_message, HaveSameFields, NodesHeld, are_some, has_tag}
 use Rattle.pbf_dense.proofs.InfoLaw.{InfoFits, InfoCounts, no_faults_joined, wide_good, deltas_length, info_leaf, info_counted, info_valued, all_or_none, mapped, alike_later, meta_given, info_later, info_read}
 use Rattle.osm_entity.proofs.TagLemmas.{run_goes_on}
 use Rattle.pbf_dense.specs.Info.{InfoSpec}
@@ -95,7 +95,7 @@ info_fits texts metas h = record {
   visible = present_all (λ v. v < 2 ^ 64) (Good texts) (λ m. option_map bit_of m.visible) metas (λ m v good e. bit_fits m.visible v e) h;
 }
 
-info_counts_are : (texts : List (List ℕ)) (metas : List MetaSpec) → AreAlike metas → InfoCounts (length metas) (info_columns texts metas)
+info_counts_are : (texts : List (List ℕ)) (metas : List MetaSpec) → HaveSameFields metas → InfoCounts (length metas) (info_columns texts metas)
 info_counts_are texts metas h = record {
   versions = all_or_none (λ m. option_map sign_extended m.version) metas (mapped (λ m. m.version) sign_extended metas h.version);
   timestamps = all_or_none (λ m. m.timestamp) metas h.timestamp;
@@ -384,7 +384,7 @@ node_same : (n : NodeSpec) (meta : MetaSpec) (tags : List TagSpec) (scale : Scal
     → ◌≡◌ {A = NodeSpec} (record { id = n.id; lat = n.lat; lon = n.lon; meta = meta; tags = tags; scale = scale }) (at_scale scale n)
 node_same n meta tags scale p q = rw (p, q) refl
 
-columns_give : (texts : List (List ℕ)) (scale : Scale) (ns : List NodeSpec) (column : List ℕ) → AreAlike (map (λ n. n.meta) ns) → AllByRecursion (λ n. IfPresent IsInt32 n.meta.version) ns → AllByRecursion (NamedNode texts) ns
+columns_give : (texts : List (List ℕ)) (scale : Scale) (ns : List NodeSpec) (column : List ℕ) → HaveSameFields (map (λ n. n.meta) ns) → AllByRecursion (λ n. IfPresent IsInt32 n.meta.version) ns → AllByRecursion (NamedNode texts) ns
     → GivesTags (table_of texts) column ns → nodes_of_columns (table_of texts) scale (map (λ n. n.id) ns) (map (λ n. n.lat) ns) (map (λ n. n.lon) ns) (info_columns texts (map (λ n. n.meta) ns)) column ≡ map (at_scale scale) ns
 columns_give texts scale [] column alike versions known given = refl
 columns_give texts scale (n ∷ ns) column alike versions known given =

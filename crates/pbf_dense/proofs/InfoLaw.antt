@@ -12,7 +12,7 @@ use Rattle.pbf_strings.proofs.UsedTexts.{text_at_index}
 use Rattle.osm_entity.specs.Entity.{MetaSpec}
 use Rattle.osm_entity.specs.Ranges.{IfPresent, IsInt32, IsStored, IsUid}
 use Rattle.pbf_dense.specs.Info.{InfoSpec, user_text, meta_at, info_rest}
-use Rattle.pbf_dense.specs.WrittenDense.{bit_of, info_columns, InAllOrNone, AreAlike, dense_info_slots}
+use Rattle.pbf_dense.specs.WrittenDense.{bit_of, info_columns, InAllOrNone, HaveSameFields, dense_info_slots}
 use Rattle.pbf_wire.specs.Wire.{kind_of}
 use Rattle.pbf_wire.specs.declared.kind.Kind.TheVariants as kind
 use Rattle.std.proofs.lemmas.Bool.{ltb-true}
@@ -75,7 +75,7 @@ module _ {X : Type 0} (f : MetaSpec → Option X) (m : MetaSpec) (metas : List M
   later_of : drop 1 (filter_map f (m ∷ metas)) ≡ filter_map f metas
   later_of = one_later (f m) (filter_map f metas) others
 
-pub alike_later : (m : MetaSpec) (metas : List MetaSpec) → AreAlike (m ∷ metas) → AreAlike metas
+pub alike_later : (m : MetaSpec) (metas : List MetaSpec) → HaveSameFields (m ∷ metas) → HaveSameFields metas
 alike_later m metas h = record {
   version = (h.version.0, h.version.1.1);
   timestamp = (h.timestamp.0, h.timestamp.1.1);
@@ -100,7 +100,7 @@ visible_read (Some true) = refl
 visible_read o = refl
 
 -- the metadata of the first node
-pub meta_given : (texts : List (List ℕ)) (m : MetaSpec) (metas : List MetaSpec) → AreAlike (m ∷ metas) → IfPresent IsInt32 m.version → AllByRecursion (λ text. has_text texts text ≡ true) (option_to_list m.user)
+pub meta_given : (texts : List (List ℕ)) (m : MetaSpec) (metas : List MetaSpec) → HaveSameFields (m ∷ metas) → IfPresent IsInt32 m.version → AllByRecursion (λ text. has_text texts text ≡ true) (option_to_list m.user)
     → meta_at (table_of texts) (info_columns texts (m ∷ metas)) 0 ≡ m
 meta_given texts m metas h int named =
     λ i. record {
@@ -113,7 +113,7 @@ meta_given texts m metas h int named =
     }
 
 -- the columns after it
-pub info_later : (texts : List (List ℕ)) (m : MetaSpec) (metas : List MetaSpec) → AreAlike (m ∷ metas) → info_rest (info_columns texts (m ∷ metas)) ≡ info_columns texts metas
+pub info_later : (texts : List (List ℕ)) (m : MetaSpec) (metas : List MetaSpec) → HaveSameFields (m ∷ metas) → info_rest (info_columns texts (m ∷ metas)) ≡ info_columns texts metas
 info_later texts m metas h =
     λ i. record {
       versions = later_of (λ m. option_map sign_extended m.version) m metas (mapped (λ m. m.version) sign_extended (m ∷ metas) h.version) i;

@@ -12,7 +12,7 @@ use Rattle.pbf_dense.specs.Info.{InfoSpec, meta_at, info_rest, user_text}
 use Rattle.pbf_dense.specs.Nodes.{nodes_of_columns}
 use Rattle.pbf_dense.specs.Runs.{after_run, after_runs}
 use Rattle.pbf_dense.specs.Steady.{InEachOrNone, IsInfoSteady, IsSteady, AreSame, first_weight}
-use Rattle.pbf_dense.specs.WrittenDense.{InAllOrNone, AreAlike}
+use Rattle.pbf_dense.specs.WrittenDense.{InAllOrNone, HaveSameFields}
 use Rattle.pbf_dense.specs.declared.dense.Dense.{Dense}
 use Rattle.pbf_dense.proofs.InfoLaw.{same_there}
 use Rattle.std.proofs.Math.Nat.{le-mul_of_pos_right, mul_comm}
@@ -59,7 +59,7 @@ module _ (table : List (List ℕ)) (scale : Scale) where
   counted (id ∷ ids) (lat ∷ lats) (lon ∷ lons) info keys_vals h k = ap suc (counted ids lats lons (info_rest info) (after_run keys_vals) (omega (arith, h)) (omega (arith, k)))
   counted ids lats lons info keys_vals h k = omega (arith, h, k)
 
-  alike : (ids lats lons : List ℤ) (info : InfoSpec) (keys_vals : List ℕ) → IsInfoSteady (length ids) info → AreAlike (metas ids lats lons info keys_vals)
+  alike : (ids lats lons : List ℤ) (info : InfoSpec) (keys_vals : List ℕ) → IsInfoSteady (length ids) info → HaveSameFields (metas ids lats lons info keys_vals)
   alike ids lats lons info keys_vals h = record {
     version = in_all_or_none (λ i. i.versions) (λ m. m.version) (λ i. refl) (λ i. same_there _ (slice_get i.versions 0)) ids lats lons info keys_vals h.versions;
     timestamp = in_all_or_none (λ i. i.timestamps) (λ m. m.timestamp) (λ i. refl) (λ i. refl) ids lats lons info keys_vals h.timestamps;

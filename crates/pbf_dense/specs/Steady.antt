@@ -8,13 +8,13 @@ use Rattle.osm_entity.specs.Weight.{tags_weight, text_weight}
 use Rattle.osm_entity.specs.Ranges.{IsStored, MetaFits}
 use Rattle.pbf_dense.specs.Cursors.{dense_left}
 use Rattle.pbf_dense.specs.Info.{InfoSpec, user_text}
-use Rattle.pbf_dense.specs.WrittenDense.{AreAlike}
+use Rattle.pbf_dense.specs.WrittenDense.{HaveSameFields}
 use Rattle.pbf_dense.specs.declared.dense.Dense.{Dense}
 
 -- so many nodes are still to come, and all have the same fields of metadata
 pub record IsSteady (count : ℕ) (dense : Dense) : Type 0 where
   pub counted : length (dense_left dense) ≡ count
-  pub alike : AreAlike (map (λ (n : NodeSpec). n.meta) (dense_left dense))
+  pub alike : HaveSameFields (map (λ (n : NodeSpec). n.meta) (dense_left dense))
 
 -- a column has an entry for each of so many nodes, or none
 abbrev pub InEachOrNone : {X : Type 0} → ℕ → List X → Type 0

@@ -104,7 +104,7 @@ abbrev pub InAllOrNone : {X : Type 0} → (MetaSpec → Option X) → List MetaS
 InAllOrNone f metas = (there : Bool) × AllByRecursion (λ m. is_some (f m) ≡ there) metas
 
 -- all have the same fields
-pub record AreAlike (metas : List MetaSpec) : Type 0 where
+pub record HaveSameFields (metas : List MetaSpec) : Type 0 where
   pub version : InAllOrNone (λ m. m.version) metas
   pub timestamp : InAllOrNone (λ m. m.timestamp) metas
   pub changeset : InAllOrNone (λ m. m.changeset) metas
@@ -117,7 +117,7 @@ pub record NodesHeld (texts : List (List ℕ)) (scale : Scale) (ns : List NodeSp
   pub fit : AllByRecursion NodeFits ns
   pub versions : AllByRecursion (λ n. IfPresent IsInt32 n.meta.version) ns
   pub scaled : AllByRecursion (λ n. n.scale ≡ scale) ns
-  pub alike : AreAlike (map (λ n. n.meta) ns)
+  pub alike : HaveSameFields (map (λ n. n.meta) ns)
   pub named : AllByRecursion (λ text. has_text texts text ≡ true) (flat_map node_texts ns)
   pub few : length (table_of texts) ≤ MOST_TEXTS
   pub short : length (dense_message texts ns) < 2 ^ 64

@@ -7,15 +7,15 @@ use Rattle.pbf_frame.specs.declared.header.Head.{Head}
 use Rattle.pbf_frame.specs.declared.frame_parts.BufferedFrame.{BufferedFrame}
 use Rattle.pbf_frame.specs.Devices.{IsAtEnd, Passes}
 use Rattle.pbf_wire.specs.Least.{least}
-use Rattle.pbf_wire.specs.Occurrence.{items, found}
+use Rattle.pbf_wire.specs.Occurrence.{◌>>=◌, items, found}
 use Rattle.pbf_wire.specs.Reading.{last_of}
 use Rattle.pbf_wire.specs.Wire.{wire}
 use Rattle.pbf_frame.specs.declared.header.TheConstants.{DATASIZE, HEADER_KINDS}
-use Rattle.pbf_frame.specs.Header.{head_says, header_faults, name_of, kind_named, size_of}
+use Rattle.pbf_frame.specs.Header.{frame_type_at, head_says, header_faults, kind_named, size_of}
 use Rattle.pbf_frame.specs.Frames.{next_of}
-use Rattle.pbf_frame.specs.Reads.{Gives, GaveBlob, GaveFrame, GaveEnd, Holds}
+use Rattle.pbf_frame.specs.Reads.{Gives, GaveBlob, GaveFrame, GaveEnd, BufferHolds}
 use Rattle.pbf_frame.specs.Sound.{IsFrame}
-use Rattle.pbf_frame.specs.Steps.{unless, ◌>>=◌, head_of, prefix_at, header_after, blob_of, after_prefix, steps_of}
+use Rattle.pbf_frame.specs.Steps.{unless, head_of, prefix_at, header_after, blob_of, after_prefix, steps_of}
 use Rattle.pbf_frame.proofs.Passed.{passes_three}
 use Rattle.pbf_frame.proofs.Stepping.{after_blob, after_header, as_some, frame_steps, after_some, after_none, next_is_steps}
 
@@ -59,7 +59,7 @@ unless_ok None later x e = (refl, e)
 unless_ok (Some f) later x e = absurd (err_ok f x e)
 
 pub head_parts : (at : ℕ) (header : List ℕ) (head : Head) → head_of at header ≡ Ok head
-    → (wire HEADER_KINDS (items at header) ≡ None) × (least (header_faults at header) ≡ None) × (head.kind ≡ kind_named (name_of at header)) × (head.size ≡ unwrap_or (size_of (last_of DATASIZE (found (items at header)))) 0)
+    → (wire HEADER_KINDS (items at header) ≡ None) × (least (header_faults at header) ≡ None) × (head.kind ≡ kind_named (frame_type_at at header)) × (head.size ≡ unwrap_or (size_of (last_of DATASIZE (found (items at header)))) 0)
 unfolding head_of
 head_parts at header head e =
     let (wired, e1) = unless_ok (wire HEADER_KINDS (items at header)) _ head e in
@@ -93,7 +93,7 @@ module _ (h : Bool) (p : ℕ) where
       → IsFrame h p (record { offset = p; prefix = prefix; header = header; blob = blob.blob }) → Passes q0 prefix q1 → Passes q1 header q2
       → seen.offset ≡ p → seen.kind ≡ head.kind → seen.size ≡ head.size → seen.blob_at ≡ p + 4 + length header → GaveFrame h p header held seen q0 q3 old new
   gave_frame prefix header held head seen q0 q1 q2 q3 old mid next new given untold then untold_then says lastly is_frame one two offset kind size at =
-      let kind_is : head.kind ≡ kind_named (name_of (p + 4) header) = (head_parts (p + 4) header head says).2 in
+      let kind_is : head.kind ≡ kind_named (frame_type_at (p + 4) header) = (head_parts (p + 4) header head says).2 in
       record {
         frame = record { offset = p; prefix = prefix; header = header; blob = lastly.blob };
         is_seen = record {
@@ -102,7 +102,7 @@ module _ (h : Bool) (p : ℕ) where
           place = at;
           kind_is = kind ∙ kind_is;
           size_is = size ∙ sym lastly.long;
-          holds = subst (λ (k : FrameKind). Holds k (p + 4 + length header) lastly.blob held) kind_is lastly.holds;
+          holds = subst (λ (k : FrameKind). BufferHolds k (p + 4 + length header) lastly.blob held) kind_is lastly.holds;
         };
         offset = refl;
         is_frame = is_frame;

@@ -11,11 +11,12 @@ use Rattle.pbf_frame.specs.declared.frame.FrameKind.TheVariants as kind
 use Rattle.pbf_frame.specs.declared.header.Head.{Head}
 use Rattle.pbf_frame.specs.declared.header.TheConstants.{HEADER_LIMIT}
 use Rattle.pbf_wire.specs.Faults.{fault}
+use Rattle.pbf_wire.specs.Occurrence.{◌>>=◌}
 use Rattle.pbf_frame.specs.Blob.{blob_fault}
 use Rattle.pbf_frame.specs.declared.frame.TheConstants.{FILE_LIMIT}
 use Rattle.pbf_frame.specs.Frames.{FrameSpec, frame_bytes, order_faults, next_of}
 use Rattle.pbf_frame.specs.Sound.{IsSoundBlob}
-use Rattle.pbf_frame.specs.Steps.{unless, ◌>>=◌, head_of, bytes_at, prefix_at, header_after, known_blob_of, blob_of, after_prefix}
+use Rattle.pbf_frame.specs.Steps.{unless, head_of, bytes_at, prefix_at, header_after, known_blob_of, blob_of, after_prefix}
 use Rattle.pbf_frame.proofs.FrontLemmas.{bytes_at_front}
 use Rattle.pbf_frame.proofs.Stepping.{after_header, after_blob, as_some, frame_steps, after_some, after_none}
 use Rattle.pbf_frame.proofs.FrameLemmas.{err_ok, unless_ok, next_steps}

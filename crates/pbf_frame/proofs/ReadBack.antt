@@ -21,7 +21,7 @@ use Rattle.pbf_wire.specs.declared.limits.TheConstants.{RAW_LIMIT}
 use Rattle.pbf_frame.specs.declared.frame.FrameKind.{FrameKind}
 use Rattle.pbf_frame.specs.declared.frame.FrameKind.TheVariants as kind
 use Rattle.pbf_frame.specs.declared.header.TheConstants.{TYPE, DATASIZE, HEADER_KINDS, LARGEST_SIZE}
-use Rattle.pbf_frame.specs.Header.{name_of, kind_named, size_within, size_of, header_faults}
+use Rattle.pbf_frame.specs.Header.{frame_type_at, kind_named, size_within, size_of, header_faults}
 use Rattle.pbf_frame.specs.Blob.{blob_fault, raw_payload_of}
 use Rattle.pbf_frame.specs.Frames.{order_faults, frame_kind, frame_end, frame_bytes, frame_payload, blob_at}
 use Rattle.pbf_frame.specs.Sound.{IsSoundBlob, IsFrameWithin}
@@ -76,7 +76,7 @@ header_fits k size small = ((omega arith, omega arith), ((omega arith, omega ari
 header_fields : (at : ℕ) (k : FrameKind) (size : ℕ) → size < 2 ^ 64 → found (items at (written_header k size)) ≡ occurrences_of at (flat_map parts_of (header_slots k size))
 header_fields at k size small = grind (arith, header_is, fields_written, header_fits, header_short)
 
-header_name : (at : ℕ) (k : FrameKind) (size : ℕ) → size < 2 ^ 64 → name_of at (written_header k size) ≡ written_name k
+header_name : (at : ℕ) (k : FrameKind) (size : ℕ) → size < 2 ^ 64 → frame_type_at at (written_header k size) ≡ written_name k
 header_name at k size small = ap (λ os. occurrence_text (last_of TYPE os)) (header_fields at k size small)
 
 name_kind : (k : FrameKind) → (k ≡ kind.Other → ⊥) → kind_named (written_name k) ≡ k

@@ -8,6 +8,7 @@ use Rattle.pbf_wire.specs.declared.fault.Fault.{Fault}
 use Rattle.pbf_wire.specs.declared.fault.Reason.TheVariants.{PrefixCut, HeaderLong, HeaderCut, BlobCut, NoHeader}
 use Rattle.pbf_wire.specs.Faults.{fault}
 use Rattle.pbf_wire.specs.Least.{least}
+use Rattle.pbf_wire.specs.Occurrence.{◌>>=◌}
 use Rattle.pbf_frame.specs.declared.frame.FrameKind.{FrameKind}
 use Rattle.pbf_frame.specs.declared.header.Head.{Head}
 use Rattle.pbf_frame.specs.declared.header.TheConstants.{HEADER_LIMIT}
@@ -16,7 +17,7 @@ use Rattle.pbf_frame.specs.Ends.{comes_of_end}
 use Rattle.pbf_frame.specs.Frames.{FrameSpec, is_header, frame_kind, frame_end, frame_bytes, order_faults, next_of}
 use Rattle.pbf_frame.specs.declared.frame.TheConstants.{FILE_LIMIT}
 use Rattle.pbf_frame.specs.Verdict.{Verdict, with_frame_first, with_all, judged_after, judged}
-use Rattle.pbf_frame.specs.Steps.{unless, ◌>>=◌, head_of, bytes_at, prefix_at, header_after, known_blob_of, blob_of, after_prefix}
+use Rattle.pbf_frame.specs.Steps.{unless, head_of, bytes_at, prefix_at, header_after, known_blob_of, blob_of, after_prefix}
 use Rattle.pbf_frame.proofs.FrontLemmas.{bytes_at_front}
 use Rattle.pbf_frame.proofs.FrameLemmas.{err_ok, next_steps, prefix_refused, header_refused, blob_refused, blob_some}
 use Rattle.pbf_frame.proofs.Judging.{judged_step, judged_some}

@@ -13,7 +13,7 @@ use Rattle.pbf_frame.specs.declared.frame.FrameKind.{FrameKind}
 use Rattle.pbf_frame.specs.declared.frame.FrameKind.TheVariants as kind
 use Rattle.pbf_frame.specs.declared.header.TheConstants.{HEADER_KINDS, HEADER_LIMIT}
 use Rattle.pbf_wire.specs.Faults.{fault, fault_where, leaf_faults}
-use Rattle.pbf_frame.specs.Header.{name_of, kind_named, header_faults, head_says}
+use Rattle.pbf_frame.specs.Header.{frame_type_at, kind_named, header_faults, head_says}
 use Rattle.pbf_frame.specs.Blob.{blob_phases, raw_payload_of, raw_at}
 
 -- a frame of a file: where it begins, and its bytes in three parts
@@ -47,10 +47,10 @@ abbrev pub frame_bytes : FrameSpec → List ℕ
 frame_bytes f = f.prefix ++ f.header ++ f.blob
 
 abbrev pub frame_name : FrameSpec → List ℕ
-frame_name f = name_of (header_at f) f.header
+frame_name f = frame_type_at (header_at f) f.header
 
 abbrev pub frame_kind : FrameSpec → FrameKind
-frame_kind f = kind_named (name_of (header_at f) f.header)
+frame_kind f = kind_named (frame_type_at (header_at f) f.header)
 
 -- the payload of a blob at this place, and where it begins; a blob of another type isn't read
 abbrev pub payload_in : FrameKind → ℕ → List ℕ → List ℕ

@@ -27,8 +27,8 @@ abbrev pub size_of : Option Occurrence → Option ℕ
 size_of last = option_and_then (λ o. size_within (int32_held o.content)) last
 
 -- the type of the frame whose header is at this place
-abbrev pub name_of : ℕ → List ℕ → List ℕ
-name_of at header = occurrence_text (last_of TYPE (found (items at header)))
+abbrev pub frame_type_at : ℕ → List ℕ → List ℕ
+frame_type_at at header = occurrence_text (last_of TYPE (found (items at header)))
 
 -- the kind of frame that a type names
 abbrev pub kind_named : List ℕ → FrameKind
@@ -47,4 +47,4 @@ header_faults at header =
     fault_where (is_none type) at (Missing TYPE) ++ fault_where (is_none datasize) at (Missing DATASIZE) ++ size_faults datasize
 
 abbrev pub head_says : ℕ → List ℕ → Head
-head_says at header = record { kind = kind_named (name_of at header); size = unwrap_or (size_of (last_of DATASIZE (found (items at header)))) 0 }
+head_says at header = record { kind = kind_named (frame_type_at at header); size = unwrap_or (size_of (last_of DATASIZE (found (items at header)))) 0 }

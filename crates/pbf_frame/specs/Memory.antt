@@ -20,8 +20,8 @@ abbrev pub failing_call_of : Pieces → Option ℕ
 failing_call_of pieces = pieces.failing_call
 
 -- the bytes taken
-abbrev pub taken_by : Sink → List ℕ
-taken_by sink = sink.bytes.items
+abbrev pub sink_bytes : Sink → List ℕ
+sink_bytes sink = sink.bytes.items
 
 -- how many bytes it has room for in all
 abbrev pub room_of : Sink → ℕ

@@ -67,16 +67,16 @@ pub record Skips (before now : ℕ → List ℕ → Type 0) (old new : Option (L
   pub passed : Passes before skipped now
 
 -- what the blob buffer has of a blob without a fault: all, but nothing of one of another type
-abbrev pub Holds : FrameKind → ℕ → List ℕ → List ℕ → Type 0
-Holds kind.Header at blob held = (held ≡ blob) × (blob_fault at blob ≡ None)
-Holds kind.Data at blob held = (held ≡ blob) × (blob_fault at blob ≡ None)
-Holds kind.Other at blob held = held ≡ []
+abbrev pub BufferHolds : FrameKind → ℕ → List ℕ → List ℕ → Type 0
+BufferHolds kind.Header at blob held = (held ≡ blob) × (blob_fault at blob ≡ None)
+BufferHolds kind.Data at blob held = (held ≡ blob) × (blob_fault at blob ≡ None)
+BufferHolds kind.Other at blob held = held ≡ []
 
 -- a blob that was read
 pub record GaveBlob (kind : FrameKind) (size at : ℕ) (held : List ℕ) (before now : ℕ → List ℕ → Type 0) (old new : Option (List ℕ)) : Type 0 where
   pub blob : List ℕ
   pub long : length blob ≡ size
-  pub holds : Holds kind at blob held
+  pub holds : BufferHolds kind at blob held
   pub passed : Passes before blob now
   pub given : (bytes : List ℕ) → old ≡ Some bytes → (rest : List ℕ) × (blob_of kind size at bytes ≡ Ok (blob, rest)) × (new ≡ Some rest)
   pub untold : old ≡ None → new ≡ None
@@ -88,7 +88,7 @@ pub record IsSeen (header blob : List ℕ) (seen : BufferedFrame) (f : FrameSpec
   pub place : seen.blob_at ≡ blob_at f
   pub kind_is : seen.kind ≡ frame_kind f
   pub size_is : seen.size ≡ length f.blob
-  pub holds : Holds (frame_kind f) (blob_at f) f.blob blob
+  pub holds : BufferHolds (frame_kind f) (blob_at f) f.blob blob
 
 -- it lies within the limit of a file
 abbrev pub IsWithinFile : BufferedFrame → Type 0

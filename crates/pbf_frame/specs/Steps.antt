@@ -6,7 +6,7 @@ use Rattle.pbf_wire.specs.declared.fault.Fault.{Fault}
 use Rattle.pbf_wire.specs.declared.fault.Reason.TheVariants.{PrefixCut, HeaderLong, HeaderCut, BlobCut, NoHeader}
 use Rattle.pbf_wire.specs.Faults.{fault}
 use Rattle.pbf_wire.specs.Least.{least}
-use Rattle.pbf_wire.specs.Occurrence.{items}
+use Rattle.pbf_wire.specs.Occurrence.{◌>>=◌, items}
 use Rattle.pbf_wire.specs.Wire.{wire}
 use Rattle.pbf_frame.specs.declared.frame.FrameKind.{FrameKind}
 use Rattle.pbf_frame.specs.declared.frame.FrameKind.TheVariants as kind
@@ -21,12 +21,6 @@ use Rattle.pbf_frame.specs.Frames.{FrameSpec, order_faults}
 abbrev pub unless : {A : Type 0} → Option Fault → Result A Fault → Result A Fault
 unless None later = later
 unless (Some f) later = Err f
-
--- what follows the first step, if that gave something
-infixl 10 ◌>>=◌
-abbrev pub ◌>>=◌ : {A B : Type 0} → Result A Fault → (A → Result B Fault) → Result B Fault
-(Ok x) >>= f = f x
-(Err e) >>= f = Err e
 
 -- ---- the parts of a frame
 

@@ -12,7 +12,7 @@ use Rattle.pbf_pass.specs.Counting.{stored_entities}
 use Rattle.pbf_pass.specs.Pass.{TakesFile}
 use Rattle.pbf_pass.proofs.VisitLemmas.{visited_more}
 use Rattle.pbf_pass.specs.Each.{EachStops, EachTakesFile, EachTook, EachVisitsAll, OneFailed, VisitsFront, each_gathered}
-use Rattle.pbf_pass.specs.Visit.{Takes, Fails, Visited, VisitsAll, StopsVisit}
+use Rattle.pbf_pass.specs.Visit.{Takes, StopRule, Visited, VisitsAll, StopsVisit}
 
 -- a list that is written back whole
 pub all_back : {T : Type 0} (n : ℕ) (olds news : List T) → n ≡ length olds → length news ≡ length olds → take n (news ++ drop (length news) olds) ≡ news
@@ -70,7 +70,7 @@ module _ {V : Type 0} (took : Takes V) where
   pub each_visits : (known : Option Verdict) (count : ℕ) (olds news : List V) → VisitsAll (EachTook took) known count olds news → EachVisitsAll took known count olds news
   each_visits known count olds news v = all_weaker _ _ (λ old new visited. record { frames = v.frames; says = v.says; counted = v.counted; visited = visited }) olds news (each_visited v.frames olds news v.visited)
 
-  module _ (failed : Fails V) (stop : Stop) where
+  module _ (failed : StopRule V) (stop : Stop) where
     -- what one of them did with the frame at which one stopped
     abbrev Ended : FrameSpec → V → V → Type 0
     Ended f old new = took old f new ⊎ failed old f new stop ⊎ (new ≡ old)

@@ -12,7 +12,7 @@ use Rattle.pbf_frame.specs.Verdict.{Verdict, Says, judged_known}
 use Rattle.pbf_frame.proofs.Parting.{none_some}
 use Rattle.pbf_pass.specs.declared.pass.Pass.{Pass}
 use Rattle.pbf_pass.specs.Given.{GaveFile, judged_from}
-use Rattle.pbf_pass.specs.Hashing.{HasCounted, Holds, IsDigestOf, Mark, below_log, check_number, digest_by, hash_log, mark_by}
+use Rattle.pbf_pass.specs.Hashing.{HasCounted, HoldsBytes, IsDigestOf, Mark, below_log, check_number, digest_by, hash_log, mark_by}
 use Rattle.pbf_pass.specs.declared.hashing.PassCheck.{PassCheck}
 use Rattle.pbf_pass.specs.declared.hashing.PassCheck.TheVariants as check
 use Rattle.pbf_pass.specs.declared.hashing.PassHasher.{PassHasher}
@@ -45,11 +45,11 @@ same_check (check.Keyed j) (check.Keyed k) is = ap check.Keyed (omega (arith, is
 
 module _ (below : ℕ → List ℕ → Type 0) (hasher : PassHasher) (count : ℕ) where
   -- nothing was hashed by its check
-  pub hashed_from : (c : PassCheck) → hasher.check ≡ c → Holds hasher [] → HasCounted below hasher count (hash_log c) []
+  pub hashed_from : (c : PassCheck) → hasher.check ≡ c → HoldsBytes hasher [] → HasCounted below hasher count (hash_log c) []
   hashed_from c is holds = inr (ap (λ (d : PassCheck). 2 * check_number d + 1) (sym is), holds)
 
   -- these bytes were
-  pub hashed_to : (c : PassCheck) (b : List ℕ) → HasCounted below hasher count (hash_log c) b → (hasher.check ≡ c) × Holds hasher b
+  pub hashed_to : (c : PassCheck) (b : List ℕ) → HasCounted below hasher count (hash_log c) b → (hasher.check ≡ c) × HoldsBytes hasher b
   hashed_to c b (inl (m, is, _)) = (let bad : ⊥ = omega (arith, is) in absurd bad)
   hashed_to c b (inr (is, holds)) = (same_check hasher.check c (omega (arith, is)), holds)
 
@@ -62,7 +62,7 @@ module _ (below : ℕ → List ℕ → Type 0) (hasher : PassHasher) (count : �
   below_to m b (inr (is, _)) = (let bad : ⊥ = omega (arith, is) in absurd bad)
 
   -- a digest of what its hasher holds is one by its check
-  pub digest_hashed : (c : PassCheck) (digest b : List ℕ) → ((a : List ℕ) → Holds hasher a → digest ≡ digest_by hasher.check a) → HasCounted below hasher count (hash_log c) b → IsDigestOf (mark_by c digest) b
+  pub digest_hashed : (c : PassCheck) (digest b : List ℕ) → ((a : List ℕ) → HoldsBytes hasher a → digest ≡ digest_by hasher.check a) → HasCounted below hasher count (hash_log c) b → IsDigestOf (mark_by c digest) b
   digest_hashed c digest b says passed = subst (λ (d : PassCheck). digest ≡ digest_by d b) (hashed_to c b passed).0 (says b (hashed_to c b passed).1)
 
 -- what is said of them is said of the ones that are reported

@@ -13,7 +13,7 @@ use Rattle.pbf_pass.specs.Counting.{counts_of, stored_entities}
 use Rattle.pbf_pass.specs.Judged.{payload_fault, fully_known}
 use Rattle.pbf_pass.specs.Pass.{IsFresh, TakesFrame, TakesFile, HoldsHeader, file_header}
 use Rattle.pbf_pass.specs.Stops.{Caused, FaultOf, Only, unchanged}
-use Rattle.pbf_pass.specs.Visit.{Takes, Fails, Visited, VisitsAll, StopsVisit}
+use Rattle.pbf_pass.specs.Visit.{Takes, StopRule, Visited, VisitsAll, StopsVisit}
 use Rattle.pbf_pass.proofs.GatherLemmas.{gathered_one}
 use Rattle.pbf_pass.proofs.SoundLemmas.{front_of_sound, fully_gone}
 use Rattle.pbf_pass.proofs.StepLemmas.{gone_fault, gone_payload, taken_counts, taken_header}
@@ -28,7 +28,7 @@ module _ {V : Type 0} (took : Takes V) (is_sound : (old new : V) (f : FrameSpec)
   pub says_visited : (known : Option Verdict) (count : ℕ) (before now : V) (p : VisitsAll took known count before now) → Says (fully_known known) (p.frames, None)
   says_visited known count before now p = subst (λ (k : Option Verdict). Says (fully_known k) (p.frames, None)) (sym p.says) (front_of_sound p.frames None (sound_visited before p.frames now p.visited))
 
-  pub stops_judging : (failed : Fails V) (known : Option Verdict) (read wrote : Type 0) (before now : V) (stop : Stop) → ((fs : List FrameSpec) (mid : V) (f : FrameSpec) (s : Stop) → Visited took before fs mid → failed mid f now s → Caused (Only (payload_fault f)) ⊥ wrote unchanged s)
+  pub stops_judging : (failed : StopRule V) (known : Option Verdict) (read wrote : Type 0) (before now : V) (stop : Stop) → ((fs : List FrameSpec) (mid : V) (f : FrameSpec) (s : Stop) → Visited took before fs mid → failed mid f now s → Caused (Only (payload_fault f)) ⊥ wrote unchanged s)
       → StopsVisit took failed known read before now stop → Caused (FaultOf (fully_known known)) read wrote unchanged stop
   stops_judging failed known read wrote before now stop cause (inl s) = of stop s.caused where
     of : (t : Stop) → Caused (λ e. Says s.rest ([], Some e)) read ⊥ unchanged t → Caused (FaultOf (fully_known known)) read wrote unchanged t

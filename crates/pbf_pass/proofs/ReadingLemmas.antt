@@ -22,7 +22,7 @@ use Rattle.pbf_frame.proofs.Passed.{passes_none, passes_more, passes_same}
 use Rattle.pbf_frame.proofs.VerdictLemmas.{gone_more}
 use Rattle.pbf_pass.specs.Given.{GaveRest, judged_from}
 use Rattle.pbf_pass.specs.Refused.{RefusesRest}
-use Rattle.pbf_pass.specs.Visit.{Takes, Fails, Visited, RefusesVisit}
+use Rattle.pbf_pass.specs.Visit.{Takes, StopRule, Visited, RefusesVisit}
 use Rattle.pbf_pass.proofs.StepLemmas.{GaveOne, GaveNone, RefusedStep}
 
 joined_one : (frames : List FrameSpec) (f : FrameSpec) → joined_frames (frames ++ f ∷ []) ≡ joined_frames frames ++ frame_bytes f
@@ -76,7 +76,7 @@ module _ {F : Type 0} (g : feed.Ghosts F) where
   has_passed_all first mid now frames holds so_far none lender holding = grind (arith, so_far.gone [], nothing_left (had_header_of mid) (place_of mid) none.had_header, some_same, append-nil (joined_frames frames), append-nil frames)
 
   -- the bytes of these frames, and those of what is refused after them, or of the frame at which a visitor stopped
-  module _ {V : Type 0} (took : Takes V) (failed : Fails V) (before mid last : V) (first at now : FrameReader F) (frames : List FrameSpec) (so_far : HasPassed g first frames at) (visited : Visited took before frames mid) where
+  module _ {V : Type 0} (took : Takes V) (failed : StopRule V) (before mid last : V) (first at now : FrameReader F) (frames : List FrameSpec) (so_far : HasPassed g first frames at) (visited : Visited took before frames mid) where
     abbrev stops_for : Stop → List ℕ → Type 0
     stops_for s b = RefusesVisit took failed (judged_from first) before last s b
 

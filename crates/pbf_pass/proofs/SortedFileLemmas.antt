@@ -1,7 +1,6 @@
 -- A file that has to be sorted by type, and isn't.
-use Rattle.std.proofs.Common.{arith, ◌≡◌, ℕ, Bool, true, false, List, [], map, Option, Some, None, refl, subst, sym, ap, ◌∙◌}
+use Rattle.std.proofs.Common.{arith, ◌≡◌, ℕ, false, List, [], map, Option, Some, None, subst, sym, ap, ◌∙◌}
 use Rattle.std.specs.Option.{option_map}
-use Rattle.osm_entity.specs.Entity.{EntitySpec}
 use Rattle.osm_ways.specs.Sorted.{is_rising}
 use Rattle.pbf_wire.specs.declared.fault.Fault.{Fault}
 use Rattle.pbf_wire.specs.declared.fault.Reason.TheVariants.{Unsorted}

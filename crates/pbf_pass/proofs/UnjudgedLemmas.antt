@@ -16,7 +16,7 @@ use Rattle.pbf_pass.specs.Counting.{stored_entities}
 use Rattle.pbf_pass.specs.Judged.{fully, fully_known}
 use Rattle.pbf_pass.specs.Refused.{RefusesRest}
 use Rattle.pbf_pass.specs.Stops.{Caused, unchanged}
-use Rattle.pbf_pass.specs.Visit.{Takes, Fails, Visited, VisitsAll, StopsVisit, RefusesVisit}
+use Rattle.pbf_pass.specs.Visit.{Takes, StopRule, Visited, VisitsAll, StopsVisit, RefusesVisit}
 use Rattle.pbf_pass.proofs.GatherLemmas.{gathered_one}
 use Rattle.pbf_pass.proofs.SoundLemmas.{sound_first_ones, sound_last, all_sound, faulty_rest, faulty_frame}
 use Rattle.pbf_pass.proofs.VisitLemmas.{visited_to}
@@ -42,7 +42,7 @@ module _ {V : Type 0} (number : V → ℕ) (took : Takes V) (same : (old new : V
   same_number : (before : V) (fs : List FrameSpec) (now : V) → Visited took before fs now → number now ≡ number before
   same_number before fs now visited = visited_to took (λ gone v. number v ≡ number before) (λ gone f mid last so_far one. same mid last f one ∙ so_far) fs [] before now refl visited
 
-  pub stops_visited : (failed : Fails V) (known : Option Verdict) (read wrote : Type 0) (before now : V) (stop : Stop) → ((fs : List FrameSpec) (mid : V) (f : FrameSpec) (s : Stop) → Visited took before fs mid → failed mid f now s → StopsAtFrame (number mid) wrote f s)
+  pub stops_visited : (failed : StopRule V) (known : Option Verdict) (read wrote : Type 0) (before now : V) (stop : Stop) → ((fs : List FrameSpec) (mid : V) (f : FrameSpec) (s : Stop) → Visited took before fs mid → failed mid f now s → StopsAtFrame (number mid) wrote f s)
       → StopsVisit took failed known read before now stop → StopsUnjudged (number before) (fully_known known) read wrote stop
   stops_visited failed known read wrote before now stop cause (inl s) = of stop s.caused where
     of : (t : Stop) → Caused (λ e. Says s.rest ([], Some e)) read ⊥ unchanged t → StopsUnjudged (number before) (fully_known known) read wrote t
@@ -60,7 +60,7 @@ module _ {V : Type 0} (number : V → ℕ) (took : Takes V) (same : (old new : V
     of (why.Changed n) failing = (failing.0 ∙ same_number before s.frames s.mid s.visited, faulty_frame known (with_first_known s.frame s.rest) s.rest s.frames s.frame s.gone refl failing.1)
 
   -- so what the feed gave has a fault
-  pub faulty_visited : {F : Type 0} (f : feed.Ghosts F) (old new : F) (failed : Fails V) (wrote : Type 0) (before now : V) (stop : Stop) → ((fs : List FrameSpec) (mid : V) (f : FrameSpec) (s : Stop) → Visited took before fs mid → failed mid f now s → StopsAtFrame (number mid) wrote f s)
+  pub faulty_visited : {F : Type 0} (f : feed.Ghosts F) (old new : F) (failed : StopRule V) (wrote : Type 0) (before now : V) (stop : Stop) → ((fs : List FrameSpec) (mid : V) (f : FrameSpec) (s : Stop) → Visited took before fs mid → failed mid f now s → StopsAtFrame (number mid) wrote f s)
       → RefusesRest f old new (RefusesVisit took failed (λ b. judged_known false 0 (Some b)) before now) stop → ReadsFaulty f old new stop
   faulty_visited f old new failed wrote before now (why.Refused e) cause rest = refuses_less f old new _ _ (λ b stops. stops_visited failed (judged_known false 0 (Some b)) ⊥ wrote before now (why.Refused e) cause stops) rest
   faulty_visited f old new failed wrote before now why.Read cause rest = tt

@@ -8,7 +8,7 @@ use Rattle.pbf_frame.specs.Devices.{HasRisen}
 use Rattle.pbf_frame.specs.Frames.{FrameSpec}
 use Rattle.pbf_frame.specs.Next.{verdict}
 use Rattle.pbf_frame.specs.Verdict.{Verdict, VerdictAfter}
-use Rattle.pbf_pass.specs.Visit.{Takes, Fails, Visited, StopsVisit}
+use Rattle.pbf_pass.specs.Visit.{Takes, StopRule, Visited, StopsVisit}
 use Rattle.pbf_pass.proofs.StepLemmas.{StoppedStep}
 
 pub visited_more : {V : Type 0} (took : Takes V) (fs : List FrameSpec) (f : FrameSpec) (before mid now : V) → Visited took before fs mid → took mid f now → Visited took before (fs ++ f ∷ []) now
@@ -21,6 +21,6 @@ visited_to took done step [] gone before now so_far visited = subst (λ l. done 
 visited_to took done step (f ∷ fs) gone before now so_far visited = grind (arith, append_assoc gone (f ∷ []) fs, visited_to took done step fs (gone ++ f ∷ []) visited.0 now (step gone f before visited.0 so_far visited.1) visited.2, step gone f before visited.0 so_far visited.1)
 
 -- a loop of steps stops, of which some are done
-pub stops_visit : {F V : Type 0} (g : feed.Ghosts F) (old new : FrameReader F) (took : Takes V) (failed : Fails V) (first : Option Verdict) (frames : List FrameSpec) (count : ℕ) (before mid now : V) (stop : Stop) → VerdictAfter first frames (verdict g.remaining old) → count ≤ g.failures old.feed
+pub stops_visit : {F V : Type 0} (g : feed.Ghosts F) (old new : FrameReader F) (took : Takes V) (failed : StopRule V) (first : Option Verdict) (frames : List FrameSpec) (count : ℕ) (before mid now : V) (stop : Stop) → VerdictAfter first frames (verdict g.remaining old) → count ≤ g.failures old.feed
     → Visited took before frames mid → StoppedStep g old new (λ f s. failed mid f now s) (now ≡ mid) stop → StopsVisit took failed first (HasRisen count (g.failures new.feed)) before now stop
 stops_visit g old new took failed first frames count before mid now stop gone counted visited s = grind arith

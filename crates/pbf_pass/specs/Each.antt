@@ -7,7 +7,7 @@ use Rattle.pbf_frame.specs.Frames.{FrameSpec}
 use Rattle.pbf_frame.specs.Verdict.{Verdict, VerdictAfter}
 use Rattle.pbf_pass.specs.declared.pass.Pass.{Pass}
 use Rattle.pbf_pass.specs.Pass.{TakesFile}
-use Rattle.pbf_pass.specs.Visit.{Takes, Fails, Visited, VisitsAll, StopsVisit}
+use Rattle.pbf_pass.specs.Visit.{Takes, StopRule, Visited, VisitsAll, StopsVisit}
 
 -- ---- visitors
 
@@ -16,7 +16,7 @@ abbrev pub EachTook : {V : Type 0} → Takes V → List V → FrameSpec → List
 EachTook took olds f news = AllZip (λ old new. took old f new) olds news
 
 -- one of them stopped at the frame: those before it took the frame, and those after it are as they were
-abbrev pub OneFailed : {V : Type 0} → Takes V → Fails V → List V → FrameSpec → List V → Stop → Type 0
+abbrev pub OneFailed : {V : Type 0} → Takes V → StopRule V → List V → FrameSpec → List V → Stop → Type 0
 OneFailed took failed (old ∷ olds) f (new ∷ news) stop = (failed old f new stop × (news ≡ olds)) ⊎ (took old f new × OneFailed took failed olds f news stop)
 OneFailed took failed _ f _ stop = ⊥
 
@@ -32,7 +32,7 @@ pub record VisitsFront {V : Type 0} (took : Takes V) (known : Option Verdict) (b
   pub visited : Visited took before frames now
 
 -- each of them stopped as in a pass of its own, or took the first frames before another one stopped
-abbrev pub EachStops : {V : Type 0} → Takes V → Fails V → Option Verdict → (read : Type 0) → (olds news : List V) → Stop → Type 0
+abbrev pub EachStops : {V : Type 0} → Takes V → StopRule V → Option Verdict → (read : Type 0) → (olds news : List V) → Stop → Type 0
 EachStops took failed known read olds news stop = AllZip (λ old new. StopsVisit took failed known read old new stop ⊎ VisitsFront took known old new) olds news
 
 -- ---- gatherers

@@ -107,11 +107,6 @@ abbrev pub with_relation : RelationSets → EntitySpec → RelationSets
 with_relation sets (relation r) = relation_step sets (seen_relation r)
 with_relation sets _ = sets
 
--- the same, and the members of those that are wanted whole
-abbrev pub with_whole : (List TagSpec → Bool) → RelationSets → EntitySpec → RelationSets
-with_whole whole sets (relation r) = relation_step sets (seen_as (whole r.tags) r)
-with_whole whole sets _ = sets
-
 -- the refs of the ways that were added
 abbrev pub with_added_way : KeptSets → EntitySpec → KeptSets
 with_added_way sets (way w) = member_step sets (seen_way w)

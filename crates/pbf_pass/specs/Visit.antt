@@ -11,8 +11,8 @@ abbrev pub Takes : Type 0 → Type 1
 Takes V = V → FrameSpec → V → Type 0
 
 -- why it stops at one, and what it is then
-abbrev pub Fails : Type 0 → Type 1
-Fails V = V → FrameSpec → V → Stop → Type 0
+abbrev pub StopRule : Type 0 → Type 1
+StopRule V = V → FrameSpec → V → Stop → Type 0
 
 -- it took these frames, one after another
 abbrev pub Visited : {V : Type 0} → Takes V → V → List FrameSpec → V → Type 0
@@ -35,7 +35,7 @@ pub record StopsBehind {V : Type 0} (took : Takes V) (known : Option Verdict) (r
   pub caused : Caused (λ e. Says rest ([], Some e)) read ⊥ unchanged stop
 
 -- the visitor stopped at the frame after them
-pub record StopsWithin {V : Type 0} (took : Takes V) (failed : Fails V) (known : Option Verdict) (before now : V) (stop : Stop) : Type 0 where
+pub record StopsWithin {V : Type 0} (took : Takes V) (failed : StopRule V) (known : Option Verdict) (before now : V) (stop : Stop) : Type 0 where
   pub frames : List FrameSpec
   pub frame : FrameSpec
   pub rest : Option Verdict
@@ -45,11 +45,11 @@ pub record StopsWithin {V : Type 0} (took : Takes V) (failed : Fails V) (known :
   pub failing : failed mid frame now stop
 
 -- a pass over what has this verdict stopped
-abbrev pub StopsVisit : {V : Type 0} → Takes V → Fails V → Option Verdict → (read : Type 0) → (before now : V) → Stop → Type 0
+abbrev pub StopsVisit : {V : Type 0} → Takes V → StopRule V → Option Verdict → (read : Type 0) → (before now : V) → Stop → Type 0
 StopsVisit took failed known read before now stop = StopsBehind took known read before now stop ⊎ StopsWithin took failed known before now stop
 
 -- it stopped for these bytes, and no read failed
-abbrev pub RefusesVisit : {V : Type 0} → Takes V → Fails V → (List ℕ → Option Verdict) → (before now : V) → Stop → List ℕ → Type 0
+abbrev pub RefusesVisit : {V : Type 0} → Takes V → StopRule V → (List ℕ → Option Verdict) → (before now : V) → Stop → List ℕ → Type 0
 RefusesVisit took failed judge before now stop bytes = StopsVisit took failed (judge bytes) ⊥ before now stop
 
 -- what a call leaves of its visitor: it can take a frame if the call succeeds, and goes through the same references

@@ -3,7 +3,7 @@
 ghost use Rattle.std.specs.Prelude.{◌≡◌, ℕ, List, [], ◌++◌, replicate};
 ghost use Rattle.std.specs.Int.{to_le_bytes, w64};
 ghost use Rattle.pbf_pass.specs.Hashing as spec;
-ghost use Rattle.pbf_pass.specs.Hashing.{Holds, digest_by};
+ghost use Rattle.pbf_pass.specs.Hashing.{HoldsBytes, digest_by};
 
 use sha2::{Digest, Sha256};
 use std::hash::{DefaultHasher, Hasher};
@@ -32,7 +32,7 @@ impl PassHasher {
     #[tactic(auto, using(crate::proofs::HashLemmas::written_none))]
     pub(crate) fn new(check: PassCheck) -> PassHasher
         ensures check { result.check ≡ check }
-        ensures holds { Holds result [] }
+        ensures holds { HoldsBytes result [] }
     {
         PassHasher {
             check,
@@ -48,7 +48,7 @@ impl PassHasher {
     #[tactic(auto, using(crate::proofs::HashLemmas::written_more))]
     pub(crate) fn update(&mut self, bytes: &[u8])
         ensures check { self.new.check ≡ self.old.check }
-        ensures holds { (b : List ℕ) → Holds self.old b → Holds self.new (b ++ bytes.now) }
+        ensures holds { (b : List ℕ) → HoldsBytes self.old b → HoldsBytes self.new (b ++ bytes.now) }
     {
         match self.check {
             PassCheck::None => {}
@@ -60,7 +60,7 @@ impl PassHasher {
     /// The digest of what it holds. Another digest is begun.
     pub(crate) fn digest(&mut self) -> [u8; 32]
         ensures check { self.new.check ≡ self.old.check }
-        ensures digest { (b : List ℕ) → Holds self.old b → result ≡ digest_by self.old.check b }
+        ensures digest { (b : List ℕ) → HoldsBytes self.old b → result ≡ digest_by self.old.check b }
     {
         match self.check {
             PassCheck::None => [0; 32],

@@ -1,9 +1,6 @@
 //! Gathers the refs of ways that were added for relations that are wanted whole.
 
-ghost use Rattle.std.specs.Prelude.{◌≡◌, OnOk, map};
-ghost use Rattle.std.specs.List.{fold};
-ghost use Rattle.osm_entity.specs.Entity.{node};
-ghost use Rattle.pbf_dense.specs.Cursors.{dense_left};
+ghost use Rattle.std.specs.Prelude.{◌≡◌};
 ghost use Rattle.pbf_pass.specs.Pass.{with_added_way};
 
 use crate::pass::{Gather, seen};

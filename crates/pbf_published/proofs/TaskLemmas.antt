@@ -12,7 +12,7 @@ use Rattle.pbf_unpack.specs.declared.feed.UnpackedFeed.{UnpackedFeed}
 use Rattle.pbf_unpack.specs.Supplying.{HasSupplied, refusals, remaining_in}
 use Rattle.pbfcut.specs.Calls.{AllSupply, AnyFailed, ChangedIn, ChangedLater, DrainUse, FeedUse, GaveEach, GaveEachOrNot, TookBy, fed, supply_of, used}
 use Rattle.pbfcut.specs.TaskCalls.{DoesTask, GaveFiles}
-use Rattle.pbfcut.specs.Tasks.{Holds, Task, judge_of, passes_of, spares}
+use Rattle.pbfcut.specs.Tasks.{Task, TaskHolds, judge_of, passes_of, spares}
 use Rattle.pbf_published.specs.declared.input.PublishedHalt.{PublishedHalt}
 use Rattle.pbf_published.specs.declared.traced.TracedFeed.{TracedFeed}
 use Rattle.pbf_published.specs.Published.{ChangedFrom, GaveEachOrNone, GavePublishedEach, HasDigest, HasTraced, IsOpened, ReportsOutcome, raw_of}
@@ -111,8 +111,8 @@ module _ {F U : Type 0} (f : feed.Ghosts F) (u : feed.Ghosts U) (below : U → F
     task_done (old ∷ olds) [] lasts receipt digest same does is opened share = absurd does
     task_done (old ∷ olds) (now ∷ news) lasts receipt digest same does is opened share =
         let raw = mark_by (raw_check check) receipt.input in
-        let took : List (List ℕ) → Type 0 = λ files. TookBy out (λ written. Holds task files receipt.counts written) in
-        let given = outcome_receipt outcome (λ r. GaveFiles (spares task) (fed u old now) (used u olds news) r.spared (mark_by (raw_check check) r.input) (λ files. TookBy out (λ written. Holds task files r.counts written))) does.receipt reported receipt is lacks tells in
+        let took : List (List ℕ) → Type 0 = λ files. TookBy out (λ written. TaskHolds task files receipt.counts written) in
+        let given = outcome_receipt outcome (λ r. GaveFiles (spares task) (fed u old now) (used u olds news) r.spared (mark_by (raw_check check) r.input) (λ files. TookBy out (λ written. TaskHolds task files r.counts written))) does.receipt reported receipt is lacks tells in
         subst (λ l. DoesPublished task (used f (map below (old ∷ olds)) l) out check (Ok (record { counts = receipt.counts; input = digest; raw = receipt.input }))) (sym same) (record {
           receipt = published_of f (below old) (below now) given check (Some digest) opened.0 share.0 digest refl
               (λ b. GaveEachOrNone (take (spares task) (packed olds news)) (mark_by check digest) raw b (λ some. GavePublishedEach (drop (spares task) (packed olds news)) (mark_by check digest) raw (λ files. took (b ∷ some ++ files))))
@@ -141,13 +141,13 @@ module _ {F U : Type 0} (f : feed.Ghosts F) (u : feed.Ghosts U) (below : U → F
     task_changed [] news lasts receipt s h same does is opened many differ stops = absurd does
     task_changed (old ∷ olds) [] lasts receipt s h same does is opened many differ stops = absurd does
     task_changed (old ∷ olds) (now ∷ news) lasts receipt s h same does is opened many differ stops =
-        let given = outcome_receipt outcome (λ r. GaveFiles (spares task) (fed u old now) (used u olds news) r.spared (mark_by (raw_check check) r.input) (λ files. TookBy out (λ written. Holds task files r.counts written))) does.receipt reported receipt is lacks tells in
+        let given = outcome_receipt outcome (λ r. GaveFiles (spares task) (fed u old now) (used u olds news) r.spared (mark_by (raw_check check) r.input) (λ files. TookBy out (λ written. TaskHolds task files r.counts written))) does.receipt reported receipt is lacks tells in
         let told = digest_told f (below old) (below now) given check in
         let known = f.remaining (below old) in
         let changed : (pass : ℕ) × (s ≡ stop.Changed pass) × ChangedFrom 1 known (map supply_of (packed (old ∷ olds) (now ∷ news))) pass = elim differ [
           | inl none ↦ (1, none.0, inl (refl, first_unknown check known None (told None opened.0 none.1) refl))
           | inr other ↦
-              let later = some_differs (spares task) receipt.spared olds news other.0 (mark_by (raw_check check) receipt.input) given.file (λ some files. TookBy out (λ written. Holds task (given.file ∷ some ++ files) receipt.counts written)) known 2 s (told (Some other.0) opened.0 other.1) opened.1 given.holding other.2 (omega (arith, many)) in
+              let later = some_differs (spares task) receipt.spared olds news other.0 (mark_by (raw_check check) receipt.input) given.file (λ some files. TookBy out (λ written. TaskHolds task (given.file ∷ some ++ files) receipt.counts written)) known 2 s (told (Some other.0) opened.0 other.1) opened.1 given.holding other.2 (omega (arith, many)) in
               (later.0, later.1, inr later.2)
         ] in
         subst (λ l. DoesPublished task (used f (map below (old ∷ olds)) l) out check (Err h)) (sym same) (record {

@@ -9,7 +9,7 @@ use Rattle.pbf_frame.specs.declared.stop.Stop.TheVariants.{Refused, Read, Write,
 use Rattle.pbf_frame.specs.Devices.{IsAtEnd, IsFront, prepend}
 use Rattle.pbf_frame.specs.Transfers.{Added}
 use Rattle.pbf_frame.specs.Verdict.{Verdict}
-use Rattle.pbf_pass.specs.Hashing.{Holds as HoldsBytes, IsDigestOf, Mark, below_log, digest_by, hash_log, mark_by}
+use Rattle.pbf_pass.specs.Hashing.{HoldsBytes, IsDigestOf, Mark, below_log, digest_by, hash_log, mark_by}
 use Rattle.pbf_pass.specs.declared.hashed.PassFeed.{PassFeed}
 use Rattle.pbf_pass.specs.declared.hashing.PassCheck.{PassCheck}
 use Rattle.pbf_pass.specs.declared.receipt.Halt.{Halt}
@@ -135,15 +135,15 @@ abbrev pub ChangedFrom : ℕ → (first : Option (List ℕ)) → List (Option (L
 ChangedFrom number first [] pass = ⊥
 ChangedFrom number first (has ∷ later) pass = ChangedIn number first has pass ⊎ ChangedFrom (number + 1) first later pass
 
-abbrev pub ChangedOf : List (Option (List ℕ)) → ℕ → Type 0
-ChangedOf [] pass = ⊥
-ChangedOf (first ∷ later) pass = ChangedFrom 1 first (first ∷ later) pass
+abbrev pub PassChanged : List (Option (List ℕ)) → ℕ → Type 0
+PassChanged [] pass = ⊥
+PassChanged (first ∷ later) pass = ChangedFrom 1 first (first ∷ later) pass
 
 -- a call stops: what is refused is the raw file that the first feed's bytes mean, which is judged so; a read or a write failed if the count of its device
 -- rose; and `Changed` has the number of the pass whose feed has other packed bytes than the first, as far as both report them
 abbrev pub StopsPublished : {D : Type 0} → (Option (List ℕ) → Option Verdict) → FeedUse → List FeedUse → DrainUse D → Stop → Type 0
 StopsPublished judge first later out =
-    Caused (RefusedRaw (judge (raw_of (supply_of first))) out.ghosts out.old out.new) (AnyFailed (first ∷ later)) (FailedDrain out) (ChangedOf (map supply_of (first ∷ later)))
+    Caused (RefusedRaw (judge (raw_of (supply_of first))) out.ghosts out.old out.new) (AnyFailed (first ∷ later)) (FailedDrain out) (PassChanged (map supply_of (first ∷ later)))
 
 -- this holds unless the stop is that a later pass read other bytes
 abbrev pub UnlessChanged : Type 0 → Stop → Type 0

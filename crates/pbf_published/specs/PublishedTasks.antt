@@ -8,7 +8,7 @@ use Rattle.pbf_pass.specs.declared.hashed.PassFeed.{PassFeed}
 use Rattle.pbf_pass.specs.declared.hashing.PassCheck.{PassCheck}
 use Rattle.pbf_unpack.specs.declared.feed.UnpackedFeed.{UnpackedFeed}
 use Rattle.pbfcut.specs.Calls.{DrainUse, FeedUse, TookBy}
-use Rattle.pbfcut.specs.Tasks.{Holds, Task, answer_of, judge_of, spares}
+use Rattle.pbfcut.specs.Tasks.{Task, TaskHolds, answer_of, judge_of, spares}
 use Rattle.pbf_published.specs.declared.input.PublishedHalt.{PublishedHalt}
 use Rattle.pbf_published.specs.declared.input.PublishedInput.{PublishedInput}
 use Rattle.pbf_published.specs.declared.traced.TracedFeed.{TracedFeed}
@@ -26,7 +26,7 @@ GavePublishedFiles may first later digest raw_digest holds =
 pub record DoesPublishedPasses {D : Type 0} (task : Task) (first : FeedUse) (later : List FeedUse) (out : DrainUse D) (check : PassCheck) (result : Result PublishedInput PublishedHalt) : Type 0 where
   -- each feed gave packed bytes of the digest `input`, which mean a raw file, of the SHA-256 digest `raw` if that is the check; or those were spared that may
   -- be. The drain took bytes, and what the task means holds of the raw files, the counts and these bytes
-  pub receipt : IfOk result (λ receipt. GavePublishedFiles (spares task) first later (mark_by check receipt.input) (mark_by (raw_check check) receipt.raw) (λ files. TookBy out (λ written. Holds task files receipt.counts written)))
+  pub receipt : IfOk result (λ receipt. GavePublishedFiles (spares task) first later (mark_by check receipt.input) (mark_by (raw_check check) receipt.raw) (λ files. TookBy out (λ written. TaskHolds task files receipt.counts written)))
   -- each stop has its cause
   pub stops : IfErr result (λ h. StopsPublished (judge_of task) first later out h.stop)
   -- whatever stopped it, except `Changed`, if all feeds mean this raw file, a prefix of what is to be written for it went out

@@ -5,7 +5,7 @@ ghost use Rattle.pbf_pass.specs.Judged.{judged_file};
 ghost use Rattle.pbf_pass.specs.Pass.{CountsFile};
 ghost use Rattle.pbf_pass.specs.Stops.{Caused, ReadFailed, FaultOf};
 ghost use Rattle.pbf_pass.specs.Hashing.{mark_by, raw_check};
-ghost use Rattle.pbf_published.specs.Published.{ChangedOf, GavePublished, raw_of};
+ghost use Rattle.pbf_published.specs.Published.{GavePublished, PassChanged, raw_of};
 
 use crate::input::{
     PublishedHalt, PublishedInput, close, first_digest, lacks_memory, open, packed_digest,
@@ -32,7 +32,7 @@ pub fn check_with_receipt<F: Feed>(
     // feed's count of failures rose; `Write` never comes. `Changed(1)` comes only if the feed doesn't report its bytes.
     ensures stops { IfErr result (λ h. Caused (FaultOf (judged_file (raw_of (F.remaining feed.old))))
         (ReadFailed F.Feed feed.old feed.new) ⊥
-        (ChangedOf (F.remaining feed.old ∷ [])) h.stop) }
+        (PassChanged (F.remaining feed.old ∷ [])) h.stop) }
 {
     let alloc = passes.alloc;
     let mut input = open(alloc, &mut *feed, passes.check)?;

@@ -6,7 +6,7 @@ use Rattle.pbf_unpack.specs.declared.below.Course.{Course}
 use Rattle.pbf_unpack.specs.declared.below.Course.TheVariants.{Taking}
 use Rattle.pbf_unpack.specs.declared.drain.PackedDrain.{PackedDrain}
 use Rattle.pbf_unpack.specs.Course.{HasWhole, IsPackedAs}
-use Rattle.pbf_unpack.specs.Packing.{frame_held, taken_raw, GaveAll, HasPacked, PacksTo, TookSame}
+use Rattle.pbf_unpack.specs.Packing.{frame_held, taken_raw, GaveAll, HasCompressed, PacksTo, TookSame}
 use Rattle.pbf_unpack.specs.Unpacked.{as_they_stand, unpacked}
 use Rattle.pbf_unpack.proofs.PackingLemmas.{packed_means, raw_in}
 
@@ -22,7 +22,7 @@ gave_told (Some packed) place held raw has empty is =
     record { packed = packed; has_them = refl; means = packed_means (unpacked packed) packed before ∙ ap as_they_stand is_raw }
 
 module _ {D : Type 0} {d : drain.Ghosts D} (old new : PackedDrain D d) where
-  gave_logged : frame_held new.frame ≡ [] → (log : ℕ) (raw : List ℕ) → HasPacked new log raw → PacksTo (d.has_taken new.below.drain log) raw
+  gave_logged : frame_held new.frame ≡ [] → (log : ℕ) (raw : List ℕ) → HasCompressed new log raw → PacksTo (d.has_taken new.below.drain log) raw
   gave_logged empty log raw has = grind (arith, append-nil has.done, packed_means has.done has.packed has.means)
 
   pub gave_all : taken_raw new ≡ taken_raw old → TookSame old new → frame_held new.frame ≡ [] → new.below.course ≡ Taking → GaveAll old new

@@ -42,13 +42,13 @@ abbrev pub fits_size : Option Occurrence → ℕ → Bool
 fits_size None n = true
 fits_size (Some raw_size) n = is_length (int32_held raw_size.content) n
 
-abbrev pub fault_at : ℕ → UnpackReason → UnpackFault
-fault_at place reason = record { offset = place; reason = reason }
+abbrev pub unpack_fault_at : ℕ → UnpackReason → UnpackFault
+unpack_fault_at place reason = record { offset = place; reason = reason }
 
 -- the meaning of a stream, if raw_size is its length
 abbrev pub sized : ℕ → Option Occurrence → Result (List ℕ) InflateFault → Result (List ℕ) UnpackFault
-sized place raw_size (Ok payload) = if fits_size raw_size (length payload) then Ok payload else Err (fault_at place RawSize)
-sized place raw_size (Err e) = Err (fault_at place (Inflate e))
+sized place raw_size (Ok payload) = if fits_size raw_size (length payload) then Ok payload else Err (unpack_fault_at place RawSize)
+sized place raw_size (Err e) = Err (unpack_fault_at place (Inflate e))
 
 -- the payload of zlib data beside this raw_size, shorter than the limit of raw data, or why there is none; the fault is where the data is
 abbrev pub unpacked_payload : Occurrence → Option Occurrence → Result (List ℕ) UnpackFault

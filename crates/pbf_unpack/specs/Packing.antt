@@ -32,7 +32,7 @@ pub record IsStuck {D : Type 0} {d : drain.Ghosts D} (frame : List ℕ) (old new
 -- ---- by the logs of a drain below
 
 -- raw bytes were taken: the drain below took packed ones, by this log, and they mean all but those of the frame that is held
-pub record HasPacked {D : Type 0} {d : drain.Ghosts D} (p : PackedDrain D d) (log : ℕ) (raw : List ℕ) : Type 0 where
+pub record HasCompressed {D : Type 0} {d : drain.Ghosts D} (p : PackedDrain D d) (log : ℕ) (raw : List ℕ) : Type 0 where
   pub packed : List ℕ
   pub took : d.has_taken p.below.drain log packed
   pub counted : length packed ≡ p.below.place
@@ -49,11 +49,11 @@ pub record PacksTo (has : List ℕ → Type 0) (raw : List ℕ) : Type 0 where
 -- raw bytes that were taken, as far as they are known and by each log, went to the drain below as a file that means them
 pub record GaveAll {D : Type 0} {d : drain.Ghosts D} (old new : PackedDrain D d) : Type 0 where
   pub told : (raw : List ℕ) → taken_raw old ≡ Some raw → PacksTo (λ packed. d.taken new.below.drain ≡ Some packed) raw
-  pub logged : (log : ℕ) (raw : List ℕ) → HasPacked old log raw → PacksTo (d.has_taken new.below.drain log) raw
+  pub logged : (log : ℕ) (raw : List ℕ) → HasCompressed old log raw → PacksTo (d.has_taken new.below.drain log) raw
 
 -- by each log a drain has still taken the same raw bytes
 abbrev pub TookSame : {D : Type 0} {d : drain.Ghosts D} → (old new : PackedDrain D d) → Type 0
-TookSame old new = (log : ℕ) (raw : List ℕ) → HasPacked old log raw → HasPacked new log raw
+TookSame old new = (log : ℕ) (raw : List ℕ) → HasCompressed old log raw → HasCompressed new log raw
 
 -- it holds nothing, and goes on
 pub record IsEmptied {D : Type 0} {d : drain.Ghosts D} (p : PackedDrain D d) : Type 0 where

@@ -32,7 +32,7 @@ pub struct PackedDrain<D: Drain> {
 }
 
 impl<D: Drain> PackedDrain<D> {
-    ghost use Rattle.pbf_unpack.specs.Packing.{taken_raw, failures_of_drain, frame_held, GaveAll, HasCause, HasPacked, TookNoRawFile, IsEmptied, TookSame};
+    ghost use Rattle.pbf_unpack.specs.Packing.{taken_raw, failures_of_drain, frame_held, GaveAll, HasCause, HasCompressed, TookNoRawFile, IsEmptied, TookSame};
 
     /// Over a drain that took nothing. It does not allocate before the first frame.
     pub fn new(alloc: Global, deflater: Deflater, drain: D) -> Self
@@ -40,7 +40,7 @@ impl<D: Drain> PackedDrain<D> {
         ensures drain { result.below.drain ≡ drain }
         ensures lender { D.lender result.below.drain ≡ D.lender drain }
         ensures taken { taken_raw result ≡ D.taken drain }
-        ensures logged { (log : ℕ) → D.has_taken drain log [] → HasPacked result log [] }
+        ensures logged { (log : ℕ) → D.has_taken drain log [] → HasCompressed result log [] }
         ensures failures { spent_failures result.below.course ≡ 0 }
     {
         PackedDrain {
@@ -139,11 +139,11 @@ impl<D: Drain> PackedDrain<D> {
 }
 
 impl<D: Drain> Drain for PackedDrain<D> {
-    ghost use Rattle.pbf_unpack.specs.Packing.{taken_raw, failures_of_drain, HasPacked};
+    ghost use Rattle.pbf_unpack.specs.Packing.{taken_raw, failures_of_drain, HasCompressed};
 
     ghost taken = { λ p. taken_raw p };
 
-    ghost has_taken = { λ p log raw. HasPacked p log raw };
+    ghost has_taken = { λ p log raw. HasCompressed p log raw };
 
     ghost failures = { λ p. failures_of_drain p };
 

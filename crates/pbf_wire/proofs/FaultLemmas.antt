@@ -10,10 +10,10 @@ use Rattle.pbf_wire.specs.declared.fault.Reason.TheVariants.{TwiceMessage}
 use Rattle.pbf_wire.specs.declared.kind.Kind.{Kind}
 use Rattle.pbf_wire.specs.Varint.{IsVarint, varint_at}
 use Rattle.pbf_wire.specs.Occurrence.{Content, Occurrence, Item, IsBody, IsSpelled, Joins}
-use Rattle.pbf_wire.specs.Columns.{Entry, entries_from, entries_past, read_entries, numbers_in, column_of, joined}
+use Rattle.pbf_wire.specs.Columns.{Entry, entries_from, entries_past, read_entries, content_numbers, column_of, joined}
 use Rattle.pbf_wire.specs.Wire.{kind_of, reason_in, or_at, wire}
 use Rattle.pbf_wire.specs.Reading.{bytes_held}
-use Rattle.pbf_wire.specs.Least.{lesser, least, rank}
+use Rattle.pbf_wire.specs.Least.{lesser, least, fault_rank}
 use Rattle.pbf_wire.specs.Faults.{fault, or_more, message_faults, ends_in, ends_of, column_count, fields_in}
 use Rattle.pbf_wire.proofs.Cutting.{is_cutting}
 use Rattle.pbf_wire.proofs.LeastLemmas.{lesser_joined}
@@ -21,7 +21,7 @@ use Rattle.pbf_wire.proofs.AllLemmas.{all_weaker}
 
 -- a least so far, and one fault before others
 pub least_next : (f : Option Fault) (x : Fault) (ys : List Fault) → lesser (lesser f (Some x)) (least ys) ≡ lesser f (least (x ∷ ys))
-least_next f x ys = lesser_joined rank f (Some x) (least ys)
+least_next f x ys = lesser_joined fault_rank f (Some x) (least ys)
 
 -- a message without embedded ones has its first wire fault at most
 pub leaf_is_wire : (kinds : List (ℕ × Kind)) (its : List Item) → least (message_faults kinds (λ o. []) its) ≡ wire kinds its
@@ -70,7 +70,7 @@ numbers_within skip [] = omega arith
 numbers_within (suc skip) (b ∷ bs) = omega (arith, numbers_within skip bs)
 numbers_within zero (b ∷ bs) = front_within (varint_at (b ∷ bs)) (λ skip. entries_past skip bs) (length bs) (λ skip. numbers_within skip bs)
 
-numbers_short : (c : Content) (kind end : ℕ) (s : List ℕ) → IsBody c kind end s → length (numbers_in c) ≤ length s
+numbers_short : (c : Content) (kind end : ℕ) (s : List ℕ) → IsBody c kind end s → length (content_numbers c) ≤ length s
 numbers_short c kind end s h = grind (arith, spelled_long, numbers_within, length-append)
 
 one_column_short : (k : ℕ) (o : Occurrence) (s : List ℕ) → IsSpelled o s → length (column_of k o) ≤ length s

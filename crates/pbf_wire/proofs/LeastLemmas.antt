@@ -2,7 +2,7 @@
 use Rattle.std.proofs.Common.{◌≡◌, ℕ, List, [], ◌∷◌, ◌++◌, Bool, refl, ap, sym, ◌∙◌, arith, inl, inr}
 use Rattle.std.specs.Prelude.{true, false, Option, Some, None, if◌then◌else◌}
 use Rattle.pbf_wire.specs.declared.fault.Fault.{Fault}
-use Rattle.pbf_wire.specs.Least.{is_less, lesser_by, least_by, lesser, least, rank, IsLeast, NoneLess, IsOne}
+use Rattle.pbf_wire.specs.Least.{is_less, lesser_by, least_by, lesser, least, fault_rank, IsLeastBy, NoneLess, IsOne}
 
 pub less_less : (xs ys zs : List ℕ) → is_less ys xs ≡ true → is_less zs ys ≡ true → is_less zs xs ≡ true
 less_less [] [] zs p q = absurd (cc)
@@ -33,15 +33,15 @@ least_joined key (x ∷ xs) ys = ap (λ w. lesser_by key (Some x) w) (least_join
 
 -- a least so far, and the parts still to come
 pub least_more : (f : Option Fault) (xs ys : List Fault) → lesser (lesser f (least xs)) (least ys) ≡ lesser f (least (xs ++ ys))
-least_more f xs ys = lesser_joined rank f (least xs) (least ys) ∙ ap (λ w. lesser f w) (sym (least_joined rank xs ys))
+least_more f xs ys = lesser_joined fault_rank f (least xs) (least ys) ∙ ap (λ w. lesser f w) (sym (least_joined fault_rank xs ys))
 
 -- nothing is to come
 pub lesser_nothing : (f : Option Fault) → lesser f (least []) ≡ f
-lesser_nothing f = lesser_none rank f
+lesser_nothing f = lesser_none fault_rank f
 
 -- two parts
 pub lesser_parts : (xs ys : List Fault) → lesser (least xs) (least ys) ≡ least (xs ++ ys)
-lesser_parts xs ys = sym (least_joined rank xs ys)
+lesser_parts xs ys = sym (least_joined fault_rank xs ys)
 
 -- ---- the least of a list is one of it, and none of it is less
 
@@ -59,15 +59,15 @@ below_all : {X : Type 0} (key : X → List ℕ) (x g : X) (fs : List X) → is_l
 below_all key x g [] e h = tt
 below_all key x g (y ∷ ys) e h = (not_less (key x) (key g) (key y) e h.0, below_all key x g ys e h.1)
 
-chosen_least : {X : Type 0} (key : X → List ℕ) (x g : X) (fs : List X) (b : Bool) → is_less (key g) (key x) ≡ b → IsOne g fs × NoneLess key g fs → IsLeast key (if b then Some g else Some x) (x ∷ fs)
+chosen_least : {X : Type 0} (key : X → List ℕ) (x g : X) (fs : List X) (b : Bool) → is_less (key g) (key x) ≡ b → IsOne g fs × NoneLess key g fs → IsLeastBy key (if b then Some g else Some x) (x ∷ fs)
 chosen_least key x g fs true e h = (inr h.0, (one_way (key g) (key x) e, h.1))
 chosen_least key x g fs false e h = (inl refl, (never_less (key x), below_all key x g fs e h.1))
 
-step_least : {X : Type 0} (key : X → List ℕ) (x : X) (rest : Option X) (fs : List X) → IsLeast key rest fs → IsLeast key (lesser_by key (Some x) rest) (x ∷ fs)
+step_least : {X : Type 0} (key : X → List ℕ) (x : X) (rest : Option X) (fs : List X) → IsLeastBy key rest fs → IsLeastBy key (lesser_by key (Some x) rest) (x ∷ fs)
 step_least key x None [] h = (inl refl, (never_less (key x), tt))
 step_least key x None (y ∷ ys) h = absurd (cc)
 step_least key x (Some g) fs h = chosen_least key x g fs (is_less (key g) (key x)) refl h
 
-pub least_is : {X : Type 0} (key : X → List ℕ) (fs : List X) → IsLeast key (least_by key fs) fs
+pub least_is : {X : Type 0} (key : X → List ℕ) (fs : List X) → IsLeastBy key (least_by key fs) fs
 least_is key [] = refl
 least_is key (x ∷ fs) = step_least key x (least_by key fs) fs (least_is key fs)

@@ -4,7 +4,7 @@ use Rattle.std.proofs.Common.{◌≡◌, ℕ, ◌+◌, ◌≤◌, List, [], ◌�
 use Rattle.std.specs.Prelude.{Option, Some, None, map}
 use Rattle.std.specs.Option.{option_map, option_or}
 use Rattle.pbf_wire.specs.declared.fault.Fault.{Fault}
-use Rattle.pbf_wire.specs.Least.{rank, lesser_by, least_by, least}
+use Rattle.pbf_wire.specs.Least.{fault_rank, lesser_by, least_by, least}
 use Rattle.pbf_wire.specs.Phases.{first_fault, in_phases, phase_rank}
 use Rattle.pbf_wire.proofs.LeastLemmas.{least_joined}
 
@@ -53,11 +53,11 @@ module _ {X : Type 0} (r : X → List ℕ) where
 
 all_from : (n : ℕ) (phases : List (List Fault)) → IsFrom n (least_by phase_rank (in_phases n phases))
 all_from n [] = grind arith
-all_from n (faults ∷ later) = parted_from rank n faults (in_phases (n + 1) later) (all_from (n + 1) later)
+all_from n (faults ∷ later) = parted_from fault_rank n faults (in_phases (n + 1) later) (all_from (n + 1) later)
 
 pub phases_joined : (n : ℕ) (phases : List (List Fault)) → option_map (λ p. p.1) (least_by phase_rank (in_phases n phases)) ≡ first_fault phases
 phases_joined n [] = refl
-phases_joined n (faults ∷ later) = cc (parted_found rank n faults (in_phases (n + 1) later) (all_from (n + 1) later), phases_joined (n + 1) later)
+phases_joined n (faults ∷ later) = cc (parted_found fault_rank n faults (in_phases (n + 1) later) (all_from (n + 1) later), phases_joined (n + 1) later)
 
 pub or_first : (f g h : Option Fault) → option_or f (option_or g h) ≡ option_or (option_or f g) h
 or_first f g h = grind arith

@@ -7,7 +7,7 @@ use Rattle.pbf_wire.specs.contracts.fault.Reason.{the_type}
 use Rattle.pbf_wire.specs.declared.fault.Fault.{Fault}
 use Rattle.pbf_wire.specs.declared.fault.Reason.{Reason}
 use Rattle.pbf_wire.specs.declared.fault.Reason.TheVariants.{VarintCut}
-use Rattle.pbf_wire.specs.Least.{rank, is_less}
+use Rattle.pbf_wire.specs.Least.{fault_rank, is_less}
 use Rattle.pbf_wire.specs.Reasons.{reason_number, missing_field}
 
 -- the number of the reason at this place
@@ -30,5 +30,5 @@ numbered r = refl
 numbers_rise : (r s : Reason) → nat_lt (reason_number r) (reason_number s) ≡ nat_lt (tag_of the_type r) (tag_of the_type s)
 numbers_rise r s = ap₂ nat_lt (numbered r) (numbered s) ∙ rising (tag_of the_type r) (tag_of the_type s)
 
-pub by_number : (f g : Fault) → is_less (rank f) (rank g) ≡ is_less (f.offset ∷ reason_number f.reason ∷ missing_field f.reason ∷ []) (g.offset ∷ reason_number g.reason ∷ missing_field g.reason ∷ [])
+pub by_number : (f g : Fault) → is_less (fault_rank f) (fault_rank g) ≡ is_less (f.offset ∷ reason_number f.reason ∷ missing_field f.reason ∷ []) (g.offset ∷ reason_number g.reason ∷ missing_field g.reason ∷ [])
 by_number f g = grind (arith, numbers_rise)

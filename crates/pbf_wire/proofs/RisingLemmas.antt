@@ -7,10 +7,10 @@ use Rattle.pbf_wire.specs.declared.fault.Reason.{Reason}
 use Rattle.pbf_wire.specs.declared.fields.Fields.{Fields}
 use Rattle.pbf_wire.specs.Cursors.{fields_left}
 use Rattle.pbf_wire.specs.Occurrence.{Occurrence, Item, items, items_past, items_from, occurrence_at, found}
-use Rattle.pbf_wire.specs.Columns.{placed, numbers_in, joined}
+use Rattle.pbf_wire.specs.Columns.{placed, content_numbers, joined}
 use Rattle.pbf_wire.specs.Signed.{delta_in}
 use Rattle.pbf_wire.specs.Sums.{sums_from}
-use Rattle.pbf_wire.specs.Least.{lesser, least, rank}
+use Rattle.pbf_wire.specs.Least.{lesser, least, fault_rank}
 use Rattle.pbf_wire.specs.Faults.{fault, fault_where, faults_of_sums, fields_in}
 use Rattle.pbf_wire.proofs.Cutting.{front_ok}
 use Rattle.pbf_wire.proofs.LeastLemmas.{lesser_joined}
@@ -62,7 +62,7 @@ chosen_rise false p q ns rest le h = rises_before p q rest le h
 
 joined_rise : (k p : ℕ) (os : List Occurrence) → Follow p os → RisingFrom p (joined k os)
 joined_rise k p [] h = tt
-joined_rise k p (o ∷ os) h = chosen_rise (o.number == k) p o.place (numbers_in o.content) (joined k os) h.0 (joined_rise k o.place os h.1)
+joined_rise k p (o ∷ os) h = chosen_rise (o.number == k) p o.place (content_numbers o.content) (joined k os) h.0 (joined_rise k o.place os h.1)
 
 pub column_rises : (k at : ℕ) (m : List ℕ) → Rising (joined k (fields_in at m))
 column_rises k at m = rises at (joined k (found (items at m))) (joined_rise k at (found (items at m)) (follows 0 at m))
@@ -95,7 +95,7 @@ module _ (is_good : ℤ → Bool) (reason : Reason) (narrow : Bool) where
   one_more : (b : Bool) (p q : ℕ) (fs : List Fault) → p ≤ q → lesser (Some (fault p reason)) (least fs) ≡ Some (fault p reason)
       → lesser (Some (fault p reason)) (least (fault_where b q reason ++ fs)) ≡ Some (fault p reason)
   one_more false p q fs le h = h
-  one_more true p q fs le h = cc (lesser_joined rank (Some (fault p reason)) (Some (fault q reason)) (least fs), no_sooner p q le, h)
+  one_more true p q fs le h = cc (lesser_joined fault_rank (Some (fault p reason)) (Some (fault q reason)) (least fs), no_sooner p q le, h)
 
   first_is_least : (p : ℕ) (start : ℤ) (xs : List (ℕ × ℕ)) → RisingFrom p xs → lesser (Some (fault p reason)) (least (running start xs)) ≡ Some (fault p reason)
   first_is_least p start [] h = refl

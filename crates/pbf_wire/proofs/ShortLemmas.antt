@@ -16,7 +16,7 @@ use Rattle.pbf_wire.specs.declared.column.Column.{Column}
 use Rattle.pbf_wire.specs.declared.sums.Sums.{Sums}
 use Rattle.pbf_wire.specs.Cursors.{fields_left, column_left, sums_left, found_left}
 use Rattle.pbf_wire.specs.Occurrence.{Occurrence, found}
-use Rattle.pbf_wire.specs.Columns.{Entry, entries, read_entries, entry_fault, placed, numbers_in, column_of, joined}
+use Rattle.pbf_wire.specs.Columns.{Entry, entries, read_entries, entry_fault, placed, content_numbers, column_of, joined}
 use Rattle.pbf_wire.specs.Signed.{delta_in, unzigzag, IsWithin}
 use Rattle.pbf_wire.specs.Faults.{fields_in, sum_faults}
 use Rattle.pbf_wire.specs.Short.{EndsWithin, IsShort}
@@ -236,15 +236,15 @@ abbrev pub AllSmallPlaced : List (ℕ × ℕ) → Type 0
 AllSmallPlaced xs = AllByRecursion (λ x. x.0 < 2 ^ 35) xs
 
 -- one field more, whose numbers are small if they are the column's
-pub column_more : (k : ℕ) (os rest : List Occurrence) (o : Occurrence) → os ≡ o ∷ rest → (o.number ≡ k → AllByRecursion (λ v. v < 2 ^ 35) (numbers_in o.content))
+pub column_more : (k : ℕ) (os rest : List Occurrence) (o : Occurrence) → os ≡ o ∷ rest → (o.number ≡ k → AllByRecursion (λ v. v < 2 ^ 35) (content_numbers o.content))
     → AllSmallPlaced (joined k rest) → AllSmallPlaced (joined k os)
 column_more k os rest o is here later = subst (λ (w : List Occurrence). AllSmallPlaced (joined k w)) (sym is) (all_append _ (column_of k o) (joined k rest) (by (o.number == k) refl) later) where
-  by : (b : Bool) → (o.number == k) ≡ b → AllSmallPlaced (if b then placed o.place (numbers_in o.content) else [])
-  by true e = all_map (λ (x : ℕ × ℕ). x.0 < 2 ^ 35) (λ v. (v, o.place)) (numbers_in o.content) (here (eqb-true _ _ e))
+  by : (b : Bool) → (o.number == k) ≡ b → AllSmallPlaced (if b then placed o.place (content_numbers o.content) else [])
+  by true e = all_map (λ (x : ℕ × ℕ). x.0 < 2 ^ 35) (λ v. (v, o.place)) (content_numbers o.content) (here (eqb-true _ _ e))
   by false e = tt
 
 -- and as many more as it has
-pub count_more : (k : ℕ) (os rest : List Occurrence) (o : Occurrence) → os ≡ o ∷ rest → o.number ≡ k → length (joined k os) ≡ length (numbers_in o.content) + length (joined k rest)
+pub count_more : (k : ℕ) (os rest : List Occurrence) (o : Occurrence) → os ≡ o ∷ rest → o.number ≡ k → length (joined k os) ≡ length (content_numbers o.content) + length (joined k rest)
 count_more k os rest o is same = grind (arith, length-append, length-map)
 
 -- the numbers of the occurrence that was begun, and those of the fields after it

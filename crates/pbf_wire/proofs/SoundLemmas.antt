@@ -11,13 +11,13 @@ use Rattle.pbf_wire.specs.declared.kind.Kind.{Kind}
 use Rattle.pbf_wire.specs.declared.kind.Kind.TheVariants as kind
 use Rattle.pbf_wire.specs.Varint.{EndsOnce, varint_at}
 use Rattle.pbf_wire.specs.Occurrence.{Content, Occurrence, Item, items, found}
-use Rattle.pbf_wire.specs.Columns.{entries, read_entries, entry_fault, numbers_in, column_of, joined}
+use Rattle.pbf_wire.specs.Columns.{entries, read_entries, entry_fault, content_numbers, column_of, joined}
 use Rattle.pbf_wire.specs.Wire.{kind_of, reason_in, wire}
 use Rattle.pbf_wire.proofs.FaultLemmas.{leaf_is_wire, ends}
 use Rattle.pbf_wire.specs.Reading.{last_of}
 use Rattle.pbf_wire.specs.Signed.{IsWithin, is_within, delta_in}
 use Rattle.pbf_wire.specs.Sums.{sums, sums_from}
-use Rattle.pbf_wire.specs.Least.{least, lesser_by, rank}
+use Rattle.pbf_wire.specs.Least.{fault_rank, least, lesser_by}
 use Rattle.pbf_wire.specs.Faults.{fault_where, or_more, message_faults, ends_in, ends_of, column_count, fields_in, faults_of_sums}
 use Rattle.pbf_wire.proofs.Columns.{entries_none, entries_ok, entries_err}
 use Rattle.pbf_wire.proofs.Spellings.{varint_ok}
@@ -27,7 +27,7 @@ use Rattle.pbf_wire.proofs.AllLemmas.{all_weaker}
 
 -- ---- no fault
 
-some_least : (f : Fault) (g : Option Fault) → lesser_by rank (Some f) g ≡ None → ⊥
+some_least : (f : Fault) (g : Option Fault) → lesser_by fault_rank (Some f) g ≡ None → ⊥
 some_least f None e = absurd (cc)
 some_least f (Some g) e = absurd (grind arith)
 
@@ -117,7 +117,7 @@ entries_ended fuel [] le = omega (arith, ap (λ w. length (read_entries w)) (ent
 entries_ended zero (b ∷ bs) le = absurd (omega arith)
 entries_ended (suc fuel) (b ∷ bs) le = entries_next (b ∷ bs) (varint_at (b ∷ bs)) (omega arith) refl (λ n positive. entries_ended fuel (drop n (b ∷ bs)) (omega (arith, length-drop n (b ∷ bs), positive)))
 
-ended_in : (c : Content) → length (numbers_in c) ≤ length (ends_in c)
+ended_in : (c : Content) → length (content_numbers c) ≤ length (ends_in c)
 ended_in c = grind (arith, entries_ended)
 
 one_ended : (k : ℕ) (o : Occurrence) → length (column_of k o) ≤ length (ends_of k o)
@@ -128,7 +128,7 @@ pub length_counted : (k : ℕ) (os : List Occurrence) → length (joined k os) �
 length_counted k [] = omega arith
 length_counted k (o ∷ os) = omega (arith, length-append (column_of k o) (joined k os), length-append (ends_of k o) (flat_map (ends_of k) os), one_ended k o, length_counted k os)
 
-count_in : (c : Content) → reason_in (Some kind.Column) c ≡ None → length (ends_in c) ≡ length (numbers_in c)
+count_in : (c : Content) → reason_in (Some kind.Column) c ≡ None → length (ends_in c) ≡ length (content_numbers c)
 count_in c e = grind (arith, ends_are_numbers)
 
 module _ (kinds : List (ℕ × Kind)) (inner : Occurrence → List Fault) where

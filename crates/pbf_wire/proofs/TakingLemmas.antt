@@ -13,7 +13,7 @@ use Rattle.pbf_wire.specs.Passing.{PassesSome}
 use Rattle.pbf_wire.specs.Rising.{IsHalved, AreRising}
 use Rattle.pbf_wire.specs.Signed.{zigzag, unzigzag, IsNear, IsWithin}
 use Rattle.pbf_wire.specs.Sums.{differences}
-use Rattle.pbf_wire.specs.Taking.{Left, left_of, written_after, PassesSpelled}
+use Rattle.pbf_wire.specs.Taking.{Left, left_of, deltas_after, PassesSpelled}
 use Rattle.pbf_wire.specs.declared.column.Column.{Column}
 use Rattle.pbf_wire.specs.declared.sums.Sums.{Sums}
 use Rattle.pbf_wire.proofs.NextLemmas.{value_after, next_is}
@@ -33,7 +33,7 @@ last_append : (start : ℤ) (xs ys : List ℤ) → last_from start (xs ++ ys) �
 last_append start [] ys = refl
 last_append start (x ∷ xs) ys = last_append x xs ys
 
-written_append : (start : ℤ) (xs ys : List ℤ) → written_after start (xs ++ ys) ≡ written_after start xs ++ written_after (last_from start xs) ys
+written_append : (start : ℤ) (xs ys : List ℤ) → deltas_after start (xs ++ ys) ≡ deltas_after start xs ++ deltas_after (last_from start xs) ys
 written_append start xs ys = grind (arith, differences_append, map-append, flat_map-append)
 
 pub none_taken : (left : Left) → PassesSpelled left left 0
@@ -54,7 +54,7 @@ then_taken a b c m n h k = record {
   bytes = h.bytes ∙ ap (λ (w : List ℕ). h.front ++ w) k.bytes ∙ sym (append_assoc h.front k.front c.bytes);
   spelled = λ needed.
       let both = needed_parts 0 h.front k.front needed in
-      ap₂ (λ (x y : List ℕ). x ++ y) (h.spelled both.0) (k.spelled both.1 ∙ ap (λ z. written_after z k.taken) h.last) ∙ sym (written_append a.last h.taken k.taken);
+      ap₂ (λ (x y : List ℕ). x ++ y) (h.spelled both.0) (k.spelled both.1 ∙ ap (λ z. deltas_after z k.taken) h.last) ∙ sym (written_append a.last h.taken k.taken);
 }
 
 -- ---- one value
@@ -112,9 +112,9 @@ run_taken (b ∷ bs) bytes more limit total narrow each here there =
 
 -- ---- what a column holds after a run
 
-pub holds_more : (bytes : List ℕ) (last : ℤ) (values more : List ℤ) → HoldsDeltas bytes last values → AllByRecursion IsSmall more → HoldsDeltas (bytes ++ written_after last more) (last_from last more) (values ++ more)
+pub holds_more : (bytes : List ℕ) (last : ℤ) (values more : List ℤ) → HoldsDeltas bytes last values → AllByRecursion IsSmall more → HoldsDeltas (bytes ++ deltas_after last more) (last_from last more) (values ++ more)
 holds_more bytes last values more h small = record {
-  bytes_are = ap₂ (λ (w : List ℕ) (z : ℤ). w ++ written_after z more) h.bytes_are h.last_is ∙ sym (written_append (pos 0) values more);
+  bytes_are = ap₂ (λ (w : List ℕ) (z : ℤ). w ++ deltas_after z more) h.bytes_are h.last_is ∙ sym (written_append (pos 0) values more);
   last_is = ap (λ z. last_from z more) h.last_is ∙ sym (last_append (pos 0) values more);
   within = all_append IsSmall values more h.within small;
 }
@@ -175,7 +175,7 @@ module _ (a b : Left) (n : ℕ) (h : PassesSpelled a b n) where
   pub last_is : b.last ≡ last_from a.last (take n a.values)
   last_is = h.last ∙ ap (last_from a.last) taken_are
 
-  pub front_is : (front : List ℕ) → front ≡ take (length a.bytes - length b.bytes) a.bytes → AreNeeded 0 front → front ≡ written_after a.last (take n a.values)
+  pub front_is : (front : List ℕ) → front ≡ take (length a.bytes - length b.bytes) a.bytes → AreNeeded 0 front → front ≡ deltas_after a.last (take n a.values)
   front_is front is needed = grind (arith, length-append, take_at, taken_are)
 
 -- what is left to be skipped then
@@ -190,12 +190,12 @@ some_passed old new count left h fewer =
 
 -- ---- what a column holds after it
 
-pub taken_values : (bytes : List ℕ) (last : ℤ) (more : List ℤ) → HoldsDeltas bytes last (values_of bytes) → AllByRecursion IsSmall more → values_of (bytes ++ written_after last more) ≡ values_of bytes ++ more
+pub taken_values : (bytes : List ℕ) (last : ℤ) (more : List ℤ) → HoldsDeltas bytes last (values_of bytes) → AllByRecursion IsSmall more → values_of (bytes ++ deltas_after last more) ≡ values_of bytes ++ more
 taken_values bytes last more h small = values_held _ _ _ (holds_more bytes last (values_of bytes) more h small)
 
-pub taken_deltas : (bytes : List ℕ) (last : ℤ) (more : List ℤ) → HoldsDeltas bytes last (values_of bytes) → AllByRecursion IsSmall more → HoldsDeltas (bytes ++ written_after last more) (last_from last more) (values_of (bytes ++ written_after last more))
+pub taken_deltas : (bytes : List ℕ) (last : ℤ) (more : List ℤ) → HoldsDeltas bytes last (values_of bytes) → AllByRecursion IsSmall more → HoldsDeltas (bytes ++ deltas_after last more) (last_from last more) (values_of (bytes ++ deltas_after last more))
 taken_deltas bytes last more h small =
-    let all = bytes ++ written_after last more in
+    let all = bytes ++ deltas_after last more in
     subst (HoldsDeltas all (last_from last more)) (sym (taken_values bytes last more h small)) (holds_more bytes last (values_of bytes) more h small)
 
 -- ---- values that move from one list to another

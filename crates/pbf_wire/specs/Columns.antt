@@ -40,13 +40,13 @@ packed numbers = flat_map shortest numbers
 abbrev pub placed : ℕ → List ℕ → List (ℕ × ℕ)
 placed place numbers = map (λ v. (v, place)) numbers
 
-abbrev pub numbers_in : Content → List ℕ
-numbers_in (Number v) = v ∷ []
-numbers_in (Bytes bytes at) = read_entries (entries bytes)
-numbers_in _ = []
+abbrev pub content_numbers : Content → List ℕ
+content_numbers (Number v) = v ∷ []
+content_numbers (Bytes bytes at) = read_entries (entries bytes)
+content_numbers _ = []
 
 abbrev pub column_of : ℕ → Occurrence → List (ℕ × ℕ)
-column_of k o = if o.number == k then placed o.place (numbers_in o.content) else []
+column_of k o = if o.number == k then placed o.place (content_numbers o.content) else []
 
 -- the numbers of all occurrences of the field k, joined, each beside the place of its occurrence
 abbrev pub joined : ℕ → List Occurrence → List (ℕ × ℕ)

@@ -7,8 +7,8 @@ use Rattle.pbf_wire.specs.Reasons.{missing_field}
 
 -- what faults are compared by, the first number first; the tag of a reason is its place among the reasons as they are declared, and
 -- reasons are declared in the order of their numbers
-abbrev pub rank : Fault → List ℕ
-rank f = f.offset ∷ tag_of the_type f.reason ∷ missing_field f.reason ∷ []
+abbrev pub fault_rank : Fault → List ℕ
+fault_rank f = f.offset ∷ tag_of the_type f.reason ∷ missing_field f.reason ∷ []
 
 -- the first list is less, by the first numbers that differ
 abbrev pub is_less : List ℕ → List ℕ → Bool
@@ -29,10 +29,10 @@ least_by rank [] = None
 least_by rank (f ∷ fs) = lesser_by rank (Some f) (least_by rank fs)
 
 abbrev pub lesser : Option Fault → Option Fault → Option Fault
-lesser f g = lesser_by rank f g
+lesser f g = lesser_by fault_rank f g
 
 abbrev pub least : List Fault → Option Fault
-least fs = least_by rank fs
+least fs = least_by fault_rank fs
 
 -- ---- what the least is
 
@@ -46,6 +46,6 @@ NoneLess rank f [] = Unit {0}
 NoneLess rank f (g ∷ gs) = (is_less (rank g) (rank f) ≡ false) × NoneLess rank f gs
 
 -- one of the list, with none less; of no list nothing
-abbrev pub IsLeast : {X : Type 0} → (X → List ℕ) → Option X → List X → Type 0
-IsLeast rank None fs = fs ≡ []
-IsLeast rank (Some f) fs = IsOne f fs × NoneLess rank f fs
+abbrev pub IsLeastBy : {X : Type 0} → (X → List ℕ) → Option X → List X → Type 0
+IsLeastBy rank None fs = fs ≡ []
+IsLeastBy rank (Some f) fs = IsOne f fs × NoneLess rank f fs

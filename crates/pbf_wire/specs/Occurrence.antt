@@ -44,8 +44,9 @@ Joins at m (o ∷ os) = (s : List ℕ) × (rest : List ℕ) × (m ≡ s ++ rest)
 
 -- ---- the same by computing
 
+-- what follows, if this gave something
 infixl 10 ◌>>=◌
-abbrev pub ◌>>=◌ : {A B : Type 0} → Result A Reason → (A → Result B Reason) → Result B Reason
+abbrev pub ◌>>=◌ : {A B E : Type 0} → Result A E → (A → Result B E) → Result B E
 (Ok x) >>= f = f x
 (Err e) >>= f = Err e
 

@@ -2,7 +2,7 @@
 use Rattle.std.specs.Prelude.{ℕ, ◌+◌, List, [], ◌∷◌, ◌++◌, Option, None, map}
 use Rattle.std.specs.Option.{option_or}
 use Rattle.pbf_wire.specs.declared.fault.Fault.{Fault}
-use Rattle.pbf_wire.specs.Least.{rank, least}
+use Rattle.pbf_wire.specs.Least.{fault_rank, least}
 
 -- the least fault of the first phase that has one
 abbrev pub first_fault : List (List Fault) → Option Fault
@@ -22,4 +22,4 @@ in_phases n (faults ∷ later) = in_phase n faults ++ in_phases (n + 1) later
 
 -- by phase, then as the faults of one phase: by offset, by the reason's number, by the field that is missing
 abbrev pub phase_rank : ℕ × Fault → List ℕ
-phase_rank p = p.0 ∷ rank p.1
+phase_rank p = p.0 ∷ fault_rank p.1

@@ -18,8 +18,8 @@ abbrev pub left_of : Sums → Left
 left_of sums = record { bytes = sums.entries.packed.now; values = sums_left sums; last = sums.total }
 
 -- the bytes that are written for these values after a last one
-abbrev pub written_after : ℤ → List ℤ → List ℕ
-written_after last values = packed (map zigzag (differences last values))
+abbrev pub deltas_after : ℤ → List ℤ → List ℕ
+deltas_after last values = packed (map zigzag (differences last values))
 
 -- so many values are passed, and with them bytes: those that are written for them, if none of the bytes is needless
 pub record PassesSpelled (old new : Left) (count : ℕ) : Type 0 where
@@ -29,4 +29,4 @@ pub record PassesSpelled (old new : Left) (count : ℕ) : Type 0 where
   pub last : new.last ≡ last_from old.last taken
   pub front : List ℕ
   pub bytes : old.bytes ≡ front ++ new.bytes
-  pub spelled : AreNeeded 0 front → front ≡ written_after old.last taken
+  pub spelled : AreNeeded 0 front → front ≡ deltas_after old.last taken

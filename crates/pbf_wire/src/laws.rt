@@ -6,7 +6,7 @@ ghost use Rattle.std.specs.List.{AllByRecursion, flat_map, last_or};
 ghost use Rattle.std.specs.Option.{option_map};
 ghost use Rattle.pbf_wire.specs.declared.fault.Fault.{Fault};
 ghost use Rattle.pbf_wire.specs.declared.kind.Kind.{Kind};
-ghost use Rattle.pbf_wire.specs.Least.{rank, is_less, least, least_by, lesser, IsLeast};
+ghost use Rattle.pbf_wire.specs.Least.{fault_rank, is_less, least, least_by, lesser, IsLeastBy};
 ghost use Rattle.pbf_wire.specs.Reasons.{reason_number, missing_field};
 ghost use Rattle.pbf_wire.specs.Phases.{first_fault, in_phases, phase_rank};
 ghost use Rattle.pbf_wire.specs.Varint.{IsVarint, varint_at, shortest};
@@ -124,7 +124,7 @@ pub fn written_message_is_read()
 /// joined list is the lesser of the least of its parts.
 #[tactic(auto, using(crate::proofs::LeastLemmas::least_is, crate::proofs::LeastLemmas::least_joined))]
 pub fn least_is_least()
-    ensures least { (faults : List Fault) → IsLeast rank (least faults) faults }
+    ensures least { (faults : List Fault) → IsLeastBy fault_rank (least faults) faults }
     ensures parts { (faults others : List Fault)
         → least (faults ++ others) ≡ lesser (least faults) (least others) }
 {}
@@ -133,7 +133,7 @@ pub fn least_is_least()
 /// field of `Missing`.
 #[tactic(auto, using(crate::proofs::ReasonLemmas::by_number))]
 pub fn faults_go_by_number()
-    ensures { (one other : Fault) → is_less (rank one) (rank other)
+    ensures { (one other : Fault) → is_less (fault_rank one) (fault_rank other)
         ≡ is_less (one.offset ∷ reason_number one.reason ∷ missing_field one.reason ∷ [])
         (other.offset ∷ reason_number other.reason ∷ missing_field other.reason ∷ []) }
 {}

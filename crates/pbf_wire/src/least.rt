@@ -1,13 +1,13 @@
 //! The lesser of two faults. It is inlined, so that a fault that there is not takes no room.
 
 ghost use Rattle.std.specs.Prelude.{◌≡◌};
-ghost use Rattle.pbf_wire.specs.Least.{rank, is_less, lesser};
+ghost use Rattle.pbf_wire.specs.Least.{fault_rank, is_less, lesser};
 
 use crate::fault::Fault;
 
 /// Whether the first fault comes before the second: by offset, then by the reason's number, then by the field of `Missing`.
 pub fn comes_before(one: Fault, other: Fault) -> bool
-    ensures { result ≡ is_less (rank one) (rank other) }
+    ensures { result ≡ is_less (fault_rank one) (fault_rank other) }
 {
     if one.offset != other.offset {
         return one.offset < other.offset;

@@ -3,7 +3,7 @@
 ghost use Rattle.std.specs.Prelude.{◌≡◌, ◌+◌, ◌-◌, ◌<◌, ◌^◌, ⊤, ℕ, IsBitSet, IsTrue, MatchOption, count_by, length, nat_lt, slice_index, take};
 ghost use Rattle.std.specs.List.{AllByRecursion};
 ghost use Rattle.pbf_wire.specs.Payload.{content};
-ghost use Rattle.pbf_wire.specs.Columns.{numbers_in, joined};
+ghost use Rattle.pbf_wire.specs.Columns.{content_numbers, joined};
 ghost use Rattle.pbf_wire.specs.Cursors.{fields_left};
 ghost use Rattle.pbf_wire.specs.Occurrence.{found};
 ghost use Rattle.pbf_wire.specs.Short.{EndsWithin, IsShort};
@@ -113,9 +113,9 @@ pub(crate) fn count_short(bytes: &[u8]) -> Option<usize>
 /// How many numbers an occurrence of a column has, if a quick test shows that they are below 2^35.
 fn count_if_small(payload: Payload<'_>) -> Option<usize>
     ensures counted { MatchOption result ⊤
-        (λ count. count ≡ length (numbers_in (content payload.entry))) }
+        (λ count. count ≡ length (content_numbers (content payload.entry))) }
     ensures small { MatchOption result ⊤
-        (λ _. AllByRecursion (λ v. v < 2 ^ 35) (numbers_in (content payload.entry))) }
+        (λ _. AllByRecursion (λ v. v < 2 ^ 35) (content_numbers (content payload.entry))) }
 {
     match payload {
         Payload::Number(value) if value >= 1 << 35 => None,

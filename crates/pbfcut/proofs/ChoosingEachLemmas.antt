@@ -1,10 +1,10 @@
 -- What was chosen for each of several areas.
-use Rattle.std.proofs.Common.{◌≡◌, ℕ, List, [], ◌∷◌, map, Bool, true, false, true≢false, Option, Some, None, refl, sym, ap, subst, ◌∙◌}
+use Rattle.std.proofs.Common.{◌≡◌, ℕ, List, [], ◌∷◌, Bool, true, false, true≢false, Option, Some, None, refl, sym, ap, subst, ◌∙◌}
 use Rattle.std.specs.Prelude.{IsTrue}
 use Rattle.std.specs.List.{AllByRecursion, AllZip, fold}
 use Rattle.osm_area.specs.Area.{AreaSpec}
 use Rattle.osm_entity.specs.Entity.{EntitySpec}
-use Rattle.osm_ways.specs.Phases.{TakesFirst, WaySets}
+use Rattle.osm_ways.specs.Phases.{WaySets}
 use Rattle.osm_ways.specs.Selection.{Seen, none_whole}
 use Rattle.osm_ways.specs.Whole.{is_wanted}
 use Rattle.osm_ways.specs.declared.in_area.InArea.{InArea}

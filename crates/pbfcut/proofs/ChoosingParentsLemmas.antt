@@ -1,7 +1,7 @@
 -- What was chosen for each of several areas, with all parents.
 use Rattle.std.proofs.Common.{◌≡◌, ℕ, List, [], ◌∷◌, Bool, true, false, true≢false, Option, Some, None, refl, sym, ap, subst, ◌∙◌}
 use Rattle.std.specs.Prelude.{IsTrue}
-use Rattle.std.specs.List.{AllByRecursion, AllZip, fold}
+use Rattle.std.specs.List.{AllByRecursion, AllZip}
 use Rattle.osm_area.specs.Area.{AreaSpec}
 use Rattle.osm_entity.specs.Entity.{EntitySpec}
 use Rattle.osm_ways.specs.Phases.{Found, RelationSets, WaySets, without_parents}

@@ -17,7 +17,7 @@ use Rattle.pbf_frame.proofs.VerdictLemmas.{gone_more, gone_split}
 use Rattle.pbfcut.specs.Blobs.{line, lines}
 use Rattle.pbfcut.specs.Listing.{Lists, ListsFront, ListsNext, ListsToFault, StopsListing}
 use Rattle.pbf_pass.specs.Stops.{Caused, Only, unchanged, WriteFailed}
-use Rattle.pbf_pass.specs.Visit.{Takes, Fails, Visited, VisitsAll, StopsBehind, StopsVisit}
+use Rattle.pbf_pass.specs.Visit.{Takes, StopRule, Visited, VisitsAll, StopsBehind, StopsVisit}
 use Rattle.pbf_frame.specs.declared.reader.FrameReader.{FrameReader}
 use Rattle.pbf_frame.specs.Next.{place_of, had_header_of}
 use Rattle.pbf_pass.specs.Given.{judged_from}
@@ -75,7 +75,7 @@ module _ {V D : Type 0} (d : drain.Ghosts D) (to : V → D) (took : Takes V) (is
   pub lists_all : (known : Option (List ℕ)) (bytes : List ℕ) (count : ℕ) (before now : V) → Tells known bytes → VisitsAll took (judged_known false 0 (Some bytes)) count before now → Lists d (to before) (to now) (judged_known false 0 known) count
   lists_all known bytes count before now tells p = grind (arith, lists_told known bytes (p.frames, None) tells p.says, has_listed before p.frames now p.visited)
 
-  module _ (failed : Fails V) (known : Option Verdict) (read : Type 0) (before now : V) (stop : Stop) (fails : (mid : V) (f : FrameSpec) (s : Stop) → failed mid f now s → StopsListing d (to mid) (to now) f s) (stopped : StopsVisit took failed known read before now stop) where
+  module _ (failed : StopRule V) (known : Option Verdict) (read : Type 0) (before now : V) (stop : Stop) (fails : (mid : V) (f : FrameSpec) (s : Stop) → failed mid f now s → StopsListing d (to mid) (to now) f s) (stopped : StopsVisit took failed known read before now stop) where
     pub front_listed : ListsFront d (to before) (to now) known
     front_listed = of stopped where
       of : StopsVisit took failed known read before now stop → ListsFront d (to before) (to now) known

@@ -23,7 +23,7 @@ use Rattle.pbf_pass.specs.Unjudged.{IsFaulty, ReadsFaulty}
 use Rattle.pbf_pass.specs.Given.{Took}
 use Rattle.pbf_pass.specs.Refused.{RefusesRest}
 use Rattle.pbf_pass.proofs.UnjudgedLemmas.{refuses_less}
-use Rattle.pbf_pass.specs.Visit.{Takes, Fails, Visited, VisitsAll, StopsVisit, RefusesVisit}
+use Rattle.pbf_pass.specs.Visit.{Takes, StopRule, Visited, VisitsAll, StopsVisit, RefusesVisit}
 use Rattle.pbfcut.specs.declared.showing.LineWriter.{LineWriter}
 use Rattle.pbfcut.specs.Showing.{frame_text, file_text, Shown, ShowsFront, WritesFront, WritesLines, ShowsNext, FailsToShowNext}
 use Rattle.pbf_pass.specs.Stops.{Caused, FaultOf, Only, unchanged, WriteFailed}
@@ -73,7 +73,7 @@ module _ {V D : Type 0} (d : drain.Ghosts D) (to : V → D) (dates : V → Bool)
   pub shows_counts : (known : Option Verdict) (count : ℕ) (before now : V) → VisitsAll took known count before now → d.failures (to before) ≤ d.failures (to now)
   shows_counts known count before now p = (has_shown before p.frames now p.visited).counts
 
-  module _ (failed : Fails V) (known : Option Verdict) (read : Type 0) (before now : V) (stop : Stop) (fails : (mid : V) (f : FrameSpec) (s : Stop) → failed mid f now s → FailsToShowNext d (dates mid) (to mid) (to now) f s) (stopped : StopsVisit took failed known read before now stop) where
+  module _ (failed : StopRule V) (known : Option Verdict) (read : Type 0) (before now : V) (stop : Stop) (fails : (mid : V) (f : FrameSpec) (s : Stop) → failed mid f now s → FailsToShowNext d (dates mid) (to mid) (to now) f s) (stopped : StopsVisit took failed known read before now stop) where
     -- it stopped, and a prefix went out
     pub front_shown : WritesFront (dates before) (fully_known known) (d.taken (to before)) (d.taken (to now))
     front_shown = of stopped where
@@ -99,7 +99,7 @@ module _ {V D : Type 0} (d : drain.Ghosts D) (to : V → D) (dates : V → Bool)
       of (inr s) = omega (arith, (has_shown before s.frames s.mid s.visited).counts, (fails s.mid s.frame stop s.failing).counts)
 
   -- what the feed gave has a fault
-  pub faulty_shown : {F : Type 0} (f : feed.Ghosts F) (first last : F) (failed : Fails V) (before now : V) (stop : Stop) (fails : (mid : V) (f : FrameSpec) (s : Stop) → failed mid f now s → FailsToShowNext d (dates mid) (to mid) (to now) f s)
+  pub faulty_shown : {F : Type 0} (f : feed.Ghosts F) (first last : F) (failed : StopRule V) (before now : V) (stop : Stop) (fails : (mid : V) (f : FrameSpec) (s : Stop) → failed mid f now s → FailsToShowNext d (dates mid) (to mid) (to now) f s)
       → RefusesRest f first last (RefusesVisit took failed (λ b. judged_known false 0 (Some b)) before now) stop → ReadsFaulty f first last stop
   faulty_shown f first last failed before now (why.Refused e) fails rest = refuses_less f first last _ _ (λ b stopped. fault_is_faulty (judged_file (Some b)) e (stops_shown failed (judged_known false 0 (Some b)) ⊥ before now (why.Refused e) fails stopped)) rest
   faulty_shown f first last failed before now why.Read fails rest = tt

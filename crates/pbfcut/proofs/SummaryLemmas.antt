@@ -18,7 +18,7 @@ use Rattle.pbf_block.specs.Numbers.{capped}
 use Rattle.pbf_pass.specs.Judged.{sound_first}
 use Rattle.pbf_pass.specs.Payload.{payload_of}
 use Rattle.pbf_pass.specs.Stops.{Caused, FaultOf, Only, unchanged}
-use Rattle.pbf_pass.specs.Visit.{Takes, Fails, Visited, VisitsAll, StopsVisit}
+use Rattle.pbf_pass.specs.Visit.{Takes, StopRule, Visited, VisitsAll, StopsVisit}
 use Rattle.pbf_pass.proofs.VisitLemmas.{visited_to}
 use Rattle.pbfcut.specs.declared.summary.Summary.{Summary}
 use Rattle.pbfcut.specs.Showing.{frame_text}
@@ -134,7 +134,7 @@ sound_visited : (before : Summary) (fs : List FrameSpec) (now : Summary) → Vis
 sound_visited before fs now visited = visited_to took (λ gone v. AllByRecursion IsSoundHeading gone) (λ gone f mid last so_far one. all_append IsSoundHeading gone (f ∷ []) so_far (one.sound, tt)) fs [] before now tt visited
 
 -- a pass over the frames stops
-pub stops_summing : (failed : Fails Summary) (known : Option Verdict) (read : Type 0) (before now : Summary) (stop : Stop) → ((mid : Summary) (f : FrameSpec) (s : Stop) → failed mid f now s → Caused (Only (heading_fault f)) ⊥ ⊥ unchanged s)
+pub stops_summing : (failed : StopRule Summary) (known : Option Verdict) (read : Type 0) (before now : Summary) (stop : Stop) → ((mid : Summary) (f : FrameSpec) (s : Stop) → failed mid f now s → Caused (Only (heading_fault f)) ⊥ ⊥ unchanged s)
     → StopsVisit took failed known read before now stop → Caused (FaultOf (headings_known known)) read ⊥ unchanged stop
 stops_summing failed known read before now stop cause (inl s) = of stop s.caused where
   of : (t : Stop) → Caused (λ e. Says s.rest ([], Some e)) read ⊥ unchanged t → Caused (FaultOf (headings_known known)) read ⊥ unchanged t

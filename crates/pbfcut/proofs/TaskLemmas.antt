@@ -25,7 +25,7 @@ use Rattle.pbfcut.specs.Kept.{IsWritable, conversion_of}
 use Rattle.pbfcut.specs.Receipts.{Extracts, Wrote}
 use Rattle.pbfcut.specs.Showing.{Shown, ShowsFront}
 use Rattle.pbfcut.specs.TaskCalls.{DoesPasses, GaveFiles}
-use Rattle.pbfcut.specs.Tasks.{Holds, Task, checking, converting, copying, extracting, showing, spares_by}
+use Rattle.pbfcut.specs.Tasks.{Task, TaskHolds, checking, converting, copying, extracting, showing, spares_by}
 use Rattle.pbfcut.specs.Theorem.{IsConverted, IsExtraction}
 use Rattle.pbfcut.proofs.ConvertingLemmas.{nothing_out}
 use Rattle.pbfcut.proofs.TheoremLemmas.{gave_or_less, took_weaker}
@@ -43,13 +43,13 @@ module _ {D : Type 0} (out : DrainUse D) (check : PassCheck) (first second : Fee
   abbrev Gave : (P : List ℕ → Type 0) (Q : (b c written : List ℕ) → Type 0) → InputReceipt → Type 0
   Gave P Q receipt = GaveBy first (mark_by check receipt.input) (λ b. P b × GaveBy second (mark_by check receipt.input) (λ c. TookBy out (λ written. Q b c written)))
 
-  two_files : (task : Task) (receipt : InputReceipt) (P : List ℕ → Type 0) (Q : (b c written : List ℕ) → Type 0) → ((b c written : List ℕ) → P b → Q b c written → Holds task (b ∷ c ∷ []) receipt.counts written)
-      → Gave P Q receipt → GaveFiles 0 first (second ∷ []) receipt.spared (mark_by check receipt.input) (λ files. TookBy out (λ written. Holds task files receipt.counts written))
+  two_files : (task : Task) (receipt : InputReceipt) (P : List ℕ → Type 0) (Q : (b c written : List ℕ) → Type 0) → ((b c written : List ℕ) → P b → Q b c written → TaskHolds task (b ∷ c ∷ []) receipt.counts written)
+      → Gave P Q receipt → GaveFiles 0 first (second ∷ []) receipt.spared (mark_by check receipt.input) (λ files. TookBy out (λ written. TaskHolds task files receipt.counts written))
   two_files task receipt P Q meant given =
       gave_file_less first.ghosts first.old first.new (mark_by check receipt.input) (λ b. P b × GaveBy second (mark_by check receipt.input) (λ c. TookBy out (λ written. Q b c written)))
-      (λ b. GaveBy second (mark_by check receipt.input) (λ c. TookBy out (λ written. Holds task (b ∷ c ∷ []) receipt.counts written)))
-      (λ b both. gave_file_less second.ghosts second.old second.new (mark_by check receipt.input) (λ c. TookBy out (λ written. Q b c written)) (λ c. TookBy out (λ written. Holds task (b ∷ c ∷ []) receipt.counts written))
-      (λ c took. took_weaker out.ghosts out.old out.new (λ written. Q b c written) (λ written. Holds task (b ∷ c ∷ []) receipt.counts written) (λ written q. meant b c written both.0 q) took) both.1) given
+      (λ b. GaveBy second (mark_by check receipt.input) (λ c. TookBy out (λ written. TaskHolds task (b ∷ c ∷ []) receipt.counts written)))
+      (λ b both. gave_file_less second.ghosts second.old second.new (mark_by check receipt.input) (λ c. TookBy out (λ written. Q b c written)) (λ c. TookBy out (λ written. TaskHolds task (b ∷ c ∷ []) receipt.counts written))
+      (λ c took. took_weaker out.ghosts out.old out.new (λ written. Q b c written) (λ written. TaskHolds task (b ∷ c ∷ []) receipt.counts written) (λ written q. meant b c written both.0 q) took) both.1) given
 
   pub does_show : (dates : Bool) (result : Outcome) → IfOk result (λ receipt. Gave (λ b. CountsFile (judged_file (Some b)) receipt.counts) (λ b c written. Shown dates (judged_file (Some c)) written) receipt)
       → EndsPasses judged_file first (second ∷ []) out check result → OnErr result (supply_of first ≡ supply_of second → ShowsFront dates (judged_file (supply_of first)) (taken_before out) (taken_after out)) → DoesPasses (showing dates) first (second ∷ []) out check result
@@ -83,7 +83,7 @@ module _ {D : Type 0} (out : DrainUse D) (check : PassCheck) (first second : Fee
 module _ {D : Type 0} (out : DrainUse D) (check : PassCheck) (by : Strategy) (area : AreaSpec) where
   -- what is said of the files together, of a receipt
   abbrev Meant : InputReceipt → List (List ℕ) → Type 0
-  Meant receipt files = TookBy out (λ written. Holds (extracting by area) files receipt.counts written)
+  Meant receipt files = TookBy out (λ written. TaskHolds (extracting by area) files receipt.counts written)
 
   three_files : (first second third : FeedUse) (receipt : InputReceipt) → Wrote first (second ∷ []) (third ∷ []) out (mark_by check receipt.input) receipt.spared (λ b written. IsExtraction by area b receipt.counts written)
       → GaveFiles 1 first (second ∷ third ∷ []) receipt.spared (mark_by check receipt.input) (Meant receipt)
@@ -130,7 +130,7 @@ module _ {F D : Type 0} (f : feed.Ghosts F) (old now : F) (d : drain.Ghosts D) (
   pub does_check : (result : Outcome) → IfOk result (λ receipt. GaveBy (fed f old now) (mark_by check receipt.input) (λ b. CountsFile (judged_file (Some b)) receipt.counts)) → EndsJudging f old now check result
       → DoesPasses checking (fed f old now) [] (drained d out out) check result
   does_check (Ok receipt) given e = record {
-    receipt = gave_file_less f old now (mark_by check receipt.input) (λ b. CountsFile (judged_file (Some b)) receipt.counts) (λ b. TookBy (drained d out out) (λ written. Holds checking (b ∷ []) receipt.counts written)) (λ b counts. record { written = []; added = nothing_added d out; holding = (counts, refl) }) given;
+    receipt = gave_file_less f old now (mark_by check receipt.input) (λ b. CountsFile (judged_file (Some b)) receipt.counts) (λ b. TookBy (drained d out out) (λ written. TaskHolds checking (b ∷ []) receipt.counts written)) (λ b counts. record { written = []; added = nothing_added d out; holding = (counts, refl) }) given;
     ends = record { refused = tt; stops = tt; changed = tt; feeds = (e.keeps, tt); out = record { counts = omega arith; lender = refl } };
     beginning = tt;
   }

@@ -27,7 +27,7 @@ use Rattle.pbf_pass.specs.Refused.{RefusesRest}
 use Rattle.pbf_pass.specs.Stops.{Caused}
 use Rattle.pbf_pass.proofs.GivenLemmas.{Tells}
 use Rattle.pbf_pass.proofs.SoundLemmas.{sound_first_ones, sound_last, all_sound, rest_sound}
-use Rattle.pbf_pass.specs.Visit.{Takes, Fails, Visited, StopsVisit, RefusesVisit}
+use Rattle.pbf_pass.specs.Visit.{Takes, StopRule, Visited, StopsVisit, RefusesVisit}
 use Rattle.pbf_pass.proofs.UnjudgedLemmas.{stops_visited, faulty_visited}
 use Rattle.pbf_pass.proofs.VisitLemmas.{visited_to}
 use Rattle.pbfcut.specs.Pick.{Pick, HasPacked, BeginsAll, StopsAmong, picked_in}
@@ -123,7 +123,7 @@ module _ {V D S H : Type 0} (d : drain.Ghosts D) (to : V → Packing D S H) (cou
         drain_counts = omega (arith, so_far.drain_counts, h.0.keeps.drain_kept.counts);
       }) fs [] before now record { frames = record { es = []; are = λ sound. refl; packed = none; counted = zero }; same = picks; number_same = refl; drain_counts = omega arith } visited
 
-  module _ (failed : Fails V) (known : Option Verdict) (read : Type 0) (now : V) (stop : Stop) (fails : (mid : V) (f : FrameSpec) (s : Stop) → failed mid f now s → FailsAtNext d (number mid) (pick mid) (to mid) (to now) f s) (stopped : StopsVisit took failed known read before now stop) (none : HasPacked d (to before).drain [] (to before)) (zero : counts before ≡ counts_of []) where
+  module _ (failed : StopRule V) (known : Option Verdict) (read : Type 0) (now : V) (stop : Stop) (fails : (mid : V) (f : FrameSpec) (s : Stop) → failed mid f now s → FailsAtNext d (number mid) (pick mid) (to mid) (to now) f s) (stopped : StopsVisit took failed known read before now stop) (none : HasPacked d (to before).drain [] (to before)) (zero : counts before ≡ counts_of []) where
     pub front_written : (all : List FrameSpec) → fully_known known ≡ Some (all, None) → IsFront (d.taken (to before).drain) (d.taken (to now).drain) (written_entities (filter chosen (stored_entities all)))
     front_written all known_is = of stopped where
       of : StopsVisit took failed known read before now stop → IsFront (d.taken (to before).drain) (d.taken (to now).drain) (written_entities (filter chosen (stored_entities all)))
@@ -151,7 +151,7 @@ module _ {V D S H : Type 0} (d : drain.Ghosts D) (to : V → Packing D S H) (cou
       of (inr s) = omega (arith, (has_written s.frames s.mid s.visited none zero).drain_counts, (fails s.mid s.frame stop s.failing).keeps.drain_kept.counts)
 
   -- what the feed gave has a fault
-  pub faulty_written : {F : Type 0} (f : feed.Ghosts F) (first last : F) (failed : Fails V) (now : V) (stop : Stop) (fails : (mid : V) (f : FrameSpec) (s : Stop) → failed mid f now s → FailsAtNext d (number mid) (pick mid) (to mid) (to now) f s)
+  pub faulty_written : {F : Type 0} (f : feed.Ghosts F) (first last : F) (failed : StopRule V) (now : V) (stop : Stop) (fails : (mid : V) (f : FrameSpec) (s : Stop) → failed mid f now s → FailsAtNext d (number mid) (pick mid) (to mid) (to now) f s)
       → HasPacked d (to before).drain [] (to before) → counts before ≡ counts_of [] → RefusesRest f first last (RefusesVisit took failed (λ b. judged_known false 0 (Some b)) before now) stop → ReadsFaulty f first last stop
   faulty_written f first last failed now stop fails none zero rest =
       faulty_visited number took (λ old new f one. (is old new f one).2) f first last failed (HasRisen (d.failures (to before).drain) (d.failures (to now).drain)) before now stop (λ fs mid f s visited failing.

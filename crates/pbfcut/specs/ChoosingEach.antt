@@ -1,5 +1,5 @@
 -- What the passes before the one that writes say of several areas.
-use Rattle.std.specs.Prelude.{◌≡◌, ℕ, List, Bool, true, false, Option, Some, None}
+use Rattle.std.specs.Prelude.{◌≡◌, ℕ, List, Bool, Some, None}
 use Rattle.osm_area.specs.Area.{AreaSpec}
 use Rattle.osm_ways.specs.Phases.{Found, KeptSets, RelationSets, TakesAll, TakesFirst, WaySets, relations_from, without_parents}
 use Rattle.osm_ways.specs.Added.{nothing_added}

@@ -21,7 +21,7 @@ use Rattle.pbf_pass.specs.Judged.{judged_file}
 use Rattle.pbf_pass.specs.Payload.{Payload}
 use Rattle.pbf_pass.specs.Stops.{WriteFailed}
 use Rattle.pbf_pass.specs.Unjudged.{ReadsFaulty, StopsUnjudged}
-use Rattle.pbf_pass.specs.Visit.{Fails, Takes}
+use Rattle.pbf_pass.specs.Visit.{StopRule as Fails, Takes}
 use Rattle.pbfcut.specs.declared.carrying.AreaChoice.{AreaChoice}
 use Rattle.pbfcut.specs.declared.carrying.AreaOutput.{AreaOutput}
 use Rattle.pbfcut.specs.declared.repeat.LaterPass.{LaterPass}

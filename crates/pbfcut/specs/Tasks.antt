@@ -61,16 +61,16 @@ judge_of (extracting by area) = judge_by by
 
 -- what holds of the files that were read, one for each pass, and of the one that was written. Their digests by the check of the run are the same; where a file that was read later has to
 -- be the first one, that is a premise
-abbrev pub Holds : Task → List (List ℕ) → Counts → (written : List ℕ) → Type 0
-Holds checking (b ∷ []) counts written = CountsFile (judged_file (Some b)) counts × (written ≡ [])
-Holds (showing dates) (b ∷ c ∷ []) counts written = CountsFile (judged_file (Some b)) counts × Shown dates (judged_file (Some c)) written
-Holds converting (b ∷ c ∷ []) counts written = IsWritable b × (b ≡ c → IsConverted b counts written)
-Holds copying (b ∷ c ∷ []) counts written = CountsFile (judged_file (Some b)) counts × (written ≡ c)
-Holds (extracting by area) (b ∷ c ∷ d ∷ []) counts written = IsWritable b
+abbrev pub TaskHolds : Task → List (List ℕ) → Counts → (written : List ℕ) → Type 0
+TaskHolds checking (b ∷ []) counts written = CountsFile (judged_file (Some b)) counts × (written ≡ [])
+TaskHolds (showing dates) (b ∷ c ∷ []) counts written = CountsFile (judged_file (Some b)) counts × Shown dates (judged_file (Some c)) written
+TaskHolds converting (b ∷ c ∷ []) counts written = IsWritable b × (b ≡ c → IsConverted b counts written)
+TaskHolds copying (b ∷ c ∷ []) counts written = CountsFile (judged_file (Some b)) counts × (written ≡ c)
+TaskHolds (extracting by area) (b ∷ c ∷ d ∷ []) counts written = IsWritable b
     × (b ≡ c → b ≡ d → IsExtraction by area b counts written)
-Holds (extracting by area) (b ∷ c ∷ d ∷ e ∷ []) counts written = IsWritable b
+TaskHolds (extracting by area) (b ∷ c ∷ d ∷ e ∷ []) counts written = IsWritable b
     × (b ≡ c → b ≡ d → b ≡ e → IsExtraction by area b counts written)
-Holds _ files counts written = ⊥
+TaskHolds _ files counts written = ⊥
 
 -- what is to be written for a file: nothing if it has a fault, but for lines of frames
 abbrev pub answer_of : Task → List ℕ → List ℕ

@@ -70,13 +70,13 @@ pub record FailsAtNext {D S H : Type 0} (d : drain.Ghosts D) (number : ℕ) (pic
 -- ---- a file
 
 -- these bytes are the header and what is picked of the entities of these frames, and these are the numbers of those
-pub record IsPacked (pick : Pick) (h : HeaderSpec) (counts : Counts) (frames : List FrameSpec) (written : List ℕ) : Type 0 where
+pub record IsPickedFile (pick : Pick) (h : HeaderSpec) (counts : Counts) (frames : List FrameSpec) (written : List ℕ) : Type 0 where
   pub counted : counts ≡ counts_of (filter pick (stored_entities frames))
   pub is : written ≡ written_file h (filter pick (stored_entities frames))
 
 -- if the file has no fault, they are those of its frames
 abbrev pub Packed : Pick → HeaderSpec → Counts → Option Verdict → List ℕ → Type 0
-Packed pick h counts known written = (frames : List FrameSpec) → known ≡ Some (frames, None) → IsPacked pick h counts frames written
+Packed pick h counts known written = (frames : List FrameSpec) → known ≡ Some (frames, None) → IsPickedFile pick h counts frames written
 
 -- if the file has no fault, a prefix of the header and of what is picked went out
 abbrev pub PacksFront : Pick → HeaderSpec → Option Verdict → (old new : Option (List ℕ)) → Type 0

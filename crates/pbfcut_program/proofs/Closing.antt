@@ -19,11 +19,11 @@ use Rattle.pbfcut_program.specs.declared.engine.Report.{Report}
 use Rattle.pbfcut_program.specs.declared.engine.Halted.{Halted}
 use Rattle.pbfcut_program.specs.declared.host.FinishFault.{FinishFault}
 use Rattle.pbfcut.specs.Calls.{AllSupply, AnyFailed, used}
-use Rattle.pbfcut_program.specs.Devices.{AreFresh, ChangeIn, CloseAll, Closes, Finishes, Fronts, GiveAll, GiveLater, GivesOrNot, GivesOtherAt, IsAsked, IsFresh, IsFreshOut, StopsFor, Works}
+use Rattle.pbfcut_program.specs.Devices.{AreFresh, ChangeIn, CloseAll, Closes, Finishes, Fronts, GiveAll, GiveLater, GivesOrNot, GivesOtherAt, IsAsked, IsFreshFeed, IsFreshOut, StopsFor, Works}
 use Rattle.pbfcut_program.specs.Events.{Event, Reading, Writing, read, wrote, then_all, then_one}
-use Rattle.pbfcut_program.specs.Fails.{Each, Fails, FailsToFinish, FailsToRead, FailsToWrite, Has, NearsLimit, Stops, TookNothing, CauseOfWrite, judging, judging_for, readings}
+use Rattle.pbfcut_program.specs.Fails.{Each, Fails, FailsToFinish, FailsToRead, FailsToWrite, Has, NearsLimit, Stops, WroteNothing, CauseOfWrite, judging, judging_for, readings}
 use Rattle.pbfcut_program.specs.Manner.{AreDigests, Manner, input_form, manner, of_input, output_form}
-use Rattle.pbfcut_program.specs.Outcomes.{EndsAs}
+use Rattle.pbfcut_program.specs.Outcomes.{EndsAfterText}
 use Rattle.pbfcut_program.specs.Lines.{digest_if_asked}
 use Rattle.pbfcut_program.specs.Readings.{IsOther, IsWholeOrSpared, IsWork, ReadAll, ReadLater}
 use Rattle.pbfcut_program.specs.Leaving.{Answer, IsUnkept, Leaves, TookFront}
@@ -53,7 +53,7 @@ module _ {F : Type 0} (f : feed.Ghosts F) where
       let rest = close_rest news c.0 m c.2 in
       (reading f now c.1.0.0 ∷ rest.0, and_then l c.0 m (read (reading f now c.1.0.0) ∷ []) (reads rest.0) c.1.0.1 rest.1, ap (λ n. suc n) rest.2)
 
-  close_next : (known : List ℕ → Type 0) (may : ℕ) (first : List ℕ) (old now : F) (file : List ℕ) (l m : Option (List Event)) → IsFresh f old → Closes f now l m → GivesOrNot f known may first old now file
+  close_next : (known : List ℕ → Type 0) (may : ℕ) (first : List ℕ) (old now : F) (file : List ℕ) (l m : Option (List Event)) → IsFreshFeed f old → Closes f now l m → GivesOrNot f known may first old now file
       → (r : Reading) × (m ≡ then_one l (read r)) × IsWholeOrSpared known may first (f.remaining old) r file
   close_next known may first old now file l m h8 h9 h10 = grind arith
 
@@ -115,7 +115,7 @@ module _ {F : Type 0} (f : feed.Ghosts F) where
 abbrev pub EndsWith : (took : List ℕ → Type 0) → (failed near : Type 0) → (closes : List Event → Type 0) → Option (List Event) → Option (List Event) → Type 0
 EndsWith took failed near closes m n =
     ((es : List Event) × (n ≡ then_all m es) × (readings es ≡ []) × ((failed → Has FailsToWrite es) × (near → Has NearsLimit es)) × closes es)
-    × (took [] → (es : List Event) × (n ≡ then_all m es) × (readings es ≡ []) × Each TookNothing es × closes es)
+    × (took [] → (es : List Event) × (n ≡ then_all m es) × (readings es ≡ []) × Each WroteNothing es × closes es)
 
 -- OUT, or nothing, is returned
 abbrev pub Ends : (took : List ℕ → Type 0) → (failed near : Type 0) → (is : Writing → Type 0) → Option (List Event) → Option (List Event) → Type 0
@@ -171,7 +171,7 @@ module _ {F : Type 0} (f : feed.Ghosts F) (packs digests : Bool) (judge : Option
     rest : (rs : List Reading) × (m ≡ then_all c.0 (reads rs)) × ReadOther f stops.file stops.at (length news) rs
     rest = close_other f stops.file stops.at olds news c.0 m fresh.1 c.2 stops.other
 
-    told : (es : List Event) → n ≡ then_all m es → readings es ≡ [] → ((rest.2.2 ≡ []) ⊎ Each TookNothing (reads (one ∷ rest.0) ++ es)) → Returned (reads (one ∷ rest.0) ++ es) → StopFails Pbfcut (stop.Changed pass) (old ∷ olds)
+    told : (es : List Event) → n ≡ then_all m es → readings es ≡ [] → ((rest.2.2 ≡ []) ⊎ Each WroteNothing (reads (one ∷ rest.0) ++ es)) → Returned (reads (one ∷ rest.0) ++ es) → StopFails Pbfcut (stop.Changed pass) (old ∷ olds)
     told es log none last fronts = (
       reads (one ∷ rest.0) ++ es,
       and_then l m n (reads (one ∷ rest.0)) es (and_then l c.0 m (read one ∷ []) (reads rest.0) (c.1.1 stops.file stops.first.passed) rest.1) log,
@@ -266,7 +266,7 @@ finish_fails f d out name kept fault l m n news c fin why e =
 
 -- the same of one pass
 pub work_read_once : {F : Type 0} (f : feed.Ghosts F) (by : Manner) (check : PassCheck) (task : Task) (failed : Type 0) (l m : Option (List Event)) (old now : F) (report : Report)
-    → IsFresh f old → Closes f now l m → Works by check f task (old ∷ []) (now ∷ []) (λ took. took ≡ []) failed (Ok report)
+    → IsFreshFeed f old → Closes f now l m → Works by check f task (old ∷ []) (now ∷ []) (λ took. took ≡ []) failed (Ok report)
     → (first : Reading) × (m ≡ then_one l (read first)) × IsWork by check task (f.remaining old ∷ []) (first ∷ []) [] report.counts report.input report.raw
 work_read_once f by check task failed l m old now report fresh c works = grind arith
 
@@ -297,7 +297,7 @@ hashed_as digests known w h3 h4 = grind arith
 -- a call stopped whose text goes to standard output; or the rest of the text didn't go out
 pub text_fails : {F D A : Type 0} (program : Program) (digests : Bool) (check : PassCheck) (f : feed.Ghosts F) (d : drain.Ghosts D) (task : Task) (before out : D) (name : Option (List ℕ)) (fault : Option FinishFault) (l m n : Option (List Event)) (olds news : List F) (outcome : Result Report Halted) (result : Result A Ending)
     → IsFreshOut d before → AreFresh f olds → CloseAll f news l m → Finishes d out name (is_ok outcome) fault m n → Works (manner program false digests) check f task olds news (d.has_taken out 0) (WriteFailed d before out) outcome
-    → Fronts (input_form program) task (map f.remaining olds) (d.taken before) (d.taken out) outcome → EndsAs fault outcome result
+    → Fronts (input_form program) task (map f.remaining olds) (d.taken before) (d.taken out) outcome → EndsAfterText fault outcome result
     → IfErr result (λ how. (events : List Event) × (n ≡ then_all l events) × Fails (manner program false digests) (judging_for task) (map f.remaining olds) how events × Leaves (manner program false digests) task (map f.remaining olds) events × Each Silent events)
 text_fails program digests check f d task before out name None l m n olds news (Ok report) (Ok a) fresh begun c fin works front ends = tt
 text_fails program digests check f d task before out name None l m n olds news (Ok report) (Err how) fresh begun c fin works front ends = absurd ends

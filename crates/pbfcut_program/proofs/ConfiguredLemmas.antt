@@ -5,9 +5,10 @@ use Rattle.osm_area.specs.Area.{AreaSpec}
 use Rattle.osm_config.specs.declared.config.ConfiguredExtract.{ConfiguredExtract}
 use Rattle.osm_config.specs.Areas.{AreaMember, in_box, in_polygons, in_file}
 use Rattle.osm_config.specs.Configs.{ConfigSpec, ExtractSpec, config_of_text, if_some_and_distinct, repeated_after, unless_repeated}
-use Rattle.osm_config.specs.Faults.{OrFault, and_then as or_fault_then}
+use Rattle.osm_config.specs.Faults.{OrFault}
 use Rattle.osm_config.specs.Paths.{extracts_of_text, folder_of_outputs, with_paths}
 use Rattle.osm_config.specs.Readings.{extract_member_of}
+use Rattle.osm_polygon.specs.GeoJson.{and_then as or_fault_then}
 use Rattle.pbf_frame.specs.declared.stop.Stop.TheVariants as stop
 use Rattle.pbfcut_cli.specs.declared.endings.Ending.{Ending}
 use Rattle.pbfcut_cli.specs.declared.endings.Ending.TheVariants as ending

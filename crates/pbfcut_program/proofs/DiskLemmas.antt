@@ -8,7 +8,7 @@ use Rattle.pbfcut_cli.specs.declared.programs.Program.TheVariants.{Pbfcut, Pbfcu
 use Rattle.pbfcut_program.specs.Changes.{DropsFile, HasOneFile, KeepsFile}
 use Rattle.pbfcut_program.specs.Events.{Event, Writing, linked, made, moved, removed, renamed, stays, wrote}
 use Rattle.pbfcut_program.specs.Fails.{Each}
-use Rattle.pbfcut_program.specs.Files.{AllowsAll, Disk, Drops, IsDropped, IsEnd, IsKept, IsMade, IsName, Keeps, Misnames, Misses, Names, Still, after, changed, put, written}
+use Rattle.pbfcut_program.specs.Files.{AllowsAll, Disk, Drops, IsDropped, IsEnd, IsKept, IsMade, IsName, Keeps, Misnames, Misses, Names, Still, after, appended, changed, put}
 use Rattle.pbfcut_program.specs.Taking.{Happened}
 
 -- ---- names
@@ -44,8 +44,8 @@ put_other name p b disk differ = rw (other_name p name differ) refl
 
 -- ---- events that change nothing
 
-unwritten : (name : Option (List ℕ)) (bytes : List ℕ) (disk : Disk) → name ≡ None → written name bytes disk ≡ disk
-unwritten name bytes disk none = subst (λ n. written n bytes disk ≡ disk) (sym none) refl
+unwritten : (name : Option (List ℕ)) (bytes : List ℕ) (disk : Disk) → name ≡ None → appended name bytes disk ≡ disk
+unwritten name bytes disk none = subst (λ n. appended n bytes disk ≡ disk) (sym none) refl
 
 pub still_one : (e : Event) (disk : Disk) → Still e → changed e disk ≡ disk
 still_one (wrote w) disk s = unwritten w.name w.bytes disk s
@@ -332,8 +332,8 @@ module _ (program : Program) (output : List ℕ) (w : Writing) (part events : Li
   made_after : after x.makes disk ≡ first
   made_after = ap (λ es. after es disk) file.happened ∙ past_still file.tries (made file.name ∷ []) disk (misses_still file.tries file.misses)
 
-  filled_is : written w.name w.bytes first ≡ filled
-  filled_is = ap (λ n. written n w.bytes first) file.is
+  filled_is : appended w.name w.bytes first ≡ filled
+  filled_is = ap (λ n. appended n w.bytes first) file.is
 
   one_after : after events disk ≡ after part filled
   one_after =

@@ -3,7 +3,7 @@ use Rattle.std.proofs.Common.{arith, ◌≡◌, ◌<◌, ℕ, inl, inr, List, []
 use Rattle.std.proofs.lemmas.List.{append-nil}
 use Rattle.pbf_frame.specs.Devices.{HasRisen}
 use Rattle.pbfcut_program.specs.Events.{Event, Reading, read}
-use Rattle.pbfcut_program.specs.Fails.{Calm, Has, Each, Quiet, TookNothing, readings}
+use Rattle.pbfcut_program.specs.Fails.{Calm, Has, Each, Quiet, WroteNothing, readings}
 
 -- a count that has risen isn't 0
 pub has_risen : (old new : ℕ) → HasRisen old new → 0 < new
@@ -44,11 +44,11 @@ calm_quiet e h1 = grind arith
 pub quiet_of : (xs : List Event) → Each Calm xs → Each Quiet xs
 quiet_of xs q = each_weaker Calm Quiet calm_quiet xs q
 
-quiet_nothing : (e : Event) → Quiet e → TookNothing e
+quiet_nothing : (e : Event) → Quiet e → WroteNothing e
 quiet_nothing e h1 = grind arith
 
-pub nothing_in : (xs : List Event) → Each Quiet xs → Each TookNothing xs
-nothing_in xs q = each_quiet TookNothing quiet_nothing xs q
+pub nothing_in : (xs : List Event) → Each Quiet xs → Each WroteNothing xs
+nothing_in xs q = each_quiet WroteNothing quiet_nothing xs q
 
 -- ---- readings
 
@@ -77,6 +77,6 @@ pub readings_of : (rs : List Reading) → readings (map (λ r. read r) rs) ≡ r
 readings_of [] = refl
 readings_of (r ∷ rs) = ap (λ more. r ∷ more) (readings_of rs)
 
-pub nothing_read : (rs : List Reading) → Each TookNothing (map (λ r. read r) rs)
+pub nothing_read : (rs : List Reading) → Each WroteNothing (map (λ r. read r) rs)
 nothing_read [] = tt
 nothing_read (r ∷ rs) = (tt, nothing_read rs)

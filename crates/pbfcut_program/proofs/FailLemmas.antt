@@ -10,14 +10,14 @@ use Rattle.pbfcut_cli.specs.declared.endings.Ending.{Ending}
 use Rattle.pbfcut_cli.specs.declared.endings.Ending.TheVariants as ending
 use Rattle.pbfcut_cli.specs.declared.programs.Program.{Program}
 use Rattle.pbfcut_program.specs.Events.{Event, then_all}
-use Rattle.pbfcut_program.specs.Fails.{Calm, CauseOfOpening, CauseOfWrite, Each, EndsAsStop, Fails, FailsAsClosed, FailsFor, FailsOpening, FailsToFinish, FailsToWrite, Has, IsChangedBy, IsRefusedBy, Judging, NearsLimit, Opens, Quiet, Stops, TookNothing, judging, readings}
+use Rattle.pbfcut_program.specs.Fails.{Calm, CauseOfOpening, CauseOfWrite, Each, EndsAsStop, Fails, FailsAsClosed, FailsFor, FailsOpening, FailsToFinish, FailsToWrite, Has, IsChangedBy, IsRefusedBy, Judging, NearsLimit, Opens, Quiet, Stops, WroteNothing, judging, readings}
 use Rattle.pbfcut_program.specs.Manner.{Form, Manner, output_form, packed_file, raw_file}
 use Rattle.pbfcut_program.specs.declared.engine.Halted.{Halted}
 use Rattle.pbfcut_program.specs.declared.host.FinishFault.{FinishFault}
 use Rattle.pbfcut_program.specs.declared.host.FinishFault.TheVariants as finishing
 use Rattle.pbfcut_program.specs.declared.host.PrintFault.TheVariants as line
 use Rattle.pbfcut_program.specs.declared.host.Screen.{Screen}
-use Rattle.pbfcut_program.specs.Outcomes.{EndsAs, ending_of_file, ending_of_text}
+use Rattle.pbfcut_program.specs.Outcomes.{EndsAfterText, ending_of_file, ending_of_text}
 use Rattle.pbfcut_program.specs.Telling.{BreaksOff, IsUnprinted, SaysLittle, Silent, Tells, TellsQuietly}
 use Rattle.pbfcut_program.proofs.EventLemmas.{each_both, each_quiet, has_after, has_before, has_weaker, nothing_in, quiet_of, readings_after, readings_before, readings_of_quiet}
 use Rattle.pbfcut_program.proofs.Logging.{and_then}
@@ -103,11 +103,11 @@ opening_fails m j how events f = fails_early m j how events (of how f) where
 -- ---- among quiet events
 
 -- what holds of events holds of more that read and write the same
-module _ (xs ys : List Event) (keeps : (p : Event → Type 0) → Has p xs → Has p ys) (nothing : Each TookNothing xs → Each TookNothing ys) (same : readings ys ≡ readings xs) where
+module _ (xs ys : List Event) (keeps : (p : Event → Type 0) → Has p xs → Has p ys) (nothing : Each WroteNothing xs → Each WroteNothing ys) (same : readings ys ≡ readings xs) where
   refused_in : (program : Program) (judge : Option (List ℕ) → Option Verdict) (has : List (Option (List ℕ))) (e : Fault) → IsRefusedBy program judge has e xs → IsRefusedBy program judge has e ys
   refused_in program judge has e h4 = grind arith
 
-  last_in : (X : Type 0) → (X ⊎ Each TookNothing xs) → (X ⊎ Each TookNothing ys)
+  last_in : (X : Type 0) → (X ⊎ Each WroteNothing xs) → (X ⊎ Each WroteNothing ys)
   last_in X h1 = grind arith
 
   changed_in : (program : Program) (has : List (Option (List ℕ))) (pass : ℕ) → IsChangedBy program has pass xs → IsChangedBy program has pass ys
@@ -119,7 +119,7 @@ module _ (xs ys : List Event) (keeps : (p : Event → Type 0) → Has p xs → H
   stops_in : (m : Manner) (j : Judging) (has : List (Option (List ℕ))) (s : Stop) → Stops m j has xs s → Stops m j has ys s
   stops_in m j has s h4 = grind (arith, caused_weaker, refused_in, write_in, changed_in)
 
-  exists_in : (p q : Event → Type 0) → ((Has p xs × Each TookNothing xs) ⊎ Has q xs) → ((Has p ys × Each TookNothing ys) ⊎ Has q ys)
+  exists_in : (p q : Event → Type 0) → ((Has p xs × Each WroteNothing xs) ⊎ Has q xs) → ((Has p ys × Each WroteNothing ys) ⊎ Has q ys)
   exists_in p q h2 = grind arith
 
   fails_in : (m : Manner) (j : Judging) (has : List (Option (List ℕ))) (how : Ending) → Fails m j has how xs → Fails m j has how ys
@@ -233,8 +233,8 @@ tells_err l m xs (Err how) t = t
 -- ---- texts
 
 -- what went out, if it did; and why not
-pub text_ok : {T A : Type 0} (fault : Option FinishFault) (outcome : Result T Halted) (result : Result A Ending) (P : Type 0) → EndsAs fault outcome result → (fault ≡ None → OnOk outcome P) → OnOk result P
+pub text_ok : {T A : Type 0} (fault : Option FinishFault) (outcome : Result T Halted) (result : Result A Ending) (P : Type 0) → EndsAfterText fault outcome result → (fault ≡ None → OnOk outcome P) → OnOk result P
 text_ok fault outcome result P h4 h5 = grind arith
 
-pub text_err : {T A : Type 0} (fault : Option FinishFault) (outcome : Result T Halted) (result : Result A Ending) (Q : Ending → Type 0) → EndsAs fault outcome result → ((why : FinishFault) → fault ≡ Some why → Q (ending_of_text why)) → IfErr outcome (λ halted. Q halted.ending) → IfErr result Q
+pub text_err : {T A : Type 0} (fault : Option FinishFault) (outcome : Result T Halted) (result : Result A Ending) (Q : Ending → Type 0) → EndsAfterText fault outcome result → ((why : FinishFault) → fault ≡ Some why → Q (ending_of_text why)) → IfErr outcome (λ halted. Q halted.ending) → IfErr result Q
 text_err fault outcome result Q h4 h5 h6 = grind arith

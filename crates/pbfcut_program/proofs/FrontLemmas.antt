@@ -12,7 +12,7 @@ use Rattle.pbf_unpack.specs.Unpacked.{unpacked}
 use Rattle.pbf_wire.specs.declared.fault.Fault.{Fault}
 use Rattle.pbf_published.specs.declared.input.PublishedHalt.{PublishedHalt}
 use Rattle.pbf_published.specs.declared.input.PublishedInput.{PublishedInput}
-use Rattle.pbf_published.specs.Published.{ChangedFrom, ChangedOf, UnlessChanged, raw_of}
+use Rattle.pbf_published.specs.Published.{ChangedFrom, PassChanged, UnlessChanged, raw_of}
 use Rattle.pbf_published.specs.PublishedTasks.{DoesPublished}
 use Rattle.pbfcut.specs.Calls.{AllSupply, drained, supply_of, used}
 use Rattle.pbfcut_program.specs.declared.engine.Report.{Report}
@@ -34,16 +34,16 @@ not_from number first bytes [] pass e all c = c
 not_from number first bytes (h ∷ has) pass e all (inl c) = c.1 bytes bytes e all.0 refl
 not_from number first bytes (h ∷ has) pass e all (inr c) = not_from (number + 1) first bytes has pass e all.1 c
 
-not_changed : (bytes : List ℕ) (has : List (Option (List ℕ))) (pass : ℕ) → AllSupply bytes has → ChangedOf has pass → ⊥
+not_changed : (bytes : List ℕ) (has : List (Option (List ℕ))) (pass : ℕ) → AllSupply bytes has → PassChanged has pass → ⊥
 not_changed bytes has pass h3 h4 = grind (arith, not_from)
 
 module _ (refused : Fault → Type 0) (read wrote : Type 0) (has : List (Option (List ℕ))) (X : Type 0) where
-  unless_out : (bytes : List ℕ) (s : Stop) → AllSupply bytes has → UnlessChanged X s → Caused refused read wrote (ChangedOf has) s → X
+  unless_out : (bytes : List ℕ) (s : Stop) → AllSupply bytes has → UnlessChanged X s → Caused refused read wrote (PassChanged has) s → X
   unless_out bytes s h2 h3 h4 = grind (arith, not_changed)
 
   -- the same of published files, where nothing is said of what went out before a change was seen
   published_stopped : (Y : List ℕ → Type 0) (outcome : Result PublishedInput PublishedHalt) (result : Result Report Halted) → ((bytes : List ℕ) → AllSupply bytes has → X → Y bytes)
-      → IfErr outcome (λ h. UnlessChanged X h.stop) → IfErr outcome (λ h. Caused refused read wrote (ChangedOf has) h.stop) → ReportsPublished outcome result → OnErr result ((bytes : List ℕ) → AllSupply bytes has → Y bytes)
+      → IfErr outcome (λ h. UnlessChanged X h.stop) → IfErr outcome (λ h. Caused refused read wrote (PassChanged has) h.stop) → ReportsPublished outcome result → OnErr result ((bytes : List ℕ) → AllSupply bytes has → Y bytes)
   published_stopped Y (Ok receipt) (Ok report) to x c r = tt
   published_stopped Y (Err halt) (Err halted) to x c r = λ bytes all. to bytes all (unless_out bytes halt.stop all x c)
   published_stopped Y (Ok receipt) (Err halted) to x c r = absurd r

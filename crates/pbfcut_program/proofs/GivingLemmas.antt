@@ -13,7 +13,7 @@ use Rattle.pbfcut_program.specs.Fails.{Each}
 use Rattle.pbfcut_program.specs.Files.{AllowsAll, Disk, IsKept, IsMade, Still, after}
 use Rattle.pbfcut_program.specs.Manner.{Manner}
 use Rattle.pbfcut_program.specs.OnDisk.{IsAreaOn}
-use Rattle.pbfcut_program.specs.Program.{Extracts, MeansArea, Writes, WritesCounts, advice, is_empty, is_screen, looks, screen_of, strategy_of}
+use Rattle.pbfcut_program.specs.Program.{MeansArea, RunsExtract, Writes, WritesCounts, advice, is_empty, is_screen, looks, screen_of, strategy_of}
 use Rattle.pbfcut_program.specs.Lines.{counts_text, done_lines, prints}
 use Rattle.pbfcut_program.specs.Taking.{Happened}
 use Rattle.pbfcut.specs.Tasks.{Task, converting, copying, extracting}
@@ -150,7 +150,7 @@ module _ (m : Manner) (task : Task) (files : Files) (counts : Counts) (first eve
 
 -- ---- a run of `extract`
 
-module _ (m : Manner) (cut : Region) (by : Strategy) (files : Files) (events : List Event) (x : Extracts m cut by files events) (disk : Disk) (a : AllowsAll disk events) (file : List ℕ) (there : disk files.input.now ≡ Some file) where
+module _ (m : Manner) (cut : Region) (by : Strategy) (files : Files) (events : List Event) (x : RunsExtract m cut by files events) (disk : Disk) (a : AllowsAll disk events) (file : List ℕ) (there : disk files.input.now ≡ Some file) where
   abbrev extract : Task
   extract = extracting (strategy_of by) x.area
 

@@ -16,7 +16,7 @@ use Rattle.pbfcut_cli.specs.declared.programs.Program.{Program}
 use Rattle.pbfcut_cli.specs.declared.programs.Program.TheVariants.{Pbfcutz}
 use Rattle.pbfcut_program.specs.declared.engine.Halted.{Halted}
 use Rattle.pbfcut_program.specs.declared.host.FinishFault.{FinishFault}
-use Rattle.pbfcut_program.specs.Devices.{Closes, EndsFor, Finishes, Fronts, IsFresh, IsFreshOut}
+use Rattle.pbfcut_program.specs.Devices.{Closes, EndsFor, Finishes, Fronts, IsFreshFeed, IsFreshOut}
 use Rattle.pbfcut_program.specs.Events.{Event, Reading, Writing, opened, screened, read, wrote, then_all}
 use Rattle.pbfcut_program.specs.Fails.{Each, Fails, FailsFor, Judging, judging, listing}
 use Rattle.pbfcut_program.specs.Outcomes.{ListsBy, ending_of_text}
@@ -97,7 +97,7 @@ module _ {F D : Type 0} (f : feed.Ghosts F) (d : drain.Ghosts D) (now : F) (out 
       (caused_weaker _ _ _ _ _ _ _ _ ends.0 (λ x fault. fault) (λ risen. inr (inr (inl (has_risen _ _ risen)))) (λ risen. inr (inr (inr (inl (inl (has_risen _ _ risen)))))) (λ p c. c) ends.2))
   list_fails m old before (Ok count) k input e ends = tt
 
-  pub info_fails : {T : Type 0} (digests : Bool) (old : F) (before : D) (outcome : Result T Halted) (k : Option (List Event)) (input : List ℕ) → IsFresh f old → IsFreshOut d before → l ≡ then_all k (opened input 1 (f.remaining old) ∷ screened true ∷ [])
+  pub info_fails : {T : Type 0} (digests : Bool) (old : F) (before : D) (outcome : Result T Halted) (k : Option (List Event)) (input : List ℕ) → IsFreshFeed f old → IsFreshOut d before → l ≡ then_all k (opened input 1 (f.remaining old) ∷ screened true ∷ [])
       → IfErr outcome (λ halted. EndsFor Pbfcutz f judged_headings (old ∷ []) (now ∷ []) (Added d before [] out) (WriteFailed d before out) halted.ending)
       → IfErr outcome (λ halted. (events : List Event) × (n ≡ then_all k events) × FailsFor (manner Pbfcutz false digests) (judging judged_headings (λ file. ⊥)) halted.ending events × Each Silent events)
   info_fails digests old before (Err halted) k input fresh start e ends =

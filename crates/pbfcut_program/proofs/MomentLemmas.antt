@@ -6,7 +6,7 @@ use Rattle.pbfcut_cli.specs.declared.programs.Program.TheVariants.{Pbfcut, Pbfcu
 use Rattle.pbfcut_program.specs.Changes.{DropsFile, HasOneFile, KeepsFile}
 use Rattle.pbfcut_program.specs.Events.{Event, Writing, made, wrote}
 use Rattle.pbfcut_program.specs.Fails.{Each}
-use Rattle.pbfcut_program.specs.Files.{AllowsAll, Disk, Drops, IsDropped, IsEnd, IsKept, Keeps, Misses, Names, Still, after, changed, put, written}
+use Rattle.pbfcut_program.specs.Files.{AllowsAll, Disk, Drops, IsDropped, IsEnd, IsKept, Keeps, Misses, Names, Still, after, appended, changed, put}
 use Rattle.pbfcut_program.proofs.DiskLemmas.{IsFile, alone, alone_whole, begun, both, both_whole, file_of, misnames_still, misses_still, one_allowed, put_other, still_one, taken, taken_other}
 use Rattle.pbfcut_program.proofs.EventLemmas.{each_both}
 
@@ -87,7 +87,7 @@ module _ (output name bytes : List ℕ) (disk : Disk) (differ : name ≡ output 
         → Always holds part filled → Always holds (before ++ (makes ++ (between ++ (wrote w ∷ part)))) disk
     filled_holds w before makes between tries part is are e b t s h =
         let first = begun output name bytes disk in
-        let same : written w.name w.bytes first ≡ filled = ap (λ n. written n w.bytes first) is ∙ ap (λ b. written (Some name) b first) are in
+        let same : appended w.name w.bytes first ≡ filled = ap (λ n. appended n w.bytes first) is ∙ ap (λ b. appended (Some name) b first) are in
         let mine = always_still holds between (wrote w ∷ part) first s (at_begun, subst (λ (d : Disk). Always holds part d) (sym same) h) in
         always_still holds before (makes ++ (between ++ (wrote w ∷ part))) disk b
         (subst (λ (es : List Event). Always holds es disk) (sym (ap (λ es. es ++ (between ++ (wrote w ∷ part))) e ∙ append_assoc tries (made name ∷ []) (between ++ (wrote w ∷ part))))
@@ -151,7 +151,7 @@ module _ (output name p : List ℕ) (o : p ≡ output → ⊥) (e : p ≡ name �
       (each_both (Spares p) tries (end ∷ []) (still_spares tries (misnames_still tries t)) (end_spares end n, tt))
 
   wrote_spares : (w : Writing) → w.name ≡ Some name → Spares p (wrote w)
-  wrote_spares w is = λ (d : Disk). ap (λ (n : Option (List ℕ)). written n w.bytes d p) is ∙ put_other name p (append (d name) w.bytes) d e
+  wrote_spares w is = λ (d : Disk). ap (λ (n : Option (List ℕ)). appended n w.bytes d p) is ∙ put_other name p (append (d name) w.bytes) d e
 
 -- a file that is there isn't made
 there_differs : (p name bytes : List ℕ) (disk : Disk) → disk p ≡ Some bytes → disk name ≡ None → p ≡ name → ⊥

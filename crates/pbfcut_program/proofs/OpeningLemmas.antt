@@ -2,7 +2,7 @@
 use Rattle.std.proofs.Common.{◌≡◌, arith, ℕ, ◌+◌, List, [], ◌∷◌, ◌++◌, length, map, Option, ap, ◌∙◌, refl, subst, sym}
 use Rattle.std.proofs.lemmas.List.{map_push}
 use Rattle.pbf_frame.specs.declared.device.Feed as feed
-use Rattle.pbfcut_program.specs.Devices.{AreFresh, CloseAll, Closes, IsFresh}
+use Rattle.pbfcut_program.specs.Devices.{AreFresh, CloseAll, Closes, IsFreshFeed}
 use Rattle.pbfcut_program.specs.Events.{Event, opened, then_all, then_one, openings}
 use Rattle.pbfcut_program.proofs.Beginning.{length_has}
 use Rattle.pbfcut_program.proofs.Logging.{then_more}
@@ -17,7 +17,7 @@ openings_push path n (y ∷ ys) x =
 pub opened_more : {F : Type 0} (f : F → Option (List ℕ)) (path : List ℕ) (l m n : Option (List Event)) (xs : List F) (x : F) (pass : ℕ) → m ≡ then_all l (openings path 1 (map f xs)) → n ≡ then_one m (opened path pass (f x)) → pass ≡ 1 + length xs → n ≡ then_all l (openings path 1 (map f (xs ++ x ∷ [])))
 opened_more f path l m n xs x pass before one is = grind (arith, then_more l (openings path 1 (map f xs)) (opened path pass (f x) ∷ []), map_push f xs x, openings_push path 1 (map f xs) (f x), length_has f xs)
 
-pub fresh_more : {F : Type 0} (f : feed.Ghosts F) (xs : List F) (x : F) → AreFresh f xs → IsFresh f x → AreFresh f (xs ++ x ∷ [])
+pub fresh_more : {F : Type 0} (f : feed.Ghosts F) (xs : List F) (x : F) → AreFresh f xs → IsFreshFeed f x → AreFresh f (xs ++ x ∷ [])
 fresh_more f [] x fresh one = (one, tt)
 fresh_more f (y ∷ ys) x fresh one = (fresh.0, fresh_more f ys x fresh.1 one)
 

@@ -10,10 +10,10 @@ use Rattle.pbf_pass.specs.Pass.{CountsFile}
 use Rattle.pbf_pass.specs.Stops.{Caused, FaultOf, ReadFailed, WriteFailed}
 use Rattle.pbf_unpack.specs.Unpacked.{unpacked}
 use Rattle.pbfcut.specs.Calls.{TookBy, drained, supply_of, used}
-use Rattle.pbfcut.specs.Tasks.{Holds, Task, checking, spares}
+use Rattle.pbfcut.specs.Tasks.{Task, TaskHolds, checking, spares}
 use Rattle.pbf_published.specs.declared.input.PublishedHalt.{PublishedHalt}
 use Rattle.pbf_published.specs.declared.input.PublishedInput.{PublishedInput}
-use Rattle.pbf_published.specs.Published.{ChangedOf, GaveEachOrNone, GaveOrNone, GavePublished, GavePublishedEach, raw_of}
+use Rattle.pbf_published.specs.Published.{GaveEachOrNone, GaveOrNone, GavePublished, GavePublishedEach, PassChanged, raw_of}
 use Rattle.pbf_published.specs.PublishedTasks.{DoesPublished}
 use Rattle.pbfcut_cli.specs.declared.programs.Program.TheVariants.{Pbfcutz}
 use Rattle.pbfcut_program.specs.declared.engine.Report.{Report}
@@ -75,7 +75,7 @@ module _ {F : Type 0} (f : feed.Ghosts F) (packs digests : Bool) (by : PassCheck
 
 pub check_published : {F : Type 0} (f : feed.Ghosts F) (packs digests : Bool) (by : PassCheck) (one one_now : F) → AreFresh f (one ∷ []) → (outcome : Result PublishedInput PublishedHalt) (result : Result Report Halted)
     → IfOk outcome (λ receipt. GavePublished f one one_now (mark_by by receipt.input) (mark_by (raw_check by) receipt.raw) (λ file. CountsFile (judged_file (Some file)) receipt.counts))
-    → IfErr outcome (λ h. Caused (FaultOf (judged_file (raw_of (f.remaining one)))) (ReadFailed f one one_now) ⊥ (ChangedOf (f.remaining one ∷ [])) h.stop) → ReportsPublished outcome result
+    → IfErr outcome (λ h. Caused (FaultOf (judged_file (raw_of (f.remaining one)))) (ReadFailed f one one_now) ⊥ (PassChanged (f.remaining one ∷ [])) h.stop) → ReportsPublished outcome result
     → Works (manner Pbfcutz packs digests) by f checking (one ∷ []) (one_now ∷ []) (λ took. took ≡ []) ⊥ result
 check_published f packs digests by one one_now fresh (Ok receipt) (Ok report) given stops r =
     let first = gave f packs digests by receipt.input receipt.raw report.raw r.2 fresh.0.0 given in
@@ -97,7 +97,7 @@ pub published_works : {F D : Type 0} (f : feed.Ghosts F) (d : drain.Ghosts D) (o
 published_works f d out out_now digests by log start task [] news outcome result many does r fresh = absurd does
 published_works f d out out_now digests by log start task (old ∷ olds) [] outcome result many does r fresh = absurd does
 published_works f d out out_now digests by log start task (old ∷ olds) (now ∷ news) (Ok receipt) (Ok report) many does r fresh =
-    let took : List (List ℕ) → Type 0 = λ raws. TookBy (drained d out out_now) (λ written. Holds task raws receipt.counts written) in
+    let took : List (List ℕ) → Type 0 = λ raws. TookBy (drained d out out_now) (λ written. TaskHolds task raws receipt.counts written) in
     let first : Gave f (AreDigests (manner Pbfcutz false digests) by receipt.input report.raw) old now (λ b. GaveEachOrNone (take (spares task) (used f olds news)) (mark_by by receipt.input) (mark_by (raw_check by) receipt.raw) b (λ some. GavePublishedEach (drop (spares task) (used f olds news)) (mark_by by receipt.input) (mark_by (raw_check by) receipt.raw) (λ files. took (b ∷ some ++ files)))) =
     gave f false digests by receipt.input receipt.raw report.raw r.2 fresh.0.0 does.receipt in
     let more = some_gave f false digests by receipt.input receipt.raw report.raw r.2 (spares task) first.file olds news (λ some files. took (unpacked first.file ∷ some ++ files)) fresh.1 (omega (arith, many)) first.holding in
@@ -107,9 +107,9 @@ published_works f d out out_now digests by log start task (old ∷ olds) (now �
       written = given.written;
       gave = (first.gives, more.2);
       took_them = given.added.logged log [] start;
-      holds = subst (λ raws. Holds task (unpacked first.file ∷ raws) receipt.counts given.written) (sym (map-append unpacked more.0 more.1)) given.holding;
+      holds = subst (λ raws. TaskHolds task (unpacked first.file ∷ raws) receipt.counts given.written) (sym (map-append unpacked more.0 more.1)) given.holding;
     }
 published_works f d out out_now digests by log start task (old ∷ olds) (now ∷ news) (Err halt) (Err halted) many does r fresh =
-    (halt.stop, r, caused_weaker _ _ _ _ _ _ _ _ halt.stop (λ e refused. (refused.0, refused.1.logged log [] start)) (λ failed. failed) (λ failed. failed) (λ p c. subst (λ has. ChangedOf (f.remaining old ∷ has) p) (supplies_are f olds news (omega (arith, many))) c) does.stops)
+    (halt.stop, r, caused_weaker _ _ _ _ _ _ _ _ halt.stop (λ e refused. (refused.0, refused.1.logged log [] start)) (λ failed. failed) (λ failed. failed) (λ p c. subst (λ has. PassChanged (f.remaining old ∷ has) p) (supplies_are f olds news (omega (arith, many))) c) does.stops)
 published_works f d out out_now digests by log start task (old ∷ olds) (now ∷ news) (Ok receipt) (Err halted) many does r fresh = absurd r
 published_works f d out out_now digests by log start task (old ∷ olds) (now ∷ news) (Err halt) (Ok report) many does r fresh = absurd r

@@ -20,7 +20,7 @@ use Rattle.pbf_unpack.specs.Unpacked.{Unpacked}
 use Rattle.pbf_unpack.proofs.UnpackedLemmas.{nothing_more}
 use Rattle.pbfcut.specs.Calls.{ChangedLater, GaveEach, GaveEachOrNot, IfMore, TookBy, drained, fed, used}
 use Rattle.pbfcut.specs.TaskCalls.{DoesTask}
-use Rattle.pbfcut.specs.Tasks.{Holds, Task, checking, judge_of, spares}
+use Rattle.pbfcut.specs.Tasks.{Task, TaskHolds, checking, judge_of, spares}
 use Rattle.pbfcut.specs.Changes.{ChangedAt, GaveOther}
 use Rattle.pbfcut.specs.Ends.{EndsPasses, TookNothing}
 use Rattle.pbfcut_cli.specs.declared.endings.Ending.TheVariants as ending
@@ -28,7 +28,7 @@ use Rattle.pbfcut_cli.specs.declared.programs.Program.{Program}
 use Rattle.pbfcut_cli.specs.declared.programs.Program.TheVariants.{Pbfcut, Pbfcutz}
 use Rattle.pbfcut_program.specs.declared.engine.Report.{Report}
 use Rattle.pbfcut_program.specs.declared.engine.Halted.{Halted}
-use Rattle.pbfcut_program.specs.Devices.{AreFresh, EndsFor, GiveLater, Gives, GivesFaulty, GivesIts, GivesOther, GivesOtherAt, StopsFor, Works}
+use Rattle.pbfcut_program.specs.Devices.{AreFresh, EndsFor, GiveLater, GivesFaulty, GivesIts, GivesOther, GivesOtherAt, GivesToEnd, StopsFor, Works}
 use Rattle.pbfcut_program.specs.Fails.{EndsAsStop}
 use Rattle.pbfcut_program.specs.Manner.{AreDigests, manner, meant, output_form}
 use Rattle.pbfcut_program.specs.Outcomes.{ReportsRaw}
@@ -48,7 +48,7 @@ whole_had file (Some all) (Some rest) is end = some_same is ∙ ap (λ r. file +
   some_same e = cc
 
 module _ {F : Type 0} (f : feed.Ghosts F) where
-  gives_file : {digest : Mark} {holds : List ℕ → Type 0} {old now : F} (known : List ℕ → Type 0) → ((file : List ℕ) → IsDigestOf digest file → known file) → f.has_passed old 0 [] → (g : GaveFile f old now digest holds) → Gives f known now g.file
+  gives_file : {digest : Mark} {holds : List ℕ → Type 0} {old now : F} (known : List ℕ → Type 0) → ((file : List ℕ) → IsDigestOf digest file → known file) → f.has_passed old 0 [] → (g : GaveFile f old now digest holds) → GivesToEnd f known now g.file
   gives_file known is start g = record { passed = g.supplied.gave.logged 0 [] start; end = g.supplied.end; is_known = is g.file g.digest_is }
 
   -- and it is what the feed had to give
@@ -56,7 +56,7 @@ module _ {F : Type 0} (f : feed.Ghosts F) where
   gives_its known is start g = (gives_file known is start g, whole_had g.file _ _ g.supplied.gave.told g.supplied.end)
 
   -- of which nothing is known
-  gives_some : {holds : List ℕ → Type 0} {old now : F} → f.has_passed old 0 [] → (g : GaveFile f old now no_mark holds) → Gives f (λ _. Unit {0}) now g.file
+  gives_some : {holds : List ℕ → Type 0} {old now : F} → f.has_passed old 0 [] → (g : GaveFile f old now no_mark holds) → GivesToEnd f (λ _. Unit {0}) now g.file
   gives_some start g = gives_file (λ _. Unit {0}) (λ _ _. tt) start g
 
   gives_faulty : {by : PassCheck} (judge : Option (List ℕ) → Option Verdict) {old now : F} (r : _) → f.has_passed old 0 [] → RefusesFile f old now by (λ b. judge (Some b)) r → GivesFaulty f judge r.fault now
@@ -132,7 +132,7 @@ module _ {F D : Type 0} (f : feed.Ghosts F) (d : drain.Ghosts D) (out out_now : 
     -- one of the later feeds, the first of which is that of this pass, gave another file than the first
     record Found (pass number : ℕ) (olds news : List F) : Type 0 where
       file : List ℕ
-      first : Gives f (λ _. Unit {0}) one_now file
+      first : GivesToEnd f (λ _. Unit {0}) one_now file
       at : ℕ
       pass_is : pass ≡ at + number
       other : GivesOtherAt f file at olds news
@@ -178,7 +178,7 @@ module _ {F D : Type 0} (f : feed.Ghosts F) (d : drain.Ghosts D) (out out_now : 
       let known : List ℕ → Type 0 = AreDigests m by receipt.input report.raw in
       let is : (file : List ℕ) → IsDigestOf (mark_by by receipt.input) file → known file = λ file digest. (digest, r.2) in
       let given = does.receipt in
-      let more = some_gives f known (mark_by by receipt.input) is given.file (spares task) receipt.spared olds news (λ some files. TookBy (drained d out out_now) (λ written. Holds task (given.file ∷ some ++ files) receipt.counts written)) fresh.1 (omega (arith, many)) given.holding in
+      let more = some_gives f known (mark_by by receipt.input) is given.file (spares task) receipt.spared olds news (λ some files. TookBy (drained d out out_now) (λ written. TaskHolds task (given.file ∷ some ++ files) receipt.counts written)) fresh.1 (omega (arith, many)) given.holding in
       let took = more.3 in
       let files = given.file ∷ more.0 ++ more.1 in
       rw (r.0, r.1) record {
@@ -186,7 +186,7 @@ module _ {F D : Type 0} (f : feed.Ghosts F) (d : drain.Ghosts D) (out out_now : 
         written = took.written;
         gave = (gives_its f known is fresh.0.0 given, more.2);
         took_them = took.added.logged log [] start;
-        holds = subst (λ fs. Holds task fs receipt.counts took.written) (sym (map-id files)) took.holding;
+        holds = subst (λ fs. TaskHolds task fs receipt.counts took.written) (sym (map-id files)) took.holding;
       }
   raw_works task (old ∷ olds) (now ∷ news) (Err h) (Err halted) many does r fresh =
       reported_ends f (judge_of task) (old ∷ olds) (now ∷ news) (d.has_taken out_now log []) (WriteFailed d out out_now) h halted r (call_ends old now fresh.0.0 (judge_of task) olds news h fresh.1 (omega (arith, many)) does.ends)

@@ -17,9 +17,9 @@ use Rattle.pbfcut_cli.specs.declared.words.Files.{Files}
 use Rattle.pbfcut_cli.specs.declared.words.Region.{Region}
 use Rattle.pbfcut_cli.specs.declared.words.Strategy.{Strategy}
 use Rattle.pbfcut_program.specs.Events.{Event}
-use Rattle.pbfcut_program.specs.Program.{Does, Extracts, IsRun, Writes, manner_in}
+use Rattle.pbfcut_program.specs.Program.{Does, IsRun, RunsExtract, Writes, manner_in}
 use Rattle.pbfcut_program.specs.Changes.{EndsWell}
-use Rattle.pbfcut_program.specs.SeveralWrites.{ExtractsEach, strategy_with}
+use Rattle.pbfcut_program.specs.SeveralWrites.{RunsExtractEach, strategy_with}
 use Rattle.pbfcut_program.specs.Files.{Disk}
 use Rattle.pbfcut.specs.Tasks.{Task, converting, copying}
 
@@ -33,19 +33,19 @@ differ a b not same = true_false (sym ((bytes_eq-Decides a b).1 same) ∙ not) w
   true_false e = cc
 
 -- the command that these rows mean, and what it did
-pub record RunsExtract (program : Program) (rows : List Row) (events : List Event) : Type 0 where
+pub record RunsRegion (program : Program) (rows : List Row) (events : List Event) : Type 0 where
   pub cut : Region
   pub by : Strategy
   pub files : Files
   pub reads : ReadsAs (codes "extract") rows (Extract cut by files)
-  pub extracts : Extracts (manner_in program (Extract cut by files)) cut by files events
+  pub extracts : RunsExtract (manner_in program (Extract cut by files)) cut by files events
 
 -- the same of a configuration
 pub record RunsConfigured (program : Program) (rows : List Row) (events : List Event) : Type 0 where
   pub parents : Bool
   pub files : ConfigFiles
   pub reads : ReadsAs (codes "extract") rows (ExtractEach parents files)
-  pub extracts : ExtractsEach (manner_in program (ExtractEach parents files)) (strategy_with parents) files events
+  pub extracts : RunsExtractEach (manner_in program (ExtractEach parents files)) (strategy_with parents) files events
 
 -- the same of one that converts or copies
 pub record RunsWriting (program : Program) (name : List ℕ) (rows : List Row) (events : List Event) (command : Files → Command) (task : Task) : Type 0 where
@@ -54,7 +54,7 @@ pub record RunsWriting (program : Program) (name : List ℕ) (rows : List Row) (
   pub writes : Writes (manner_in program (command files)) task files events
 
 module _ (program : Program) (rows : List Row) (events : List Event) where
-  extract_done : is_given (codes "config") rows ≡ false → (command : Command) → ReadsAs (codes "extract") rows command → Does (manner_in program command) command events → RunsExtract program rows events
+  extract_done : is_given (codes "config") rows ≡ false → (command : Command) → ReadsAs (codes "extract") rows command → Does (manner_in program command) command events → RunsRegion program rows events
   extract_done plain (Extract cut by files) r d = record { cut = cut; by = by; files = files; reads = r; extracts = d }
   extract_done plain (ExtractEach parents files) r d = absurd (false≢true (sym plain ∙ ap (λ o. is_some o) r.2.config))
   extract_done plain (Blobs input) r d = absurd (differ (codes "extract") (codes "blobs") refl r.0)
@@ -121,11 +121,11 @@ module _ (program : Program) (rows : List Row) (events : List Event) where
   ran name words done t s (inl (z, (command, inl h, d))) = absurd (h.1 t)
   ran name words done t s (inl (z, (command, inr r, d))) = done command (subst (λ x. IsRead x command) s r) d
 
-  pub run_extracts : (words : List Text) → is_given (codes "config") rows ≡ false → takes (program_app program) (normalized words) ≡ true → subcommand_of (program_app program) (normalized words) ≡ Some (codes "extract", rows) → IsRun program words events 0 → RunsExtract program rows events
+  pub run_extracts : (words : List Text) → is_given (codes "config") rows ≡ false → takes (program_app program) (normalized words) ≡ true → subcommand_of (program_app program) (normalized words) ≡ Some (codes "extract", rows) → IsRun program words events 0 → RunsRegion program rows events
   run_extracts words plain = ran (codes "extract") words (extract_done plain)
 
   module _ (words : List Text) (disk : Disk) (file : List ℕ) where
-    pub extract_ran : is_given (codes "config") rows ≡ false → EndsWell program words (codes "extract") rows events disk file → RunsExtract program rows events
+    pub extract_ran : is_given (codes "config") rows ≡ false → EndsWell program words (codes "extract") rows events disk file → RunsRegion program rows events
     extract_ran plain e = run_extracts words plain e.taken e.command e.run
 
     pub configured_ran : is_given (codes "config") rows ≡ true → EndsWell program words (codes "extract") rows events disk file → RunsConfigured program rows events

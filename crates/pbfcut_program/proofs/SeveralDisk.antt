@@ -8,7 +8,7 @@ use Rattle.pbfcut.proofs.SeveralLemmas.{all_units}
 use Rattle.pbfcut_cli.specs.declared.programs.Program.TheVariants.{Pbfcutz}
 use Rattle.pbfcut_program.specs.Events.{Event, text_read, text_not_read, looked, opened, not_opened, seeded, screened, made, not_made, read, wrote, linked, moved, renamed, not_named, removed, stays, not_synced, printed, told, advised}
 use Rattle.pbfcut_program.specs.Fails.{Each}
-use Rattle.pbfcut_program.specs.Files.{AllowsAll, Disk, Drops, IsDropped, IsEnd, IsKept, Keeps, Names, Still, after, changed, put, written}
+use Rattle.pbfcut_program.specs.Files.{AllowsAll, Disk, Drops, IsDropped, IsEnd, IsKept, Keeps, Names, Still, after, appended, changed, put}
 use Rattle.pbfcut_program.specs.SeveralChanges.{HandlesFiles, IsApart, IsDroppedFile, IsHandled, IsKeptWhole, OneFile, Pairwise}
 use Rattle.pbfcut_program.specs.Taking.{Happened}
 use Rattle.pbfcut_program.proofs.DiskLemmas.{IsFile, after_both, after_still, allows_first, allows_last, allows_past, file_of, happened_after, happened_before, misnames_still, misses_still, past_still, put_other, put_same, some_same, which}
@@ -25,7 +25,7 @@ Spares p (renamed from to) = (p ≡ from → ⊥) × (p ≡ to → ⊥)
 Spares p (removed n) = p ≡ n → ⊥
 Spares p _ = Unit {0}
 
-written_other : (p : List ℕ) (name : Option (List ℕ)) (bytes : List ℕ) (disk : Disk) → (name ≡ Some p → ⊥) → written name bytes disk p ≡ disk p
+written_other : (p : List ℕ) (name : Option (List ℕ)) (bytes : List ℕ) (disk : Disk) → (name ≡ Some p → ⊥) → appended name bytes disk p ≡ disk p
 written_other p None bytes disk h = refl
 written_other p (Some n) bytes disk h = put_other n p (append (disk n) bytes) disk (λ e. h (ap (λ x. Some x) (sym e)))
 
@@ -392,7 +392,7 @@ module _ (overwrite : Bool) (fronts : List OneFile) (one : OneFile) (backs : Lis
         let d = after (flat_map wrote_of fronts) third in
         let empty : d mine.name ≡ Some [] = spared mine.name (flat_map wrote_of fronts) third (all_writes_spare mine.name fronts (unnamed mine.name fronts name_fronts)) ∙ spared mine.name x.between second (all_still_spare mine.name x.between x.still.1) ∙ made_there in
         phase_at mine.name wrote_of fronts one backs third (all_writes_spare mine.name backs (unnamed mine.name backs name_backs))
-        ∙ ap (λ (g : Option (List ℕ)). written g one.out.bytes d mine.name) mine.is ∙ put_same mine.name (append (d mine.name) one.out.bytes) d ∙ ap (λ (b : Option (List ℕ)). append b one.out.bytes) empty
+        ∙ ap (λ (g : Option (List ℕ)). appended g one.out.bytes d mine.name) mine.is ∙ put_same mine.name (append (d mine.name) one.out.bytes) d ∙ ap (λ (b : Option (List ℕ)). append b one.out.bytes) empty
 
     -- it is kept
     pub kept_there : IsKeptWhole Pbfcutz overwrite one → after events disk one.output ≡ Some one.out.bytes

@@ -19,7 +19,7 @@ use Rattle.pbfcut_program.specs.OnDisk.{AreOutsOn, IsConfiguredOn, IsExtractOn}
 use Rattle.pbfcut_program.specs.SeveralChanges.{HandlesFiles, IsApart, IsHandled, IsKeptWhole, OneFile, Pairwise}
 use Rattle.pbfcut_program.specs.SeveralFiles.{looks_each}
 use Rattle.pbfcut_program.specs.SeveralGives.{GivesEach, GivesOne}
-use Rattle.pbfcut_program.specs.SeveralWrites.{ExtractsEach, OneOut, WritesOne, begun_each, each_lines, paths_of}
+use Rattle.pbfcut_program.specs.SeveralWrites.{OneOut, RunsExtractEach, WritesOne, begun_each, each_lines, paths_of}
 use Rattle.pbfcut_program.proofs.ConfiguredLemmas.{calm_area, config_calm}
 use Rattle.pbfcut_program.proofs.DiskLemmas.{allows_first, allows_past}
 use Rattle.pbfcut_program.proofs.EventLemmas.{each_both}
@@ -114,7 +114,7 @@ module _ (packs digests : Bool) (s : Strategy) (overwrite : Bool) (key : ℕ) (h
 regroup_each : (a b c d e f g : List Event) → a ++ (b ++ (c ++ (d ++ (e ++ (f ++ g))))) ≡ (a ++ b) ++ (c ++ (d ++ (e ++ (f ++ g))))
 regroup_each a b c d e f g = sym (append_assoc a b (c ++ (d ++ (e ++ (f ++ g)))))
 
-module _ (packs digests : Bool) (s : Strategy) (files : ConfigFiles) (events : List Event) (x : ExtractsEach (manner Pbfcutz packs digests) s files events) (disk : Disk) (a : AllowsAll disk events) (file : List ℕ) (there : disk files.input.now ≡ Some file) where
+module _ (packs digests : Bool) (s : Strategy) (files : ConfigFiles) (events : List Event) (x : RunsExtractEach (manner Pbfcutz packs digests) s files events) (disk : Disk) (a : AllowsAll disk events) (file : List ℕ) (there : disk files.input.now ≡ Some file) where
   abbrev ones : List OneOut
   ones = x.writes.ones
 

@@ -19,7 +19,7 @@ use Rattle.pbfcut_program.specs.declared.several_writing.DoneOut.{DoneOut}
 use Rattle.pbfcut_program.specs.ConfiguredCuts.{output_area_of}
 use Rattle.pbfcut_program.specs.Devices.{IsFreshOut}
 use Rattle.pbfcut_program.specs.Events.{Event, Reading, Writing, openings, read, seeded, wrote, then_all}
-use Rattle.pbfcut_program.specs.Fails.{Calm, Each, Opens, Quiet, TookNothing}
+use Rattle.pbfcut_program.specs.Fails.{Calm, Each, Opens, Quiet, WroteNothing}
 use Rattle.pbfcut_program.specs.Files.{IsDropped, IsKept, IsMade, Still}
 use Rattle.pbfcut_program.specs.Jobs.{area_of}
 use Rattle.pbfcut_program.specs.Leaving.{IsUnkept}
@@ -146,7 +146,7 @@ module _ (program : Program) (overwrite : Bool) where
 
 -- what was closed empty and dropped
 abbrev EndsEmpty : Program → (overwrite : Bool) → List OutPart → (css dss : List (List Event)) → List Ended → Type 0
-EndsEmpty program overwrite parts css dss ones = AllZip (IsEndedPart program overwrite) parts ones × (flatten css ≡ map (λ one. wrote one.out) ones) × (flatten dss ≡ flat_map (λ one. one.ends) ones) × Each TookNothing (flatten css) × Each IsUnkept (flatten css) × Each Silent (flatten css)
+EndsEmpty program overwrite parts css dss ones = AllZip (IsEndedPart program overwrite) parts ones × (flatten css ≡ map (λ one. wrote one.out) ones) × (flatten dss ≡ flat_map (λ one. one.ends) ones) × Each WroteNothing (flatten css) × Each IsUnkept (flatten css) × Each Silent (flatten css)
 
 module _ (program : Program) (overwrite : Bool) where
   ends_empty : (parts : List OutPart) (css dss : List (List Event)) → AllZip ClosesEmpty parts css → AllZip (DropsPart program) parts dss → (ones : List Ended) × EndsEmpty program overwrite parts css dss ones
@@ -161,7 +161,7 @@ module _ (program : Program) (overwrite : Bool) where
           (record { name = c.0.2; ended = inr (subst (λ n. IsDropped program n ds) (sym c.0.2) d.0) }, rest.1.0),
           ap (λ xs. xs ++ flatten css) is ∙ ap (λ xs. wrote w ∷ xs) rest.1.1,
           ap (λ xs. ds ++ xs) rest.1.2,
-          each_both TookNothing cs (flatten css) (subst (Each TookNothing) (sym is) (c.0.4, tt)) rest.1.3,
+          each_both WroteNothing cs (flatten css) (subst (Each WroteNothing) (sym is) (c.0.4, tt)) rest.1.3,
           each_both IsUnkept cs (flatten css) (subst (Each IsUnkept) (sym is) (c.0.3, tt)) rest.1.4,
           each_both Silent cs (flatten css) (subst (Each Silent) (sym is) (tt, tt)) rest.1.5,
         ),
@@ -190,7 +190,7 @@ module _ (program : Program) (overwrite : Bool) where
         and_then l u.first n makes (u.tries ++ (closes ++ drops)) u.makes.1 (and_then u.first u.second n u.tries (closes ++ drops) u.log (and_then u.second u.third n closes drops u.closes.1 u.drops.1)),
         record {
           cause = cause_after how makes (u.tries ++ (closes ++ drops)) (cause_before how u.tries (closes ++ drops) u.fails.1);
-          nothing = each_both TookNothing makes (u.tries ++ (closes ++ drops)) (nothing_in makes quiet) (each_both TookNothing u.tries (closes ++ drops) (nothing_in u.tries tries_quiet) (each_both TookNothing closes drops e.1.3 (nothing_in drops drops_quiet)));
+          nothing = each_both WroteNothing makes (u.tries ++ (closes ++ drops)) (nothing_in makes quiet) (each_both WroteNothing u.tries (closes ++ drops) (nothing_in u.tries tries_quiet) (each_both WroteNothing closes drops e.1.3 (nothing_in drops drops_quiet)));
           unkept = each_both IsUnkept makes (u.tries ++ (closes ++ drops)) (each_quiet IsUnkept quiet_unkept makes quiet) (each_both IsUnkept u.tries (closes ++ drops) (each_quiet IsUnkept quiet_unkept u.tries tries_quiet) (each_both IsUnkept closes drops e.1.4 (each_quiet IsUnkept quiet_unkept drops drops_quiet)));
           silent = each_both Silent makes (u.tries ++ (closes ++ drops)) (makes_silent program u.parts mss u.makes.2) (each_both Silent u.tries (closes ++ drops) (silent_of u.tries u.fails.0) (each_both Silent closes drops e.1.5 drops_silent));
           files = inr (subst (λ xs. HandlesEach program overwrite (paths_of (map output_area_of outs)) (makes ++ (u.tries ++ xs)))
@@ -284,7 +284,7 @@ module _ {D : Type 0} (d : drain.Ghosts D) where
 
 -- what was left, after quiet events
 pub left_after : (m : Manner) (s : Strategy) (has : List (Option (List ℕ))) (areas : List AreaSpec) (xs ys : List Event) → Each Quiet xs → AreLeft m s has areas ys → AreLeft m s has areas (xs ++ ys)
-left_after m s has areas xs ys q (inl (nothing, unkept)) = inl (each_both TookNothing xs ys (nothing_in xs q) nothing, each_both IsUnkept xs ys (each_quiet IsUnkept quiet_unkept xs q) unkept)
+left_after m s has areas xs ys q (inl (nothing, unkept)) = inl (each_both WroteNothing xs ys (nothing_in xs q) nothing, each_both IsUnkept xs ys (each_quiet IsUnkept quiet_unkept xs q) unkept)
 left_after m s has areas xs ys q (inr l) = inr (record {
   before = xs ++ l.before;
   rs = l.rs;

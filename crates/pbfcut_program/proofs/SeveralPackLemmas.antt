@@ -11,7 +11,7 @@ use Rattle.pbf_frame.specs.Devices.{IsFront}
 use Rattle.pbf_frame.proofs.Beginnings.{front_whole}
 use Rattle.pbf_pass.specs.declared.hashing.PassCheck.{PassCheck}
 use Rattle.pbf_unpack.specs.declared.drain.PackedDrain.{PackedDrain}
-use Rattle.pbf_unpack.specs.Packing.{GaveAll, HasPacked, failures_of_drain, taken_raw}
+use Rattle.pbf_unpack.specs.Packing.{GaveAll, HasCompressed, failures_of_drain, taken_raw}
 use Rattle.pbf_unpack.specs.Unpacked.{unpacked}
 use Rattle.pbfcut.specs.declared.carrying.AreaOutput.{AreaOutput}
 use Rattle.pbfcut.specs.Calls.{AllSupply}
@@ -29,19 +29,19 @@ use Rattle.pbfcut_program.specs.Fails.{EndsAsStop}
 use Rattle.pbfcut_program.specs.Leaving.{IsFrontAs}
 use Rattle.pbfcut_program.specs.Manner.{Manner, manner, packed_file}
 use Rattle.pbfcut_program.specs.Several.{report_with, result_with}
-use Rattle.pbfcut_program.specs.SeveralOuts.{AnyFailedInto, AreUnpacked, IsPacking, IsUnpacked, RunsRaw, RunsRawEach, RunsUnhashed, RunsUnhashedEach, cut_into}
+use Rattle.pbfcut_program.specs.SeveralOuts.{AnyFailedInto, AreUnpacked, IsPackingOver, IsUnpacked, RunsRaw, RunsRawEach, RunsUnhashed, RunsUnhashedEach, cut_into}
 use Rattle.pbfcut_program.proofs.EventLemmas.{has_risen}
 use Rattle.pbfcut_program.proofs.LeavingLemmas.{fresh_front, packed_front}
 use Rattle.pbfcut_program.proofs.Weaker.{Finished, front_lost, whole_lost, works_finished}
 
 -- what is said of a drain that packs
 abbrev pub packing : {D : Type 0} → (d : drain.Ghosts D) → drain.Ghosts (PackedDrain D d)
-packing d = record { taken = λ p. taken_raw p; failures = λ p. failures_of_drain p; lender = λ p. d.lender p.below.drain; has_taken = λ p log raw. HasPacked p log raw }
+packing d = record { taken = λ p. taken_raw p; failures = λ p. failures_of_drain p; lender = λ p. d.lender p.below.drain; has_taken = λ p log raw. HasCompressed p log raw }
 
 -- ---- lists that grow
 
-pub packing_more : {D : Type 0} {d : drain.Ghosts D} (xs : List (AreaOutput OutputArea D)) (ys : List (AreaOutput OutputArea (PackedDrain D d))) (x : AreaOutput OutputArea D) (y : AreaOutput OutputArea (PackedDrain D d)) → AllZip IsPacking xs ys → IsPacking x y → AllZip IsPacking (xs ++ x ∷ []) (ys ++ y ∷ [])
-packing_more xs ys x y all one = zip_more IsPacking xs ys x y all one
+pub packing_more : {D : Type 0} {d : drain.Ghosts D} (xs : List (AreaOutput OutputArea D)) (ys : List (AreaOutput OutputArea (PackedDrain D d))) (x : AreaOutput OutputArea D) (y : AreaOutput OutputArea (PackedDrain D d)) → AllZip IsPackingOver xs ys → IsPackingOver x y → AllZip IsPackingOver (xs ++ x ∷ []) (ys ++ y ∷ [])
+packing_more xs ys x y all one = zip_more IsPackingOver xs ys x y all one
 
 pub unpacked_more : {D : Type 0} {d : drain.Ghosts D} (xs : List (AreaOutput OutputArea (PackedDrain D d))) (ys : List (AreaOutput OutputArea D)) (x : AreaOutput OutputArea (PackedDrain D d)) (y : AreaOutput OutputArea D) (returned between result : Result InputDigests Halted)
     → AreUnpacked xs returned between ys → IsUnpacked x between result y → AreUnpacked (xs ++ x ∷ []) returned result (ys ++ y ∷ [])
@@ -192,7 +192,7 @@ module _ {F D : Type 0} (digests : Bool) (by : PassCheck) (s : Strategy) (f : fe
   -- a drain that packs, by what the run did with it
   record Between (failing : Type 0) (returned : Result InputDigests Halted) (old : AreaOutput OutputArea D) (mid : AreaOutput OutputArea (PackedDrain D d)) : Type 0 where
     over : AreaOutput OutputArea (PackedDrain D d)
-    begun : IsPacking old over
+    begun : IsPackingOver old over
     fresh : IsFreshOut d old.drain
     ran : RunsRaw (manner Pbfcutz true digests) by f (packing d) (cut_of old) olds news failing over mid (result_with returned mid.counts)
 
@@ -236,7 +236,7 @@ module _ {F D : Type 0} (digests : Bool) (by : PassCheck) (s : Strategy) (f : fe
 
   -- ---- all of them
 
-  module _ (befores : List (AreaOutput OutputArea D)) (overs mids : List (AreaOutput OutputArea (PackedDrain D d))) (afters : List (AreaOutput OutputArea D)) (fresh : AllByRecursion (λ (o : AreaOutput OutputArea D). IsFreshOut d o.drain) befores) (put : AllZip IsPacking befores overs) where
+  module _ (befores : List (AreaOutput OutputArea D)) (overs mids : List (AreaOutput OutputArea (PackedDrain D d))) (afters : List (AreaOutput OutputArea D)) (fresh : AllByRecursion (λ (o : AreaOutput OutputArea D). IsFreshOut d o.drain) befores) (put : AllZip IsPackingOver befores overs) where
     abbrev AnyRisen : Type 0
     AnyRisen = AnyZip (OutputFailed (packing d)) overs mids
 
@@ -247,14 +247,14 @@ module _ {F D : Type 0} (digests : Bool) (by : PassCheck) (s : Strategy) (f : fe
     AnyLost = AnyFailedInto (manner Pbfcutz true digests) s f d olds befores afters
 
     any_failing : AnyRisen → AnyFailing
-    any_failing risen = any_after IsPacking (OutputFailed (packing d)) (λ old mid. 0 < failures_of_drain mid.drain) (λ old over mid p up. has_risen _ _ up) befores overs mids put risen
+    any_failing risen = any_after IsPackingOver (OutputFailed (packing d)) (λ old mid. 0 < failures_of_drain mid.drain) (λ old over mid p up. has_risen _ _ up) befores overs mids put risen
 
     abbrev Over : Result InputDigests Halted → AreaOutput OutputArea D → AreaOutput OutputArea (PackedDrain D d) → Type 0
-    Over returned old mid = (over : AreaOutput OutputArea (PackedDrain D d)) × IsPacking old over × RunsRaw (manner Pbfcutz true digests) by f (packing d) (cut_of old) olds news AnyRisen over mid (result_with returned mid.counts)
+    Over returned old mid = (over : AreaOutput OutputArea (PackedDrain D d)) × IsPackingOver old over × RunsRaw (manner Pbfcutz true digests) by f (packing d) (cut_of old) olds news AnyRisen over mid (result_with returned mid.counts)
 
     between : (returned : Result InputDigests Halted) → RunsRawEach (manner Pbfcutz true digests) by s f (packing d) olds news overs mids returned → AllZip (Between AnyRisen returned) befores mids
     between returned ran = zip_with (λ (o : AreaOutput OutputArea D). IsFreshOut d o.drain) (Over returned) (Between AnyRisen returned) (λ old mid none b. record { over = b.0; begun = b.1; fresh = none; ran = b.2 }) befores mids fresh
-        (zip_then IsPacking (λ over mid. RunsRaw (manner Pbfcutz true digests) by f (packing d) (extracting s (cut_into over.area)) olds news AnyRisen over mid (result_with returned mid.counts)) (Over returned)
+        (zip_then IsPackingOver (λ over mid. RunsRaw (manner Pbfcutz true digests) by f (packing d) (extracting s (cut_into over.area)) olds news AnyRisen over mid (result_with returned mid.counts)) (Over returned)
         (λ old over mid p one. (over, p, subst (λ area. RunsRaw (manner Pbfcutz true digests) by f (packing d) (extracting s (cut_into area)) olds news AnyRisen over mid (result_with returned mid.counts)) p.area one)) befores overs mids put ran)
 
     told : (halted same : Halted) → Outcome {A = InputDigests} AnyFailing AnyLost (Err halted) (Err same) → Outcome {A = InputDigests} AnyRisen AnyLost (Err halted) (Err same)
@@ -278,14 +278,14 @@ module _ {F D : Type 0} (digests : Bool) (by : PassCheck) (s : Strategy) (f : fe
 
 -- by a program that packs
 pub packed_manner : {F D : Type 0} (program : Program) (packs digests : Bool) (by : PassCheck) (s : Strategy) (f : feed.Ghosts F) (d : drain.Ghosts D) (olds news : List F) (befores : List (AreaOutput OutputArea D)) (overs mids : List (AreaOutput OutputArea (PackedDrain D d))) (afters : List (AreaOutput OutputArea D)) (returned result : Result InputDigests Halted) → program ≡ Pbfcutz → packs ≡ true
-    → AllByRecursion (λ (o : AreaOutput OutputArea D). IsFreshOut d o.drain) befores → AllZip IsPacking befores overs → RunsRawEach (manner program packs digests) by s f (packing d) olds news overs mids returned → AreUnpacked mids returned result afters → RunsUnhashedEach (manner program packs digests) by s f d olds news befores afters result
+    → AllByRecursion (λ (o : AreaOutput OutputArea D). IsFreshOut d o.drain) befores → AllZip IsPackingOver befores overs → RunsRawEach (manner program packs digests) by s f (packing d) olds news overs mids returned → AreUnpacked mids returned result afters → RunsUnhashedEach (manner program packs digests) by s f d olds news befores afters result
 packed_manner Pbfcutz true digests by s f d olds news befores overs mids afters returned result is packs fresh put ran off = packed_each digests by s f d olds news befores overs mids afters fresh put returned result ran off
 packed_manner Pbfcutz false digests by s f d olds news befores overs mids afters returned result is packs fresh put ran off = (let bad : ⊥ = cc in absurd bad)
 packed_manner Pbfcut packs digests by s f d olds news befores overs mids afters returned result is all fresh put ran off = (let bad : ⊥ = cc in absurd bad)
 
 -- no drain is hashed before a run
-pub unhashed_packing : {D : Type 0} {d : drain.Ghosts D} (befores : List (AreaOutput OutputArea D)) (overs : List (AreaOutput OutputArea (PackedDrain D d))) → AllZip IsPacking befores overs → AllByRecursion (λ (o : AreaOutput OutputArea D). o.area.output ≡ None) befores → AllByRecursion (λ (o : AreaOutput OutputArea (PackedDrain D d)). o.area.output ≡ None) overs
-unhashed_packing {D} {d} befores overs put none = zip_right IsPacking (λ (o : AreaOutput OutputArea D). o.area.output ≡ None) (λ (o : AreaOutput OutputArea (PackedDrain D d)). o.area.output ≡ None) (λ old over p n. ap (λ (a : OutputArea). a.output) p.area ∙ n) befores overs put none
+pub unhashed_packing : {D : Type 0} {d : drain.Ghosts D} (befores : List (AreaOutput OutputArea D)) (overs : List (AreaOutput OutputArea (PackedDrain D d))) → AllZip IsPackingOver befores overs → AllByRecursion (λ (o : AreaOutput OutputArea D). o.area.output ≡ None) befores → AllByRecursion (λ (o : AreaOutput OutputArea (PackedDrain D d)). o.area.output ≡ None) overs
+unhashed_packing {D} {d} befores overs put none = zip_right IsPackingOver (λ (o : AreaOutput OutputArea D). o.area.output ≡ None) (λ (o : AreaOutput OutputArea (PackedDrain D d)). o.area.output ≡ None) (λ old over p n. ap (λ (a : OutputArea). a.output) p.area ∙ n) befores overs put none
 
 -- nothing was done, since memory was refused
 module _ {F D : Type 0} (m : Manner) (by : PassCheck) (s : Strategy) (f : feed.Ghosts F) (d : drain.Ghosts D) (olds : List F) (halted : Halted) (memory : halted.ending ≡ ending.Stopped stop.Memory) where

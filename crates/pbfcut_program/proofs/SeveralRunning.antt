@@ -28,7 +28,7 @@ use Rattle.pbfcut_program.specs.declared.several.OutputArea.{OutputArea}
 use Rattle.pbfcut_program.specs.declared.several_files.OutPart.{OutPart}
 use Rattle.pbfcut_program.specs.Devices.{AreFresh, Change, ChangesBy, CloseAll, EndsFor, MeansBy, StopsFor, TakenBy}
 use Rattle.pbfcut_program.specs.Events.{Event, Reading, Writing, read, wrote, then_all}
-use Rattle.pbfcut_program.specs.Fails.{CauseOfWrite, Each, Fails, FailsToFinish, FailsToWrite, Has, NearsLimit, TookNothing, judging, readings}
+use Rattle.pbfcut_program.specs.Fails.{CauseOfWrite, Each, Fails, FailsToFinish, FailsToWrite, Has, NearsLimit, WroteNothing, judging, readings}
 use Rattle.pbfcut_program.specs.Lines.{digest_if_asked}
 use Rattle.pbfcut_program.specs.Manner.{AreDigests, Form, Manner, hashes_meaning, manner, of_input, of_output, output_form, packed_file, raw_file}
 use Rattle.pbfcut_program.specs.Readings.{IsWork}
@@ -370,7 +370,7 @@ module _ {F D : Type 0} (program : Program) (packs digests : Bool) (by : PassChe
   closes_some [] (a ∷ ns) l n same c = absurd (omega (arith, same))
   closes_some (p ∷ ps) [] l n same c = absurd (omega (arith, same))
 
-  closes_none : (parts : List OutPart) (afters : List Out) (l n : Option (List Event)) → length parts ≡ length afters → OneByOne (FinishesUnkept d) (zip parts afters) l n → AllByRecursion (TakesOnly []) afters → (ws : List Writing) × (n ≡ then_all l (writes ws)) × Each TookNothing (writes ws) × AllZip Returned afters ws
+  closes_none : (parts : List OutPart) (afters : List Out) (l n : Option (List Event)) → length parts ≡ length afters → OneByOne (FinishesUnkept d) (zip parts afters) l n → AllByRecursion (TakesOnly []) afters → (ws : List Writing) × (n ≡ then_all l (writes ws)) × Each WroteNothing (writes ws) × AllZip Returned afters ws
   closes_none [] [] l n same c none = ([], c ∙ then_none l, tt, tt)
   closes_none (p ∷ ps) (a ∷ ns) l n same c none =
       let rest = closes_none ps ns c.0 n (omega (arith, same)) c.2 none.1 in

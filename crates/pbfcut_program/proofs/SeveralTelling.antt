@@ -21,12 +21,12 @@ use Rattle.pbfcut_program.specs.declared.several_writing.DoneOut.{DoneOut}
 use Rattle.pbfcut_program.specs.Configured.{MeansConfig, OutputArea as ConfiguredArea}
 use Rattle.pbfcut_program.specs.ConfiguredCuts.{output_area_of}
 use Rattle.pbfcut_program.specs.Events.{Event, read, then_all, wrote}
-use Rattle.pbfcut_program.specs.Fails.{CauseOfOpening, Each, Fails, FailsFor, Judging, Opens, Quiet, TookNothing, judging}
+use Rattle.pbfcut_program.specs.Fails.{CauseOfOpening, Each, Fails, FailsFor, Judging, Opens, Quiet, WroteNothing, judging}
 use Rattle.pbfcut_program.specs.Lines.{check_lines, prints}
 use Rattle.pbfcut_program.specs.Manner.{Manner, check_of}
 use Rattle.pbfcut_program.specs.SeveralEnds.{EndsEach, outs_lines}
 use Rattle.pbfcut_program.specs.SeveralFiles.{MakesEach, flatten}
-use Rattle.pbfcut_program.specs.SeveralWrites.{AllGiveRaw, AreLeftFor, ExtractsEach, OneOut, WritesEach, WritesOne, areas_of, begun_each, each_lines, folder_of, paths_of}
+use Rattle.pbfcut_program.specs.SeveralWrites.{AllGiveRaw, AreLeftFor, OneOut, RunsExtractEach, WritesOne, WritesOuts, areas_of, begun_each, each_lines, folder_of, paths_of}
 use Rattle.pbfcut_program.specs.Telling.{IsSaid}
 use Rattle.pbfcut_program.proofs.EventLemmas.{each_both, quiet_of}
 use Rattle.pbfcut_program.proofs.FailLemmas.{TellsSome, broken_fails, failed_after, fails_early, memory_fails, opens_before}
@@ -38,7 +38,7 @@ use Rattle.pbfcut_program.proofs.SeveralMaking.{AreWritten, are_written, begun_c
 
 -- ---- OUTs that can't be made
 
-cause_caused : (m : Manner) (j : Judging) (how : Ending) (events : List Event) → CauseOfOpening how events → Each TookNothing events → Fails m j [] how events
+cause_caused : (m : Manner) (j : Judging) (how : Ending) (events : List Event) → CauseOfOpening how events → Each WroteNothing events → Fails m j [] how events
 cause_caused m j ending.CannotOpen events c none = (c, none)
 cause_caused m j ending.IsPipe events c none = (c, none)
 cause_caused m j ending.OutExists events c none = inl (c, none)
@@ -47,7 +47,7 @@ cause_caused m j (ending.Config e) events c none = (c, none)
 cause_caused m j (ending.Stopped stop.Memory) events c none = memory_fails m j [] events
 cause_caused m j _ events c none = absurd c
 
-pub cause_fails : (m : Manner) (j : Judging) (how : Ending) (first events : List Event) → Each Quiet first → CauseOfOpening how events → Each TookNothing events → FailsFor m j how (first ++ events)
+pub cause_fails : (m : Manner) (j : Judging) (how : Ending) (first events : List Event) → Each Quiet first → CauseOfOpening how events → Each WroteNothing events → FailsFor m j how (first ++ events)
 cause_fails m j how first events quiet c none = failed_after m j how first events quiet (fails_early m j how events (cause_caused m j how events c none))
 
 -- ---- lines
@@ -106,7 +106,7 @@ module _ {D : Type 0} (d : drain.Ghosts D) (m : Manner) (s : Strategy) (files : 
   same_lines : each_lines m.digests digest raw files.input.now are.ones ≡ lines
   same_lines = ap (λ xs. check_lines m.digests digest raw files.input.now ++ xs) are.lines
 
-  writes_all : WritesEach m s files areas (before ++ prints Output lines)
+  writes_all : WritesOuts m s files areas (before ++ prints Output lines)
   writes_all = record {
     has = has;
     rs = ended.rs;
@@ -125,19 +125,19 @@ module _ {D : Type 0} (d : drain.Ghosts D) (m : Manner) (s : Strategy) (files : 
   }
 
   -- all lines were printed
-  pub written_each : (q : Option (List Event)) → q ≡ then_all p (prints Output lines) → (events : List Event) × (q ≡ then_all k events) × WritesEach m s files areas events
+  pub written_each : (q : Option (List Event)) → q ≡ then_all p (prints Output lines) → (events : List Event) × (q ≡ then_all k events) × WritesOuts m s files areas events
   written_each q log = (before ++ prints Output lines, and_then k p q before (prints Output lines) happened log, writes_all)
 
   -- one of them wasn't
   pub printed_each : (how : Ending) (q : Option (List Event)) → TellsSome p q (prints Output lines) how
-      → (events : List Event) × (q ≡ then_all k events) × FailsFor m (judging (judge_by s) (AllGiveRaw s (areas_of areas))) how events × AreLeftFor m s (areas_of areas) events × IsSaid m.digests (WritesEach m s files areas) how events
+      → (events : List Event) × (q ≡ then_all k events) × FailsFor m (judging (judge_by s) (AllGiveRaw s (areas_of areas))) how events × AreLeftFor m s (areas_of areas) events × IsSaid m.digests (WritesOuts m s files areas) how events
   printed_each how q t =
-      let broken = lines_in (WritesEach m s files areas) before (prints Output lines) how t.0 writes_all t.2 in
+      let broken = lines_in (WritesOuts m s files areas) before (prints Output lines) how t.0 writes_all t.2 in
       let calm = begun_calm files (map (λ out. string_bytes out.output) outs) has key in
       let ends_quiet = subst (Each Quiet) are.ends (names_quiet m s files.overwrite key has digest raw areas are.ones are.each) in (
         before ++ t.0,
         and_then k p q before t.0 happened t.1,
-        broken_fails m (judging (judge_by s) (AllGiveRaw s (areas_of areas))) (WritesEach m s files areas) how (before ++ t.0) broken,
+        broken_fails m (judging (judge_by s) (AllGiveRaw s (areas_of areas))) (WritesOuts m s files areas) how (before ++ t.0) broken,
         record {
           has = has;
           opens = opens_before 1 has before t.0 (opens_before 1 has first (makes ++ (reads ++ (outs_closed ++ names))) (begun_opens files (map (λ out. string_bytes out.output) outs) has key));
@@ -159,5 +159,5 @@ module _ {D : Type 0} (d : drain.Ghosts D) (m : Manner) (s : Strategy) (files : 
 -- ---- the whole command
 
 -- what would have ended well is what an extract of all areas does
-pub extracts_all : (m : Manner) (s : Strategy) (files : ConfigFiles) (areas : List ConfiguredArea) (before : List Event) → MeansConfig files.config.now (folder_of files) before areas → (all : List Event) → WritesEach m s files areas all → (ys : List Event) × ExtractsEach m s files (before ++ (all ++ ys))
+pub extracts_all : (m : Manner) (s : Strategy) (files : ConfigFiles) (areas : List ConfiguredArea) (before : List Event) → MeansConfig files.config.now (folder_of files) before areas → (all : List Event) → WritesOuts m s files areas all → (ys : List Event) × RunsExtractEach m s files (before ++ (all ++ ys))
 extracts_all m s files areas before means all w = ([], record { outs = areas; before = before; after = all; happened = ap (λ es. before ++ es) (append-nil all); means = means; writes = w })

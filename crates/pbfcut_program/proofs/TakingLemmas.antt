@@ -13,11 +13,11 @@ use Rattle.pbfcut_cli.specs.declared.words.Strategy.{Strategy}
 use Rattle.pbfcut_program.specs.Events.{Event, Reading, read, wrote}
 use Rattle.pbfcut_program.specs.Fails.{Each}
 use Rattle.pbfcut_program.specs.Manner.{Manner, of_input, of_output}
-use Rattle.pbfcut_program.specs.Program.{Extracts, Writes, WritesCounts, advice, begun, is_screen, screen_of, strategy_of}
+use Rattle.pbfcut_program.specs.Program.{RunsExtract, Writes, WritesCounts, advice, begun, is_screen, screen_of, strategy_of}
 use Rattle.pbfcut_program.specs.Lines.{counts_text, done_lines, prints}
 use Rattle.pbfcut_program.specs.Readings.{IsWhole, ReadAll, ReadLater}
 use Rattle.pbfcut_program.specs.Taking.{Happened, ReadOf, ReadsOnly, TookConversion, TookCopy, TookExtract, TookWhole}
-use Rattle.pbfcut.specs.Tasks.{Holds, Task, converting, copying, extracting}
+use Rattle.pbfcut.specs.Tasks.{Task, TaskHolds, converting, copying, extracting}
 
 -- ---- events
 
@@ -102,7 +102,7 @@ module _ (file : List ℕ) where
 
   -- ---- what holds of the files that were read holds of the one
 
-  pub holds_extract : (m : Manner) (by : selection.Strategy) (area : AreaSpec) (bs : List (List ℕ)) (counts : Counts) (written : List ℕ) → AllAre bs → Holds (extracting by area) (map (of_input m) bs) counts written → IsExtraction by area (of_input m file) counts written
+  pub holds_extract : (m : Manner) (by : selection.Strategy) (area : AreaSpec) (bs : List (List ℕ)) (counts : Counts) (written : List ℕ) → AllAre bs → TaskHolds (extracting by area) (map (of_input m) bs) counts written → IsExtraction by area (of_input m file) counts written
   holds_extract m by area (b ∷ c ∷ d ∷ []) counts written are h =
       let one = ap (of_input m) are.0 in
       subst (λ (f : List ℕ). IsExtraction by area f counts written) one (h.1 (one ∙ sym (ap (of_input m) are.1.0)) (one ∙ sym (ap (of_input m) are.1.1.0)))
@@ -114,7 +114,7 @@ module _ (file : List ℕ) where
   holds_extract m by area (b ∷ c ∷ []) counts written are h = absurd h
   holds_extract m by area (b ∷ c ∷ d ∷ e ∷ f ∷ bs) counts written are h = absurd h
 
-  holds_convert : (m : Manner) (bs : List (List ℕ)) (counts : Counts) (written : List ℕ) → AllAre bs → Holds converting (map (of_input m) bs) counts written → IsConverted (of_input m file) counts written
+  holds_convert : (m : Manner) (bs : List (List ℕ)) (counts : Counts) (written : List ℕ) → AllAre bs → TaskHolds converting (map (of_input m) bs) counts written → IsConverted (of_input m file) counts written
   holds_convert m (b ∷ c ∷ []) counts written are h =
       let one = ap (of_input m) are.0 in
       subst (λ (f : List ℕ). IsConverted f counts written) one (h.1 (one ∙ sym (ap (of_input m) are.1.0)))
@@ -122,7 +122,7 @@ module _ (file : List ℕ) where
   holds_convert m (b ∷ []) counts written are h = absurd h
   holds_convert m (b ∷ c ∷ d ∷ bs) counts written are h = absurd h
 
-  holds_copy : (m : Manner) (bs : List (List ℕ)) (counts : Counts) (written : List ℕ) → AllAre bs → Holds copying (map (of_input m) bs) counts written → written ≡ of_input m file
+  holds_copy : (m : Manner) (bs : List (List ℕ)) (counts : Counts) (written : List ℕ) → AllAre bs → TaskHolds copying (map (of_input m) bs) counts written → written ≡ of_input m file
   holds_copy m (b ∷ c ∷ []) counts written are h = h.1 ∙ ap (of_input m) are.1.0
   holds_copy m [] counts written are h = absurd h
   holds_copy m (b ∷ []) counts written are h = absurd h
@@ -165,7 +165,7 @@ module _ (file : List ℕ) where
 
   -- ---- of `extract`
 
-  module _ (m : Manner) (cut : Region) (by : Strategy) (files : Files) (events : List Event) (x : Extracts m cut by files events) where
+  module _ (m : Manner) (cut : Region) (by : Strategy) (files : Files) (events : List Event) (x : RunsExtract m cut by files events) where
     abbrev task : Task
     task = extracting (strategy_of by) x.area
 

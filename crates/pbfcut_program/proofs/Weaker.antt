@@ -11,7 +11,7 @@ use Rattle.pbf_frame.specs.Verdict.{Verdict}
 use Rattle.pbf_pass.specs.Stops.{WriteFailed}
 use Rattle.pbf_pass.specs.declared.hashing.PassCheck.{PassCheck}
 use Rattle.pbf_unpack.specs.declared.drain.PackedDrain.{PackedDrain}
-use Rattle.pbf_unpack.specs.Packing.{GaveAll, HasPacked, failures_of_drain, frame_held, taken_raw}
+use Rattle.pbf_unpack.specs.Packing.{GaveAll, HasCompressed, failures_of_drain, frame_held, taken_raw}
 use Rattle.pbf_unpack.specs.RawFrames.{IsRawFile}
 use Rattle.pbf_unpack.specs.Unpacked.{Unpacked, unpacked}
 use Rattle.pbf_unpack.proofs.PackingLemmas.{packed_means}
@@ -27,7 +27,7 @@ use Rattle.pbfcut_program.specs.declared.engine.Halted.{Halted}
 use Rattle.pbfcut_program.specs.Devices.{ChangesBy, DrainFailed, EndsFor, FinishesPacked, Fronts, MeansBy, PackingFailed, Wholes, Works}
 use Rattle.pbfcut_program.specs.Fails.{EndsAsStop}
 use Rattle.pbfcut_program.specs.Manner.{Form, manner, of_input, output_form, packed_file, raw_file}
-use Rattle.pbfcut.specs.Tasks.{Holds, Task, answer_of, judge_of}
+use Rattle.pbfcut.specs.Tasks.{Task, TaskHolds, answer_of, judge_of}
 use Rattle.pbfcut_program.proofs.EventLemmas.{has_risen}
 use Rattle.pbfcut_program.proofs.FailLemmas.{caused_weaker}
 
@@ -62,7 +62,7 @@ first_none [] ys is = refl
 first_none (x ∷ xs) ys is = (let bad : ⊥ = cc in absurd bad)
 
 -- what took nothing gave nothing
-none_packed : {D : Type 0} {d : drain.Ghosts D} (p : PackedDrain D d) (log : ℕ) → HasPacked p log [] → d.has_taken p.below.drain log []
+none_packed : {D : Type 0} {d : drain.Ghosts D} (p : PackedDrain D d) (log : ℕ) → HasCompressed p log [] → d.has_taken p.below.drain log []
 none_packed {d = d} p log has = grind (arith, packed_means has.done has.packed has.means, d.has_taken p.below.drain log, means_none 0 has.packed ((ap (λ (u : Unpacked). u.0) (packed_means has.done has.packed has.means)) ∙ first_none has.done (frame_held p.frame) has.split), first_none has.done (frame_held p.frame) has.split)
 
 -- what a drain took that had taken nothing, and what it is the beginning of
@@ -82,7 +82,7 @@ Finished mid new failed lost (Err halted) (Ok report) = ⊥
 module _ (digests : Bool) (by : PassCheck) {F D : Type 0} (f : feed.Ghosts F) {d : drain.Ghosts D} (mid new : PackedDrain D d) (digest : Option (List ℕ)) (task : Task) (olds news : List F) (failed lost : Type 0) where
   -- what a drain took that packs, and what OUT took once it was finished
   abbrev Above : List ℕ → Type 0
-  Above w = HasPacked mid 0 w × IfSome digest (λ known. known ≡ sha256 w)
+  Above w = HasCompressed mid 0 w × IfSome digest (λ known. known ≡ sha256 w)
 
   abbrev Below : List ℕ → Type 0
   Below w = d.has_taken new.below.drain 0 w × MeansBy packed_file digest w
@@ -125,7 +125,7 @@ module _ (digests : Bool) (by : PassCheck) {F D : Type 0} (f : feed.Ghosts F) {d
         written = p.packed;
         gave = works.gave;
         took_them = (p.has_them, subst (λ w. IfSome digest (λ known. known ≡ sha256 w)) (sym means) works.took_them.1);
-        holds = subst (λ w. Holds task (map (of_input (manner Pbfcutz true digests)) works.files) report.counts w) (sym means) works.holds;
+        holds = subst (λ w. TaskHolds task (map (of_input (manner Pbfcutz true digests)) works.files) report.counts w) (sym means) works.holds;
       }
   works_finished true (Ok report) (Err halted) is (inl none) works = memory_packed halted.ending none
   works_finished true (Ok report) (Err halted) is (inr (wrote, why)) works = write_packed halted.ending wrote why
@@ -163,6 +163,6 @@ module _ {D : Type 0} {d : drain.Ghosts D} (mid new : PackedDrain D d) (task : T
     -- zlib blobs are what OUT gets
     pub works_packed : (digests : Bool) (by : PassCheck) {F : Type 0} (f : feed.Ghosts F) (digest : Option (List ℕ)) (olds news : List F) (packs : Bool) (returned result : Result Report Halted) → packs ≡ true → FinishesPacked mid new returned result
         → Fronts packed_file task has before (taken_raw mid) returned → Wholes packed_file task has before (taken_raw mid) returned
-        → Works (manner Pbfcutz false digests) by f task olds news (λ w. HasPacked mid 0 w × IfSome digest (λ known. known ≡ sha256 w)) failed returned
+        → Works (manner Pbfcutz false digests) by f task olds news (λ w. HasCompressed mid 0 w × IfSome digest (λ known. known ≡ sha256 w)) failed returned
         → Works (manner Pbfcutz packs digests) by f task olds news (λ w. d.has_taken new.below.drain 0 w × MeansBy packed_file digest w) Lost result
     works_packed digests by f digest olds news packs returned result is fin front whole works = works_finished digests by f mid new digest task olds news failed Lost packs returned result is (finished returned result fin front whole) works

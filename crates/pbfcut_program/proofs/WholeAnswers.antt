@@ -11,7 +11,7 @@ use Rattle.pbf_unpack.specs.Unpacked.{unpacked}
 use Rattle.pbfcut.specs.Calls.{AllSupply, TookBy, drained, used}
 use Rattle.pbfcut.specs.Kept.{conversion_of, extract_of}
 use Rattle.pbfcut.specs.Showing.{Shown, answer_text}
-use Rattle.pbfcut.specs.Tasks.{Holds, Task, answer_of, checking, converting, copying, extracting, showing, spares}
+use Rattle.pbfcut.specs.Tasks.{Task, TaskHolds, answer_of, checking, converting, copying, extracting, showing, spares}
 use Rattle.pbf_published.specs.declared.input.PublishedHalt.{PublishedHalt}
 use Rattle.pbf_published.specs.declared.input.PublishedInput.{PublishedInput}
 use Rattle.pbf_published.specs.Published.{GaveEachOrNone, GavePublishedEach}
@@ -31,7 +31,7 @@ AreAll b (file ∷ files) = (file ≡ b) × AreAll b files
 text_is : (dates : Bool) (file written : List ℕ) → Shown dates (judged_file (Some file)) written → written ≡ answer_of (showing dates) file
 text_is dates file written shown = shown.is ∙ ap (answer_text dates) (sym shown.says)
 
-written_is : (t : Task) (b : List ℕ) (files : List (List ℕ)) (counts : Counts) (w : List ℕ) → AreAll b files → Holds t files counts w → w ≡ answer_of t b
+written_is : (t : Task) (b : List ℕ) (files : List (List ℕ)) (counts : Counts) (w : List ℕ) → AreAll b files → TaskHolds t files counts w → w ≡ answer_of t b
 written_is checking b (x ∷ []) counts w all holds = holds.1
 written_is (showing dates) b (x ∷ y ∷ []) counts w all holds = subst (λ file. w ≡ answer_of (showing dates) file) all.1.0 (text_is dates y w holds.1)
 written_is converting b (x ∷ y ∷ []) counts w all holds = subst (λ file. w ≡ conversion_of file) all.0 (holds.1 (all.0 ∙ sym all.1.0)).1.is
@@ -75,7 +75,7 @@ published_whole f d out out_now by task (old ∷ olds) (now ∷ news) (Ok receip
     let given = does.receipt in
     let raw = unpacked given.packed in
     let same : raw ≡ unpacked bytes = ap unpacked (sym (given.told bytes all.0)) in
-    let more = some_given f _ _ bytes (spares task) olds news raw (λ some files. TookBy (drained d out out_now) (λ w. Holds task (raw ∷ some ++ files) receipt.counts w)) same (omega (arith, many)) given.holding all.1 in
+    let more = some_given f _ _ bytes (spares task) olds news raw (λ some files. TookBy (drained d out out_now) (λ w. TaskHolds task (raw ∷ some ++ files) receipt.counts w)) same (omega (arith, many)) given.holding all.1 in
     let took = more.3 in
     subst (λ w. d.taken out_now ≡ append (d.taken out) w) (written_is task (unpacked bytes) (raw ∷ more.0 ++ more.1) receipt.counts took.written (same, more.2) took.holding) took.added.told
 published_whole f d out out_now by task (old ∷ olds) (now ∷ news) (Err halt) (Err halted) many does r = tt

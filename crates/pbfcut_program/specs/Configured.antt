@@ -4,7 +4,7 @@ use Rattle.osm_area.specs.Area.{AreaSpec, box_area}
 use Rattle.osm_config.specs.Areas.{AreaMember, in_box, in_polygons, in_file}
 use Rattle.osm_config.specs.Configs.{ExtractSpec}
 use Rattle.osm_config.specs.Paths.{extracts_of_text}
-use Rattle.osm_config.specs.Readings.{fault_of}
+use Rattle.osm_config.specs.Readings.{fault_spec_of}
 use Rattle.osm_polygon.specs.Polygon.{Rings}
 use Rattle.osm_polygon.specs.Polygons.{polygons_area, polygons_of}
 use Rattle.osm_polygon.specs.Texts.{polygons_of_text}
@@ -48,7 +48,7 @@ pub record MeansConfig (config : List ℕ) (folder : Option (List ℕ)) (events 
 
 -- the text isn't read, or is no configuration, by its first fault
 abbrev pub FailsText : (config : List ℕ) → (folder : Option (List ℕ)) → Ending → List Event → Type 0
-FailsText config folder (ending.Config fault) events = (text : List ℕ) × (events ≡ text_read config text ∷ []) × (extracts_of_text config folder text ≡ Err (fault_of fault))
+FailsText config folder (ending.Config fault) events = (text : List ℕ) × (events ≡ text_read config text ∷ []) × (extracts_of_text config folder text ≡ Err (fault_spec_of fault))
 FailsText config folder ending.CannotOpen events = events ≡ text_not_read config ∷ []
 FailsText config folder (ending.Stopped stop.Memory) events = Unit {0}
 FailsText config folder _ events = ⊥

@@ -8,7 +8,7 @@ use Rattle.pbf_frame.specs.declared.stop.Stop.TheVariants as stop
 use Rattle.pbf_frame.specs.Devices.{IsAtEnd, IsFront, append}
 use Rattle.pbf_frame.specs.Verdict.{Verdict}
 use Rattle.pbf_pass.specs.Stops.{Caused, WriteFailed}
-use Rattle.pbf_published.specs.Published.{ChangedOf}
+use Rattle.pbf_published.specs.Published.{PassChanged}
 use Rattle.pbf_unpack.specs.declared.drain.PackedDrain.{PackedDrain}
 use Rattle.pbf_unpack.specs.Packing.{GaveAll, failures_of_drain, taken_raw}
 use Rattle.pbf_unpack.specs.RawFrames.{IsNearLimit, IsRawFile}
@@ -27,18 +27,18 @@ use Rattle.pbfcut_program.specs.Events.{Event, read, wrote, then_one}
 use Rattle.pbfcut_program.specs.Fails.{CauseOfWrite, EndsAsStop, FirstFault}
 use Rattle.pbfcut_program.specs.Leaving.{IsFrontAs}
 use Rattle.pbfcut_program.specs.Manner.{AreDigests, Form, Manner, input_form, meant, of_input, of_output, packed_file, raw_file, to_raw}
-use Rattle.pbfcut_program.specs.Readings.{IsFaulty, IsOther}
-use Rattle.pbfcut.specs.Tasks.{Task, Holds, answer_of, judge_of, spares}
+use Rattle.pbfcut_program.specs.Readings.{ShowsFault, IsOther}
+use Rattle.pbfcut.specs.Tasks.{Task, TaskHolds, answer_of, judge_of, spares}
 use Rattle.pbfcut_program.specs.Tasks.{GivesRaw}
 
 -- ---- devices of which nothing was read, and that took nothing
 
-abbrev pub IsFresh : {F : Type 0} → feed.Ghosts F → F → Type 0
-IsFresh f one = f.has_passed one 0 [] × (f.failures one ≡ 0)
+abbrev pub IsFreshFeed : {F : Type 0} → feed.Ghosts F → F → Type 0
+IsFreshFeed f one = f.has_passed one 0 [] × (f.failures one ≡ 0)
 
 abbrev pub AreFresh : {F : Type 0} → feed.Ghosts F → List F → Type 0
 AreFresh f [] = Unit {0}
-AreFresh f (one ∷ more) = IsFresh f one × AreFresh f more
+AreFresh f (one ∷ more) = IsFreshFeed f one × AreFresh f more
 
 abbrev pub IsFreshOut : {D : Type 0} → drain.Ghosts D → D → Type 0
 IsFreshOut d out = d.has_taken out 0 [] × IfSome (d.taken out) (λ taken. taken ≡ []) × (d.failures out ≡ 0)
@@ -64,14 +64,14 @@ CloseAll f (now ∷ more) before after = (between : Option (List Event)) × Clos
 -- ---- what feeds gave
 
 -- a feed gave this file, to its end, of which this is known
-pub record Gives {F : Type 0} (f : feed.Ghosts F) (known : List ℕ → Type 0) (now : F) (file : List ℕ) : Type 0 where
+pub record GivesToEnd {F : Type 0} (f : feed.Ghosts F) (known : List ℕ → Type 0) (now : F) (file : List ℕ) : Type 0 where
   pub passed : f.has_passed now 0 file
   pub end : IsAtEnd (f.remaining now)
   pub is_known : known file
 
 -- it did, and that is what it had, if it reports it
 abbrev pub GivesIts : {F : Type 0} → feed.Ghosts F → (List ℕ → Type 0) → (old now : F) → List ℕ → Type 0
-GivesIts f known old now file = Gives f known now file × IfSome (f.remaining old) (λ all. all ≡ file)
+GivesIts f known old now file = GivesToEnd f known now file × IfSome (f.remaining old) (λ all. all ≡ file)
 
 -- a later one did; or it was spared, as so many of those that follow may be
 abbrev pub GivesOrNot : {F : Type 0} → feed.Ghosts F → (List ℕ → Type 0) → ℕ → (first : List ℕ) → (old now : F) → List ℕ → Type 0
@@ -92,7 +92,7 @@ GiveAll f known may _ _ _ = ⊥
 pub record GivesFaulty {F : Type 0} (f : feed.Ghosts F) (judge : Option (List ℕ) → Option Verdict) (fault : Fault) (now : F) : Type 0 where
   pub bytes : List ℕ
   pub passed : f.has_passed now 0 bytes
-  pub faulty : IsFaulty judge fault bytes (f.remaining now)
+  pub faulty : ShowsFault judge fault bytes (f.remaining now)
 
 abbrev pub FirstGivesFaulty : {F : Type 0} → feed.Ghosts F → (Option (List ℕ) → Option Verdict) → Fault → (olds news : List F) → Type 0
 FirstGivesFaulty f judge fault (old ∷ olds) (now ∷ news) = GivesFaulty f judge fault now
@@ -113,7 +113,7 @@ GivesOtherAt f file _ _ _ = ⊥
 -- the first feed gave a file, and that of this pass another; unless it is the last pass, nothing went out
 pub record ChangeIn {F : Type 0} (f : feed.Ghosts F) (nothing : Type 0) (pass : ℕ) (now : F) (olds news : List F) : Type 0 where
   pub file : List ℕ
-  pub first : Gives f (λ _. Unit {0}) now file
+  pub first : GivesToEnd f (λ _. Unit {0}) now file
   pub at : ℕ
   pub pass_is : pass ≡ at + 2
   pub other : GivesOtherAt f file at olds news
@@ -131,7 +131,7 @@ RefusesBy Pbfcutz f judge fault olds news = FirstFault packed_file judge fault (
 -- the same of a change
 abbrev pub ChangesBy : {F : Type 0} → Program → feed.Ghosts F → (nothing : Type 0) → ℕ → (olds news : List F) → Type 0
 ChangesBy Pbfcut f nothing pass olds news = Change f nothing pass olds news
-ChangesBy Pbfcutz f nothing pass olds news = ChangedOf (map f.remaining olds) pass
+ChangesBy Pbfcutz f nothing pass olds news = PassChanged (map f.remaining olds) pass
 
 abbrev pub StopsFor : {F : Type 0} → Program → feed.Ghosts F → (Option (List ℕ) → Option Verdict) → (olds news : List F) → (nothing failed : Type 0) → Stop → Type 0
 StopsFor program f judge olds news nothing failed s = Caused (λ fault. RefusesBy program f judge fault olds news × nothing) (AnyFailed (used f olds news)) failed (λ pass. ChangesBy program f nothing pass olds news) s
@@ -148,7 +148,7 @@ pub record Reports {F : Type 0} (f : feed.Ghosts F) (m : Manner) (by : PassCheck
   pub written : List ℕ
   pub gave : GiveAll f (AreDigests m by report.input report.raw) (spares task) olds news files
   pub took_them : took written
-  pub holds : Holds task (map (of_input m) files) report.counts (of_output m written)
+  pub holds : TaskHolds task (map (of_input m) files) report.counts (of_output m written)
 
 abbrev pub Works : {F : Type 0} → Manner → PassCheck → feed.Ghosts F → Task → (olds news : List F) → (took : List ℕ → Type 0) → (failed : Type 0) → Result Report Halted → Type 0
 Works m by f task olds news took failed (Ok report) = Reports f m by task olds news took report
@@ -193,8 +193,8 @@ abbrev pub PackingFailed : {D : Type 0} {d : drain.Ghosts D} → PackedDrain D d
 PackingFailed {d = d} p rest = IfSome (taken_raw p) (λ raw. IsRawFile (raw ++ rest)) → (0 < d.failures p.below.drain) ⊎ IfSome (d.taken p.below.drain) IsNearLimit
 
 -- an ending is shown as it is; or as refused memory, which it is if a write failed for that
-abbrev pub IsNamed : (of_drain : Option Stop) → (how shown : Ending) → Type 0
-IsNamed of_drain how shown = (shown ≡ ending.Stopped stop.Memory) ⊎ ((shown ≡ how) × (how ≡ ending.Stopped stop.Write → of_drain ≡ Some stop.Memory → ⊥))
+abbrev pub IsShownAs : (of_drain : Option Stop) → (how shown : Ending) → Type 0
+IsShownAs of_drain how shown = (shown ≡ ending.Stopped stop.Memory) ⊎ ((shown ≡ how) × (how ≡ ending.Stopped stop.Write → of_drain ≡ Some stop.Memory → ⊥))
 
 -- what a call came to, and what that comes to once its drain, which packs, is finished
 abbrev pub FinishesPacked : {A D : Type 0} {d : drain.Ghosts D} → (old new : PackedDrain D d) → (returned result : Result A Halted) → Type 0

@@ -1,7 +1,7 @@
 -- Why a command fails, by what happened.
 use Rattle.std.specs.Prelude.{◌≡◌, ◌⊎◌, ℕ, ◌+◌, ◌<◌, List, [], ◌∷◌, ◌++◌, length, true, false, Option, None, Some, Err}
 use Rattle.osm_config.specs.Paths.{extracts_of_text}
-use Rattle.osm_config.specs.Readings.{fault_of}
+use Rattle.osm_config.specs.Readings.{fault_spec_of}
 use Rattle.osm_config.specs.declared.fault.ConfigFault.{ConfigFault}
 use Rattle.osm_polygon.specs.declared.fault.PolyFault.{PolyFault}
 use Rattle.osm_polygon.specs.Texts.{polygons_of_text}
@@ -11,7 +11,7 @@ use Rattle.pbf_frame.specs.Verdict.{Verdict, judged_known}
 use Rattle.pbf_frame.specs.declared.stop.Stop.{Stop}
 use Rattle.pbf_frame.specs.declared.stop.Stop.TheVariants as stop
 use Rattle.pbf_pass.specs.Stops.{Caused, FaultOf, unchanged}
-use Rattle.pbf_published.specs.Published.{ChangedOf}
+use Rattle.pbf_published.specs.Published.{PassChanged}
 use Rattle.pbf_unpack.specs.RawFrames.{IsNearLimit}
 use Rattle.pbf_unpack.specs.Unpacked.{unpacked}
 use Rattle.pbfcut.specs.Calls.{AllSupply}
@@ -27,7 +27,7 @@ use Rattle.pbfcut_program.specs.declared.host.OpenFault.TheVariants as opening
 use Rattle.pbfcut_program.specs.declared.host.PrintFault.TheVariants as line
 use Rattle.pbfcut_program.specs.Events.{Event, Reading, text_read, text_not_read, looked, opened, not_opened, seeded, made, not_made, linked, moved, renamed, removed, stays, not_named, not_synced, read, wrote, printed, told, advised}
 use Rattle.pbfcut_program.specs.Manner.{Form, Manner, input_form, meant_known, output_form, packed_file, raw_file}
-use Rattle.pbfcut_program.specs.Readings.{IsFaulty, IsOther}
+use Rattle.pbfcut_program.specs.Readings.{ShowsFault, IsOther}
 use Rattle.pbfcut.specs.Tasks.{Task, judge_of}
 use Rattle.pbfcut_program.specs.Tasks.{GivesRaw}
 
@@ -42,9 +42,9 @@ Each p [] = Unit {0}
 Each p (e ∷ es) = p e × Each p es
 
 -- nothing was written, as far as this goes
-abbrev pub TookNothing : Event → Type 0
-TookNothing (wrote w) = w.bytes ≡ []
-TookNothing _ = Unit {0}
+abbrev pub WroteNothing : Event → Type 0
+WroteNothing (wrote w) = w.bytes ≡ []
+WroteNothing _ = Unit {0}
 
 -- neither IN nor OUT is returned
 abbrev pub Quiet : Event → Type 0
@@ -91,7 +91,7 @@ FailsAsPolygon fault _ = ⊥
 
 -- the text that was read is no configuration, by this fault, for some folder
 abbrev pub FailsAsConfig : ConfigFault → Event → Type 0
-FailsAsConfig fault (text_read path text) = (folder : Option (List ℕ)) × (extracts_of_text path folder text ≡ Err (fault_of fault))
+FailsAsConfig fault (text_read path text) = (folder : Option (List ℕ)) × (extracts_of_text path folder text ≡ Err (fault_spec_of fault))
 FailsAsConfig fault _ = ⊥
 
 abbrev pub FailsToRead : Event → Type 0
@@ -132,8 +132,8 @@ pub record IsRefused (judge : Option (List ℕ) → Option Verdict) (fault : Fau
   pub first : Reading
   pub later : List Reading
   pub are : readings events ≡ first ∷ later
-  pub faulty : IsFaulty judge fault first.bytes first.left
-  pub nothing : Each TookNothing events
+  pub faulty : ShowsFault judge fault first.bytes first.left
+  pub nothing : Each WroteNothing events
 
 -- the first pass read all of IN, and the pass of this number other bytes. Unless that was the last, nothing was written
 pub record IsChanged (pass : ℕ) (events : List Event) : Type 0 where
@@ -145,7 +145,7 @@ pub record IsChanged (pass : ℕ) (events : List Event) : Type 0 where
   pub pass_is : pass ≡ length between + 2
   pub whole : IsAtEnd first.left
   pub differs : IsOther first.bytes other.bytes other.left
-  pub last : (later ≡ []) ⊎ Each TookNothing events
+  pub last : (later ≡ []) ⊎ Each WroteNothing events
 
 -- the raw file that IN means has this fault first, as far as the host reports what IN has for the first pass
 abbrev pub FirstFault : Form → (Option (List ℕ) → Option Verdict) → Fault → (has : List (Option (List ℕ))) → Type 0
@@ -155,12 +155,12 @@ FirstFault form judge fault (first ∷ later) = FaultOf (judge (meant_known form
 -- what a refusal says: of pbfcut by what was read, of pbfcutz by what IN has; and nothing was written
 abbrev pub IsRefusedBy : Program → (Option (List ℕ) → Option Verdict) → (has : List (Option (List ℕ))) → Fault → List Event → Type 0
 IsRefusedBy Pbfcut judge has fault events = IsRefused judge fault events
-IsRefusedBy Pbfcutz judge has fault events = FirstFault packed_file judge fault has × Each TookNothing events
+IsRefusedBy Pbfcutz judge has fault events = FirstFault packed_file judge fault has × Each WroteNothing events
 
 -- what a change says: of pbfcut by what was read; of pbfcutz by what IN has for the passes, and not what was written
 abbrev pub IsChangedBy : Program → (has : List (Option (List ℕ))) → ℕ → List Event → Type 0
 IsChangedBy Pbfcut has pass events = IsChanged pass events
-IsChangedBy Pbfcutz has pass events = ChangedOf has pass
+IsChangedBy Pbfcutz has pass events = PassChanged has pass
 
 -- ---- why
 
@@ -217,12 +217,12 @@ EndsAsStop program s _ = ⊥
 
 -- a command ends so, and IN has this for the passes that it was opened for
 abbrev pub Fails : Manner → Judging → (has : List (Option (List ℕ))) → Ending → List Event → Type 0
-Fails m j has ending.CannotOpen events = Has FailsToOpen events × Each TookNothing events
-Fails m j has ending.IsPipe events = Has FailsAsPipe events × Each TookNothing events
-Fails m j has ending.OutExists events = (Has FailsAsThere events × Each TookNothing events) ⊎ Has (FailsToFinish finishing.Exists) events
+Fails m j has ending.CannotOpen events = Has FailsToOpen events × Each WroteNothing events
+Fails m j has ending.IsPipe events = Has FailsAsPipe events × Each WroteNothing events
+Fails m j has ending.OutExists events = (Has FailsAsThere events × Each WroteNothing events) ⊎ Has (FailsToFinish finishing.Exists) events
 Fails m j has ending.Closed events = Has FailsAsClosed events
-Fails m j has (ending.Polygon fault) events = Has (FailsAsPolygon fault) events × Each TookNothing events
-Fails m j has (ending.Config fault) events = Has (FailsAsConfig fault) events × Each TookNothing events
+Fails m j has (ending.Polygon fault) events = Has (FailsAsPolygon fault) events × Each WroteNothing events
+Fails m j has (ending.Config fault) events = Has (FailsAsConfig fault) events × Each WroteNothing events
 Fails m j has how events = (s : Stop) × EndsAsStop m.program s how × Stops m j has events s
 
 -- IN is opened for this pass, and has this, if the host reports it

@@ -5,7 +5,7 @@ use Rattle.pbf_frame.specs.Devices.{append}
 use Rattle.pbfcut_cli.specs.declared.programs.Program.{Program}
 use Rattle.pbfcut_cli.specs.declared.programs.Program.TheVariants.{Pbfcut, Pbfcutz}
 use Rattle.pbfcut_program.specs.declared.host.FinishFault.{FinishFault}
-use Rattle.pbfcut_program.specs.Events.{Event, Writing, text_read, opened, screened, made, not_made, not_named, not_synced, wrote, linked, moved, renamed, removed, stays}
+use Rattle.pbfcut_program.specs.Events.{Event, text_read, opened, screened, made, not_made, not_named, not_synced, wrote, linked, moved, renamed, removed, stays}
 use Rattle.pbfcut_program.specs.Fails.{Each, FailsToFinish, Has}
 
 -- what the file of each name has, if there is one
@@ -16,13 +16,13 @@ abbrev pub put : (name : List ℕ) → Option (List ℕ) → Disk → Disk
 put name bytes disk = λ n. if bytes_eq n name then bytes else disk n
 
 -- the file of this name, if one is meant, has these bytes after those that it had
-abbrev pub written : Option (List ℕ) → (bytes : List ℕ) → Disk → Disk
-written None bytes disk = disk
-written (Some name) bytes disk = put name (append (disk name) bytes) disk
+abbrev pub appended : Option (List ℕ) → (bytes : List ℕ) → Disk → Disk
+appended None bytes disk = disk
+appended (Some name) bytes disk = put name (append (disk name) bytes) disk
 
 abbrev pub changed : Event → Disk → Disk
 changed (made name) disk = put name (Some []) disk
-changed (wrote w) disk = written w.name w.bytes disk
+changed (wrote w) disk = appended w.name w.bytes disk
 changed (linked from to) disk = put to (disk from) disk
 changed (moved from to) disk = put from None (put to (disk from) disk)
 changed (renamed from to) disk = put from None (put to (disk from) disk)

@@ -78,8 +78,8 @@ ending_of_text fault.Exists = ending.OutExists
 ending_of_text fault.Closed = ending.Closed
 
 -- a text was written, and all of it went out, or not: then it is that which failed
-abbrev pub EndsAs : {A B : Type 0} → Option FinishFault → Result A Halted → Result B Ending → Type 0
-EndsAs None (Ok _) (Ok _) = Unit {0}
-EndsAs None (Err halted) (Err how) = how ≡ halted.ending
-EndsAs (Some why) outcome (Err how) = how ≡ ending_of_text why
-EndsAs _ _ _ = ⊥
+abbrev pub EndsAfterText : {A B : Type 0} → Option FinishFault → Result A Halted → Result B Ending → Type 0
+EndsAfterText None (Ok _) (Ok _) = Unit {0}
+EndsAfterText None (Err halted) (Err how) = how ≡ halted.ending
+EndsAfterText (Some why) outcome (Err how) = how ≡ ending_of_text why
+EndsAfterText _ _ _ = ⊥

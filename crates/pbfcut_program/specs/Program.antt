@@ -39,7 +39,7 @@ use Rattle.pbfcut_program.specs.Leaving.{LeavesFor}
 use Rattle.pbfcut_program.specs.Lines.{check_lines, counts_text, digest_if_asked, done_lines, prints}
 use Rattle.pbfcut_program.specs.Manner.{Manner, check_of, hashes_meaning, input_form, manner, meant_known, of_output, once_check, output_form, to_raw}
 use Rattle.pbfcut_program.specs.Readings.{IsWork}
-use Rattle.pbfcut_program.specs.SeveralWrites.{ExtractsEach, LeavesEach, judging_each, strategy_with}
+use Rattle.pbfcut_program.specs.SeveralWrites.{LeavesEach, RunsExtractEach, judging_each, strategy_with}
 use Rattle.pbfcut.specs.Tasks.{Task, checking, listing_frames, showing, converting, copying, extracting, passes_of}
 use Rattle.pbfcut_program.specs.Tasks.{GivesRaw}
 use Rattle.pbfcut_program.specs.Telling.{IsSaid}
@@ -47,7 +47,7 @@ use Rattle.pbfcut_program.specs.Telling.{IsSaid}
 -- ---- what a command does that ends well
 
 -- `check`: one pass was made, and the counts were printed; with `--digests` also the digests
-pub record Checks (m : Manner) (input : List ℕ) (events : List Event) : Type 0 where
+pub record RunsCheck (m : Manner) (input : List ℕ) (events : List Event) : Type 0 where
   pub has : Option (List ℕ)
   pub first : Reading
   pub counts : Counts
@@ -62,7 +62,7 @@ draws Pbfcut key = []
 draws Pbfcutz key = seeded (Some key) ∷ []
 
 -- `show`: two passes were made, and all of the text went to standard output
-pub record Shows (m : Manner) (dates : Bool) (input : List ℕ) (events : List Event) : Type 0 where
+pub record RunsShow (m : Manner) (dates : Bool) (input : List ℕ) (events : List Event) : Type 0 where
   pub has : List (Option (List ℕ))
   pub key : ℕ
   pub rs : List Reading
@@ -80,7 +80,7 @@ abbrev pub IsListing : Program → Option (List ℕ) → List ℕ → Type 0
 IsListing program has written = (frames : List FrameSpec) × Says (judged_known false 0 (meant_known (input_form program) has)) (frames, None) × (written ≡ blobs.lines frames)
 
 -- `blobs`, and `info`: one pass was made, and all of the text went to standard output, which is the right one for what IN has
-pub record Lists (is_text : Option (List ℕ) → List ℕ → Type 0) (input : List ℕ) (events : List Event) : Type 0 where
+pub record RunsListing (is_text : Option (List ℕ) → List ℕ → Type 0) (input : List ℕ) (events : List Event) : Type 0 where
   pub has : Option (List ℕ)
   pub first : Reading
   pub out : Writing
@@ -153,7 +153,7 @@ strategy_of (strategy.Smart types) = selection.smart (is_wanted_by types.now)
 abbrev pub advice : Counts → List Event
 advice counts = if is_empty counts then advised ∷ [] else []
 
-pub record Extracts (m : Manner) (cut : Region) (by : Strategy) (files : Files) (events : List Event) : Type 0 where
+pub record RunsExtract (m : Manner) (cut : Region) (by : Strategy) (files : Files) (events : List Event) : Type 0 where
   pub area : AreaSpec
   pub before : List Event
   pub after : List Event
@@ -186,15 +186,15 @@ manner_in program command = manner program (packs_of command) (digests_of comman
 -- `info` reads as pbfcutz does
 abbrev pub Does : Manner → Command → List Event → Type 0
 Does m (Help text) events = events ≡ printed Output (string_bytes text) None ∷ []
-Does m (Blobs input) events = Lists (IsListing m.program) input.now events
-Does m (Info input json) events = Lists (TellsInfo json) input.now events
-Does m (Show input dates progress) events = Shows m dates input.now events
-Does m (Check input progress digests) events = Checks m input.now events
+Does m (Blobs input) events = RunsListing (IsListing m.program) input.now events
+Does m (Info input json) events = RunsListing (TellsInfo json) input.now events
+Does m (Show input dates progress) events = RunsShow m dates input.now events
+Does m (Check input progress digests) events = RunsCheck m input.now events
 Does m (Convert files) events = Writes m converting files events
 Does m (Pack files) events = Writes m copying files events
 Does m (Unpack files) events = Writes m copying files events
-Does m (Extract region by files) events = Extracts m region by files events
-Does m (ExtractEach parents files) events = ExtractsEach m (strategy_with parents) files events
+Does m (Extract region by files) events = RunsExtract m region by files events
+Does m (ExtractEach parents files) events = RunsExtractEach m (strategy_with parents) files events
 
 -- ---- why a command fails
 
@@ -220,10 +220,10 @@ judging_in (Extract region by files) events = judging_cut region by events
 judging_in (ExtractEach parents files) events = judging_each (strategy_with parents) files events
 
 -- `info` reads as pbfcutz does, and writes a text, as `show` does
-abbrev pub reading_of : Manner → Command → Manner
-reading_of m (Info input json) = manner Pbfcutz false m.digests
-reading_of m (Show input dates progress) = to_raw m
-reading_of m _ = m
+abbrev pub manner_for : Manner → Command → Manner
+manner_for m (Info input json) = manner Pbfcutz false m.digests
+manner_for m (Show input dates progress) = to_raw m
+manner_for m _ = m
 
 -- nothing was written before it was known what is cut out; and then it is an extract of that
 pub record LeavesCut (m : Manner) (cut : Region) (by : Strategy) (events : List Event) : Type 0 where
@@ -245,7 +245,7 @@ LeavesIn m (ExtractEach parents files) events = Each Quiet events ⊎ LeavesEach
 LeavesIn m _ events = Unit {0}
 
 abbrev pub FailsIn : Manner → Command → Ending → List Event → Type 0
-FailsIn m command how events = FailsFor (reading_of m command) (judging_in command events) how events × LeavesIn m command events × IsSaid m.digests (Does m command) how events
+FailsIn m command how events = FailsFor (manner_for m command) (judging_in command events) how events × LeavesIn m command events × IsSaid m.digests (Does m command) how events
 
 -- ---- the whole run
 

@@ -8,7 +8,7 @@ use Rattle.pbf_pass.specs.declared.hashing.PassCheck.{PassCheck}
 use Rattle.pbf_wire.specs.declared.fault.Fault.{Fault}
 use Rattle.pbfcut_program.specs.Events.{Reading}
 use Rattle.pbfcut_program.specs.Manner.{AreDigests, Manner, of_input, of_output}
-use Rattle.pbfcut.specs.Tasks.{Task, Holds, spares}
+use Rattle.pbfcut.specs.Tasks.{Task, TaskHolds, spares}
 
 -- a pass read this file: all of IN, of which this is known. It is what IN had when it was opened, if the host reports that
 pub record IsWhole (known : List ℕ → Type 0) (has : Option (List ℕ)) (r : Reading) (file : List ℕ) : Type 0 where
@@ -35,11 +35,11 @@ ReadAll known may _ _ _ = ⊥
 pub record IsWork (m : Manner) (by : PassCheck) (task : Task) (has : List (Option (List ℕ))) (readings : List Reading) (written : List ℕ) (counts : Counts) (digest : List ℕ) (raw : Option (List ℕ)) : Type 0 where
   pub files : List (List ℕ)
   pub read : ReadAll (AreDigests m by digest raw) (spares task) has readings files
-  pub holds : Holds task (map (of_input m) files) counts (of_output m written)
+  pub holds : TaskHolds task (map (of_input m) files) counts (of_output m written)
 
 -- this has that fault first, whatever follows it; or by itself, and it is all of IN
-abbrev pub IsFaulty : (Option (List ℕ) → Option Verdict) → Fault → (bytes : List ℕ) → (left : Option (List ℕ)) → Type 0
-IsFaulty judge fault bytes left = ((rest : List ℕ) → FaultOf (judge (Some (bytes ++ rest))) fault) ⊎ (IsAtEnd left × FaultOf (judge (Some bytes)) fault)
+abbrev pub ShowsFault : (Option (List ℕ) → Option Verdict) → Fault → (bytes : List ℕ) → (left : Option (List ℕ)) → Type 0
+ShowsFault judge fault bytes left = ((rest : List ℕ) → FaultOf (judge (Some (bytes ++ rest))) fault) ⊎ (IsAtEnd left × FaultOf (judge (Some bytes)) fault)
 
 -- this isn't the file: the file doesn't begin so; or this is all of IN, and another list
 abbrev pub IsOther : (file bytes : List ℕ) → (left : Option (List ℕ)) → Type 0

@@ -29,7 +29,7 @@ use Rattle.pbfcut_program.specs.declared.several_writing.DoneOut.{DoneOut}
 use Rattle.pbfcut_program.specs.declared.several_writing.ReadyEach.{ReadyEach}
 use Rattle.pbfcut_program.specs.Devices.{AreFresh, IsFreshOut}
 use Rattle.pbfcut_program.specs.Events.{Event, Reading, Writing, read, wrote, then_all}
-use Rattle.pbfcut_program.specs.Fails.{CauseOfOpening, Each, TookNothing}
+use Rattle.pbfcut_program.specs.Fails.{CauseOfOpening, Each, WroteNothing}
 use Rattle.pbfcut_program.specs.Files.{IsDropped, IsKept, Still}
 use Rattle.pbfcut_program.specs.Inputs.{AreReady, feeds_in}
 use Rattle.pbfcut_program.specs.Leaving.{IsUnkept}
@@ -47,7 +47,7 @@ use Rattle.pbfcut_program.specs.Telling.{Silent}
 -- nothing was written, kept or said, and the command fails for this cause
 pub record FailsMaking (program : Program) (overwrite : Bool) (outputs : List (List ℕ)) (how : Ending) (events : List Event) : Type 0 where
   pub cause : CauseOfOpening how events
-  pub nothing : Each TookNothing events
+  pub nothing : Each WroteNothing events
   pub unkept : Each IsUnkept events
   pub silent : Each Silent events
   pub files : Each Still events ⊎ HandlesEach program overwrite outputs events

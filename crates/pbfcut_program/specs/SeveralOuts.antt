@@ -11,7 +11,7 @@ use Rattle.pbfcut.specs.declared.carrying.AreaOutput.{AreaOutput}
 use Rattle.pbfcut.specs.Several.{AnyZip, OutputFailed}
 use Rattle.pbfcut.specs.Tasks.{Task, extracting}
 use Rattle.pbf_unpack.specs.declared.drain.PackedDrain.{PackedDrain}
-use Rattle.pbf_unpack.specs.Packing.{HasPacked, taken_raw}
+use Rattle.pbf_unpack.specs.Packing.{HasCompressed, taken_raw}
 use Rattle.sha2.specs.Hashers.{Holds256}
 use Rattle.sha2.specs.Sha256.{sha256}
 use Rattle.pbfcut_program.specs.declared.engine.Halted.{Halted}
@@ -49,11 +49,11 @@ pub record IsUnhashed {D : Type 0} (over : AreaOutput OutputArea (LinkedDrain (H
 -- ---- drains that pack
 
 -- a packing drain that took nothing is put over that of an output
-pub record IsPacking {D : Type 0} {d : drain.Ghosts D} (below : AreaOutput OutputArea D) (over : AreaOutput OutputArea (PackedDrain D d)) : Type 0 where
+pub record IsPackingOver {D : Type 0} {d : drain.Ghosts D} (below : AreaOutput OutputArea D) (over : AreaOutput OutputArea (PackedDrain D d)) : Type 0 where
   pub area : over.area ≡ below.area
   pub drain : over.drain.below.drain ≡ below.drain
   pub taken : taken_raw over.drain ≡ d.taken below.drain
-  pub logged : (log : ℕ) → d.has_taken below.drain log [] → HasPacked over.drain log []
+  pub logged : (log : ℕ) → d.has_taken below.drain log [] → HasCompressed over.drain log []
 
 -- it is finished, by what the run came to, and taken off: the digest of what it took is that of what its OUT means
 pub record IsUnpacked {D : Type 0} {d : drain.Ghosts D} (over : AreaOutput OutputArea (PackedDrain D d)) (returned result : Result InputDigests Halted) (below : AreaOutput OutputArea D) : Type 0 where

@@ -13,7 +13,7 @@ use Rattle.pbfcut_cli.specs.declared.words.ConfigFiles.{ConfigFiles}
 use Rattle.pbfcut_program.specs.declared.host.Screen.TheVariants.{Output}
 use Rattle.pbfcut_program.specs.Configured.{MeansConfig, OutputArea}
 use Rattle.pbfcut_program.specs.Events.{Event, Reading, Writing, openings, read, seeded, wrote}
-use Rattle.pbfcut_program.specs.Fails.{Each, Judging, Opens, Quiet, TookNothing, judging}
+use Rattle.pbfcut_program.specs.Fails.{Each, Judging, Opens, Quiet, WroteNothing, judging}
 use Rattle.pbfcut_program.specs.Files.{IsKept, IsMade}
 use Rattle.pbfcut_program.specs.Leaving.{IsUnkept, TookFront}
 use Rattle.pbfcut_program.specs.Lines.{check_lines, digest_if_asked, out_lines, prints}
@@ -69,7 +69,7 @@ each_lines digests digest raw input ones = check_lines digests digest raw input 
 
 -- all OUTs were made, IN was read, all OUTs were closed whole, each got its name, and then the lines were printed. What is read for an OUT has the digests
 -- of IN; it is IN itself, if the host reports what it has
-pub record WritesEach (m : Manner) (s : Strategy) (files : ConfigFiles) (outs : List OutputArea) (events : List Event) : Type 0 where
+pub record WritesOuts (m : Manner) (s : Strategy) (files : ConfigFiles) (outs : List OutputArea) (events : List Event) : Type 0 where
   pub has : List (Option (List ℕ))
   pub rs : List Reading
   pub key : ℕ
@@ -82,13 +82,13 @@ pub record WritesEach (m : Manner) (s : Strategy) (files : ConfigFiles) (outs : 
   pub each : AllZip (WritesOne m s files.overwrite key has digest raw) outs ones
 
 -- the same, once the configuration was read
-pub record ExtractsEach (m : Manner) (s : Strategy) (files : ConfigFiles) (events : List Event) : Type 0 where
+pub record RunsExtractEach (m : Manner) (s : Strategy) (files : ConfigFiles) (events : List Event) : Type 0 where
   pub outs : List OutputArea
   pub before : List Event
   pub after : List Event
   pub happened : events ≡ before ++ after
   pub means : MeansConfig files.config.now (folder_of files) before outs
-  pub writes : WritesEach m s files outs after
+  pub writes : WritesOuts m s files outs after
 
 -- ---- a run that fails
 
@@ -126,7 +126,7 @@ pub record LeavesOuts (m : Manner) (s : Strategy) (has : List (Option (List ℕ)
 
 -- those, or none of the OUTs took anything
 abbrev pub AreLeft : Manner → Strategy → (has : List (Option (List ℕ))) → List AreaSpec → List Event → Type 0
-AreLeft m s has areas events = (Each TookNothing events × Each IsUnkept events) ⊎ LeavesOuts m s has areas events
+AreLeft m s has areas events = (Each WroteNothing events × Each IsUnkept events) ⊎ LeavesOuts m s has areas events
 
 -- what is left once it is known what is cut out: IN has this for the passes, and by that the OUTs have what they have
 pub record AreLeftFor (m : Manner) (s : Strategy) (areas : List AreaSpec) (events : List Event) : Type 0 where

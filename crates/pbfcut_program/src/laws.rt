@@ -19,7 +19,7 @@ ghost use Rattle.pbfcut_cli.specs.declared.words.Region.{Region};
 ghost use Rattle.pbfcut_cli.specs.declared.words.Strategy.{Strategy};
 ghost use Rattle.pbfcut_program.specs.Events.{Event};
 ghost use Rattle.pbfcut_program.specs.Manner.{Manner, of_input, of_output};
-ghost use Rattle.pbfcut_program.specs.Program.{Extracts, IsRun, Writes, manner_in, strategy_of};
+ghost use Rattle.pbfcut_program.specs.Program.{IsRun, RunsExtract, Writes, manner_in, strategy_of};
 ghost use Rattle.pbfcut_program.specs.Taking.{ReadsOnly, TookConversion, TookCopy, TookExtract};
 ghost use Rattle.pbfcut.specs.Tasks.{converting, copying, extracting};
 ghost use Rattle.pbfcut_program.specs.Tasks.{GivesRaw};
@@ -31,7 +31,7 @@ use pbfcut::laws::area_extracts_compose;
 /// extract of what the file means, a conversion of it, or the same.
 pub fn commands_take()
     ensures extract { (file : List ℕ) (m : Manner) (cut : Region) (by : Strategy) (files : Files)
-        (events : List Event) → Extracts m cut by files events → ReadsOnly file events
+        (events : List Event) → RunsExtract m cut by files events → ReadsOnly file events
         → TookExtract m cut by file events }
     ensures convert { (file : List ℕ) (m : Manner) (files : Files) (events : List Event)
         → Writes m converting files events → ReadsOnly file events → TookConversion m file events }

@@ -3,7 +3,7 @@
 ghost use Rattle.std.specs.Prelude.{◌≡◌, ◌∷◌, [], List, length, map, IfOk, IfErr, Some, true};
 ghost use Rattle.pbf_published.specs.PublishedTasks.{below_of};
 ghost use Rattle.pbfcut_program.specs.Events.{Event, opened, screened, seeded, then_all, then_one, openings};
-ghost use Rattle.pbfcut_program.specs.Devices.{AreFresh, CloseAll, IsFresh, IsFreshOut};
+ghost use Rattle.pbfcut_program.specs.Devices.{AreFresh, CloseAll, IsFreshFeed, IsFreshOut};
 ghost use Rattle.pbfcut_program.specs.Fails.{FailsOpening};
 ghost use Rattle.pbfcut_program.specs.Inputs.{AreReady, feeds_in};
 ghost use Rattle.pbfcut_program.specs.Manner.{check_in};
@@ -37,7 +37,7 @@ pub(crate) struct Input<'a> {
 pub(crate) fn open_pass<H: Host>(host: &mut H, input: &Input<'_>, pass: u8) -> Result<H::In, Ending>
     ensures opened { IfOk result (λ feed. H.log host.new ≡ then_one (H.log host.old)
         (opened input.now.path.now pass (H.In.remaining feed))) }
-    ensures fresh { IfOk result (λ feed. IsFresh H.In.Feed feed) }
+    ensures fresh { IfOk result (λ feed. IsFreshFeed H.In.Feed feed) }
     ensures failed { IfErr result (λ how. (event : Event)
         × (H.log host.new ≡ then_one (H.log host.old) event) × FailsOpening how (event ∷ [])) }
 {

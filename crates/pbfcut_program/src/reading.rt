@@ -9,8 +9,8 @@ ghost use Rattle.pbfcut_program.specs.Events.{Event, Reading, opened, read, then
 ghost use Rattle.pbfcut_program.specs.Fails.{Each, FailsFor, judging, judging_for, listing};
 ghost use Rattle.pbfcut_program.specs.Leaving.{LeavesFor};
 ghost use Rattle.pbfcut_program.specs.Manner.{manner, manner_of, once_check, to_raw};
-ghost use Rattle.pbfcut_program.specs.Outcomes.{EndsAs, ending_of_text};
-ghost use Rattle.pbfcut_program.specs.Program.{Checks, IsListing, Lists, Shows};
+ghost use Rattle.pbfcut_program.specs.Outcomes.{EndsAfterText, ending_of_text};
+ghost use Rattle.pbfcut_program.specs.Program.{RunsCheck, IsListing, RunsListing, RunsShow};
 ghost use Rattle.pbfcut_program.specs.Readings.{IsWork};
 ghost use Rattle.pbfcut_program.specs.Settling.{IsStill};
 ghost use Rattle.pbfcut.specs.Tasks.{checking, listing_frames, showing};
@@ -68,11 +68,11 @@ pub(crate) fn run_check<H: Host>(
 ) -> Result<(), Ending>
     ensures ok { OnOk result ((events : List Event)
         × (H.log host.new ≡ then_all (H.log host.old) events)
-        × Checks (manner_of engine) path.now events) }
+        × RunsCheck (manner_of engine) path.now events) }
     ensures err { IfErr result (λ how. (events : List Event)
         × (H.log host.new ≡ then_all (H.log host.old) events)
         × FailsFor (manner_of engine) (judging_for checking) how events
-        × IsSaid engine.digests (Checks (manner_of engine) path.now) how events) }
+        × IsSaid engine.digests (RunsCheck (manner_of engine) path.now) how events) }
     ensures files { IsStill (H.log host.old) (H.log host.new) }
 {
     let report = read_once(engine, host, path, progress)?;
@@ -99,7 +99,7 @@ fn ended<H: Host, T: Drop>(
 ) -> Result<(), Ending>
     ensures { (fault : Option FinishFault)
         × Finishes H.Out.Drain out None (is_ok outcome) fault (H.log host.old) (H.log host.new)
-        × EndsAs fault outcome result }
+        × EndsAfterText fault outcome result }
 {
     if let Err(fault) = host.finish_screen(out, outcome.is_ok()) {
         return Err(unsent(fault));
@@ -121,7 +121,7 @@ pub(crate) fn run_show<H: Host>(
     requires { input.now.passes ≡ 2 }
     ensures ok { OnOk result ((events : List Event)
         × (H.log host.new ≡ then_all (H.log host.old) events)
-        × Shows (manner_of engine) dates input.now.path.now events) }
+        × RunsShow (manner_of engine) dates input.now.path.now events) }
     ensures err { IfErr result (λ how. (events : List Event)
         × (H.log host.new ≡ then_all (H.log host.old) events)
         × FailsFor (to_raw (manner_of engine)) (judging_for (showing dates)) how events
@@ -154,7 +154,7 @@ pub(crate) fn run_blobs<H: Host>(
 ) -> Result<(), Ending>
     ensures ok { OnOk result ((events : List Event)
         × (H.log host.new ≡ then_all (H.log host.old) events)
-        × Lists (IsListing engine.program) input.now.path.now events) }
+        × RunsListing (IsListing engine.program) input.now.path.now events) }
     ensures err { IfErr result (λ how. (events : List Event)
         × (H.log host.new ≡ then_all (H.log host.old) events)
         × FailsFor (manner_of engine) listing how events
@@ -178,7 +178,7 @@ pub(crate) fn run_info<H: Host>(
 ) -> Result<(), Ending>
     ensures ok { OnOk result ((events : List Event)
         × (H.log host.new ≡ then_all (H.log host.old) events)
-        × Lists (TellsInfo json) input.now.path.now events) }
+        × RunsListing (TellsInfo json) input.now.path.now events) }
     ensures err { IfErr result (λ how. (events : List Event)
         × (H.log host.new ≡ then_all (H.log host.old) events)
         × FailsFor (manner program.Pbfcutz false engine.digests)

@@ -9,7 +9,7 @@ ghost use Rattle.pbfcut_cli.specs.declared.programs.Program.TheVariants.{Pbfcutz
 ghost use Rattle.pbfcut_program.specs.Devices.{IsFreshOut};
 ghost use Rattle.pbfcut_program.specs.Inputs.{AreReady, feeds_in};
 ghost use Rattle.pbfcut_program.specs.Manner.{check_in, manner_of};
-ghost use Rattle.pbfcut_program.specs.SeveralOuts.{AreUnpacked, IsPacking, IsUnpacked, RunsUnhashedEach};
+ghost use Rattle.pbfcut_program.specs.SeveralOuts.{AreUnpacked, IsPackingOver, IsUnpacked, RunsUnhashedEach};
 
 use crate::engine::{Engine, Halted};
 use crate::host::Seed;
@@ -43,7 +43,7 @@ fn put_packer<'a, D: Drain>(
     deflater: Deflater,
 ) -> AreaOutput<OutputArea<'a>, PackedDrain<D>>
     requires { IfSome (D.taken output.drain) (λ taken. taken ≡ []) }
-    ensures { IsPacking output.entry result }
+    ensures { IsPackingOver output.entry result }
 {
     AreaOutput {
         area: output.area,
@@ -85,7 +85,7 @@ fn put_packers<'a, D: Drain + Drop>(
     requires same { vec_len deflaters ≡ length outputs.items }
     requires room { length outputs.items ≤ vec_capacity packing }
     requires none { packing.items ≡ [] }
-    ensures { AllZip IsPacking outputs.entry.items result.items }
+    ensures { AllZip IsPackingOver outputs.entry.items result.items }
 {
     let mut deflaters = deflaters;
     let mut packing = packing;

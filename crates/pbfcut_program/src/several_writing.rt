@@ -18,7 +18,7 @@ ghost use Rattle.pbfcut_program.specs.Outcomes.{ending_of_file};
 ghost use Rattle.pbfcut_program.specs.Settling.{SettlesEach};
 ghost use Rattle.pbfcut_program.specs.SeveralChanges.{SettlesOuts};
 ghost use Rattle.pbfcut_program.specs.SeveralEnds.{EndsEach, IsReadyEach, KeepsDone, ReturnsEach, areas_into, done_of, outs_lines};
-ghost use Rattle.pbfcut_program.specs.SeveralWrites.{AllGiveRaw, AreLeft, AreLeftFor, ExtractsEach, LeavesEach, WritesEach, areas_of, begun_each, judging_each, paths_of};
+ghost use Rattle.pbfcut_program.specs.SeveralWrites.{AllGiveRaw, AreLeft, AreLeftFor, LeavesEach, RunsExtractEach, WritesOuts, areas_of, begun_each, judging_each, paths_of};
 ghost use Rattle.pbfcut_program.specs.Telling.{IsSaid, SaysLittle, Tells};
 
 use crate::configured::{OutputCut, read_configured};
@@ -327,7 +327,7 @@ fn cut_out_each<H: Host>(
     requires { outs.now ≡ [] → ⊥ }
     ensures ok { OnOk result ((events : List Event)
         × (H.log host.new ≡ then_all (H.log host.old) events)
-        × WritesEach (manner_of engine) (each_strategy run.entry.strategy) run.entry.files
+        × WritesOuts (manner_of engine) (each_strategy run.entry.strategy) run.entry.files
         (map output_area_of outs.now) events) }
     ensures err { IfErr result (λ how. (events : List Event)
         × (H.log host.new ≡ then_all (H.log host.old) events)
@@ -336,7 +336,7 @@ fn cut_out_each<H: Host>(
         (areas_of (map output_area_of outs.now)))) how events
         × AreLeftFor (manner_of engine) (each_strategy run.entry.strategy)
         (areas_of (map output_area_of outs.now)) events
-        × IsSaid engine.digests (WritesEach (manner_of engine) (each_strategy run.entry.strategy)
+        × IsSaid engine.digests (WritesOuts (manner_of engine) (each_strategy run.entry.strategy)
         run.entry.files (map output_area_of outs.now)) how events) }
     ensures files { SettlesOuts engine.program run.entry.files.overwrite
         (paths_of (map output_area_of outs.now)) (H.log host.old) (H.log host.new) }
@@ -360,7 +360,7 @@ pub(crate) fn run_extract_each<H: Host>(
 ) -> Result<(), Ending>
     ensures ok { OnOk result ((events : List Event)
         × (H.log host.new ≡ then_all (H.log host.old) events)
-        × ExtractsEach (manner_of engine) (each_strategy run.entry.strategy)
+        × RunsExtractEach (manner_of engine) (each_strategy run.entry.strategy)
         run.entry.files events) }
     ensures err { IfErr result (λ how. (events : List Event)
         × (H.log host.new ≡ then_all (H.log host.old) events)
@@ -368,7 +368,7 @@ pub(crate) fn run_extract_each<H: Host>(
         (judging_each (each_strategy run.entry.strategy) run.entry.files events) how events
         × (Each Quiet events
         ⊎ LeavesEach (manner_of engine) (each_strategy run.entry.strategy) run.entry.files events)
-        × IsSaid engine.digests (ExtractsEach (manner_of engine) (each_strategy run.entry.strategy)
+        × IsSaid engine.digests (RunsExtractEach (manner_of engine) (each_strategy run.entry.strategy)
         run.entry.files) how events) }
     ensures files { SettlesEach engine.program run.entry.files (H.log host.old) (H.log host.new) }
 {

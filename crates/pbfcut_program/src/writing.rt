@@ -9,14 +9,14 @@ ghost use Rattle.pbfcut_cli.specs.declared.endings.Ending.TheVariants as ending;
 ghost use Rattle.pbf_pass.specs.Stops.{WriteFailed};
 ghost use Rattle.pbf_unpack.specs.Packing.{taken_raw};
 ghost use Rattle.pbfcut_cli.specs.declared.programs.Program.TheVariants.{Pbfcutz};
-ghost use Rattle.pbfcut_program.specs.Devices.{AreFresh, DrainFailed, FinishesPacked, Fronts, IsAsked, IsFreshOut, IsNamed, Leads, MeansBy, TakenBy, Wholes, Works, WorksOn};
+ghost use Rattle.pbfcut_program.specs.Devices.{AreFresh, DrainFailed, FinishesPacked, Fronts, IsAsked, IsFreshOut, IsShownAs, Leads, MeansBy, TakenBy, Wholes, Works, WorksOn};
 ghost use Rattle.pbfcut_program.specs.Events.{Event, Reading, Writing, read, wrote, then_all};
 ghost use Rattle.pbfcut_program.specs.Files.{IsKept, IsMade};
 ghost use Rattle.pbfcut_program.specs.Fails.{Each, Fails, FailsFor, FailsOpening, Quiet, judging_for};
 ghost use Rattle.pbfcut_program.specs.Jobs.{IsReadyFor, area_of, feeds_of, plan_of, task_of};
 ghost use Rattle.pbfcut_program.specs.Leaving.{Leaves, LeavesFor};
 ghost use Rattle.pbfcut_program.specs.Outcomes.{ending_of_file};
-ghost use Rattle.pbfcut_program.specs.Program.{Extracts, LeavesCut, Writes, WritesCounts, advice, begun, is_empty, is_screen, judging_cut, looks, screen_of, strategy_of};
+ghost use Rattle.pbfcut_program.specs.Program.{LeavesCut, RunsExtract, Writes, WritesCounts, advice, begun, is_empty, is_screen, judging_cut, looks, screen_of, strategy_of};
 ghost use Rattle.pbfcut_program.specs.Manner.{check_in, hashes_meaning, input_form, manner_of, output_form, packed_file, to_raw};
 ghost use Rattle.pbfcut_program.specs.Settling.{Returns, Settles};
 ghost use Rattle.pbfcut_program.specs.Worked.{Worked};
@@ -224,7 +224,7 @@ fn run_raw_into<F: Feed, D: Drain + Drop, S: BuildHasher + Drop>(
 
 /// The halt of a call whose drain packs. If that drain stopped because memory was refused, a failed write is reported as that.
 fn named(halted: Halted, of_drain: Option<Stop>) -> Halted
-    ensures { IsNamed of_drain halted.ending result.ending }
+    ensures { IsShownAs of_drain halted.ending result.ending }
 {
     let is_write = matches!(&halted.ending, Ending::Stopped(Stop::Write));
     if is_write && of_drain == Some(Stop::Memory) {
@@ -523,13 +523,13 @@ pub(crate) fn run_extract<H: Host>(
 ) -> Result<(), Ending>
     ensures ok { OnOk result ((events : List Event)
         × (H.log host.new ≡ then_all (H.log host.old) events)
-        × Extracts (manner_of engine) region.now strategy.entry files.now events) }
+        × RunsExtract (manner_of engine) region.now strategy.entry files.now events) }
     ensures err { IfErr result (λ how. (events : List Event)
         × (H.log host.new ≡ then_all (H.log host.old) events)
         × FailsFor (manner_of engine) (judging_cut region.now strategy.entry events) how events
         × (Each Quiet events ⊎ LeavesCut (manner_of engine) region.now strategy.entry events)
         × IsSaid engine.digests
-        (Extracts (manner_of engine) region.now strategy.entry files.now) how events) }
+        (RunsExtract (manner_of engine) region.now strategy.entry files.now) how events) }
     ensures files { Settles engine.program files.now (H.log host.old) (H.log host.new) }
 {
     let cut = read_region(engine.alloc, host, region)?;

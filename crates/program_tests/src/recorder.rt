@@ -2,7 +2,7 @@
 
 ghost use Rattle.std.specs.Prelude.{◌≡◌, [], map, string_bytes, Some, IfOk, IfSome};
 ghost use Rattle.program_tests.specs.Log.{event_of};
-ghost use Rattle.pbf_frame.specs.Memory.{taken_by};
+ghost use Rattle.pbf_frame.specs.Memory.{sink_bytes};
 ghost use Rattle.pbfcut_program.specs.Events.{then_one};
 
 use crate::disk::{Disk, File, Mishaps, copy};
@@ -38,7 +38,7 @@ fn make_reel<R: Abort + AllocGlobal>(
     name: &str,
     room: usize,
 ) -> Result<Reel, CreateFault>
-    ensures { IfOk result (λ reel. (taken_by reel.sink ≡ []) × (reel.failures ≡ 0)) }
+    ensures { IfOk result (λ reel. (sink_bytes reel.sink ≡ []) × (reel.failures ≡ 0)) }
 {
     let Ok(reel) = Reel::new(rt.alloc(), room) else {
         return Err(CreateFault::Memory);

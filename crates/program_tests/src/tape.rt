@@ -1,7 +1,7 @@
 //! Devices over memory that know what has passed.
 
 ghost use Rattle.std.specs.Prelude.{◌≡◌, ◌≤◌, length, take, drop, [], Some, IfOk};
-ghost use Rattle.pbf_frame.specs.Memory.{taken_by};
+ghost use Rattle.pbf_frame.specs.Memory.{sink_bytes};
 
 use pbf_frame::{Drain, DrainFault, Feed, FeedFault, Sink};
 use std::alloc::{AllocError, Global};
@@ -62,7 +62,7 @@ pub struct Reel {
 
 impl Reel {
     pub fn new(alloc: Global, room: usize) -> Result<Reel, AllocError>
-        ensures { IfOk result (λ reel. (taken_by reel.sink ≡ []) × (reel.failures ≡ 0)) }
+        ensures { IfOk result (λ reel. (sink_bytes reel.sink ≡ []) × (reel.failures ≡ 0)) }
     {
         let sink = Sink::new(alloc, room, 0)?;
         Ok(Reel { sink, failures: 0 })
@@ -70,16 +70,16 @@ impl Reel {
 
     /// The bytes that it took.
     pub fn taken(&self) -> &[u8]
-        ensures { result.now ≡ taken_by self.now.sink }
+        ensures { result.now ≡ sink_bytes self.now.sink }
     {
         self.sink.bytes()
     }
 }
 
 impl Drain for Reel {
-    ghost taken = { λ r. Some (taken_by r.sink) };
+    ghost taken = { λ r. Some (sink_bytes r.sink) };
 
-    ghost has_taken = { λ r _ bytes. bytes ≡ taken_by r.sink };
+    ghost has_taken = { λ r _ bytes. bytes ≡ sink_bytes r.sink };
 
     ghost failures = { λ r. r.failures };
 

@@ -23,7 +23,7 @@ use Rattle.pbfcut_cli.specs.declared.words.Strategy.TheVariants.{CompleteWays}
 use Rattle.pbfcut_program.proofs.DiskLemmas.{put_other}
 use Rattle.pbfcut_program.specs.Changes.{DropsFile}
 use Rattle.pbfcut_program.specs.Events.{made, removed}
-use Rattle.pbfcut_program.specs.Fails.{Each, FailsFor, Opens, TookNothing}
+use Rattle.pbfcut_program.specs.Fails.{Each, FailsFor, Opens, WroteNothing}
 use Rattle.pbfcut_program.specs.Files.{after, put}
 use Rattle.pbfcut_program.specs.Leaving.{KeepsNone, LeavesFor, TookFront}
 use Rattle.pbfcut_program.specs.Manner.{Manner, of_input, output_form}
@@ -65,7 +65,7 @@ module _ (key : ℕ) where
   opens_are : Opens 1 had (drops key)
   opens_are = (inr (inl (refl, refl)), (inr (inr (inl (refl, refl))), (inr (inr (inr (inl (refl, refl)))), tt)))
 
-  took_nothing : Each TookNothing (drops key)
+  took_nothing : Each WroteNothing (drops key)
   took_nothing = (tt, (tt, (tt, (tt, (tt, (tt, (tt, (tt, (tt, (refl, (tt, tt)))))))))))
 
   fails_for : FailsFor m (judging_cut (region.Box box) CompleteWays (drops key)) how (drops key)

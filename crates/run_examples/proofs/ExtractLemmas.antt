@@ -21,7 +21,7 @@ use Rattle.pbfcut_program.specs.Changes.{KeepsFile}
 use Rattle.pbfcut_program.specs.Events.{Event, advised, made, told}
 use Rattle.pbfcut_program.specs.Files.{after, put}
 use Rattle.pbfcut_program.specs.Manner.{AreDigests, Manner}
-use Rattle.pbfcut_program.specs.Program.{Extracts, IsMeant, IsRun, WritesCounts, manner_in}
+use Rattle.pbfcut_program.specs.Program.{IsMeant, IsRun, RunsExtract, WritesCounts, manner_in}
 use Rattle.pbfcut_program.specs.Lines.{counts_text}
 use Rattle.pbfcut_program.specs.Readings.{IsWhole, IsWork}
 use Rattle.pbfcut_program.specs.Settling.{RunSettles}
@@ -122,7 +122,7 @@ module _ (key : ℕ) where
     work = work_is;
   }
 
-  extracts_are : Extracts raw (region.Box box) CompleteWays (files input output) (happens key)
+  extracts_are : RunsExtract raw (region.Box box) CompleteWays (files input output) (happens key)
   unfolding runs_on_literals
   extracts_are = record {
     area = box_area box;

@@ -25,7 +25,7 @@ use Rattle.pbfcut_program.specs.Changes.{KeepsFile}
 use Rattle.pbfcut_program.specs.Events.{linked, made, removed}
 use Rattle.pbfcut_program.specs.Files.{IsKept, after, put}
 use Rattle.pbfcut_program.specs.Manner.{AreDigests, Manner}
-use Rattle.pbfcut_program.specs.Program.{Extracts, IsMeant, IsRun, WritesCounts, manner_in}
+use Rattle.pbfcut_program.specs.Program.{IsMeant, IsRun, RunsExtract, WritesCounts, manner_in}
 use Rattle.pbfcut_program.specs.Readings.{IsWhole, IsWork}
 use Rattle.pbfcut_program.specs.Settling.{RunSettles}
 use Rattle.run_examples.proofs.Computing.{runs_on_literals}
@@ -130,7 +130,7 @@ module _ (key : ℕ) where
     work = work_is;
   }
 
-  extracts_are : Extracts m (region.Box box) CompleteWays (raw_files input output) (parts key)
+  extracts_are : RunsExtract m (region.Box box) CompleteWays (raw_files input output) (parts key)
   unfolding runs_on_literals
   extracts_are = record {
     area = box_area box;

@@ -9,7 +9,7 @@ use Rattle.osm_polygon.specs.declared.edge.Axis.TheVariants.{Latitude}
 use Rattle.osm_polygon.specs.declared.strips.Strip.{Strip}
 use Rattle.osm_polygon.specs.declared.bands.Band.{Band}
 use Rattle.osm_polygon.specs.Edges.{is_in_strip}
-use Rattle.osm_polygon.specs.Strips.{AreStrips, lists_of, held}
+use Rattle.osm_polygon.specs.Strips.{AreStrips, edges_held, lists_of}
 use Rattle.osm_polygon.specs.Bands.{IsBand, AreBands, held_by_bands, cells_by}
 use Rattle.osm_polygon.proofs.StripLemmas.{strip_at}
 use Rattle.osm_polygon.proofs.BandLemmas.{bands_more, held_more, held_by_more, cells_by_more}
@@ -49,7 +49,7 @@ loop-strip-preserved c =
         arith,
         ap cells_by c.in_ok-push.ensures.items,
         cells_by_more bands band,
-        ap held more,
+        ap edges_held more,
         held_more (take i items) strip,
         so_far.cells,
         c.in_ok-band_of.ensures.number,
@@ -59,7 +59,7 @@ loop-strip-preserved c =
         arith,
         ap held_by_bands c.in_ok-push.ensures.items,
         held_by_more bands band,
-        ap held more,
+        ap edges_held more,
         held_more (take i items) strip,
         so_far.few,
         c.in_ok-band_of.ensures.few,

@@ -1,5 +1,5 @@
 use Rattle.std.proofs.Common.{◌≡◌, ◌+◌, ◌*◌, ◌≤◌, length, take}
-use Rattle.osm_polygon.specs.Strips.{held}
+use Rattle.osm_polygon.specs.Strips.{edges_held}
 use Rattle.osm_polygon.specs.Bands.{AreBands, held_by_bands, cells_by}
 use Rattle.osm_polygon.proofs.bands.bands_of.Given as goal
 
@@ -9,6 +9,6 @@ invariant-loop-strip l = record {
   are : AreBands l.cut.shift l.cut.first l.edges l.bands.items;
   number : l.number ≡ l.cut.first + l.strip-index;
   equal : length l.bands.items ≡ l.strip-index;
-  cells : cells_by l.bands.items ≤ held (take l.strip-index l.strip-items) + l.strip-index;
-  few : held_by_bands l.bands.items ≤ 2 * held (take l.strip-index l.strip-items);
+  cells : cells_by l.bands.items ≤ edges_held (take l.strip-index l.strip-items) + l.strip-index;
+  few : held_by_bands l.bands.items ≤ 2 * edges_held (take l.strip-index l.strip-items);
 }

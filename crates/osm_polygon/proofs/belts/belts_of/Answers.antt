@@ -8,7 +8,7 @@ use Rattle.osm_polygon.specs.declared.edge.Axis.TheVariants.{Latitude}
 use Rattle.osm_polygon.specs.declared.strips.Strip.{Strip}
 use Rattle.osm_polygon.specs.declared.belts.Belt.{Belt}
 use Rattle.osm_polygon.specs.Edges.{is_in_strip}
-use Rattle.osm_polygon.specs.Strips.{AreStrips, lists_of, held}
+use Rattle.osm_polygon.specs.Strips.{AreStrips, edges_held, lists_of}
 use Rattle.osm_polygon.specs.Belts.{IsBelt, AreBelts, held_in, cells_in}
 use Rattle.osm_polygon.proofs.StripLemmas.{strip_at}
 use Rattle.osm_polygon.proofs.BandLemmas.{held_more}
@@ -45,7 +45,7 @@ loop-strip-preserved c =
         arith,
         ap cells_in c.in_ok-push.ensures.items,
         cells_in_more belts belt,
-        ap held more,
+        ap edges_held more,
         held_more (take i items) strip,
         so_far.cells,
         c.in_ok-belt_of.ensures.number,
@@ -55,7 +55,7 @@ loop-strip-preserved c =
         arith,
         ap held_in c.in_ok-push.ensures.items,
         held_in_more belts belt,
-        ap held more,
+        ap edges_held more,
         held_more (take i items) strip,
         so_far.few,
         c.in_ok-belt_of.ensures.few,

@@ -1,7 +1,7 @@
 use Rattle.std.proofs.Common.{◌≡◌, ◌+◌, ◌-◌, ◌≤◌, ◌<◌, ◌∙◌, ap, sym, arith, rules}
 use Rattle.std.specs.Prelude.{max}
 use Rattle.std.proofs.lemmas.List.{length-map}
-use Rattle.osm_polygon.specs.Strips.{lists_of, pushed_at, held}
+use Rattle.osm_polygon.specs.Strips.{edges_held, lists_of, pushed_at}
 use Rattle.osm_polygon.specs.Edges.{lowest, highest}
 use Rattle.osm_polygon.proofs.StripLemmas.{in_strip_below, with_none, none_below, next_pushed, pushed_held, all_pushed}
 use Rattle.osm_polygon.proofs.strips.add_edge.Goals as goal
@@ -31,7 +31,7 @@ loop-number-preserved c =
     let from : c.first_of-from.result ≡ max (lowest axis shift e) first = search rules in
     let most : number < highest axis shift e + 1 = search rules in
     let pushed : lists_of c.push_at.new.strips.items ≡ pushed_at (number - first) e (lists_of c.loop-number.strips.items) = search rules in
-    let more : held c.push_at.new.strips.items ≤ held c.loop-number.strips.items + 1 = rw pushed (pushed_held (lists_of c.loop-number.strips.items) (number - first) e) in
+    let more : edges_held c.push_at.new.strips.items ≤ edges_held c.loop-number.strips.items + 1 = rw pushed (pushed_held (lists_of c.loop-number.strips.items) (number - first) e) in
     record {
       with = pushed ∙ ap (pushed_at (number - first) e) so_far.with
           ∙ next_pushed (lists_of c.args.strips.now.items) axis shift e first number (omega (arith, from, so_far.begun)) (omega (arith, from, so_far.begun)) (omega (arith, most));

@@ -1,6 +1,6 @@
 use Rattle.std.proofs.Common.{◌≡◌, ◌+◌, ◌≤◌, length, []}
 use Rattle.std.specs.Prelude.{max}
-use Rattle.osm_polygon.specs.Strips.{AreStrips, lists_of, held}
+use Rattle.osm_polygon.specs.Strips.{AreStrips, edges_held, lists_of}
 use Rattle.osm_polygon.proofs.strips.empty_strips.Given as goal
 
 abbrev pub invariant-loop-number : goal.invariant-loop-number
@@ -8,5 +8,5 @@ invariant-loop-number l = record {
   are : AreStrips l.fn.cut.axis l.fn.cut.shift l.fn.cut.first [] (lists_of l.strips.items);
   number : l.fn.cut.first + length l.strips.items ≡ l._number;
   ends : l._number ≤ max l.fn.cut.first l._number-end;
-  none : held l.strips.items ≡ 0;
+  none : edges_held l.strips.items ≡ 0;
 }

@@ -1,4 +1,4 @@
-use Rattle.std.proofs.Common.{arith, map}
+use Rattle.std.proofs.Common.{arith}
 use Rattle.osm_entity.specs.Sources.{tags_left}
 use Rattle.osm_ways.proofs.WholeLemmas.{empty_typed}
 use Rattle.osm_ways.proofs.whole.has_type.Goals as goal

@@ -7,12 +7,12 @@ use Rattle.pbf_wire.specs.Cursors.{found_left}
 use Rattle.pbf_wire.specs.Faults.{found_in}
 use Rattle.pbf_wire.specs.Fields.{occurrence}
 use Rattle.pbf_wire.specs.Occurrence.{Occurrence}
-use Rattle.pbf_block.specs.Group.{is_member}
+use Rattle.pbf_block.specs.Group.{holds_entities}
 use Rattle.pbf_block.proofs.group.first_member.Goals as goal
 
 pub returns : goal.returns
 returns c =
-    let first : option_map occurrence c.find-first.result ≡ find (λ o. is_member o.number) (found_in c.args.message) =
-    find_from_yields_List (λ (o : Occurrence). is_member o.number) _ _ _ c.find-first.ensures.ran
+    let first : option_map occurrence c.find-first.result ≡ find (λ o. holds_entities o.number) (found_in c.args.message) =
+    find_from_yields_List (λ (o : Occurrence). holds_entities o.number) _ _ _ c.find-first.ensures.ran
     (YieldsList-from_first occurrence found_left _ c.found-fields.ensures) (λ x b q k. search (rules, tests)) in
     search (rules, first)

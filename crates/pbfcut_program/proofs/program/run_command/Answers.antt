@@ -4,7 +4,7 @@ use Rattle.pbfcut_program.specs.declared.host.Screen.TheVariants.{Output}
 use Rattle.pbfcut_program.specs.Events.{Event, printed}
 use Rattle.pbfcut_program.specs.Fails.{Each, FailsFor, Quiet, printing}
 use Rattle.pbfcut_program.specs.Manner.{manner_of}
-use Rattle.pbfcut_program.specs.SeveralWrites.{ExtractsEach, LeavesEach, judging_each}
+use Rattle.pbfcut_program.specs.SeveralWrites.{LeavesEach, RunsExtractEach, judging_each}
 use Rattle.pbfcut_program.specs.Telling.{IsSaid}
 use Rattle.pbfcut_program.proofs.FailLemmas.{print_fails, tells_err, tells_ok}
 use Rattle.pbfcut_program.proofs.Logging.{then_none}
@@ -93,14 +93,14 @@ returns-in-Pack-clause-err g c = IfErr-weaker c.run_writing-in-Pack.result _ _ (
 pub returns-in-ExtractEach-clause-ok : goal.returns-in-ExtractEach-clause-ok
 returns-in-ExtractEach-clause-ok g c =
     let same = c.strategy_with.ensures in
-    rw c.in-ExtractEach.is (on_ok_weaker c.run_extract_each.result (λ e. (e.0, e.1, subst (λ s. ExtractsEach (manner_of c.args.engine) s c.in-ExtractEach.files e.0) same e.2)) c.run_extract_each.ensures.ok)
+    rw c.in-ExtractEach.is (on_ok_weaker c.run_extract_each.result (λ e. (e.0, e.1, subst (λ s. RunsExtractEach (manner_of c.args.engine) s c.in-ExtractEach.files e.0) same e.2)) c.run_extract_each.ensures.ok)
 
 pub returns-in-ExtractEach-clause-err : goal.returns-in-ExtractEach-clause-err
 returns-in-ExtractEach-clause-err g c =
     let m = manner_of c.args.engine in
     let files = c.in-ExtractEach.files in
     let same = c.strategy_with.ensures in
-    rw c.in-ExtractEach.is (IfErr-weaker c.run_extract_each.result _ _ (λ how f. (f.0, f.1, subst (λ s. FailsFor m (judging_each s files f.0) how f.0 × (Each Quiet f.0 ⊎ LeavesEach m s files f.0) × IsSaid m.digests (ExtractsEach m s files) how f.0) same (f.2, f.3, f.4))) c.run_extract_each.ensures.err)
+    rw c.in-ExtractEach.is (IfErr-weaker c.run_extract_each.result _ _ (λ how f. (f.0, f.1, subst (λ s. FailsFor m (judging_each s files f.0) how f.0 × (Each Quiet f.0 ⊎ LeavesEach m s files f.0) × IsSaid m.digests (RunsExtractEach m s files) how f.0) same (f.2, f.3, f.4))) c.run_extract_each.ensures.err)
 
 pub returns-in-ExtractEach-clause-files : goal.returns-in-ExtractEach-clause-files
 returns-in-ExtractEach-clause-files g c = rw c.in-ExtractEach.is c.run_extract_each.ensures.files

@@ -1,7 +1,7 @@
 use Rattle.std.proofs.Common.{[], ◌∷◌, ◌++◌, List, inl, inr, refl}
 use Rattle.std.proofs.lemmas.Result.{IfErr-weaker, err_from_is_err_and, on_ok_weaker}
 use Rattle.pbfcut_program.specs.declared.host.Screen.TheVariants.{Output}
-use Rattle.pbfcut_program.specs.Program.{Checks}
+use Rattle.pbfcut_program.specs.Program.{RunsCheck}
 use Rattle.pbfcut_program.specs.Lines.{check_lines, counts_text, prints}
 use Rattle.pbfcut_program.specs.Events.{Event, opened, read}
 use Rattle.pbfcut_program.specs.Fails.{judging_for}
@@ -34,8 +34,8 @@ returns-clause-err g c =
     let m = manner_of c.args.engine in
     let path = c.args.path.now in
     let lines = prints Output (counts_text r.counts ∷ check_lines m.digests r.input r.raw path) in
-    let done : Checks m path (first ++ lines) = record { has = d.0; first = d.1; counts = r.counts; digest = r.input; raw = r.raw; happened = refl; work = d.3 } in
-    IfErr-weaker c.print_checked.result _ _ (λ how f. (let p = print_fails m (judging_for checking) how (log c.args.host.now) _ _ (Checks m path) first lines d.2 done f in (p.0, p.1, p.2, inr p.3))) (tells_err _ _ _ c.print_checked.result c.print_checked.ensures)
+    let done : RunsCheck m path (first ++ lines) = record { has = d.0; first = d.1; counts = r.counts; digest = r.input; raw = r.raw; happened = refl; work = d.3 } in
+    IfErr-weaker c.print_checked.result _ _ (λ how f. (let p = print_fails m (judging_for checking) how (log c.args.host.now) _ _ (RunsCheck m path) first lines d.2 done f in (p.0, p.1, p.2, inr p.3))) (tells_err _ _ _ c.print_checked.result c.print_checked.ensures)
 
 pub returns-in_err-report-clause-err : goal.returns-in_err-report-clause-err
 returns-in_err-report-clause-err g c =

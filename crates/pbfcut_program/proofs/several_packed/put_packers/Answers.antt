@@ -7,7 +7,7 @@ use Rattle.std.proofs.lemmas.List.{map-id}
 use Rattle.std.proofs.lemmas.List.Elements.{All-from_recursion}
 use Rattle.pbfcut.proofs.SeveralLemmas.{pushed, zip_length}
 use Rattle.pbfcut_program.specs.Devices.{IsFreshOut}
-use Rattle.pbfcut_program.specs.SeveralOuts.{IsPacking}
+use Rattle.pbfcut_program.specs.SeveralOuts.{IsPackingOver}
 use Rattle.pbfcut_program.proofs.SeveralPackLemmas.{packing_more}
 use Rattle.pbfcut_program.proofs.several_packed.put_packers.Goals as goal
 
@@ -28,15 +28,15 @@ pub unwrap-requires : goal.unwrap-requires
 unwrap-requires g c =
     let gives = c.into_iter-output-iterator.ensures.into_iter_gives in
     let turn = YieldsList-turn (YieldsList-from_vec {s = c.into_iter-output-iterator.result} _ gives.0 (gives.1 ∙ c.args.outputs.ok.0)) c.outputs.yielded c.outputs.output-iterator c.outputs.yielded_by c.next.result c.next.new.self c.in-Some.output c.in-Some.is c.next.ensures.steps in
-    c.push.ensures.succeeds (omega (arith, c.outputs.invariant.room, turn.0, zip_length IsPacking _ _ c.outputs.invariant.packing, c.outputs.packing.ok.0))
+    c.push.ensures.succeeds (omega (arith, c.outputs.invariant.room, turn.0, zip_length IsPackingOver _ _ c.outputs.invariant.packing, c.outputs.packing.ok.0))
 
 pub outputs-preserved : goal.outputs-preserved
 outputs-preserved g c =
     let gives = c.into_iter-output-iterator.ensures.into_iter_gives in
     let turn = YieldsList-turn (YieldsList-from_vec {s = c.into_iter-output-iterator.result} _ gives.0 (gives.1 ∙ c.args.outputs.ok.0)) c.outputs.yielded c.outputs.output-iterator c.outputs.yielded_by c.next.result c.next.new.self c.in-Some.output c.in-Some.is c.next.ensures.steps in
-    let ok : IsOk c.push.result = c.push.ensures.succeeds (omega (arith, c.outputs.invariant.room, turn.0, zip_length IsPacking _ _ c.outputs.invariant.packing, c.outputs.packing.ok.0)) in
+    let ok : IsOk c.push.result = c.push.ensures.succeeds (omega (arith, c.outputs.invariant.room, turn.0, zip_length IsPackingOver _ _ c.outputs.invariant.packing, c.outputs.packing.ok.0)) in
     record {
-      packing = subst (λ l. AllZip IsPacking (c.outputs.yielded ++ c.in-Some.output ∷ []) l) (sym (c.push.ensures.items ∙ pushed c.push.result _ _ ok)) (packing_more c.outputs.yielded c.outputs.packing.items c.in-Some.output c.put_packer.result c.outputs.invariant.packing c.put_packer.ensures);
+      packing = subst (λ l. AllZip IsPackingOver (c.outputs.yielded ++ c.in-Some.output ∷ []) l) (sym (c.push.ensures.items ∙ pushed c.push.result _ _ ok)) (packing_more c.outputs.yielded c.outputs.packing.items c.in-Some.output c.put_packer.result c.outputs.invariant.packing c.put_packer.ensures);
       room = omega (arith, c.outputs.invariant.room, c.push.ensures.capacity);
       left = omega (arith, c.outputs.invariant.left, c.in-Some-pop.ensures.cases, length-append c.outputs.yielded (c.in-Some.output ∷ []));
     }
@@ -45,4 +45,4 @@ pub returns : goal.returns
 returns g c =
     let gives = c.into_iter-output-iterator.ensures.into_iter_gives in
     let end = YieldsList-end (YieldsList-from_vec {s = c.into_iter-output-iterator.result} _ gives.0 (gives.1 ∙ c.args.outputs.ok.0)) c.outputs.yielded c.outputs.output-iterator c.outputs.yielded_by c.next.result c.next.new.self c.in-None.is c.next.ensures.steps in
-    subst (λ l. AllZip IsPacking l c.outputs.packing.items) (sym (map-id c.outputs.yielded) ∙ end.0) c.outputs.invariant.packing
+    subst (λ l. AllZip IsPackingOver l c.outputs.packing.items) (sym (map-id c.outputs.yielded) ∙ end.0) c.outputs.invariant.packing

@@ -3,7 +3,7 @@ use Rattle.pbfcut.specs.EachReceipts.{each_strategy}
 use Rattle.pbfcut.proofs.SeveralLemmas.{zip_length}
 use Rattle.pbfcut_program.specs.Inputs.{feeds_in}
 use Rattle.pbfcut_program.specs.Manner.{check_in, manner_of}
-use Rattle.pbfcut_program.specs.SeveralOuts.{IsPacking}
+use Rattle.pbfcut_program.specs.SeveralOuts.{IsPackingOver}
 use Rattle.pbfcut_program.proofs.SeveralPackLemmas.{none_unhashed, packed_manner, unhashed_packing}
 use Rattle.pbfcut_program.proofs.several_packed.run_each_packed.Goals as goal
 
@@ -23,4 +23,4 @@ pub run_each_raw-packing-requires-clause-unhashed : goal.run_each_raw-packing-re
 run_each_raw-packing-requires-clause-unhashed g c = unhashed_packing c.args.outputs.items c.put_packers-packing.result.items c.put_packers-packing.ensures c.requires.unhashed
 
 pub take_packers-requires-clause-room : goal.take_packers-requires-clause-room
-take_packers-requires-clause-room g c = omega (arith, c.in-Ok-Ok-Ok.ensures''.capacity, c.len-3.ensures, c.args.outputs.ok.0, zip_length IsPacking _ _ c.put_packers-packing.ensures, zip_length _ _ _ c.run_each_raw-packing.ensures)
+take_packers-requires-clause-room g c = omega (arith, c.in-Ok-Ok-Ok.ensures''.capacity, c.len-3.ensures, c.args.outputs.ok.0, zip_length IsPackingOver _ _ c.put_packers-packing.ensures, zip_length _ _ _ c.run_each_raw-packing.ensures)

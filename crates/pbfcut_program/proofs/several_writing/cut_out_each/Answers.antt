@@ -6,7 +6,7 @@ use Rattle.pbfcut.specs.Receipts.{judge_by}
 use Rattle.pbfcut.proofs.SeveralLemmas.{zip_length}
 use Rattle.pbfcut_program.specs.ConfiguredCuts.{output_area_of}
 use Rattle.pbfcut_program.specs.declared.host.Screen.TheVariants as screen
-use Rattle.pbfcut_program.specs.Fails.{Fails, Quiet, TookNothing, judging}
+use Rattle.pbfcut_program.specs.Fails.{Fails, Quiet, WroteNothing, judging}
 use Rattle.pbfcut_program.specs.Inputs.{feeds_in}
 use Rattle.pbfcut_program.specs.Leaving.{IsUnkept}
 use Rattle.pbfcut_program.specs.Lines.{check_lines}
@@ -64,7 +64,7 @@ returns-in_err-made-clause-err g c =
     let calm = begun_calm files (map (λ out. string_bytes out.output) outs) has key in
     let quiet = quiet_of first calm in
     let u = unmade m.program files.overwrite outs how (log c.open_each.new.host) (log c.make_outs.new.host) (subst (λ r. UnmakesEach r outs how (log c.open_each.new.host) (log c.make_outs.new.host)) c.placing.ensures.0 c.in_err-made.ensures.err) in
-    let nothing = each_both TookNothing first u.0 (nothing_in first quiet) u.2.nothing in
+    let nothing = each_both WroteNothing first u.0 (nothing_in first quiet) u.2.nothing in
     let unkept = each_both IsUnkept first u.0 (each_quiet IsUnkept quiet_unkept first quiet) u.2.unkept in
     rw (p.1, p.2) (
       first ++ u.0,

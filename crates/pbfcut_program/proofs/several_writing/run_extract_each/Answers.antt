@@ -5,7 +5,7 @@ use Rattle.pbfcut.specs.Receipts.{judge_by}
 use Rattle.pbfcut_program.specs.Configured.{MeansConfig}
 use Rattle.pbfcut_program.specs.ConfiguredCuts.{output_area_of}
 use Rattle.pbfcut_program.specs.Manner.{manner_of}
-use Rattle.pbfcut_program.specs.SeveralWrites.{AllGiveRaw, CutsRawEach, ExtractsEach, WritesEach, areas_of, folder_of, judging_each}
+use Rattle.pbfcut_program.specs.SeveralWrites.{AllGiveRaw, CutsRawEach, RunsExtractEach, WritesOuts, areas_of, folder_of, judging_each}
 use Rattle.pbfcut_program.proofs.ConfiguredLemmas.{config_calm, some_configured}
 use Rattle.pbfcut_program.proofs.EventLemmas.{quiet_of}
 use Rattle.pbfcut_program.proofs.FailLemmas.{failed_after, opening_fails, sound_fails}
@@ -58,7 +58,7 @@ returns-clause-err g c =
       and_then (log c.args.host.now) (log c.read_configured.new.host) (log c.cut_out_each.new.host) d.0 f.0 d.1 f.1,
       failed_after m (judging_each s files (d.0 ++ f.0)) how d.0 f.0 (quiet_of d.0 calm) (sound_fails m (judge_by s) (AllGiveRaw s (areas_of outs)) (CutsRawEach s files (d.0 ++ f.0)) how f.0 (λ file all. all outs d.0 f.0 refl means) f.2),
       inr (record { outs = outs; before = d.0; after = f.0; happened = refl; means = means; left = f.3 }),
-      said_in m.digests (WritesEach m s files outs) (ExtractsEach m s files) d.0 how f.0 (silent_of d.0 calm) (extracts_all m s files outs d.0 means) f.4,
+      said_in m.digests (WritesOuts m s files outs) (RunsExtractEach m s files) d.0 how f.0 (silent_of d.0 calm) (extracts_all m s files outs d.0 means) f.4,
     )) c.cut_out_each.ensures.err
 
 pub returns-clause-files : goal.returns-clause-files

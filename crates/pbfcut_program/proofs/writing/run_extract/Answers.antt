@@ -4,7 +4,7 @@ use Rattle.pbfcut.specs.Receipts.{judge_by}
 use Rattle.pbfcut_program.specs.Fails.{FailsFor, judging_for}
 use Rattle.pbfcut_program.specs.Jobs.{area_of}
 use Rattle.pbfcut_program.specs.Leaving.{LeavesFor}
-use Rattle.pbfcut_program.specs.Program.{CutsRaw, Extracts, Writes, WritesCounts, advice, judging_cut, strategy_of}
+use Rattle.pbfcut_program.specs.Program.{CutsRaw, RunsExtract, Writes, WritesCounts, advice, judging_cut, strategy_of}
 use Rattle.pbfcut_program.specs.Manner.{manner_of}
 use Rattle.pbfcut.specs.Tasks.{extracting}
 use Rattle.pbfcut_program.specs.Tasks.{GivesRaw}
@@ -52,7 +52,7 @@ returns-in_err-counts-clause-err g c =
       and_then log _ _ d.0 f.0 d.1 f.1,
       failed_after m (judging_cut c.args.region.now c.args.strategy (d.0 ++ f.0)) how d.0 f.0 (quiet_of d.0 calm) fails,
       inr (record { area = area; before = d.0; after = f.0; happened = refl; means = d.2; leaves = leaves }),
-      said_in m.digests (Writes m task files) (Extracts m c.args.region.now by files) d.0 how f.0 (silent_of d.0 calm)
+      said_in m.digests (Writes m task files) (RunsExtract m c.args.region.now by files) d.0 how f.0 (silent_of d.0 calm)
           (λ all w. (advice w.0, record { area = area; before = d.0; after = all; counts = w.0; happened = sym (append_assoc d.0 all (advice w.0)); means = d.2; writes = w.1 })) said,
     )
 
