@@ -81,7 +81,7 @@ impl IdSet {
     }
 
     /// How many ids the set has, at most the greatest number of 64 bits.
-    pub fn size(&self) -> u64 {
+    pub fn count(&self) -> u64 {
         self.pages.count().saturating_add(self.late.len() as u64)
     }
 

@@ -154,6 +154,14 @@ fn add_each<A: Area, P: NodeTaker>(
     add_each(strips, number + 1, others)
 }
 
+/// How many ids of nodes these phases have together, at most the greatest number.
+fn count_ids<A: Area, P: NodeTaker>(members: &[InArea<A, P>]) -> u64 {
+    let Some((member, others)) = members.split_first() else {
+        return 0;
+    };
+    count_ids(others).saturating_add(member.phase.ids().count())
+}
+
 /// Takes a way by each of the phases, and makes the strips.
 fn take_first<A: Area, P: NodeTaker>(
     alloc: Global,
@@ -166,7 +174,7 @@ fn take_first<A: Area, P: NodeTaker>(
 {
     let mut marks = vec![in alloc; true; members.len()]?;
     take_marked(members, marks.as_mut_slice(), way)?;
-    let mut strips = IdStrips::new(alloc);
+    let mut strips = IdStrips::new(alloc, count_ids(members));
     add_each(&mut strips, 0, members)?;
     Ok(MadeStrips { strips, marks })
 }

@@ -20,6 +20,14 @@ use std::alloc::{AllocError, Global};
 /// At most so many runs are listed: a block of which more is wanted is read for each area by itself.
 const MOST_LISTED: usize = 100_000;
 
+/// How many ids these choices have together, at most the greatest number.
+fn count_ids(choices: &[AreaChoice]) -> u64 {
+    let Some((choice, others)) = choices.split_first() else {
+        return 0;
+    };
+    count_ids(others).saturating_add(choice.chosen.count())
+}
+
 /// The strips of these choices, which have the numbers of their places.
 pub(crate) fn strips_of(
     alloc: Global,
@@ -28,7 +36,7 @@ pub(crate) fn strips_of(
     ensures { IfOk result (λ strips.
         AllFrom (λ number choice. NamesChoice strips number choice.chosen) 0 choices.now) }
 {
-    let mut strips = ChoiceStrips::new(alloc);
+    let mut strips = ChoiceStrips::new(alloc, count_ids(choices));
     'choices: for number in 0..choices.len() {
         strips.add(number, &choices[number].chosen)?;
     }
