@@ -106,9 +106,10 @@ module _ (strips : IdStrips) where
     skip_each [] [] number skips named set as_many = tt
     skip_each [] (mark ∷ marks) number skips named set as_many = absurd (omega (arith, as_many))
     skip_each (of ∷ members) [] number skips named set as_many = absurd (omega (arith, as_many))
-    skip_each (of ∷ members) (mark ∷ marks) number skips named set as_many =
-        (λ none. (same of number skips.0 named.0 (unmarked mark marks (is_asked strips refs number) (λ asked. set 0 (subst (λ n. is_asked strips refs n ≡ true) (omega arith) asked)) none), skips.0),
-        skip_each members marks (number + 1) skips.1 named.1 (λ k asked within. set (suc k) (subst (λ n. is_asked strips refs n ≡ true) (omega arith) asked) (omega (arith, within))) (omega (arith, as_many)))
+    skip_each (of ∷ members) (mark ∷ marks) number skips named set as_many = (
+      λ none. (same of number skips.0 named.0 (unmarked mark marks (is_asked strips refs number) (λ asked. set 0 (subst (λ n. is_asked strips refs n ≡ true) (omega arith) asked)) none), skips.0),
+      skip_each members marks (number + 1) skips.1 named.1 (λ k asked within. set (suc k) (subst (λ n. is_asked strips refs n ≡ true) (omega arith) asked) (omega (arith, within))) (omega (arith, as_many)),
+    )
 
 -- ---- all phases
 
@@ -133,7 +134,8 @@ module _ {A S : Type 0} (step : S → Seen → S) (inside : S → Ids) (members 
   pub may_skip : (id : ℤ) (refs : List ℤ) (old new : WayStrips) → HasMarked refs old new → MayFind step inside members old → MaySkip step inside (a_way id refs) members new
   may_skip id refs (Made old) (Made new) marked find = (
     skip_each old.strips step inside id refs members new.marks.items 0 find.0 find.1 (λ k asked. marked.1.set k (subst (λ n. is_asked old.strips refs n ≡ true) (omega arith) asked)) (marked.1.as_many ∙ find.2),
-    subst (λ s. NamesEach s 0 (member_ids inside members)) (sym marked.0) find.1)
+    subst (λ s. NamesEach s 0 (member_ids inside members)) (sym marked.0) find.1,
+  )
   may_skip id refs (Made old) (Unmade alloc) marked find = tt
   may_skip id refs (Made old) Never marked find = tt
   may_skip id refs (Unmade alloc) new marked find = subst (MaySkip step inside (a_way id refs) members) (sym marked) tt

@@ -29,5 +29,5 @@ pub use pass::{
 pub use pbf_block::Counts;
 pub use receipt::{Halt, InputReceipt, Passes, Refusal};
 pub use unjudged::{Later, gather_unjudged, step_unjudged};
-pub use way_strips::mark_refs;
 pub use visit::{FileRead, Visit, pass_over, step, visit_rest};
+pub use way_strips::mark_refs;

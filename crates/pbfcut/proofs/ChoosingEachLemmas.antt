@@ -2,12 +2,14 @@
 use Rattle.std.proofs.Common.{◌≡◌, ℕ, List, [], ◌∷◌, Bool, true, false, true≢false, Option, Some, None, refl, sym, ap, subst, ◌∙◌}
 use Rattle.std.specs.Prelude.{IsTrue}
 use Rattle.std.specs.List.{AllByRecursion, AllZip, fold}
+use Rattle.std.specs.Option.{option_map}
 use Rattle.osm_area.specs.Area.{AreaSpec}
 use Rattle.osm_entity.specs.Entity.{EntitySpec}
 use Rattle.osm_ways.specs.Phases.{WaySets}
 use Rattle.osm_ways.specs.Selection.{Seen, none_whole}
 use Rattle.osm_ways.specs.Whole.{is_wanted}
 use Rattle.osm_ways.specs.declared.in_area.InArea.{InArea}
+use Rattle.pbf_frame.specs.declared.stop.Stop.{Stop}
 use Rattle.pbf_frame.specs.Frames.{FrameSpec}
 use Rattle.pbf_frame.specs.Verdict.{Verdict}
 use Rattle.pbf_header.specs.Header.{HeaderSpec, header_of}
@@ -16,13 +18,14 @@ use Rattle.pbf_pass.specs.Counting.{stored_entities}
 use Rattle.pbf_pass.specs.declared.pass.Pass.{Pass}
 use Rattle.pbf_pass.specs.Each.{each_gathered}
 use Rattle.pbf_pass.specs.Hashing.{Mark}
-use Rattle.pbf_pass.specs.HeaderLimit.{HasShortTexts, header_limit, held_header}
+use Rattle.pbf_pass.specs.HeaderLimit.{HasShortTexts, header_limit, held_header, limited}
 use Rattle.pbf_pass.specs.Judged.{judged_file}
 use Rattle.pbf_pass.specs.Pass.{TakesFile, file_header, with_seen_in, with_way}
+use Rattle.pbf_pass.specs.Stops.{Caused, FaultOf, unchanged}
 use Rattle.pbf_pass.specs.Unjudged.{GathersFile, GathersSome}
 use Rattle.pbf_pass.proofs.EachLemmas.{all_mapped, each_takes_file, fold_each}
 use Rattle.pbf_pass.proofs.GivenLemmas.{gave_file_less}
-use Rattle.pbf_pass.proofs.LimitLemmas.{held_is}
+use Rattle.pbf_pass.proofs.LimitLemmas.{held_is, limited_fault}
 use Rattle.pbfcut.specs.declared.area_phase.AreaPhase.{AreaPhase}
 use Rattle.pbfcut.specs.declared.carrying.AreaChoice.{AreaChoice}
 use Rattle.pbfcut.specs.declared.carrying.AreaOutput.{AreaOutput}
@@ -32,6 +35,7 @@ use Rattle.pbfcut.specs.Extracting.{Begins, IsChoice}
 use Rattle.pbfcut.specs.Repeat.{GathersRest}
 use Rattle.pbfcut.proofs.AreaPhaseLemmas.{gathered_all, gathered_none, with_more}
 use Rattle.pbfcut.proofs.ExtractingLemmas.{begins, begun_by, chooses_of}
+use Rattle.pbfcut.proofs.LaterLemmas.{stops_earlier}
 use Rattle.pbfcut.proofs.SeveralLemmas.{zip_both, zip_same, zip_then, zip_weaker, zip_when, zip_with}
 
 -- ---- the first pass
@@ -43,6 +47,10 @@ area_stays area step of (e ∷ es) = area_stays area step (with_seen_in area ste
 -- the file that was judged is sound
 pub sound_file : {S : Type 0} (gathered : S → EntitySpec → S) (file : List ℕ) (before now : S) (pass : Pass) → TakesFile gathered (judged_file (Some file)) before now pass → header_limit (held_header pass) ≡ None → IsSoundFile file
 sound_file gathered file before now pass p within = record { frames = p.frames; judged = p.says; within = ap header_limit (sym (held_is (file_header p.frames) pass p.header)) ∙ within }
+
+-- why the pass stopped that judges the file: the headers of the extracts don't matter yet
+pub stops_judging : (known : Option Verdict) (read more : Type 0) (s : Stop) → (read → more) → Caused (FaultOf known) read ⊥ unchanged s → Caused (FaultOf (option_map limited known)) more ⊥ unchanged s
+stops_judging known read more s failed = stops_earlier (FaultOf known) (FaultOf (option_map limited known)) read more ⊥ unchanged unchanged s (λ e fault. (fault.0, limited_fault known fault.0 e fault.1)) failed (λ pass h. absurd h)
 
 module _ {A D S : Type 0} (area : A → AreaSpec) (start : S) (step : S → Seen → S) (has_ways : S → Bool) (ended : S → WaySets) (file : List ℕ) (pass : Pass) (header : HeaderSpec) (held : held_header pass ≡ Some (pass.header_at, header)) (within : header_limit (held_header pass) ≡ None) (short : HasShortTexts header) where
   -- a phase that took the file, before which it was fresh

@@ -93,6 +93,7 @@ by_names strips es old new some set kept as_many none = marks_takers strips es o
     of : TakesNone es may.0 ⊎ IsMarked new number → IsMarked new number
     of (inl nothing) = absurd (may.2 nothing)
     of (inr marked) = marked
+
   is_none : some ≡ false → (number : ℕ) (sets : KeptSets) → NamesChoice strips number sets → TakesNone es sets
   is_none is number sets named = of (takes_or sets ⊥ es (none is number sets named)) where
     of : TakesNone es sets ⊎ ⊥ → TakesNone es sets
@@ -124,10 +125,11 @@ pub dense_takers : (strips : ChoiceStrips) (ids : List ℤ) (ns : List NodeSpec)
 dense_takers strips ids ns old new some begin m none = by_names strips (map node ns) old new some
     (λ number sets named. each number sets named (IsMarked new number) (m.set number)) m.kept m.as_many
     (λ is number sets named. each number sets named ⊥ (λ asked. not_both asked (none is number))) where
-  not_both : {b : Bool} → b ≡ true → b ≡ false → ⊥
-  not_both is not = grind (arith, is, not)
-  each : (number : ℕ) (sets : KeptSets) → NamesChoice strips number sets → (Q : Type 0) → (is_asked strips.nodes ids number ≡ true → Q) → AllByRecursion (λ e. taken_by sets e ≡ true → Q) (map node ns)
-  each number sets named Q q = dense_each (λ id. IsNamed strips.nodes id number → is_asked strips.nodes ids number ≡ true) (λ e. taken_by sets e ≡ true → Q) (λ n h kept. q (h (named_node strips number sets n.id named kept))) ids ns begin (each_any (λ id. list_any (nat_eq number) (named_at strips.nodes id)) ids)
+      not_both : {b : Bool} → b ≡ true → b ≡ false → ⊥
+      not_both is not = grind (arith, is, not)
+
+      each : (number : ℕ) (sets : KeptSets) → NamesChoice strips number sets → (Q : Type 0) → (is_asked strips.nodes ids number ≡ true → Q) → AllByRecursion (λ e. taken_by sets e ≡ true → Q) (map node ns)
+      each number sets named Q q = dense_each (λ id. IsNamed strips.nodes id number → is_asked strips.nodes ids number ≡ true) (λ e. taken_by sets e ≡ true → Q) (λ n h kept. q (h (named_node strips number sets n.id named kept))) ids ns begin (each_any (λ id. list_any (nat_eq number) (named_at strips.nodes id)) ids)
 
 -- one entity
 pub one_takers : (strips : ChoiceStrips) (e : EntitySpec) (old new : List Bool) (some : Bool) (Named : ℕ → Type 0)
@@ -156,9 +158,10 @@ pub zip_left : (strips : ChoiceStrips) (es : List EntitySpec) (choices : List Ke
     → ((i : ℕ) (sets : KeptSets) → i < length marks → NamesChoice strips (k + i) sets → get_or marks i false ≡ false → TakesNone es sets)
     → AllZip (λ sets mark. mark ≡ false → TakesNone es sets) choices marks
 zip_left strips es [] [] k same named h = tt
-zip_left strips es (c ∷ cs) (m ∷ ms) k same named h =
-    (λ is. h 0 c (omega arith) (subst (λ n. NamesChoice strips n c) (omega arith) named.0) is,
-    zip_left strips es cs ms (k + 1) (omega (arith, same)) named.1 (λ i sets lt is left. h (i + 1) sets (omega (arith, lt)) (subst (λ n. NamesChoice strips n sets) (omega arith) is) (suc_get m ms i left))) where
+zip_left strips es (c ∷ cs) (m ∷ ms) k same named h = (
+  λ is. h 0 c (omega arith) (subst (λ n. NamesChoice strips n c) (omega arith) named.0) is,
+  zip_left strips es cs ms (k + 1) (omega (arith, same)) named.1 (λ i sets lt is left. h (i + 1) sets (omega (arith, lt)) (subst (λ n. NamesChoice strips n sets) (omega arith) is) (suc_get m ms i left)),
+) where
   suc_get : (m : Bool) (ms : List Bool) (i : ℕ) → get_or ms i false ≡ false → get_or (m ∷ ms) (i + 1) false ≡ false
   suc_get m ms i is = grind (arith, is)
 zip_left strips es [] (m ∷ ms) k same named h = (let bad : ⊥ = omega (arith, same) in absurd bad)

@@ -79,10 +79,13 @@ same_named strips k old new picker choice is = record {
 -- writers for choices that are named
 pub writers_named : {A D S H : Type 0} (strips : ChoiceStrips) (number k : ℕ) (choices : List AreaChoice) (outputs : List (AreaOutput A D)) (writers : List (AreaWriter A D S H)) → AllFrom (λ n choice. NamesChoice strips n choice.chosen) k choices → AllThree (IsWriterOf number) choices outputs writers → AllFrom (IsNamedWriter strips) k writers
 writers_named strips number k [] [] [] named are = tt
-writers_named strips number k (c ∷ cs) (o ∷ os) (w ∷ ws) named are = (record {
+writers_named strips number k (c ∷ cs) (o ∷ os) (w ∷ ws) named are = (
+  record {
     named = subst (λ (x : AreaChoice). NamesChoice strips k x.chosen) (sym are.0.chosen) named.0;
     picks = are.0.picks ∙ ap (λ (x : AreaChoice). taken_by x.chosen) (sym are.0.chosen);
-  }, writers_named strips number (k + 1) cs os ws named.1 are.1)
+  },
+  writers_named strips number (k + 1) cs os ws named.1 are.1,
+)
 writers_named strips number k [] [] (w ∷ ws) named are = absurd are
 writers_named strips number k [] (o ∷ os) writers named are = absurd are
 writers_named strips number k (c ∷ cs) [] writers named are = absurd are
@@ -99,29 +102,33 @@ module _ {A D S H : Type 0} (d : drain.Ghosts D) where
   module _ (p : Payload) (es : List EntitySpec) (fits : fault_in p ≡ None → AllByRecursion EntityFits es) (same : (pick : Pick) → fault_in p ≡ None → filter pick es ≡ picked_in pick p) where
     packs_payload : (list : Vec Run) (old new : AreaWriter A D S H) → Wants es old list → WriterPacks d (listed_entities list.items) old new → WriterTakesPayload d p old new
     packs_payload list old new are did =
-        let pick = picks_of old.entities.picker in
-        (record {
-          packed = record {
-            es = filter pick (listed_entities list.items);
-            are = λ sound. are.same ∙ same pick sound;
-            packs = did.0.packed.packs;
-            going = did.0.packed.going;
-            counted = did.0.packed.counted;
-          };
-          stopped = tt;
-          keeps = did.0.keeps;
-          same = did.0.same;
-        }, did.1)
+        let pick = picks_of old.entities.picker in (
+          record {
+            packed = record {
+              es = filter pick (listed_entities list.items);
+              are = λ sound. are.same ∙ same pick sound;
+              packs = did.0.packed.packs;
+              going = did.0.packed.going;
+              counted = did.0.packed.counted;
+            };
+            stopped = tt;
+            keeps = did.0.keeps;
+            same = did.0.same;
+          },
+          did.1,
+        )
 
     stops_payload : (stop : Stop) (list : Vec Run) (old new : AreaWriter A D S H) → Wants es old list → WriterStops d (listed_entities list.items) stop old new → WriterFailsAtPayload d p stop old new
     stops_payload stop list old new are did =
-        let pick = picks_of old.entities.picker in
-        (record {
-          packed = tt;
-          stopped = fails_at_unjudged_payload d old.entities.number pick p (listed_entities list.items) old.packer new.packer stop (λ sound. are.fit (fits sound)) (λ sound. are.same ∙ same pick sound) did.0.stopped;
-          keeps = did.0.keeps;
-          same = did.0.same;
-        }, did.1)
+        let pick = picks_of old.entities.picker in (
+          record {
+            packed = tt;
+            stopped = fails_at_unjudged_payload d old.entities.number pick p (listed_entities list.items) old.packer new.packer stop (λ sound. are.fit (fits sound)) (λ sound. are.same ∙ same pick sound) did.0.stopped;
+            keeps = did.0.keeps;
+            same = did.0.same;
+          },
+          did.1,
+        )
 
     pub each_payload : (lists : List (Vec Run)) (olds news : List (AreaWriter A D S H)) → AllZip (Wants es) olds lists → AllThree (λ list. WriterPacks d (listed_entities list.items)) lists olds news → AllZip (WriterTakesPayload d p) olds news
     each_payload [] [] [] are did = tt
@@ -142,16 +149,26 @@ module _ {A D S H : Type 0} (d : drain.Ghosts D) where
 
   module _ (f : FrameSpec) (p : Payload) (is : payload_of f ≡ p) where
     takes_frame : (old new : AreaWriter A D S H) → WriterTakesPayload d p old new → WriterTakes d old f new
-    takes_frame old new did = (record {
+    takes_frame old new did = (
+      record {
         packs = subst (λ q. PacksUnjudgedPayload d (picks_of old.entities.picker) q old.packer new.packer old.entities.counts new.entities.counts) (sym is) did.0.packed;
         keeps = did.0.keeps;
-      }, did.0.same.0, did.0.same.1, did.1.0, did.1.1)
+      },
+      did.0.same.0,
+      did.0.same.1,
+      did.1.0,
+      did.1.1,
+    )
 
     fails_frame : (stop : Stop) (old new : AreaWriter A D S H) → WriterFailsAtPayload d p stop old new → WriterFails d old f new stop
-    fails_frame stop old new did = (record {
+    fails_frame stop old new did = (
+      record {
         fails = subst (λ q. FailsAtUnjudgedPayload d old.entities.number (picks_of old.entities.picker) q old.packer new.packer stop) (sym is) did.0.stopped;
         keeps = did.0.keeps;
-      }, did.1.0, did.1.1)
+      },
+      did.1.0,
+      did.1.1,
+    )
 
     pub each_frame : (olds news : List (AreaWriter A D S H)) → AllZip (WriterTakesPayload d p) olds news → EachTook (WriterTakes d) olds f news
     each_frame [] [] did = tt

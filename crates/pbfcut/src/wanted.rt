@@ -29,10 +29,7 @@ fn count_ids(choices: &[AreaChoice]) -> u64 {
 }
 
 /// The strips of these choices, which have the numbers of their places.
-pub(crate) fn strips_of(
-    alloc: Global,
-    choices: &[AreaChoice],
-) -> Result<ChoiceStrips, AllocError>
+pub(crate) fn strips_of(alloc: Global, choices: &[AreaChoice]) -> Result<ChoiceStrips, AllocError>
     ensures { IfOk result (λ strips.
         AllFrom (λ number choice. NamesChoice strips number choice.chosen) 0 choices.now) }
 {

@@ -143,10 +143,7 @@ impl<A, D: Drain, S: BuildHasher> PacksParts for AreaWriter<'_, A, D, S> {
 }
 
 /// Packs what each of the writers picks of its runs, by one writer after another.
-fn pack_wanted_each<W: PacksParts>(
-    lists: &[Vec<Run<'_>>],
-    writers: &mut [W],
-) -> Result<(), Stop>
+fn pack_wanted_each<W: PacksParts>(lists: &[Vec<Run<'_>>], writers: &mut [W]) -> Result<(), Stop>
     requires ready { AllByRecursion W.can_pack writers.old }
     requires as_many { length lists.now ≡ length writers.old }
     ensures packed { OnOk result (AllThree (λ list. W.packed (listed_entities list.items))

@@ -1,9 +1,10 @@
-use Rattle.std.proofs.Common.{rules, subst, sym, ◌∙◌}
+use Rattle.std.proofs.Common.{inl, rules, subst, sym, ap, ◌∙◌}
 use Rattle.std.specs.List.{AllZip}
 use Rattle.std.proofs.lemmas.Result.{err_from_is_err_and}
 use Rattle.pbf_header.specs.Header.{header_of}
 use Rattle.pbf_pass.specs.Each.{each_gathered}
 use Rattle.pbf_pass.specs.HeaderLimit.{header_limit, held_header, judged_writable}
+use Rattle.pbf_pass.specs.Judged.{judged_file}
 use Rattle.pbf_pass.specs.Pass.{with_seen_in}
 use Rattle.pbf_pass.specs.Refused.{stop_of}
 use Rattle.pbf_pass.specs.Stops.{FaultOf, Only, unchanged}
@@ -12,7 +13,7 @@ use Rattle.pbf_pass.proofs.HaltingLemmas.{halts_writing, limit_caused, limit_hal
 use Rattle.pbf_pass.proofs.LimitLemmas.{limit_refused}
 use Rattle.pbfcut.specs.ChoosingEach.{EndsTakingAll, IsFreshTaking}
 use Rattle.pbfcut.proofs.ChangedLemmas.{never_changed}
-use Rattle.pbfcut.proofs.ChoosingEachLemmas.{sound_file}
+use Rattle.pbfcut.proofs.ChoosingEachLemmas.{sound_file, stops_judging}
 use Rattle.pbfcut.proofs.ChoosingParentsLemmas.{all_begin_parents}
 use Rattle.pbfcut.proofs.LaterLemmas.{stops_earlier}
 use Rattle.pbfcut.proofs.choosing_parents_each.begin_parents_each.Goals as goal
@@ -20,7 +21,7 @@ use Rattle.pbfcut.proofs.choosing_parents_each.begin_parents_each.Goals as goal
 pub returns-in_err-judged-clause-halts : goal.returns-in_err-judged-clause-halts
 returns-in_err-judged-clause-halts g c =
     let p = err_from_is_err_and c.from_residual-in_err-judged.result c.from_residual-in_err-judged.ensures.1 in
-    rw (p.1, p.2) (record { refused = halts_writing g.F.Feed _ _ _ _ c.in_err-judged.ensures.ends.refused; stops = search rules; changed = never_changed _ _ _ _ (stop_of c.in_err-judged.field-0.0) c.in_err-judged.ensures.ends.stops })
+    rw (p.1, p.2) (record { refused = halts_writing g.F.Feed _ _ _ _ c.in_err-judged.ensures.ends.refused; stops = stops_judging (judged_file (g.F.Feed.remaining c.args.feed.now)) _ _ _ (λ failed. inl failed) c.in_err-judged.ensures.ends.stops; changed = never_changed _ _ _ _ (stop_of c.in_err-judged.field-0.0) c.in_err-judged.ensures.ends.stops })
 
 pub returns-in_err-header-clause-halts : goal.returns-in_err-header-clause-halts
 returns-in_err-header-clause-halts g c =

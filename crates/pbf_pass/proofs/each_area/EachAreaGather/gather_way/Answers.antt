@@ -27,9 +27,10 @@ invariant_of-self-2 g c =
     let olds = c.self.inside.members.items in
     let news = c.take_way_each.new.members in
     let taken : news ≡ map (λ of. with_seen_in area step of e) olds = c.in_ok-self-inside.ensures.taken ∙ ap (map (λ of. with_seen_in area step of e)) c.deref_mut.ensures.value in
-    let back : take c.self.inside.members.len (news ++ drop (length news) olds) ≡ news = all_back c.self.inside.members.len olds news (search rules) (search rules) in
-    (still_one area step e olds (take c.self.inside.members.len (news ++ drop (length news) olds)) c.self.inside.strips c.take-strips.result (back ∙ taken) c.take-strips.ensures.value c.self.invariant.0,
-    subst (λ l. MayFind step g.P.NodeTaker.inside l c.in_ok-self-inside.field-0) (sym back) c.in_ok-self-inside.ensures.find)
+    let back : take c.self.inside.members.len (news ++ drop (length news) olds) ≡ news = all_back c.self.inside.members.len olds news (search rules) (search rules) in (
+      still_one area step e olds (take c.self.inside.members.len (news ++ drop (length news) olds)) c.self.inside.strips c.take-strips.result (back ∙ taken) c.take-strips.ensures.value c.self.invariant.0,
+      subst (λ l. MayFind step g.P.NodeTaker.inside l c.in_ok-self-inside.field-0) (sym back) c.in_ok-self-inside.ensures.find,
+    )
 
 pub returns-then-leave_out : goal.returns-then-leave_out
 returns-then-leave_out g c =

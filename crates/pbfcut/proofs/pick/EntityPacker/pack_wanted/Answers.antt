@@ -13,7 +13,7 @@ loop-run-preserved g c =
     let runs = c.args.wanted.now in
     let run = c.run-item.result in
     each_as g.D.Drain (picks_of c.args.self.now.picker) _ _ c.args.self.now c.pack_run.new.self c.args.packer.now c.pack_run.new.packer _ (sym (listed_more runs i run c.loop-run-test.true c.run-item.is))
-        (each_more g.D.Drain (listed_entities (take i runs)) (run_entities run) c.args.self.now c.loop-run.self c.pack_run.new.self c.args.packer.now c.loop-run.packer c.pack_run.new.packer tt _ tt c.loop-run.invariant c.in_ok-pack_run.ensures)
+    (each_more g.D.Drain (listed_entities (take i runs)) (run_entities run) c.args.self.now c.loop-run.self c.pack_run.new.self c.args.packer.now c.loop-run.packer c.pack_run.new.packer tt _ tt c.loop-run.invariant c.in_ok-pack_run.ensures)
 
 pub returns-in_err-pack_run : goal.returns-in_err-pack_run
 returns-in_err-pack_run g c =

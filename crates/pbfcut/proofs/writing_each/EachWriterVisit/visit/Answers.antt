@@ -14,8 +14,8 @@ returns-clause-took g c =
     let news = c.pack_frame_each.new.writers in
     let took = subst (λ l. AllZip (WriterTakesPayload g.D.Drain (lent_by c.args.frame.now)) l news) c.deref_mut.ensures.value in
     on_ok_more c.pack_frame_each.result _ _ (λ did f shows.
-        let back = all_back self.writers.len olds news self.writers.ok.0 (zip_length (WriterTakesPayload g.D.Drain (lent_by c.args.frame.now)) olds news (took did)) in
-        (subst (λ l. EachTook (WriterTakes g.D.Drain) olds f l) (sym back) (each_shown g.D.Drain c.args.frame.now f shows olds news (took did)), refl)) c.pack_frame_each.ensures.packed
+    let back = all_back self.writers.len olds news self.writers.ok.0 (zip_length (WriterTakesPayload g.D.Drain (lent_by c.args.frame.now)) olds news (took did)) in
+    (subst (λ l. EachTook (WriterTakes g.D.Drain) olds f l) (sym back) (each_shown g.D.Drain c.args.frame.now f shows olds news (took did)), refl)) c.pack_frame_each.ensures.packed
 
 pub returns-clause-failed : goal.returns-clause-failed
 returns-clause-failed g c =
@@ -24,9 +24,9 @@ returns-clause-failed g c =
     let news = c.pack_frame_each.new.writers in
     let p = lent_by c.args.frame.now in
     if_err_more c.pack_frame_each.result _ _ (λ stop did f shows.
-        let one = subst (λ l. OneStopped (WriterTakesPayload g.D.Drain p) (WriterFailsAtPayload g.D.Drain p stop) l news) c.deref_mut.ensures.value did in
-        let back = all_back self.writers.len olds news self.writers.ok.0 (one_length (WriterTakesPayload g.D.Drain p) (WriterFailsAtPayload g.D.Drain p stop) olds news one) in
-        subst (λ l. OneFailed (WriterTakes g.D.Drain) (WriterFails g.D.Drain) olds f l stop) (sym back) (one_shown g.D.Drain c.args.frame.now f shows stop olds news one)) c.pack_frame_each.ensures.stopped
+    let one = subst (λ l. OneStopped (WriterTakesPayload g.D.Drain p) (WriterFailsAtPayload g.D.Drain p stop) l news) c.deref_mut.ensures.value did in
+    let back = all_back self.writers.len olds news self.writers.ok.0 (one_length (WriterTakesPayload g.D.Drain p) (WriterFailsAtPayload g.D.Drain p stop) olds news one) in
+    subst (λ l. OneFailed (WriterTakes g.D.Drain) (WriterFails g.D.Drain) olds f l stop) (sym back) (one_shown g.D.Drain c.args.frame.now f shows stop olds news one)) c.pack_frame_each.ensures.stopped
 
 pub returns-clause-ready : goal.returns-clause-ready
 returns-clause-ready g c =
@@ -35,6 +35,6 @@ returns-clause-ready g c =
     let news = c.pack_frame_each.new.writers in
     let p = lent_by c.args.frame.now in
     on_ok_more c.pack_frame_each.result _ _ (λ did.
-        let took = subst (λ l. AllZip (WriterTakesPayload g.D.Drain p) l news) c.deref_mut.ensures.value did in
-        let back = all_back self.writers.len olds news self.writers.ok.0 (zip_length (WriterTakesPayload g.D.Drain p) olds news took) in
-        subst (λ l. AreReady self.strips l) (sym back) (each_ready g.D.Drain p self.strips olds news took c.requires)) c.pack_frame_each.ensures.packed
+    let took = subst (λ l. AllZip (WriterTakesPayload g.D.Drain p) l news) c.deref_mut.ensures.value did in
+    let back = all_back self.writers.len olds news self.writers.ok.0 (zip_length (WriterTakesPayload g.D.Drain p) olds news took) in
+    subst (λ l. AreReady self.strips l) (sym back) (each_ready g.D.Drain p self.strips olds news took c.requires)) c.pack_frame_each.ensures.packed
