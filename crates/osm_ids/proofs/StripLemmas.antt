@@ -11,7 +11,7 @@ use Rattle.std.proofs.lemmas.Nat.{div-mul-add}
 use Rattle.std.specs.Int.Bits.{bit_and}
 use Rattle.osm_ids.specs.declared.strips.IdStrips.{IdStrips}
 use Rattle.osm_ids.specs.Pages.{rising}
-use Rattle.osm_ids.specs.Strips.{AlsoLists, HasNumber, IsMarked, IsNamed, Marks, NamesAll, StillNames, id_run, id_strip, listed_at, named_at, numbers_in}
+use Rattle.osm_ids.specs.Strips.{AlsoLists, HasNumber, IsMarked, IsNamed, Marks, NamesAll, StillNames, id_run, id_strip, listed_at, named_at, strip_numbers}
 use Rattle.osm_ids.proofs.Sets.{Ids}
 use Rattle.osm_ids.proofs.Kept.{has_rising}
 use Rattle.osm_ids.proofs.OrderLemmas.{with_late, contains-with_late}
@@ -34,7 +34,7 @@ also_append (strip ∷ strips) more (suc index) number there = also_append strip
 -- one strip in place of another that has no number besides
 pub also_set : (strips : List (Vec ℕ)) (at : ℕ) (old new : Vec ℕ) → slice_get strips at ≡ Some old → ((number : ℕ) → HasNumber old.items number → HasNumber new.items number) → AlsoLists strips (set_at strips at new)
 also_set [] at old new is more index number there = absurd (none_listed number there)
-also_set (strip ∷ strips) zero old new is more zero number there = more number (subst (λ (o : List ℕ). HasNumber o number) (ap numbers_in is) there)
+also_set (strip ∷ strips) zero old new is more zero number there = more number (subst (λ (o : List ℕ). HasNumber o number) (ap strip_numbers is) there)
 also_set (strip ∷ strips) zero old new is more (suc index) number there = there
 also_set (strip ∷ strips) (suc at) old new is more zero number there = there
 also_set (strip ∷ strips) (suc at) old new is more (suc index) number there = also_set strips at old new is more index number there
@@ -137,11 +137,11 @@ same_run n width other some from to =
 -- what is named is what is in the strip
 pub named_in : (strips : IdStrips) (id : ℤ) (strip : Vec ℕ) → slice_get strips.strips.items (id_strip strips.runs id) ≡ Some strip → named_at strips id ≡ strip.items
 unfolding named_at
-named_in strips id strip is = ap numbers_in is
+named_in strips id strip is = ap strip_numbers is
 
 pub none_named : (strips : IdStrips) (id : ℤ) → slice_get strips.strips.items (id_strip strips.runs id) ≡ None → named_at strips id ≡ []
 unfolding named_at
-none_named strips id none = ap numbers_in none
+none_named strips id none = ap strip_numbers none
 
 pub named_alike : (strips : IdStrips) (id other : ℤ) → id_run strips.runs other ≡ id_run strips.runs id → named_at strips other ≡ named_at strips id
 unfolding named_at
@@ -150,7 +150,7 @@ named_alike strips id other same = ap (λ (run : ℕ). listed_at strips.strips.i
 pub marks_named : (strips : IdStrips) (id : ℤ) (numbers : List ℕ) (old new : List Bool) → named_at strips id ≡ numbers → Marks (HasNumber numbers) old new → Marks (IsNamed strips id) old new
 marks_named strips id numbers old new named marks = subst (λ (ns : List ℕ). Marks (HasNumber ns) old new) (sym named) marks
 
--- where no set is named, none of any number is
+-- a list of no names has none of any number
 pub not_named : (strips : IdStrips) (id : ℤ) (number : ℕ) → named_at strips id ≡ [] → IsNamed strips id number → ⊥
 not_named strips id number none named = none_listed number (subst (λ (ns : List ℕ). HasNumber ns number) none named)
 

@@ -16,13 +16,13 @@ id_run runs id = nat_abs id / 2 ^ runs.shift
 abbrev pub id_strip : IdRuns → ℤ → ℕ
 id_strip runs id = bit_and (id_run runs id) runs.mask
 
-abbrev pub numbers_in : Option (Vec ℕ) → List ℕ
-numbers_in None = []
-numbers_in (Some strip) = strip.items
+abbrev pub strip_numbers : Option (Vec ℕ) → List ℕ
+strip_numbers None = []
+strip_numbers (Some strip) = strip.items
 
 -- the numbers in the strip with this index
 abbrev pub listed_at : List (Vec ℕ) → ℕ → List ℕ
-listed_at strips index = numbers_in (slice_get strips index)
+listed_at strips index = strip_numbers (slice_get strips index)
 
 abbrev pub HasNumber : List ℕ → ℕ → Type 0
 HasNumber numbers number = list_any (nat_eq number) numbers ≡ true

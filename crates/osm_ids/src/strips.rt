@@ -43,7 +43,7 @@ fn runs_for(ids: u64) -> IdRuns
 
 /// The strip that an id is in.
 #[inline(always)]
-fn strip_of(runs: IdRuns, id: i64) -> usize
+fn strip_for_id(runs: IdRuns, id: i64) -> usize
     ensures { result ≡ id_strip runs id }
 {
     ((id.unsigned_abs() >> runs.shift) & runs.mask) as usize
@@ -52,7 +52,7 @@ fn strip_of(runs: IdRuns, id: i64) -> usize
 /// How many ids a run has.
 fn width_of(runs: IdRuns) -> u64
     ensures value { result ≡ 2 ^ runs.shift }
-    ensures most { result ≤ 2 ^ 63 }
+    ensures most { 2 * result ≤ 2 ^ 64 }
 {
     1 << runs.shift
 }
@@ -66,7 +66,7 @@ fn start_of(runs: IdRuns, number: u64) -> u64
 }
 
 /// The ids of the run that an id is in; none if the id is below 0, or if the greatest one there is lies in the run.
-fn run_of(runs: IdRuns, id: i64) -> Span
+fn whole_run(runs: IdRuns, id: i64) -> Span
     ensures { (other : ℤ) → is_in result other ≡ true → id_run runs other ≡ id_run runs id }
 {
     if id < 0 {
@@ -95,7 +95,7 @@ fn grow(strips: &mut Vec<Vec<usize>>, index: usize, alloc: Global) -> Result<(),
 }
 
 /// Whether this number is the last one.
-fn is_last(numbers: &[usize], number: usize) -> bool
+fn is_listed_last(numbers: &[usize], number: usize) -> bool
     ensures { result ≡ true → HasNumber numbers.now number }
 {
     match numbers.last() {
@@ -114,7 +114,7 @@ fn list_at(strips: &mut Vec<Vec<usize>>, index: usize, number: usize) -> Result<
         return Ok(());
     };
     // Ids of a set come in order, so that those of a strip mostly come together.
-    if is_last(strip, number) {
+    if is_listed_last(strip, number) {
         return Ok(());
     }
     strip.push(number)?;
@@ -166,7 +166,7 @@ impl IdStrips {
         ensures named { OnOk result (IsNamed self.new id number) }
         ensures still { OnOk result (StillNames self.old self.new) }
     {
-        let index = strip_of(self.runs, id);
+        let index = strip_for_id(self.runs, id);
         grow(&mut self.strips, index, self.alloc)?;
         list_at(&mut self.strips, index, number)?;
         Ok(())
@@ -211,7 +211,7 @@ impl IdStrips {
         ensures marked { Marks (IsNamed self.now id) marks.old marks.new }
         ensures none { result ≡ false → named_at self.now id ≡ [] }
     {
-        let Some(strip) = self.strips.get(strip_of(self.runs, id)) else {
+        let Some(strip) = self.strips.get(strip_for_id(self.runs, id)) else {
             return false;
         };
         if strip.is_empty() {
@@ -226,6 +226,6 @@ impl IdStrips {
         ensures { (other : ℤ) → is_in result other ≡ true
             → named_at self.now other ≡ named_at self.now id }
     {
-        run_of(self.runs, id)
+        whole_run(self.runs, id)
     }
 }

@@ -41,7 +41,7 @@ fn add_ways(ways: &mut IdStrips, number: usize, chosen: &Chosen) -> Result<(), A
 }
 
 /// Names the choice of this number for the relations of all parents, if they were chosen.
-fn add_parents(strips: &mut IdStrips, number: usize, chosen: &Chosen) -> Result<(), AllocError>
+fn add_relations(strips: &mut IdStrips, number: usize, chosen: &Chosen) -> Result<(), AllocError>
     ensures kept { OnOk result (NamesAll strips.new number chosen.now.relation_ids) }
     ensures still { OnOk result (StillNames strips.old strips.new) }
 {
@@ -83,7 +83,7 @@ impl ChoiceStrips {
     {
         add_nodes(&mut self.nodes, number, chosen)?;
         add_ways(&mut self.ways, number, chosen)?;
-        add_parents(&mut self.relations, number, chosen)?;
+        add_relations(&mut self.relations, number, chosen)?;
         Ok(())
     }
 

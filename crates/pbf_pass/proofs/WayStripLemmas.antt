@@ -12,7 +12,7 @@ use Rattle.osm_ways.specs.Phases.{Ids, LeavesOutWays}
 use Rattle.osm_ways.specs.Selection.{Seen, a_way, is_kept_way}
 use Rattle.pbf_wire.specs.declared.span.Span.{Span}
 use Rattle.pbf_wire.specs.Spans.{AreAlike, is_in}
-use Rattle.pbf_pass.specs.EachArea.{CanSkip, HasMarked, HasNone, MarksRefs, MayFind, MaySkip, NamesEach, NamesNone, SkipsWays, is_asked, member_ids}
+use Rattle.pbf_pass.specs.EachArea.{CanSkip, HasMarked, HasNone, MarksRefs, MayFind, MaySkip, NamesEachSet, NamesNone, SkipsWays, is_asked, member_ids}
 use Rattle.pbf_pass.specs.declared.way_strips.WayStrips.{WayStrips}
 use Rattle.pbf_pass.specs.declared.way_strips.WayStrips.TheVariants.{Made, Never, Unmade}
 
@@ -96,12 +96,12 @@ module _ (strips : IdStrips) where
     same : (of : InArea A S) (number : ℕ) → SkipsWays step inside of → NamesAll strips number (inside of.phase) → is_asked strips refs number ≡ false → step of.phase (a_way id refs) ≡ of.phase
     same of number skips named none = skips id refs (unasked number (inside of.phase) refs named none)
 
-    pub all_same : (members : List (InArea A S)) (number : ℕ) → AllByRecursion (SkipsWays step inside) members → NamesEach strips number (member_ids inside members) → ((n : ℕ) → is_asked strips refs n ≡ false)
+    pub all_same : (members : List (InArea A S)) (number : ℕ) → AllByRecursion (SkipsWays step inside) members → NamesEachSet strips number (member_ids inside members) → ((n : ℕ) → is_asked strips refs n ≡ false)
         → members ≡ map (λ of. stepped step of (a_way id refs)) members
     all_same [] number skips named none = refl
     all_same (of ∷ members) number skips named none = ap₂ (λ (phase : S) (l : List (InArea A S)). record of { phase = phase } ∷ l) (sym (same of number skips.0 named.0 (none number))) (all_same members (number + 1) skips.1 named.1 none)
 
-    pub skip_each : (members : List (InArea A S)) (marks : List Bool) (number : ℕ) → AllByRecursion (SkipsWays step inside) members → NamesEach strips number (member_ids inside members)
+    pub skip_each : (members : List (InArea A S)) (marks : List Bool) (number : ℕ) → AllByRecursion (SkipsWays step inside) members → NamesEachSet strips number (member_ids inside members)
         → ((k : ℕ) → is_asked strips refs (number + k) ≡ true → IsMarked marks k) → length marks ≡ length members → AllZip (CanSkip step inside (a_way id refs)) members marks
     skip_each [] [] number skips named set as_many = tt
     skip_each [] (mark ∷ marks) number skips named set as_many = absurd (omega (arith, as_many))
@@ -130,11 +130,11 @@ module _ {A S : Type 0} (step : S → Seen → S) (inside : S → Ids) (members 
   find_none (Unmade alloc) none = tt
   find_none Never none = tt
 
-  -- who can be passed over
+  -- which phases can be left out
   pub may_skip : (id : ℤ) (refs : List ℤ) (old new : WayStrips) → HasMarked refs old new → MayFind step inside members old → MaySkip step inside (a_way id refs) members new
   may_skip id refs (Made old) (Made new) marked find = (
     skip_each old.strips step inside id refs members new.marks.items 0 find.0 find.1 (λ k asked. marked.1.set k (subst (λ n. is_asked old.strips refs n ≡ true) (omega arith) asked)) (marked.1.as_many ∙ find.2),
-    subst (λ s. NamesEach s 0 (member_ids inside members)) (sym marked.0) find.1,
+    subst (λ s. NamesEachSet s 0 (member_ids inside members)) (sym marked.0) find.1,
   )
   may_skip id refs (Made old) (Unmade alloc) marked find = tt
   may_skip id refs (Made old) Never marked find = tt

@@ -56,9 +56,9 @@ abbrev pub member_ids : {A S : Type 0} → (S → Ids) → List (InArea A S) →
 member_ids inside members = map (λ of. inside of.phase) members
 
 -- strips name these sets, whose numbers count from this one, for each of their ids
-abbrev pub NamesEach : IdStrips → (number : ℕ) → List Ids → Type 0
-NamesEach strips number [] = ⊤
-NamesEach strips number (ids ∷ others) = NamesAll strips number ids × NamesEach strips (number + 1) others
+abbrev pub NamesEachSet : IdStrips → (number : ℕ) → List Ids → Type 0
+NamesEachSet strips number [] = ⊤
+NamesEachSet strips number (ids ∷ others) = NamesAll strips number ids × NamesEachSet strips (number + 1) others
 
 -- whether the set of this number is named for one of the refs
 abbrev pub is_asked : IdStrips → List ℤ → ℕ → Bool
@@ -74,7 +74,7 @@ SkipsWays step inside of = LeavesOutWays step inside of.phase
 
 -- if strips are made, they name all phases to which a way may matter, and each phase has a mark
 abbrev pub MayFind : {A S : Type 0} → (S → Seen → S) → (S → Ids) → List (InArea A S) → WayStrips → Type 0
-MayFind step inside members (Made made) = AllByRecursion (SkipsWays step inside) members × NamesEach made.strips 0 (member_ids inside members) × (length made.marks.items ≡ length members)
+MayFind step inside members (Made made) = AllByRecursion (SkipsWays step inside) members × NamesEachSet made.strips 0 (member_ids inside members) × (length made.marks.items ≡ length members)
 MayFind step inside members _ = ⊤
 
 -- no strips are made
@@ -98,5 +98,5 @@ CanSkip step inside seen of mark = mark ≡ false → (step of.phase seen ≡ of
 
 -- of all phases, if strips are made
 abbrev pub MaySkip : {A S : Type 0} → (S → Seen → S) → (S → Ids) → Seen → List (InArea A S) → WayStrips → Type 0
-MaySkip step inside seen members (Made made) = AllZip (CanSkip step inside seen) members made.marks.items × NamesEach made.strips 0 (member_ids inside members)
+MaySkip step inside seen members (Made made) = AllZip (CanSkip step inside seen) members made.marks.items × NamesEachSet made.strips 0 (member_ids inside members)
 MaySkip step inside seen members _ = ⊤

@@ -220,7 +220,7 @@ impl<A: Area, P: NodeTaker> Gather for EachArea<A, P> {
         Ok(())
     }
 
-    /// Of most ways no ref is near a node of an area: then none of the phases is looked at.
+    /// Of most ways no ref is near a node of an area: then no phase is asked.
     #[tactic(auto, using(crate::proofs::EachLemmas::all_back))]
     fn gather_way(&mut self, unmade: &UnmadeWay<'_>) -> Result<(), AllocError> {
         if self.ways.leave_out(unmade) {

@@ -8,7 +8,7 @@ ghost use Rattle.osm_ids.specs.Strips.{StillNames};
 ghost use Rattle.osm_ways.specs.InArea.{stepped};
 ghost use Rattle.osm_ways.specs.Seen.{seen_refs, seen_way};
 ghost use Rattle.pbf_block.specs.Runs.{way_from};
-ghost use Rattle.pbf_pass.specs.EachArea.{CanSkip, HasMarked, HasNone, MarksRefs, MayFind, MaySkip, NamesEach, NamesNone, SkipsWays, is_asked, member_ids};
+ghost use Rattle.pbf_pass.specs.EachArea.{CanSkip, HasMarked, HasNone, MarksRefs, MayFind, MaySkip, NamesEachSet, NamesNone, SkipsWays, is_asked, member_ids};
 ghost use Rattle.pbf_pass.specs.Pass.{with_seen_in};
 ghost use Rattle.pbf_pass.specs.declared.way_strips.WayStrips.TheVariants.{Made};
 
@@ -144,7 +144,7 @@ fn add_each<A: Area, P: NodeTaker>(
 ) -> Result<(), AllocError>
     requires { number + length members.now < 2 ^ 64 }
     ensures named { OnOk result
-        (NamesEach strips.new number (member_ids P.inside members.now)) }
+        (NamesEachSet strips.new number (member_ids P.inside members.now)) }
     ensures still { OnOk result (StillNames strips.old strips.new) }
 {
     let Some((member, others)) = members.split_first() else {
@@ -155,11 +155,11 @@ fn add_each<A: Area, P: NodeTaker>(
 }
 
 /// How many ids of nodes these phases have together, at most the greatest number.
-fn count_ids<A: Area, P: NodeTaker>(members: &[InArea<A, P>]) -> u64 {
+fn count_inside<A: Area, P: NodeTaker>(members: &[InArea<A, P>]) -> u64 {
     let Some((member, others)) = members.split_first() else {
         return 0;
     };
-    count_ids(others).saturating_add(member.phase.ids().count())
+    count_inside(others).saturating_add(member.phase.ids().count())
 }
 
 /// Takes a way by each of the phases, and makes the strips.
@@ -174,7 +174,7 @@ fn take_first<A: Area, P: NodeTaker>(
 {
     let mut marks = vec![in alloc; true; members.len()]?;
     take_marked(members, marks.as_mut_slice(), way)?;
-    let mut strips = IdStrips::new(alloc, count_ids(members));
+    let mut strips = IdStrips::new(alloc, count_inside(members));
     add_each(&mut strips, 0, members)?;
     Ok(MadeStrips { strips, marks })
 }

@@ -30,7 +30,7 @@ use Rattle.pbfcut.specs.Pick.{Pick, picked_in, picks_of, taken_by}
 use Rattle.pbfcut.specs.declared.carrying.AreaChoice.{AreaChoice}
 use Rattle.pbfcut.specs.declared.carrying.AreaOutput.{AreaOutput}
 use Rattle.pbfcut.specs.declared.pick.EntityPacker.{EntityPacker}
-use Rattle.pbfcut.specs.Several.{AllThree, AreNamed, AreReady, IsNamedWriter, IsReadyWriter, IsWriterOf, OneStopped, OneStoppedWith, PutsHeader, WriterFails, WriterFailsAtPayload, WriterPacks, WriterStops, WriterTakes, WriterTakesPayload, WritersFail, WritersTake}
+use Rattle.pbfcut.specs.Several.{AllThree, AreNamed, CanPackEach, IsNamedWriter, IsReadyWriter, IsWriterOf, OneStopped, OneStoppedWith, PutsHeader, WriterFails, WriterFailsAtPayload, WriterPacks, WriterStops, WriterTakes, WriterTakesPayload, WritersFail, WritersTake}
 use Rattle.pbfcut.specs.Wanted.{AllFrom, AreWanted, AreWantedEach, listed_entities}
 use Rattle.pbfcut.specs.Write.{FailsAtUnjudgedPayload, PacksUnjudgedPayload}
 use Rattle.pbfcut.proofs.SeveralLemmas.{all_units, zip_right}
@@ -203,7 +203,7 @@ module _ {A D S H : Type 0} (d : drain.Ghosts D) where
   each_named p None olds news did named = tt
   each_named p (Some strips) olds news did named = still_named p strips 0 olds news did named
 
-  pub each_ready : (p : Payload) (strips : Option ChoiceStrips) (olds news : List (AreaWriter A D S H)) → AllZip (WriterTakesPayload d p) olds news → AreReady strips olds → AreReady strips news
+  pub each_ready : (p : Payload) (strips : Option ChoiceStrips) (olds news : List (AreaWriter A D S H)) → AllZip (WriterTakesPayload d p) olds news → CanPackEach strips olds → CanPackEach strips news
   each_ready p strips olds news did ready = record { each = zip_right (WriterTakesPayload d p) IsReadyWriter IsReadyWriter (still_ready p) olds news did ready.each; named = each_named p strips olds news did ready.named }
 
   -- after the header, which leaves what it picks
@@ -220,7 +220,7 @@ module _ {A D S H : Type 0} (d : drain.Ghosts D) where
   begun_ready : (first start : AreaWriter A D S H) → PutsHeader d first start → Unit {0} → IsReadyWriter start
   begun_ready first start put any = put.ready
 
-  pub ready_begun : (strips : Option ChoiceStrips) (firsts starts : List (AreaWriter A D S H)) → AllZip (PutsHeader d) firsts starts → AreNamed strips firsts → AreReady strips starts
+  pub ready_begun : (strips : Option ChoiceStrips) (firsts starts : List (AreaWriter A D S H)) → AllZip (PutsHeader d) firsts starts → AreNamed strips firsts → CanPackEach strips starts
   ready_begun strips firsts starts put named = record { each = zip_right (PutsHeader d) (λ w. Unit {0}) IsReadyWriter begun_ready firsts starts put (all_units firsts); named = all_named strips firsts starts put named }
 
   -- ---- the frames of a pass

@@ -183,7 +183,7 @@ AreNamed None writers = ⊤
 AreNamed (Some strips) writers = AllFrom (IsNamedWriter strips) 0 writers
 
 -- they can write
-pub record AreReady {A D S H : Type 0} (strips : Option ChoiceStrips) (writers : List (AreaWriter A D S H)) : Type 0 where
+pub record CanPackEach {A D S H : Type 0} (strips : Option ChoiceStrips) (writers : List (AreaWriter A D S H)) : Type 0 where
   pub each : AllByRecursion IsReadyWriter writers
   pub named : AreNamed strips writers
 

@@ -21,19 +21,19 @@ use std::alloc::{AllocError, Global};
 const MOST_LISTED: usize = 100_000;
 
 /// How many ids these choices have together, at most the greatest number.
-fn count_ids(choices: &[AreaChoice]) -> u64 {
+fn count_chosen(choices: &[AreaChoice]) -> u64 {
     let Some((choice, others)) = choices.split_first() else {
         return 0;
     };
-    count_ids(others).saturating_add(choice.chosen.count())
+    count_chosen(others).saturating_add(choice.chosen.count())
 }
 
 /// The strips of these choices, which have the numbers of their places.
-pub(crate) fn strips_of(alloc: Global, choices: &[AreaChoice]) -> Result<ChoiceStrips, AllocError>
+pub(crate) fn name_choices(alloc: Global, choices: &[AreaChoice]) -> Result<ChoiceStrips, AllocError>
     ensures { IfOk result (λ strips.
         AllFrom (λ number choice. NamesChoice strips number choice.chosen) 0 choices.now) }
 {
-    let mut strips = ChoiceStrips::new(alloc, count_ids(choices));
+    let mut strips = ChoiceStrips::new(alloc, count_chosen(choices));
     'choices: for number in 0..choices.len() {
         strips.add(number, &choices[number].chosen)?;
     }

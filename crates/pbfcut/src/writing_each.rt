@@ -12,12 +12,12 @@ ghost use Rattle.osm_ways.specs.ChoiceStrips.{NamesChoice};
 ghost use Rattle.pbf_pass.specs.Payload.{Payload, lent_by};
 ghost use Rattle.pbfcut.specs.Pick.{IsReadyToPack};
 ghost use Rattle.pbfcut.specs.Wanted.{AllFrom, listed_entities};
-ghost use Rattle.pbfcut.specs.Several.{AllThree, AreNamed, AreReady, CanBegin, IsFreshWriter, IsOutputOf, IsReadyWriter, IsWriterOf, OneStopped, OneStoppedWith, PutsHeader, StopsAtHeader, StopsAtLast, WriterFailsAtPayload, WriterPacks, WriterStops, WriterTakesPayload, WritersFail, WritersTake, WritesEach, WritesEachUnjudged, WritesLast};
+ghost use Rattle.pbfcut.specs.Several.{AllThree, AreNamed, CanPackEach, CanBegin, IsFreshWriter, IsOutputOf, IsReadyWriter, IsWriterOf, OneStopped, OneStoppedWith, PutsHeader, StopsAtHeader, StopsAtLast, WriterFailsAtPayload, WriterPacks, WriterStops, WriterTakesPayload, WritersFail, WritersTake, WritesEach, WritesEachUnjudged, WritesLast};
 
 use crate::carrying::{AreaChoice, AreaOutput};
 use crate::pick::{EntityPacker, Picker};
 use crate::repeat::LaterPass;
-use crate::wanted::{strips_of, wanted_each};
+use crate::wanted::{name_choices, wanted_each};
 use crate::write::pack_payload;
 use osm_pack::Packer;
 use osm_ways::ChoiceStrips;
@@ -83,7 +83,7 @@ impl<A, D: Drain, S: BuildHasher> Visit for EachWriter<'_, A, D, S> {
 
     ghost failed = { WritersFail D.Drain };
 
-    ghost ready = { λ v. AreReady v.strips v.writers.items };
+    ghost ready = { λ v. CanPackEach v.strips v.writers.items };
 
     fn visit(&mut self, alloc: Global, frame: &Frame<'_>) -> Result<(), Stop> {
         pack_frame_each(alloc, frame, &self.strips, &mut self.writers)
@@ -185,7 +185,7 @@ fn pack_together<A, D: Drain, S: BuildHasher>(
     strips: &ChoiceStrips,
     writers: &mut [AreaWriter<'_, A, D, S>],
 ) -> Result<bool, Stop>
-    requires { AreReady (Some strips.now) writers.old }
+    requires { CanPackEach (Some strips.now) writers.old }
     ensures packed { result ≡ Ok true → AllZip (WriterTakesPayload D.Drain (lent_by frame.now))
         writers.old writers.new }
     ensures left { result ≡ Ok false → writers.new ≡ writers.old }
@@ -214,7 +214,7 @@ fn pack_by_strips<A, D: Drain, S: BuildHasher>(
     strips: &Option<ChoiceStrips>,
     writers: &mut [AreaWriter<'_, A, D, S>],
 ) -> Result<bool, Stop>
-    requires { AreReady strips.now writers.old }
+    requires { CanPackEach strips.now writers.old }
     ensures packed { result ≡ Ok true → AllZip (WriterTakesPayload D.Drain (lent_by frame.now))
         writers.old writers.new }
     ensures left { result ≡ Ok false → writers.new ≡ writers.old }
@@ -235,7 +235,7 @@ fn pack_frame_each<A, D: Drain, S: BuildHasher>(
     strips: &Option<ChoiceStrips>,
     writers: &mut [AreaWriter<'_, A, D, S>],
 ) -> Result<(), Stop>
-    requires { AreReady strips.now writers.old }
+    requires { CanPackEach strips.now writers.old }
     ensures packed { OnOk result (AllZip (WriterTakesPayload D.Drain (lent_by frame.now))
         writers.old writers.new) }
     ensures stopped { IfErr result (λ stop. OneStopped
@@ -387,7 +387,7 @@ fn strips_if_several(
     if choices.len() < 2 {
         return Ok(None);
     }
-    let strips = strips_of(alloc, choices)?;
+    let strips = name_choices(alloc, choices)?;
     Ok(Some(strips))
 }
 

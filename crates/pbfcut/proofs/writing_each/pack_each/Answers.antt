@@ -7,7 +7,7 @@ use Rattle.pbf_pass.specs.Refused.{stop_of}
 use Rattle.pbf_pass.specs.Unjudged.{ReadsFaulty, StopsUnjudged}
 use Rattle.pbf_pass.proofs.GivenLemmas.{gave_file_less, tells_file}
 use Rattle.pbfcut.specs.Calls.{fed}
-use Rattle.pbfcut.specs.Several.{CanBegin, AreReady, IsReadyWriter, IsFreshWriter, KeepsWriter, OneStopped, PutsHeader, StopsAtHeader, StopsAtLast, WriterTook, WritesEachUnjudged, WritesLast}
+use Rattle.pbfcut.specs.Several.{CanBegin, CanPackEach, IsReadyWriter, IsFreshWriter, KeepsWriter, OneStopped, PutsHeader, StopsAtHeader, StopsAtLast, WriterTook, WritesEachUnjudged, WritesLast}
 use Rattle.pbfcut.proofs.SeveralLemmas.{all_back, all_less, zip_length, zip_right}
 use Rattle.pbfcut.proofs.WantedWriters.{ready_begun, seen_rest, seen_stops, seen_visits}
 use Rattle.pbfcut.proofs.WritingEachLemmas.{began_each, began_ended, began_heads, faulty_each, faulty_ended, faulty_heads, kept_each, kept_ended, kept_heads, kept_lasts, kept_took, stops_each, stops_ended, stops_heads, took_each}
@@ -38,7 +38,7 @@ pass_over-outcome-requires g c =
     let begun = c.begin_all.new.writers in
     let put = subst (λ l. AllZip (PutsHeader g.D.Drain) l begun) c.deref_mut.ensures.value c.in_default.ensures.began in
     let back = all_back c.args.writers.len firsts begun c.args.writers.ok.0 (zip_length (PutsHeader g.D.Drain) firsts begun put) in
-    subst (λ l. AreReady c.args.strips l) (sym back) (ready_begun g.D.Drain c.args.strips firsts begun put c.requires.named)
+    subst (λ l. CanPackEach c.args.strips l) (sym back) (ready_begun g.D.Drain c.args.strips firsts begun put c.requires.named)
 
 pub returns-in-Err-outcome : goal.returns-in-Err-outcome
 returns-in-Err-outcome g c =

@@ -10,16 +10,16 @@ use Rattle.osm_ids.proofs.strips.IdStrips.mark.Goals.{In_default, Then-is_empty}
 -- no strip is there
 past : (c : In_default) → named_at c.args.self.now c.args.id ≡ []
 past c =
-    let at : c.strip_of.result ≡ id_strip c.args.self.now.runs c.args.id = c.strip_of.ensures ∙ ap (id_strip c.args.self.now.runs) (to_z-of_z w64 c.args.id c.ranges.id) in
-    let none : slice_get c.deref.result.now c.strip_of.result ≡ None = slice_get_past c.deref.result.now c.strip_of.result (search rules) in
+    let at : c.strip_for_id.result ≡ id_strip c.args.self.now.runs c.args.id = c.strip_for_id.ensures ∙ ap (id_strip c.args.self.now.runs) (to_z-of_z w64 c.args.id c.ranges.id) in
+    let none : slice_get c.deref.result.now c.strip_for_id.result ≡ None = slice_get_past c.deref.result.now c.strip_for_id.result (search rules) in
     none_named c.args.self.now c.args.id (search (rules, none, at))
 
 -- one is there without a number
 empty : (c : Then-is_empty) → named_at c.args.self.now c.args.id ≡ []
 empty c =
-    let at : c.strip_of.result ≡ id_strip c.args.self.now.runs c.args.id = c.strip_of.ensures ∙ ap (id_strip c.args.self.now.runs) (to_z-of_z w64 c.args.id c.ranges.id) in
+    let at : c.strip_for_id.result ≡ id_strip c.args.self.now.runs c.args.id = c.strip_for_id.ensures ∙ ap (id_strip c.args.self.now.runs) (to_z-of_z w64 c.args.id c.ranges.id) in
     let strip = c.in-Some.strip.now in
-    let some : slice_get c.deref.result.now c.strip_of.result ≡ Some strip = slice_get_read c.deref.result.now (length c.deref.result.now) c.strip_of.result strip refl (search rules) (search rules) in
+    let some : slice_get c.deref.result.now c.strip_for_id.result ≡ Some strip = slice_get_read c.deref.result.now (length c.deref.result.now) c.strip_for_id.result strip refl (search rules) (search rules) in
     named_in c.args.self.now c.args.id strip (search (rules, some, at)) ∙ no_numbers strip.items (search rules)
 
 pub returns-in_default-clause-marked : goal.returns-in_default-clause-marked
@@ -36,7 +36,7 @@ returns-then-is_empty-clause-none c = λ none. empty c
 
 pub returns-clause-marked : goal.returns-clause-marked
 returns-clause-marked c =
-    let at : c.strip_of.result ≡ id_strip c.args.self.now.runs c.args.id = c.strip_of.ensures ∙ ap (id_strip c.args.self.now.runs) (to_z-of_z w64 c.args.id c.ranges.id) in
+    let at : c.strip_for_id.result ≡ id_strip c.args.self.now.runs c.args.id = c.strip_for_id.ensures ∙ ap (id_strip c.args.self.now.runs) (to_z-of_z w64 c.args.id c.ranges.id) in
     let strip = c.in-Some.strip.now in
-    let some : slice_get c.deref.result.now c.strip_of.result ≡ Some strip = slice_get_read c.deref.result.now (length c.deref.result.now) c.strip_of.result strip refl (search rules) (search rules) in
+    let some : slice_get c.deref.result.now c.strip_for_id.result ≡ Some strip = slice_get_read c.deref.result.now (length c.deref.result.now) c.strip_for_id.result strip refl (search rules) (search rules) in
     marks_named c.args.self.now c.args.id strip.items c.args.marks.now c.set_marks.new.marks (named_in c.args.self.now c.args.id strip (search (rules, some, at))) (search rules)

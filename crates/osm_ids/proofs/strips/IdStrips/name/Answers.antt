@@ -7,7 +7,7 @@ pub returns-clause-named : goal.returns-clause-named
 unfolding named_at
 returns-clause-named c =
     let strips = c.list_at.new.strips.items in
-    let at : c.strip_of-index.result ≡ id_strip c.args.self.now.runs c.args.id = c.strip_of-index.ensures ∙ ap (id_strip c.args.self.now.runs) (to_z-of_z w64 c.args.id c.ranges.id) in
+    let at : c.strip_for_id-index.result ≡ id_strip c.args.self.now.runs c.args.id = c.strip_for_id-index.ensures ∙ ap (id_strip c.args.self.now.runs) (to_z-of_z w64 c.args.id c.ranges.id) in
     subst (λ (index : ℕ). HasNumber (listed_at strips index) c.args.number) at (c.in_ok-list_at.ensures.listed c.in_ok-grow.ensures.there)
 
 pub returns-clause-still : goal.returns-clause-still

@@ -2,7 +2,7 @@ use Rattle.std.proofs.Common.{◌++◌, drop, length, refl, sym, subst, take}
 use Rattle.std.specs.List.{AllByRecursion, AllZip}
 use Rattle.pbf_pass.specs.Each.{EachTook, OneFailed}
 use Rattle.pbf_pass.specs.Payload.{lent_by}
-use Rattle.pbfcut.specs.Several.{AreReady, OneStopped, WriterFails, WriterFailsAtPayload, WriterTakes, WriterTakesPayload}
+use Rattle.pbfcut.specs.Several.{CanPackEach, OneStopped, WriterFails, WriterFailsAtPayload, WriterTakes, WriterTakesPayload}
 use Rattle.pbfcut.proofs.SeveralLemmas.{all_back, zip_length}
 use Rattle.pbfcut.proofs.WantedWriters.{each_ready, each_shown, if_err_more, on_ok_more, one_length, one_shown}
 use Rattle.pbfcut.proofs.writing_each.EachWriterVisit.visit.Goals as goal
@@ -37,4 +37,4 @@ returns-clause-ready g c =
     on_ok_more c.pack_frame_each.result _ _ (λ did.
     let took = subst (λ l. AllZip (WriterTakesPayload g.D.Drain p) l news) c.deref_mut.ensures.value did in
     let back = all_back self.writers.len olds news self.writers.ok.0 (zip_length (WriterTakesPayload g.D.Drain p) olds news took) in
-    subst (λ l. AreReady self.strips l) (sym back) (each_ready g.D.Drain p self.strips olds news took c.requires)) c.pack_frame_each.ensures.packed
+    subst (λ l. CanPackEach self.strips l) (sym back) (each_ready g.D.Drain p self.strips olds news took c.requires)) c.pack_frame_each.ensures.packed

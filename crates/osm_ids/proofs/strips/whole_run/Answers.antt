@@ -3,7 +3,7 @@ use mir.Val.{SFits}
 use Rattle.std.proofs.Math.Nat.{one-le-pow}
 use Rattle.std.proofs.lemmas.Int.{to_z-of_z, ints}
 use Rattle.osm_ids.proofs.StripLemmas.{same_run}
-use Rattle.osm_ids.proofs.strips.run_of.Goals as goal
+use Rattle.osm_ids.proofs.strips.whole_run.Goals as goal
 
 pub returns : goal.returns
 returns c = λ other inside.

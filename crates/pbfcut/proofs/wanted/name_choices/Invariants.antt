@@ -1,7 +1,7 @@
 use Rattle.std.proofs.Common.{◌≡◌, ◌≤◌, length, take}
 use Rattle.osm_ways.specs.ChoiceStrips.{NamesChoice}
 use Rattle.pbfcut.specs.Wanted.{AllFrom}
-use Rattle.pbfcut.proofs.wanted.strips_of.Given as goal
+use Rattle.pbfcut.proofs.wanted.name_choices.Given as goal
 
 -- the choices up to this one are named
 abbrev pub invariant-choices : goal.invariant-choices

@@ -2,7 +2,7 @@ use Rattle.std.proofs.Common.{arith, rules, subst, sym}
 use Rattle.osm_ways.specs.ChoiceStrips.{NamesChoice}
 use Rattle.pbfcut.specs.declared.carrying.AreaChoice.{AreaChoice}
 use Rattle.pbfcut.proofs.WantedLemmas.{named_more}
-use Rattle.pbfcut.proofs.wanted.strips_of.Goals as goal
+use Rattle.pbfcut.proofs.wanted.name_choices.Goals as goal
 
 pub choices-preserved : goal.choices-preserved
 choices-preserved c =

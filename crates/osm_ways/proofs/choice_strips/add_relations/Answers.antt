@@ -2,7 +2,7 @@ use Rattle.std.proofs.Common.{subst}
 use Rattle.osm_ids.specs.Strips.{NamesAll}
 use Rattle.osm_ways.specs.Phases.{KeptSets}
 use Rattle.osm_ways.proofs.ChoiceStripLemmas.{no_relations}
-use Rattle.osm_ways.proofs.choice_strips.add_parents.Goals as goal
+use Rattle.osm_ways.proofs.choice_strips.add_relations.Goals as goal
 
 pub returns-in_default-clause-kept : goal.returns-in_default-clause-kept
 returns-in_default-clause-kept c =
