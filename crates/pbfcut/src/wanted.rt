@@ -29,7 +29,10 @@ fn count_chosen(choices: &[AreaChoice]) -> u64 {
 }
 
 /// The strips of these choices, which have the numbers of their places.
-pub(crate) fn name_choices(alloc: Global, choices: &[AreaChoice]) -> Result<ChoiceStrips, AllocError>
+pub(crate) fn name_choices(
+    alloc: Global,
+    choices: &[AreaChoice],
+) -> Result<ChoiceStrips, AllocError>
     ensures { IfOk result (λ strips.
         AllFrom (λ number choice. NamesChoice strips number choice.chosen) 0 choices.now) }
 {
