@@ -32,6 +32,7 @@ use Rattle.pbfcut_program.proofs.EventLemmas.{each_both, quiet_of}
 use Rattle.pbfcut_program.proofs.FailLemmas.{TellsSome, broken_fails, failed_after, fails_early, memory_fails, opens_before}
 use Rattle.pbfcut_program.proofs.Logging.{and_then}
 use Rattle.pbfcut_program.proofs.OutLemmas.{kept_quiet}
+use Rattle.pbfcut_program.proofs.Printed.{quiet_prints}
 use Rattle.pbfcut_program.proofs.SayingLemmas.{broken_quiet, lines_in}
 use Rattle.pbfcut_program.proofs.SeveralClosing.{writes}
 use Rattle.pbfcut_program.proofs.SeveralMaking.{AreWritten, are_written, begun_calm, begun_opens, begun_same, makes_quiet, written_left, written_writes}
@@ -51,10 +52,6 @@ pub cause_fails : (m : Manner) (j : Judging) (how : Ending) (first events : List
 cause_fails m j how first events quiet c none = failed_after m j how first events quiet (fails_early m j how events (cause_caused m j how events c none))
 
 -- ---- lines
-
-quiet_prints : (s : Screen) (lines : List (List ℕ)) → Each Quiet (prints s lines)
-quiet_prints s [] = tt
-quiet_prints s (l ∷ lines) = (tt, quiet_prints s lines)
 
 pub opens_first : (files : ConfigFiles) (outputs : List (List ℕ)) (has : List (Option (List ℕ))) (key : ℕ) (makes : List Event) → Opens 1 has (begun_each files outputs has key ++ makes)
 opens_first files outputs has key makes = opens_before 1 has (begun_each files outputs has key) makes (begun_opens files outputs has key)
