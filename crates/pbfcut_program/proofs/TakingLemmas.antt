@@ -1,5 +1,5 @@
 -- What a command wrote that ended well is made of the one file that its passes read.
-use Rattle.std.proofs.Common.{◌≡◌, inl, inr, ℕ, ◌-◌, List, [], ◌∷◌, ◌++◌, map, Bool, Option, Some, None, refl, ap, sym, subst, ◌∙◌}
+use Rattle.std.proofs.Common.{◌≡◌, inl, inr, ℕ, ◌-◌, List, [], ◌∷◌, ◌++◌, map, Bool, Option, Some, None, refl, ap, sym, subst, ◌∙◌, append_assoc}
 use Rattle.std.proofs.lemmas.List.{append-nil}
 use Rattle.std.specs.Prelude.{IfSome}
 use Rattle.osm_area.specs.Area.{AreaSpec}
@@ -21,11 +21,11 @@ use Rattle.pbfcut.specs.Tasks.{Task, TaskHolds, converting, copying, extracting}
 
 -- ---- events
 
-each_first : (p : Event → Type 0) (xs ys : List Event) → Each p (xs ++ ys) → Each p xs
+pub each_first : (p : Event → Type 0) (xs ys : List Event) → Each p (xs ++ ys) → Each p xs
 each_first p [] ys e = tt
 each_first p (x ∷ xs) ys e = (e.0, each_first p xs ys e.1)
 
-each_last : (p : Event → Type 0) (xs ys : List Event) → Each p (xs ++ ys) → Each p ys
+pub each_last : (p : Event → Type 0) (xs ys : List Event) → Each p (xs ++ ys) → Each p ys
 each_last p [] ys e = e
 each_last p (x ∷ xs) ys e = each_last p xs ys e.1
 
@@ -40,7 +40,7 @@ happened_before e (x ∷ xs) ys (inr h) = inr (happened_before e xs ys h)
 
 -- ---- what was read
 
-none_some : {A : Type 0} {a : A} → ◌≡◌ {A = Option A} None (Some a) → ⊥
+pub none_some : {A : Type 0} {a : A} → ◌≡◌ {A = Option A} None (Some a) → ⊥
 none_some e = cc
 
 some_same : {A : Type 0} {a b : A} → Some a ≡ Some b → a ≡ b
@@ -51,7 +51,7 @@ module _ (file : List ℕ) where
   AllOf [] = Unit {0}
   AllOf (r ∷ rs) = (prepend r.bytes r.left ≡ Some file) × AllOf rs
 
-  abbrev AllAre : List (List ℕ) → Type 0
+  abbrev pub AllAre : List (List ℕ) → Type 0
   AllAre [] = Unit {0}
   AllAre (b ∷ bs) = (b ≡ file) × AllAre bs
 
@@ -77,6 +77,11 @@ module _ (file : List ℕ) where
       let same = read_is known h r b w.0 t.0 in
       (same, later_are known may b hs rs bs same w.1 t.1)
   all_are known may _ _ _ w t = absurd w
+
+  -- the passes among these events read it
+  pub reads_are : (known : List ℕ → Type 0) (may : ℕ) (has : List (Option (List ℕ))) (before : List Event) (rs : List Reading) (after : List Event) (bs : List (List ℕ))
+      → Each (ReadOf file) (before ++ (map (λ r. read r) rs ++ after)) → ReadAll known may has rs bs → AllAre bs
+  reads_are known may has before rs after bs e w = all_are known may has rs bs w (all_of rs (each_first (ReadOf file) (map (λ r. read r) rs) after (each_last (ReadOf file) before (map (λ r. read r) rs ++ after) e)))
 
   -- ---- what was opened
 
@@ -176,6 +181,8 @@ module _ (file : List ℕ) where
         record {
           area = x.area;
           before = x.before;
+          later = x.after ++ advice x.counts;
+          happened = x.happened ∙ append_assoc x.before x.after (advice x.counts);
           means = x.means;
           counts = x.counts;
           bytes = w.out.bytes;
