@@ -13,7 +13,6 @@ use Rattle.pbfcut_cli.specs.declared.endings.Ending.{Ending}
 use Rattle.pbfcut_cli.specs.declared.endings.Ending.TheVariants as ending
 use Rattle.pbfcut_cli.specs.declared.words.ConfigFiles.{ConfigFiles}
 use Rattle.pbfcut_program.specs.declared.configured.OutputCut.{OutputCut}
-use Rattle.pbfcut_program.specs.declared.host.Screen.{Screen}
 use Rattle.pbfcut_program.specs.declared.host.Screen.TheVariants.{Output}
 use Rattle.pbfcut_program.specs.declared.several.OutputArea.{OutputArea}
 use Rattle.pbfcut_program.specs.declared.several_files.OutPart.{OutPart}
