@@ -52,7 +52,7 @@ area_still (region.Polygon path) events area m = subst (λ (es : List Event). Ea
 
 -- ---- what was read, and what was opened
 
-area_on : (disk : Disk) (cut : Region) (events : List Event) (area : AreaSpec) → MeansArea cut events area → AllowsAll disk events → IsAreaOn disk cut area
+pub area_on : (disk : Disk) (cut : Region) (events : List Event) (area : AreaSpec) → MeansArea cut events area → AllowsAll disk events → IsAreaOn disk cut area
 area_on disk (region.Box box) events area m a = m.1
 area_on disk (region.Polygon path) events area m a = (m.0, m.1, (subst (λ (es : List Event). AllowsAll disk es) m.2 a).0, m.3, m.4)
 

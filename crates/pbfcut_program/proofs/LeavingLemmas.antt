@@ -172,5 +172,5 @@ leaves_after m task has xs ys q (inr w) = inr (record {
 })
 
 -- before IN was read
-pub opening_leaves : (m : Manner) (task : Task) (how : Ending) (events : List Event) → FailsOpening how events → LeavesFor m task events
+pub opening_leaves : {input : List ℕ} (m : Manner) (task : Task) (how : Ending) (events : List Event) → FailsOpening how events → LeavesFor input m task events
 opening_leaves m task how events f = record { has = []; opens = tt; leaves = inl (keeps_none task events (each_quiet IsUnkept quiet_unkept events (quiet_of events f.0)), λ bytes all. each_quiet _ (quiet_front _) events (quiet_of events f.0)) }

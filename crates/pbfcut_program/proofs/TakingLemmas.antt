@@ -21,11 +21,11 @@ use Rattle.pbfcut.specs.Tasks.{Task, TaskHolds, converting, copying, extracting}
 
 -- ---- events
 
-pub each_first : (p : Event → Type 0) (xs ys : List Event) → Each p (xs ++ ys) → Each p xs
+each_first : (p : Event → Type 0) (xs ys : List Event) → Each p (xs ++ ys) → Each p xs
 each_first p [] ys e = tt
 each_first p (x ∷ xs) ys e = (e.0, each_first p xs ys e.1)
 
-pub each_last : (p : Event → Type 0) (xs ys : List Event) → Each p (xs ++ ys) → Each p ys
+each_last : (p : Event → Type 0) (xs ys : List Event) → Each p (xs ++ ys) → Each p ys
 each_last p [] ys e = e
 each_last p (x ∷ xs) ys e = each_last p xs ys e.1
 
@@ -77,11 +77,6 @@ module _ (file : List ℕ) where
       let same = read_is known h r b w.0 t.0 in
       (same, later_are known may b hs rs bs same w.1 t.1)
   all_are known may _ _ _ w t = absurd w
-
-  -- the passes among these events read it
-  pub reads_are : (known : List ℕ → Type 0) (may : ℕ) (has : List (Option (List ℕ))) (before : List Event) (rs : List Reading) (after : List Event) (bs : List (List ℕ))
-      → Each (ReadOf file) (before ++ (map (λ r. read r) rs ++ after)) → ReadAll known may has rs bs → AllAre bs
-  reads_are known may has before rs after bs e w = all_are known may has rs bs w (all_of rs (each_first (ReadOf file) (map (λ r. read r) rs) after (each_last (ReadOf file) before (map (λ r. read r) rs ++ after) e)))
 
   -- ---- what was opened
 

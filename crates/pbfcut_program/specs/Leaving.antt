@@ -65,7 +65,7 @@ Leaves m task has events =
     ⊎ IsWorked m task has events
 
 -- IN has this for the passes, and by that the command leaves such an OUT
-pub record LeavesFor (m : Manner) (task : Task) (events : List Event) : Type 0 where
+pub record LeavesFor (input : List ℕ) (m : Manner) (task : Task) (events : List Event) : Type 0 where
   pub has : List (Option (List ℕ))
-  pub opens : Opens 1 has events
+  pub opens : Opens input 1 has events
   pub leaves : Leaves m task has events

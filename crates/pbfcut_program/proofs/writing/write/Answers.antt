@@ -52,7 +52,7 @@ returns-in_err-done-clause-err g c =
       first ++ f.0,
       and_then log _ _ first f.0 ready.1 f.1,
       opened_fails m (judging_for (plan_of c.args.plan)) has how first f.0 quiet opens fails,
-      record { has = has; opens = opens_before 1 has first f.0 opens; leaves = leaves_after m (plan_of c.args.plan) has first f.0 quiet leaves },
+      record { has = has; opens = opens_before files.input.now 1 has first f.0 opens; leaves = leaves_after m (plan_of c.args.plan) has first f.0 quiet leaves },
       inl (little_after m.digests first f.0 silent f.4),
     )
 
@@ -94,7 +94,7 @@ returns-in_err-print_done-clause-err g c =
       broken_fails m j (Writes m task files) how (before ++ lines.0) broken,
       record {
         has = has;
-        opens = opens_before 1 has before lines.0 (opens_before 1 has first (rs ++ out) (opens_begun is files has key ready.0));
+        opens = opens_before files.input.now 1 has before lines.0 (opens_before files.input.now 1 has first (rs ++ out) (opens_begun is files has key ready.0));
         leaves = inr (record {
           before = first;
           rs = d.0;
