@@ -232,12 +232,17 @@ module _ (words : List Text) (rows : List Row) (plain : is_given (codes "config"
       let name = one_output rows x.files.output y.files.output x.reads.5.output y.reads.5.output in
       let there = subst (λ o. after events disk o ≡ Some w.bytes) name now.there in
       let wrote_it = file_wrote w Pbfcutz x.files.output.now k.keeps events k.file in
-      let had = λ (apart : y.files.input.now ≡ y.files.output.now → ⊥). all_opened x.files.overwrite x.files.output.now w events disk k e.allowed y.files.input.now file (ap disk y.reads.5.input ∙ e.there) (λ same. apart (same ∙ name)) 1 in
-      (y.cut, y.by, y.files, y.reads, record {
-        out = λ apart. inr (kept_extract m y.cut y.by events f.before (last f.how) f.happened (tt, (tt, tt)) w k.kept k.whole wrote_it y.files.input.now y.files.output.now file disk there e.allowed (had apart) y.holds.1.1);
-        others = subst (λ o. (p : List ℕ) → (p ≡ o → ⊥) → (Happened (stays p) events → ⊥) → after events disk p ≡ disk p) name now.left.others;
-        parts = subst (λ o. (p : List ℕ) → Happened (stays p) events → (p ≡ o → ⊥) × (disk p ≡ None)) name now.left.parts;
-      })
+      let had = λ (apart : y.files.input.now ≡ y.files.output.now → ⊥). all_opened x.files.overwrite x.files.output.now w events disk k e.allowed y.files.input.now file (ap disk y.reads.5.input ∙ e.there) (λ same. apart (same ∙ name)) 1 in (
+        y.cut,
+        y.by,
+        y.files,
+        y.reads,
+        record {
+          out = λ apart. inr (kept_extract m y.cut y.by events f.before (last f.how) f.happened (tt, (tt, tt)) w k.kept k.whole wrote_it y.files.input.now y.files.output.now file disk there e.allowed (had apart) y.holds.1.1);
+          others = subst (λ o. (p : List ℕ) → (p ≡ o → ⊥) → (Happened (stays p) events → ⊥) → after events disk p ≡ disk p) name now.left.others;
+          parts = subst (λ o. (p : List ℕ) → Happened (stays p) events → (p ≡ o → ⊥) × (disk p ≡ None)) name now.left.parts;
+        },
+      )
 
   drops : (x : IsExtract Handles rows) (w : Writing) → DropsFile Pbfcutz x.files.output.now w events → IsLeft
   drops x w d =

@@ -124,7 +124,8 @@ pub(crate) fn run_show<H: Host>(
         × RunsShow (manner_of engine) dates input.now.path.now events) }
     ensures err { IfErr result (λ how. (events : List Event)
         × (H.log host.new ≡ then_all (H.log host.old) events)
-        × FailsFor input.now.path.now (to_raw (manner_of engine)) (judging_for (showing dates)) how events
+        × FailsFor input.now.path.now (to_raw (manner_of engine)) (judging_for (showing dates)) how
+        events
         × LeavesFor input.now.path.now (to_raw (manner_of engine)) (showing dates) events
         × Each Silent events) }
     ensures files { IsStill (H.log host.old) (H.log host.new) }

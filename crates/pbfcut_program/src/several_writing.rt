@@ -331,7 +331,8 @@ fn cut_out_each<H: Host>(
         (map output_area_of outs.now) events) }
     ensures err { IfErr result (λ how. (events : List Event)
         × (H.log host.new ≡ then_all (H.log host.old) events)
-        × FailsFor run.entry.files.input.now (manner_of engine) (judging (judge_by (each_strategy run.entry.strategy))
+        × FailsFor run.entry.files.input.now (manner_of engine)
+        (judging (judge_by (each_strategy run.entry.strategy))
         (AllGiveRaw (each_strategy run.entry.strategy)
         (areas_of (map output_area_of outs.now)))) how events
         × AreLeftFor run.entry.files.input.now (manner_of engine) (each_strategy run.entry.strategy)
