@@ -1,4 +1,4 @@
--- What a run of pbfcutz's `extract` left that failed.
+-- What a failed run of pbfcutz's `extract` left.
 use Rattle.std.proofs.Common.{◌≡◌, ◌⊎◌, inl, inr, ℕ, ◌+◌, Bool, List, [], ◌∷◌, ◌++◌, map, true, false, Option, Some, None, Bor, codes, refl, ap, subst, sym, ◌∙◌, append_assoc}
 use Rattle.clap.specs.Words.{Row, Text}
 use Rattle.pbf_frame.specs.declared.stop.Stop.TheVariants as stop

@@ -1,4 +1,4 @@
--- What a run of `extract` did to files that failed.
+-- What a failed run of `extract` did to files.
 use Rattle.std.specs.Prelude.{◌≡◌, ◌⊎◌, ℕ, List, [], true, Some, None, codes}
 use Rattle.clap.specs.Words.{Row, Text, subcommand_of, takes}
 use Rattle.pbfcut_cli.specs.Joined.{normalized}
@@ -15,8 +15,7 @@ use Rattle.pbfcut_program.specs.Program.{IsRun}
 use Rattle.pbfcut_program.specs.Settling.{RunSettles}
 use Rattle.pbfcut_program.specs.Taking.{Happened, TookExtract}
 
--- a run of words that `clap` takes as the command of this name, which ended with another status than 0, over a disk of which all that is said is so, and on which IN
--- has these bytes
+-- of words that `clap` takes as the command of this name, with another status than 0, over a disk of which all that is said is so, and on which IN has these bytes
 pub record EndsBadly (program : Program) (words : List Text) (name : List ℕ) (rows : List Row) (events : List Event) (disk : Disk) (file : List ℕ) : Type 0 where
   pub taken : takes (program_app program) (normalized words) ≡ true
   pub command : subcommand_of (program_app program) (normalized words) ≡ Some (name, rows)

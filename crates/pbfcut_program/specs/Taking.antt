@@ -32,7 +32,7 @@ pub record TookWhole (bytes : List ℕ) (events : List Event) : Type 0 where
   pub whole : out.fault ≡ None
   pub kept : out.kept ≡ true
 
--- they mean the extract, by this strategy, of what the file means, of the area that is cut out: that of the text that the first event read, if it is that of a file
+-- they mean the extract, by this strategy, of what the file means, of the area that is cut out. If that is one of polygons, the first event read their text
 pub record TookExtract (m : Manner) (cut : Region) (by : Strategy) (file : List ℕ) (events : List Event) : Type 0 where
   pub area : AreaSpec
   pub before : List Event
