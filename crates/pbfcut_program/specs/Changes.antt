@@ -59,10 +59,9 @@ pub record GivesFile (m : Manner) (files : Files) (bytes : List ℕ) (events : L
   pub others : (path : List ℕ) → (is_screen m.program files.output.now ≡ false → path ≡ files.output.now → ⊥) → (Happened (stays path) events → ⊥) → after events old path ≡ old path
   pub parts : (path : List ℕ) → Happened (stays path) events → old path ≡ None
 
--- OUT took the extract of this file, by the area that the words name on this disk, in a run that began with what it had to read of it
+-- OUT took the extract of this file, by the area that the words name on this disk
 pub record GivesExtract (m : Manner) (cut : Region) (by : Strategy) (files : Files) (file : List ℕ) (events : List Event) (old : Disk) : Type 0 where
   pub took : TookExtract m cut by file events
-  pub area_first : (later : List Event) × (events ≡ took.before ++ later)
   pub area_on : IsAreaOn old cut took.area
   pub gives : GivesFile m files took.bytes events old
 

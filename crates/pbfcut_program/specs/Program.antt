@@ -226,26 +226,39 @@ manner_for m (Show input dates progress) = to_raw m
 manner_for m _ = m
 
 -- nothing was written before it was known what is cut out; and then it is an extract of that
-pub record LeavesCut (m : Manner) (cut : Region) (by : Strategy) (events : List Event) : Type 0 where
+pub record LeavesCut (input : List ℕ) (m : Manner) (cut : Region) (by : Strategy) (events : List Event) : Type 0 where
   pub area : AreaSpec
   pub before : List Event
   pub after : List Event
   pub happened : events ≡ before ++ after
   pub means : MeansArea cut before area
-  pub leaves : LeavesFor m (extracting (strategy_of by) area) after
+  pub leaves : LeavesFor input m (extracting (strategy_of by) area) after
 
 abbrev pub LeavesIn : Manner → Command → List Event → Type 0
-LeavesIn m (Blobs input) events = LeavesFor (to_raw m) listing_frames events
-LeavesIn m (Show input dates progress) events = LeavesFor (to_raw m) (showing dates) events
-LeavesIn m (Convert files) events = LeavesFor m converting events
-LeavesIn m (Pack files) events = LeavesFor m copying events
-LeavesIn m (Unpack files) events = LeavesFor m copying events
-LeavesIn m (Extract region by files) events = Each Quiet events ⊎ LeavesCut m region by events
+LeavesIn m (Blobs input) events = LeavesFor input.now (to_raw m) listing_frames events
+LeavesIn m (Show input dates progress) events = LeavesFor input.now (to_raw m) (showing dates) events
+LeavesIn m (Convert files) events = LeavesFor files.input.now m converting events
+LeavesIn m (Pack files) events = LeavesFor files.input.now m copying events
+LeavesIn m (Unpack files) events = LeavesFor files.input.now m copying events
+LeavesIn m (Extract region by files) events = Each Quiet events ⊎ LeavesCut files.input.now m region by events
 LeavesIn m (ExtractEach parents files) events = Each Quiet events ⊎ LeavesEach m (strategy_with parents) files events
 LeavesIn m _ events = Unit {0}
 
+-- the path of IN
+abbrev pub input_of : Command → List ℕ
+input_of (Blobs input) = input.now
+input_of (Info input json) = input.now
+input_of (Show input dates progress) = input.now
+input_of (Check input progress digests) = input.now
+input_of (Convert files) = files.input.now
+input_of (Pack files) = files.input.now
+input_of (Unpack files) = files.input.now
+input_of (Extract region by files) = files.input.now
+input_of (ExtractEach parents files) = files.input.now
+input_of (Help text) = []
+
 abbrev pub FailsIn : Manner → Command → Ending → List Event → Type 0
-FailsIn m command how events = FailsFor (manner_for m command) (judging_in command events) how events × LeavesIn m command events × IsSaid m.digests (Does m command) how events
+FailsIn m command how events = FailsFor (input_of command) (manner_for m command) (judging_in command events) how events × LeavesIn m command events × IsSaid m.digests (Does m command) how events
 
 -- ---- the whole run
 
