@@ -508,7 +508,7 @@ pub fn read_words<'a>(
 ) -> Result<Command<'a>, CliFault>
     // A command is what `clap` reads in the words, which it takes; or help, which they ask for.
     ensures read { IfOk result (IsCommandOf program (word_texts words.now)) }
-    // A line that is refused is one that `clap` doesn't take; the fault of a box or of a choice is one of words that it takes.
+    // `Line` comes only of words that `clap` doesn't take; the fault of a box or of a choice only of words that it takes, and that have it.
     ensures fault { IfErr result (IsFaultOf program (word_texts words.now)) }
 {
     let command_line = command_line(alloc, program, program.help())?;
