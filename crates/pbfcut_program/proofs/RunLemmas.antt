@@ -4,10 +4,10 @@ use Rattle.std.specs.Str.{bytes_eq}
 use Rattle.std.proofs.lemmas.Bool.{false≢true}
 use Rattle.std.proofs.lemmas.Slice.Eq.{bytes_eq-Decides}
 use Rattle.std.specs.Option.{is_some}
-use Rattle.clap.specs.Words.{Row, Text, subcommand_of, takes}
+use Rattle.clap.specs.Words.{Row, Text, subcommand_of}
 use Rattle.pbfcut_cli.specs.Endings.{ending_status}
 use Rattle.pbfcut_cli.specs.Joined.{normalized}
-use Rattle.pbfcut_cli.specs.Words.{IsRead, ReadsAs, is_given, program_app}
+use Rattle.pbfcut_cli.specs.Words.{AreTaken, IsRead, ReadsAs, is_given, program_app}
 use Rattle.pbfcut_cli.specs.declared.endings.Ending.{Ending}
 use Rattle.pbfcut_cli.specs.declared.programs.Program.{Program}
 use Rattle.pbfcut_cli.specs.declared.words.Command.{Command}
@@ -16,6 +16,7 @@ use Rattle.pbfcut_cli.specs.declared.words.ConfigFiles.{ConfigFiles}
 use Rattle.pbfcut_cli.specs.declared.words.Files.{Files}
 use Rattle.pbfcut_cli.specs.declared.words.Region.{Region}
 use Rattle.pbfcut_cli.specs.declared.words.Strategy.{Strategy}
+use Rattle.pbfcut_program.proofs.Meaning.{not_asked}
 use Rattle.pbfcut_program.specs.Events.{Event}
 use Rattle.pbfcut_program.specs.Program.{Does, IsRun, RunsExtract, Writes, manner_in}
 use Rattle.pbfcut_program.specs.Changes.{EndsWell}
@@ -130,12 +131,12 @@ module _ (program : Program) (rows : List Row) (events : List Event) where
 
   -- what was done is what the words mean
   ran : {Runs : Type 0} (name : List ℕ) (words : List Text) → ((command : Command) → ReadsAs name rows command → Does (manner_in program command) command events → Runs)
-      → takes (program_app program) (normalized words) ≡ true → subcommand_of (program_app program) (normalized words) ≡ Some (name, rows) → IsRun program words events 0 → Runs
+      → AreTaken program (normalized words) → subcommand_of (program_app program) (normalized words) ≡ Some (name, rows) → IsRun program words events 0 → Runs
   ran name words done t s (inr f) = absurd (no_zero f.how f.status_is)
-  ran name words done t s (inl (z, (command, inl h, d))) = absurd (h.1 t)
-  ran name words done t s (inl (z, (command, inr r, d))) = done command (subst (λ x. IsRead x command) s r) d
+  ran name words done t s (inl (z, (command, inl r, d))) = done command (subst (λ x. IsRead x command) s r.1) d
+  ran name words done t s (inl (z, (command, inr h, d))) = absurd (not_asked program (normalized words) t h.0)
 
-  pub run_extracts : (words : List Text) → is_given (codes "config") rows ≡ false → takes (program_app program) (normalized words) ≡ true → subcommand_of (program_app program) (normalized words) ≡ Some (codes "extract", rows) → IsRun program words events 0 → RunsRegion program rows events
+  pub run_extracts : (words : List Text) → is_given (codes "config") rows ≡ false → AreTaken program (normalized words) → subcommand_of (program_app program) (normalized words) ≡ Some (codes "extract", rows) → IsRun program words events 0 → RunsRegion program rows events
   run_extracts words plain = ran (codes "extract") words (extract_done plain)
 
   module _ (words : List Text) (disk : Disk) (file : List ℕ) where
