@@ -18,7 +18,7 @@ use crate::node::{self, NODE_KINDS};
 use crate::relation::{self, RELATION_KINDS};
 use crate::runs::{Run, run_in};
 use crate::way;
-use osm_entity::{EntityRef, HIGHEST_WEIGHT, Scale};
+use osm_entity::{ENTITY_WEIGHT, EntityRef, HIGHEST_WEIGHT, PART_WEIGHT, Scale};
 use pbf_dense::{Dense, KEYS_VALS};
 use pbf_strings::Table;
 use pbf_wire::{
@@ -205,11 +205,12 @@ fn judge_weight(entity: EntityRef<'_>, place: u64) -> Option<Fault>
 /// Whether entities of so many tags, refs, locations and members can't be too heavy, if no text is longer than `longest`.
 #[tactic(auto, using(crate::proofs::LightLemmas::product_small))]
 fn are_light(parts: u64, longest: u64) -> bool
-    ensures { IsTrue result → 160 + longest + parts * (32 + 2 * longest) ≤ HIGHEST_WEIGHT }
+    ensures { IsTrue result
+        → ENTITY_WEIGHT + longest + parts * (PART_WEIGHT + 2 * longest) ≤ HIGHEST_WEIGHT }
 {
     parts <= HIGHEST_WEIGHT
         && longest <= HIGHEST_WEIGHT
-        && 160 + longest + parts * (32 + 2 * longest) <= HIGHEST_WEIGHT
+        && ENTITY_WEIGHT + longest + parts * (PART_WEIGHT + 2 * longest) <= HIGHEST_WEIGHT
 }
 
 /// Whether no entity of a field can be too heavy, by how much there is of it, if no text is longer than `longest`. None is

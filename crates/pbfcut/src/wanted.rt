@@ -20,7 +20,7 @@ use std::alloc::{AllocError, Global};
 /// At most so many runs are listed: a block of which more is wanted is read for each area by itself.
 const MOST_LISTED: usize = 100_000;
 
-/// How many ids these choices have together, at most the greatest number.
+/// How many ids these choices have together, at most the greatest number: only speed and space depend on it.
 fn count_chosen(choices: &[AreaChoice]) -> u64 {
     let Some((choice, others)) = choices.split_first() else {
         return 0;
@@ -43,7 +43,8 @@ pub(crate) fn name_choices(
     Ok(strips)
 }
 
-/// Marks the choices that may keep a node of a dense message, and says whether there are any.
+/// Marks the choices that may keep a node of a dense message; `false` means that there are none. `true` says nothing, and others may be marked
+/// too.
 fn mark_dense(strips: &ChoiceStrips, dense: &Dense<'_>, marks: &mut [bool]) -> bool
     ensures { MarksTakers strips.now (map node (dense_left dense.now)) marks.old marks.new result }
 {
@@ -62,7 +63,7 @@ fn mark_one(strips: &ChoiceStrips, unmade: &UnmadeEntity<'_>, marks: &mut [bool]
     }
 }
 
-/// Marks the choices that may keep something of a run, and says whether there are any.
+/// Marks the choices that may keep something of a run; `false` means that there are none. `true` says nothing, and others may be marked too.
 fn mark_run(strips: &ChoiceStrips, run: &Run<'_>, marks: &mut [bool]) -> bool
     ensures { MarksTakers strips.now (run_entities run.now) marks.old marks.new result }
 {
