@@ -238,9 +238,10 @@ fn judge_members<'a>(field: Field<'a>, table: &'a Table<'a>, scale: Scale) -> Op
 {
     match run_in(field, table, scale, Kinds::all()) {
         Run::Nothing => None,
-        Run::One(unmade) => judge_weight(unmade.make(), field.offset),
-        Run::Way(way) => judge_weight(EntityRef::Way(way.make()), field.offset),
-        Run::Dense(dense) => dense.nodes().judge_nodes(field.offset),
+        Run::Node(unmade) => judge_weight(EntityRef::Node(unmade.node()), field.offset),
+        Run::Way(unmade) => judge_weight(EntityRef::Way(unmade.way()), field.offset),
+        Run::Relation(unmade) => judge_weight(EntityRef::Relation(unmade.relation()), field.offset),
+        Run::Dense(unmade) => unmade.nodes().judge_nodes(field.offset),
     }
 }
 

@@ -10,10 +10,10 @@ use osm_entity::BoundingBox;
 use std::alloc::{AllocError, Global};
 
 /// The required features that are known. All are written.
-pub(crate) const REQUIRED: [&[u8]; 2] = [b"OsmSchema-V0.6", b"DenseNodes"];
+pub(crate) const KNOWN_FEATURES: [&[u8]; 2] = [b"OsmSchema-V0.6", b"DenseNodes"];
 
 /// The optional features that are written if they were read.
-const KEPT: [&[u8]; 3] = [b"Has_Metadata", b"Sort.Type_then_ID", b"LocationsOnWays"];
+const KEPT_FEATURES: [&[u8]; 3] = [b"Has_Metadata", b"Sort.Type_then_ID", b"LocationsOnWays"];
 
 /// The program that a written header names.
 pub(crate) const PROGRAM: &[u8] = b"pbfcut";
@@ -67,7 +67,7 @@ pub(crate) fn known_features(alloc: Global) -> Result<Vec<Vec<u8>>, AllocError>
     ensures { IfOk result (λ features. map text_of features.items ≡ known_features) }
 {
     let mut features = Vec::new(alloc);
-    for feature in &REQUIRED {
+    for feature in &KNOWN_FEATURES {
         features.push(Vec::from_slice(alloc, feature)?)?;
     }
     Ok(features)
@@ -79,7 +79,7 @@ pub(crate) fn kept_features(alloc: Global, optional: &[Vec<u8>]) -> Result<Vec<V
         (λ features. map text_of features.items ≡ kept_features (map text_of optional.now)) }
 {
     let mut features = Vec::new(alloc);
-    for feature in &KEPT {
+    for feature in &KEPT_FEATURES {
         if has(optional, feature) {
             features.push(Vec::from_slice(alloc, feature)?)?;
         }

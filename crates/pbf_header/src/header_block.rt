@@ -7,7 +7,7 @@ ghost use Rattle.pbf_wire.specs.Wire.{ok_unless};
 ghost use Rattle.pbf_strings.specs.TableOut.{has_text};
 ghost use Rattle.pbf_header.specs.HeaderFaults.{edge_faults, header_structure, feature_faults, header_fault};
 
-use crate::header::REQUIRED;
+use crate::header::KNOWN_FEATURES;
 use pbf_wire::{
     Fault, InField, JudgeMessage, Kind, Message, Reason, fault_where, judge_fields, judge_missing,
     judge_nested, judge_twice, lesser, refuse,
@@ -88,7 +88,7 @@ fn judge_header_structure(payload: Message<'_>) -> Option<Fault>
 }
 
 /// Whether one of these texts is this one.
-fn is_among(texts: &[&[u8]], text: &[u8]) -> bool
+fn is_one_of(texts: &[&[u8]], text: &[u8]) -> bool
     ensures { result ≡ has_text (map (λ t. t.now) texts.now) text.now }
 {
     texts.contains(&text)
@@ -102,7 +102,8 @@ impl JudgeMessage for FeatureValue {
     ghost faults = { λ _. feature_faults };
 
     fn judge_message(&self, feature: Message<'_>, place: u64) -> Option<Fault> {
-        fault_where(!is_among(&REQUIRED, feature.bytes), place, Reason::Feature)
+        let known = is_one_of(&KNOWN_FEATURES, feature.bytes);
+        fault_where(!known, place, Reason::Feature)
     }
 }
 

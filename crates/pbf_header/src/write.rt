@@ -41,8 +41,8 @@ fn put_box(out: &mut Vec<u8>, bbox: Option<HeaderBox>) -> Result<(), AllocError>
     Ok(())
 }
 
-/// Appends the texts of a repeated field.
-fn put_texts(out: &mut Vec<u8>, number: u64, texts: &[Vec<u8>]) -> Result<(), AllocError>
+/// Appends texts, each by a field with this number.
+fn put_each_text(out: &mut Vec<u8>, number: u64, texts: &[Vec<u8>]) -> Result<(), AllocError>
     requires { number < 2 ^ 29 }
     ensures { OnOk result (out.new.items
         ≡ out.old.items ++ slot_bytes (Each number (map text_of texts.now))) }
@@ -77,8 +77,8 @@ impl Header {
         let required = known_features(*out.allocator())?;
         let optional = kept_features(*out.allocator(), &self.optional)?;
         put_box(out, self.bbox)?;
-        put_texts(out, REQUIRED_FEATURES, &required)?;
-        put_texts(out, OPTIONAL_FEATURES, &optional)?;
+        put_each_text(out, REQUIRED_FEATURES, &required)?;
+        put_each_text(out, OPTIONAL_FEATURES, &optional)?;
         put_bytes(out, WRITINGPROGRAM, PROGRAM)?;
         put_text(out, SOURCE, &self.source)?;
         put_int64(out, REPLICATION_TIMESTAMP, self.timestamp)?;

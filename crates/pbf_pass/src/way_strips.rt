@@ -18,7 +18,7 @@ use osm_area::{Area, AreaStrips};
 use osm_entity::Refs;
 use osm_ids::IdStrips;
 use osm_ways::{InArea, NodeTaker, SeenWay};
-use pbf_block::UnmadeWay;
+use pbf_block::Unmade;
 use std::alloc::{AllocError, Global};
 
 /// Strips of the ids of phases' nodes, and which phases take a way.
@@ -71,7 +71,7 @@ impl WayStrips {
 
     /// Marks the phases that may have one of the way's refs, and maybe others. Whether it is known that there are none: then the way changes
     /// nothing.
-    pub(crate) fn leave_out(&mut self, unmade: &UnmadeWay<'_>) -> bool
+    pub(crate) fn leave_out(&mut self, unmade: &Unmade<'_>) -> bool
         ensures marked { HasMarked (way_from unmade.now).refs self.old self.new }
         ensures none { result ≡ true → NamesNone (way_from unmade.now).refs self.old }
     {
@@ -200,7 +200,7 @@ fn take_found<A: Area, P: NodeTaker>(
 pub(crate) fn take_way_each<A: Area, P: NodeTaker>(
     members: &mut [InArea<A, P>],
     strips: WayStrips,
-    unmade: &UnmadeWay<'_>,
+    unmade: &Unmade<'_>,
 ) -> Result<WayStrips, AllocError>
     requires { MaySkip P.step P.inside (seen_way (way_from unmade.now)) members.old strips }
     ensures taken { OnOk result (members.new

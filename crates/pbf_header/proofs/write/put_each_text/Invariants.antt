@@ -1,7 +1,7 @@
 use Rattle.std.proofs.Common.{◌≡◌, ◌++◌, map, drop}
 use Rattle.pbf_wire.specs.Message.{Each, slot_bytes}
 use Rattle.pbf_header.specs.Header.{text_of}
-use Rattle.pbf_header.proofs.write.put_texts.Given as goal
+use Rattle.pbf_header.proofs.write.put_each_text.Given as goal
 
 -- what was put and the texts that are left are all
 abbrev pub invariant-loop-text : goal.invariant-loop-text
