@@ -65,7 +65,7 @@ module _ (program : Program) (words : List Text) (error : Error) (has : HasKind 
   asked (inl help) = inl (among DisplayHelp help no_help)
   asked (inr version) = inr (among DisplayVersion version no_version)
 
-  -- what is help was asked for
+  -- what is help was requested
   pub help_asked : (r : Result Command CliFault) → IfOk r (λ c. IsHelp c × ((kind_of error ≡ DisplayHelp) ⊎ (kind_of error ≡ DisplayVersion))) → IfOk r (IsCommandOf program words)
   help_asked (Ok c) h = inr (asked h.1, h.0)
   help_asked (Err e) h = h

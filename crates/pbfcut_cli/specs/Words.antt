@@ -383,7 +383,7 @@ IsOfWords fault.Memory = ⊥
 abbrev pub AreTaken : Program → List Text → Type 0
 AreTaken program words = fault_of (program_app program) words ≡ []
 
--- they ask for help, or for the version: that is the kind that comes of them
+-- they request help or the version: that is the kind that comes of them
 abbrev pub AskForHelp : Program → List Text → Type 0
 AskForHelp program words = IsAmong DisplayHelp (fault_of (program_app program) words)
     ⊎ IsAmong DisplayVersion (fault_of (program_app program) words)
