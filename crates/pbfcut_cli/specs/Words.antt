@@ -388,7 +388,7 @@ abbrev pub AskForHelp : Program → List Text → Type 0
 AskForHelp program words = IsAmong DisplayHelp (fault_of (program_app program) words)
     ⊎ IsAmong DisplayVersion (fault_of (program_app program) words)
 
--- the command is the one that `clap` reads in the words, which it takes; or it is help, which they ask for
+-- the command is the one that `clap` reads in the words, which it takes; or it is help, which they request
 abbrev pub IsCommandOf : Program → List Text → Command → Type 0
 IsCommandOf program words command = (AreTaken program words × IsRead (subcommand_of (program_app program) words) command)
     ⊎ (AskForHelp program words × IsHelp command)
