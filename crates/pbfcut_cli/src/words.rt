@@ -506,7 +506,7 @@ pub fn read_words<'a>(
     program: Program,
     words: &'a [&'a str],
 ) -> Result<Command<'a>, CliFault>
-    // A command is what `clap` reads in the words, which it takes; or help, which they ask for.
+    // A command is what `clap` reads in the words, which it takes; or help, which they request.
     ensures read { IfOk result (IsCommandOf program (word_texts words.now)) }
     // `Line` comes only of words that `clap` doesn't take; the fault of a box or of a choice only of words that it takes, and that have it.
     ensures fault { IfErr result (IsFaultOf program (word_texts words.now)) }

@@ -262,7 +262,7 @@ FailsIn m command how events = FailsFor (input_of command) (manner_for m command
 
 -- ---- the whole run
 
--- the command that `clap` reads in the words, if it takes them; or help, if they ask for it
+-- the command that `clap` reads in the words, if it takes them; or help, if they request it
 abbrev pub IsMeant : Program → List Text → Command → Type 0
 IsMeant program words command = IsCommandOf program (normalized words) command
 

@@ -90,7 +90,7 @@ one_box_is = refused two_boxes ArgumentConflict two_boxes_found conflict_help co
 pub two_files_is : IsRefused three_files UnknownArgument
 two_files_is = refused three_files UnknownArgument three_files_found unknown_help unknown_version
 
--- ---- words that ask for help
+-- ---- words that request help
 
 pub asked_found : fault_of (program_app Pbfcutz) (normalized asking) ≡ DisplayHelp ∷ []
 unfolding runs_on_literals

@@ -56,7 +56,7 @@ pub record Mistyped : Type 0 where
   pub two_files : IsRefused three_files UnknownArgument
 
 pub record Asked : Type 0 where
-  -- it asks for help
+  -- it requests help
   pub found : fault_of (program_app Pbfcutz) (normalized asking) ≡ DisplayHelp ∷ []
   -- a run that ends with 0 prints a text, and does nothing else
   pub prints :

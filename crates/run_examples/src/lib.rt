@@ -48,7 +48,7 @@ pub fn dropped()
     ensures on_disk { AsBefore }
 {}
 
-/// Command lines that are no command, and one that asks for help.
+/// Command lines that are no command, and one that requests help.
 pub fn mistyped()
     ensures refused { Mistyped }
     ensures asked { Asked }
