@@ -500,7 +500,7 @@ fn refused<'a>(alloc: Global, error: &Error) -> Result<Command<'a>, CliFault>
 /// `Line` if `clap` refuses the words, `Box` with the fault of the box of an `extract`, `Choice` if one of two arguments is needed and there
 /// is none or both, or if a format or a strategy is unknown, or there are types for a strategy that takes none, or an area, an OUT or `smart`
 /// besides a configuration, or a folder without one, `Memory` if a request for memory was refused. Words that `clap` takes give neither `Line` nor `Help`;
-/// `Help` comes only of words that ask for it, or for the version.
+/// `Help` comes only of words that request it, or for the version.
 pub fn read_words<'a>(
     alloc: Global,
     program: Program,

@@ -3,7 +3,7 @@
 --     pbfcutz extract --box=0,0,1,1 in.osm.pbf out.osm.pbf
 --
 -- None is done as if it were that: no run of it ends with status 0, and none changes a file. Last
--- comes one that asks for help, of which a run that ends with 0 does nothing but print.
+-- comes one that requests help, of which a run that ends with 0 does nothing but print.
 use Rattle.std.specs.Prelude.{◌≡◌, List, [], ◌∷◌, Some, None, codes}
 use Rattle.clap.specs.Words.{Text, fault_of}
 use Rattle.clap.specs.declared.error.kind.ErrorKind.{ErrorKind}
