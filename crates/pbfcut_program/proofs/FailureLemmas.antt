@@ -4,6 +4,7 @@ use Rattle.clap.specs.Words.{Row, Text}
 use Rattle.pbf_frame.specs.declared.stop.Stop.TheVariants as stop
 use Rattle.pbfcut.specs.Theorem.{IsExtraction}
 use Rattle.pbfcut_cli.specs.Endings.{message_of, program_name}
+use Rattle.pbfcut_cli.specs.Joined.{normalized}
 use Rattle.pbfcut_cli.specs.Words.{IsRead, ReadsAs, ReadsOutput, is_given}
 use Rattle.pbfcut_cli.specs.declared.endings.Ending.{Ending}
 use Rattle.pbfcut_cli.specs.declared.endings.Ending.TheVariants as ending
@@ -34,6 +35,7 @@ use Rattle.pbfcut_program.proofs.MomentLemmas.{keeps_others}
 use Rattle.pbfcut_program.proofs.RunLemmas.{IsExtract, extract_is}
 use Rattle.pbfcut_program.proofs.SettlingLemmas.{IsSame, run_same}
 use Rattle.pbfcut_program.proofs.TakingLemmas.{AllHad, all_had, holds_extract, none_some}
+use Rattle.pbfcut_program.proofs.Meaning.{not_asked}
 
 -- ---- what is written
 
@@ -186,8 +188,8 @@ one_output rows a b (inr x) (inl y) = absurd (none_some (sym x.0 ∙ y.0))
 
 module _ (words : List Text) (rows : List Row) (plain : is_given (codes "config") rows ≡ false) (events : List Event) (disk : Disk) (file : List ℕ) (e : EndsBadly Pbfcutz words (codes "extract") rows events disk file) where
   meant_is : (p : Command → Type 0) (command : Command) → IsMeant Pbfcutz words command → p command → IsExtract p rows
-  meant_is p command (inl h) x = absurd (h.1 e.taken)
-  meant_is p command (inr r) x = extract_is rows p plain command (subst (λ s. IsRead s command) e.command r) x
+  meant_is p command (inl r) x = extract_is rows p plain command (subst (λ s. IsRead s command) e.command r.1) x
+  meant_is p command (inr h) x = absurd (not_asked Pbfcutz (normalized words) e.taken h.0)
 
   abbrev Handles : Command → Type 0
   Handles command = HandlesIn Pbfcutz command events

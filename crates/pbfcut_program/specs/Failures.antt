@@ -1,8 +1,8 @@
 -- What a failed run of `extract` did to files.
-use Rattle.std.specs.Prelude.{◌≡◌, ◌⊎◌, ℕ, List, [], true, Some, None, codes}
-use Rattle.clap.specs.Words.{Row, Text, subcommand_of, takes}
+use Rattle.std.specs.Prelude.{◌≡◌, ◌⊎◌, ℕ, List, [], Some, None, codes}
+use Rattle.clap.specs.Words.{Row, Text, subcommand_of}
 use Rattle.pbfcut_cli.specs.Joined.{normalized}
-use Rattle.pbfcut_cli.specs.Words.{argument_value, program_app}
+use Rattle.pbfcut_cli.specs.Words.{AreTaken, argument_value, program_app}
 use Rattle.pbfcut_cli.specs.declared.programs.Program.{Program}
 use Rattle.pbfcut_cli.specs.declared.words.Files.{Files}
 use Rattle.pbfcut_cli.specs.declared.words.Region.{Region}
@@ -17,7 +17,7 @@ use Rattle.pbfcut_program.specs.Taking.{Happened, TookExtract}
 
 -- of words that `clap` takes as the command of this name, with another status than 0, over a disk of which all that is said is so, and on which IN has these bytes
 pub record EndsBadly (program : Program) (words : List Text) (name : List ℕ) (rows : List Row) (events : List Event) (disk : Disk) (file : List ℕ) : Type 0 where
-  pub taken : takes (program_app program) (normalized words) ≡ true
+  pub taken : AreTaken program (normalized words)
   pub command : subcommand_of (program_app program) (normalized words) ≡ Some (name, rows)
   pub status : ℕ
   pub failed : status ≡ 0 → ⊥
