@@ -1,6 +1,11 @@
 -- A reading, as the text's definition sees it.
-use Rattle.std.specs.Prelude.{◌≡◌, map, option_map, Result, Ok, Err}
+use Rattle.std.specs.Prelude.{◌≡◌, ℕ, List, map, option_map, Result, Ok, Err}
+use Rattle.std.specs.Borrow.{Bor}
+use Rattle.std.specs.Global.{Vec}
+use Rattle.std.specs.Result.{result_map_both}
 use Rattle.std.specs.String.{string_bytes}
+use Rattle.osm_box.specs.Degrees.{Parts}
+use Rattle.osm_config.specs.declared.area.EdgeTexts.{EdgeTexts}
 use Rattle.osm_config.specs.declared.config.Config.{Config}
 use Rattle.osm_config.specs.declared.config.ConfiguredArea.{ConfiguredArea}
 use Rattle.osm_config.specs.declared.config.ConfiguredArea.TheVariants.{InBox, InPolygons, InFile}
@@ -13,6 +18,7 @@ use Rattle.osm_config.specs.declared.fault.ConfigStop.TheVariants as stop
 use Rattle.osm_polygon.specs.RingPlaces.{rings_of}
 use Rattle.osm_config.specs.Areas.{AreaMember, in_box, in_polygons, in_file}
 use Rattle.osm_config.specs.Configs.{ConfigSpec, ExtractSpec}
+use Rattle.osm_config.specs.Edges.{edge_parts}
 use Rattle.osm_config.specs.Faults.{FaultSpec, OrFault}
 
 abbrev pub fault_spec_of : ConfigFault → FaultSpec
@@ -38,6 +44,19 @@ Reads text (Ok found) = text ≡ Ok found
 Reads text (Err (stop.Refused extract name reason)) =
     text ≡ Err (record { extract = extract; member = name.now; reason = reason })
 Reads text (Err stop.Memory) = Unit {0}
+
+-- the same of an area, of extracts, of the edges of a box, and of a string
+abbrev pub ReadsArea : OrFault AreaMember → Result ConfiguredArea ConfigStop → Type 0
+ReadsArea text read = Reads text (result_map_both area_member_of (λ e. e) read)
+
+abbrev pub ReadsExtracts : OrFault (List ExtractSpec) → Result (Vec ConfiguredExtract) ConfigStop → Type 0
+ReadsExtracts text read = Reads text (result_map_both (λ extracts. map extract_member_of extracts.items) (λ e. e) read)
+
+abbrev pub ReadsEdges : OrFault Parts → Result EdgeTexts ConfigStop → Type 0
+ReadsEdges text read = Reads text (result_map_both edge_parts (λ e. e) read)
+
+abbrev pub ReadsString : OrFault (List ℕ) → Result (Bor (List ℕ)) ConfigStop → Type 0
+ReadsString text read = Reads text (result_map_both (λ s. s.now) (λ e. e) read)
 
 -- the same of what a caller is given
 abbrev pub ReadsConfig : {A : Type 0} → OrFault A → Result A ConfigError → Type 0

@@ -1,12 +1,11 @@
 //! The area of an extract: a box, inline polygons, or a file with polygons.
 
 ghost use Rattle.std.specs.Prelude.{◌≡◌, IfOk, option_map};
-ghost use Rattle.std.specs.Result.{result_map_both};
 ghost use Rattle.std.specs.String.{string_bytes};
 ghost use Rattle.json.specs.Value.{value_view};
 ghost use Rattle.osm_config.specs.Areas.{area_in, box_of_json, edge_at, edge_in, edge_named, edges_in, edges_of_items, edges_of_members};
 ghost use Rattle.osm_config.specs.Areas.{file_in, is_polygon_type, multi_polygon_in, polygon_in, with_commas};
-ghost use Rattle.osm_config.specs.Readings.{Reads, area_member_of};
+ghost use Rattle.osm_config.specs.Readings.{ReadsArea, ReadsEdges, ReadsString};
 ghost use Rattle.osm_config.specs.Edges.{edge_parts};
 
 use crate::config::ConfiguredArea;
@@ -29,8 +28,7 @@ struct EdgeTexts<'v> {
 
 /// The text of a number in `bbox`.
 fn edge_in<'v, 'a>(extract: usize, value: &'v Value<'a>) -> Result<&'v str, ConfigStop<'v>>
-    ensures { Reads (edge_in extract (value_view value.now))
-        (result_map_both (λ s. s.now) (λ e. e) result) }
+    ensures { ReadsString (edge_in extract (value_view value.now)) result }
 {
     match value.as_number() {
         Some(number) => Ok(number),
@@ -44,8 +42,7 @@ fn edge_at<'v, 'a>(
     index: usize,
     value: &'v Value<'a>,
 ) -> Result<&'v str, ConfigStop<'v>>
-    ensures { Reads (edge_at extract index (value_view value.now))
-        (result_map_both (λ s. s.now) (λ e. e) result) }
+    ensures { ReadsString (edge_at extract index (value_view value.now)) result }
 {
     match value.at(index) {
         Some(edge) => edge_in(extract, edge),
@@ -58,8 +55,7 @@ fn edges_of_items<'v, 'a>(
     extract: usize,
     value: &'v Value<'a>,
 ) -> Result<EdgeTexts<'v>, ConfigStop<'v>>
-    ensures { Reads (edges_of_items extract (value_view value.now))
-        (result_map_both edge_parts (λ e. e) result) }
+    ensures { ReadsEdges (edges_of_items extract (value_view value.now)) result }
 {
     let None = value.at(4) else {
         return Err(ConfigStop::Refused(extract, "bbox", ConfigReason::Shape));
@@ -82,8 +78,7 @@ fn edge_named<'v, 'a>(
     name: &'v str,
     value: &'v Value<'a>,
 ) -> Result<&'v str, ConfigStop<'v>>
-    ensures { Reads (edge_named extract name.now (value_view value.now))
-        (result_map_both (λ s. s.now) (λ e. e) result) }
+    ensures { ReadsString (edge_named extract name.now (value_view value.now)) result }
 {
     edge_in(extract, required(extract, name, value)?)
 }
@@ -94,8 +89,7 @@ fn edges_of_members<'v, 'a>(
     extract: usize,
     value: &'v Value<'a>,
 ) -> Result<EdgeTexts<'v>, ConfigStop<'v>>
-    ensures { Reads (edges_of_members extract (value_view value.now))
-        (result_map_both edge_parts (λ e. e) result) }
+    ensures { ReadsEdges (edges_of_members extract (value_view value.now)) result }
 {
     judge_object(alloc, extract, "bbox", ConfigObject::Edges, value)?;
     let left = edge_named(extract, "left", value)?;
@@ -116,8 +110,7 @@ fn edges_in<'v, 'a>(
     extract: usize,
     value: &'v Value<'a>,
 ) -> Result<EdgeTexts<'v>, ConfigStop<'v>>
-    ensures { Reads (edges_in extract (value_view value.now))
-        (result_map_both edge_parts (λ e. e) result) }
+    ensures { ReadsEdges (edges_in extract (value_view value.now)) result }
 {
     match value {
         Value::Array(_) => edges_of_items(extract, value),
@@ -145,8 +138,7 @@ fn bounds_in<'v, 'a>(
     extract: usize,
     value: &'v Value<'a>,
 ) -> Result<ConfiguredArea, ConfigStop<'v>>
-    ensures { Reads (box_of_json extract (value_view value.now))
-        (result_map_both area_member_of (λ e. e) result) }
+    ensures { ReadsArea (box_of_json extract (value_view value.now)) result }
 {
     let edges = edges_in(alloc, extract, value)?;
     let text = with_commas(alloc, &edges)?;
@@ -173,8 +165,7 @@ fn file_in<'v, 'a>(
     name: &'v str,
     value: &'v Value<'a>,
 ) -> Result<ConfiguredArea, ConfigStop<'v>>
-    ensures { Reads (file_in extract name.now (value_view value.now))
-        (result_map_both area_member_of (λ e. e) result) }
+    ensures { ReadsArea (file_in extract name.now (value_view value.now)) result }
 {
     judge_object(alloc, extract, name, ConfigObject::File, value)?;
     let file = file_name_in(extract, "file_name", value)?;
@@ -192,8 +183,7 @@ fn polygon_in<'v, 'a>(
     extract: usize,
     value: &'v Value<'a>,
 ) -> Result<ConfiguredArea, ConfigStop<'v>>
-    ensures { Reads (polygon_in extract (value_view value.now))
-        (result_map_both area_member_of (λ e. e) result) }
+    ensures { ReadsArea (polygon_in extract (value_view value.now)) result }
 {
     let Value::Array(_) = value else {
         return file_in(alloc, extract, "polygon", value);
@@ -215,8 +205,7 @@ fn multi_polygon_in<'v, 'a>(
     extract: usize,
     value: &'v Value<'a>,
 ) -> Result<ConfiguredArea, ConfigStop<'v>>
-    ensures { Reads (multi_polygon_in extract (value_view value.now))
-        (result_map_both area_member_of (λ e. e) result) }
+    ensures { ReadsArea (multi_polygon_in extract (value_view value.now)) result }
 {
     let Value::Array(_) = value else {
         return file_in(alloc, extract, "multipolygon", value);
@@ -238,8 +227,7 @@ pub(crate) fn area_in<'v, 'a>(
     extract: usize,
     value: &'v Value<'a>,
 ) -> Result<ConfiguredArea, ConfigStop<'v>>
-    ensures { Reads (area_in extract (value_view value.now))
-        (result_map_both area_member_of (λ e. e) result) }
+    ensures { ReadsArea (area_in extract (value_view value.now)) result }
 {
     match (
         value.get("bbox"),

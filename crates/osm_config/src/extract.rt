@@ -4,7 +4,7 @@ ghost use Rattle.std.specs.Prelude.{◌≡◌, [], map, option_map};
 ghost use Rattle.std.specs.Result.{result_map_both};
 ghost use Rattle.json.specs.Value.{items_view, value_view};
 ghost use Rattle.osm_config.specs.Configs.{extract_in, extracts_after, is_pbf, judge_strings, with_extract};
-ghost use Rattle.osm_config.specs.Readings.{Reads, extract_member_of};
+ghost use Rattle.osm_config.specs.Readings.{Reads, ReadsExtracts, extract_member_of};
 
 use crate::area::area_in;
 use crate::config::ConfiguredExtract;
@@ -59,8 +59,8 @@ fn with_extract<'v, 'a>(
     mut extracts: Vec<ConfiguredExtract>,
     value: &'v Value<'a>,
 ) -> Result<Vec<ConfiguredExtract>, ConfigStop<'v>>
-    ensures { Reads (with_extract (map extract_member_of extracts.items) (value_view value.now))
-        (result_map_both (λ extracts. map extract_member_of extracts.items) (λ e. e) result) }
+    ensures { ReadsExtracts
+        (with_extract (map extract_member_of extracts.items) (value_view value.now)) result }
 {
     let extract = extract_in(alloc, extracts.len() + 1, value)?;
     extracts.push(extract)?;
@@ -72,8 +72,7 @@ pub(crate) fn extracts_of<'v, 'a>(
     alloc: Global,
     items: &'v Vec<Value<'a>>,
 ) -> Result<Vec<ConfiguredExtract>, ConfigStop<'v>>
-    ensures { Reads (extracts_after [] (items_view items.now.items))
-        (result_map_both (λ extracts. map extract_member_of extracts.items) (λ e. e) result) }
+    ensures { ReadsExtracts (extracts_after [] (items_view items.now.items)) result }
 {
     let mut extracts = Vec::new(alloc);
     for item in items {

@@ -4,7 +4,7 @@ ghost use Rattle.std.specs.Prelude.{◌≡◌, option_map};
 ghost use Rattle.std.specs.Result.{result_map_both};
 ghost use Rattle.json.specs.Value.{items_view, value_view};
 ghost use Rattle.osm_config.specs.Members.{file_name_in, is_file_name, list_in, optional_string, required, string_in};
-ghost use Rattle.osm_config.specs.Readings.{Reads};
+ghost use Rattle.osm_config.specs.Readings.{Reads, ReadsString};
 
 use crate::fault::{ConfigReason, ConfigStop};
 use json::Value;
@@ -30,8 +30,7 @@ pub(crate) fn string_in<'v, 'a>(
     name: &'v str,
     value: &'v Value<'a>,
 ) -> Result<&'v str, ConfigStop<'v>>
-    ensures { Reads (string_in extract name.now (value_view value.now))
-        (result_map_both (λ s. s.now) (λ e. e) result) }
+    ensures { ReadsString (string_in extract name.now (value_view value.now)) result }
 {
     match value.as_str() {
         Some(string) => Ok(string),
@@ -83,8 +82,7 @@ pub(crate) fn file_name_in<'v, 'a>(
     name: &'v str,
     value: &'v Value<'a>,
 ) -> Result<&'v str, ConfigStop<'v>>
-    ensures { Reads (file_name_in extract name.now (value_view value.now))
-        (result_map_both (λ s. s.now) (λ e. e) result) }
+    ensures { ReadsString (file_name_in extract name.now (value_view value.now)) result }
 {
     let value = required(extract, name, value)?;
     let file = string_in(extract, name, value)?;

@@ -5,7 +5,7 @@ ghost use Rattle.std.specs.String.{string_bytes};
 ghost use Rattle.std.specs.Result.{result_map_both};
 ghost use Rattle.json.specs.Value.{value_view};
 ghost use Rattle.osm_config.specs.Configs.{config_in, config_of_text, extracts_in, if_some_and_distinct};
-ghost use Rattle.osm_config.specs.Readings.{Reads, ReadsConfig, config_of, extract_member_of};
+ghost use Rattle.osm_config.specs.Readings.{Reads, ReadsConfig, ReadsExtracts, config_of, extract_member_of};
 
 use crate::config::{Config, ConfiguredExtract};
 use crate::extract::extracts_of;
@@ -22,8 +22,7 @@ pub(crate) fn if_some_and_distinct<'v>(
     alloc: Global,
     extracts: Vec<ConfiguredExtract>,
 ) -> Result<Vec<ConfiguredExtract>, ConfigStop<'v>>
-    ensures { Reads (if_some_and_distinct (map extract_member_of extracts.items))
-        (result_map_both (λ extracts. map extract_member_of extracts.items) (λ e. e) result) }
+    ensures { ReadsExtracts (if_some_and_distinct (map extract_member_of extracts.items)) result }
 {
     if extracts.is_empty() {
         return Err(ConfigStop::Refused(0, "extracts", ConfigReason::Empty));
@@ -39,8 +38,7 @@ fn extracts_in<'v, 'a>(
     alloc: Global,
     value: &'v Value<'a>,
 ) -> Result<Vec<ConfiguredExtract>, ConfigStop<'v>>
-    ensures { Reads (extracts_in (value_view value.now))
-        (result_map_both (λ extracts. map extract_member_of extracts.items) (λ e. e) result) }
+    ensures { ReadsExtracts (extracts_in (value_view value.now)) result }
 {
     let list = required(0, "extracts", value)?;
     let items = list_in(0, "extracts", list)?;

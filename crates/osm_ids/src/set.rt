@@ -80,7 +80,7 @@ impl IdSet {
         Ok(self.late.insert(id)?)
     }
 
-    /// How many ids the set has, at most the greatest number of 64 bits.
+    /// How many ids the set has, at most the greatest number of 64 bits. It has no contract: only speed and space may depend on it.
     pub fn count(&self) -> u64 {
         self.pages.count().saturating_add(self.late.len() as u64)
     }

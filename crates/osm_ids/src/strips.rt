@@ -151,7 +151,7 @@ pub struct IdStrips {
 }
 
 impl IdStrips {
-    /// The strips of no sets, for about so many ids of all sets together: there are strips enough for these, and others fit too.
+    /// The strips of no sets, for about so many ids of all sets together: others fit too, and only speed and space depend on the number.
     /// It allocates nothing.
     pub fn new(alloc: Global, ids: u64) -> IdStrips {
         IdStrips {
@@ -204,8 +204,8 @@ impl IdStrips {
         Ok(())
     }
 
-    /// Marks the sets that may have the id, and says whether there are any. It does not allocate, and is inlined where each node is
-    /// looked up.
+    /// Marks the sets that may have the id; `false` means that there are none. `true` says nothing, and others may be marked too. It does
+    /// not allocate, and is inlined where each node is looked up.
     #[inline(always)]
     pub fn mark(&self, id: i64, marks: &mut [bool]) -> bool
         ensures marked { Marks (IsNamed self.now id) marks.old marks.new }

@@ -11,7 +11,7 @@ ghost use Rattle.osm_polygon.specs.GeoJson.{geometry_named, geometry_of, member,
 ghost use Rattle.osm_polygon.specs.GeoJson.{document_by};
 ghost use Rattle.osm_polygon.specs.GeoJson.{polygon_coordinates, multi_polygon_coordinates};
 ghost use Rattle.osm_polygon.specs.GeoJson.{with_feature, with_geometry, with_polygon, with_position, with_ring, with_shape};
-ghost use Rattle.osm_polygon.specs.Readings.{ReadsText, error_after};
+ghost use Rattle.osm_polygon.specs.Readings.{ReadsPlaces, ReadsPolygons, ReadsRings, ReadsText, error_after};
 ghost use Rattle.osm_polygon.specs.RingPlaces.{places_of, rings_of};
 
 use crate::fault::{PolyError, PolyFault, PolyPlace, PolyReason, refused};
@@ -125,8 +125,7 @@ fn is_closed(places: &[Place]) -> bool
 
 /// The places of the ring of this number, if it is whole.
 fn if_closed(ring: usize, places: Vec<Place>) -> Result<Vec<Place>, PolyError>
-    ensures { ReadsText (if_closed ring (map point_of places.items))
-        (result_map_both (λ places. map point_of places.items) (λ e. e) result) }
+    ensures { ReadsPlaces (if_closed ring (map point_of places.items)) result }
 {
     let place = PolyPlace::Ring(ring, places.len());
     if places.len() < 4 {
@@ -144,8 +143,8 @@ fn with_position(
     mut places: Vec<Place>,
     value: &Value<'_>,
 ) -> Result<Vec<Place>, PolyError>
-    ensures { ReadsText (with_position ring (map point_of places.items) (value_view value.now))
-        (result_map_both (λ places. map point_of places.items) (λ e. e) result) }
+    ensures { ReadsPlaces
+        (with_position ring (map point_of places.items) (value_view value.now)) result }
 {
     let number = PolyPlace::Ring(ring, places.len() + 1);
     match position(value) {
@@ -162,8 +161,7 @@ fn with_position(
 
 /// The places of the ring of this number, which has these positions.
 fn ring_places(alloc: Global, ring: usize, items: &Vec<Value<'_>>) -> Result<Vec<Place>, PolyError>
-    ensures { ReadsText (ring_places ring (items_view items.now.items))
-        (result_map_both (λ places. map point_of places.items) (λ e. e) result) }
+    ensures { ReadsPlaces (ring_places ring (items_view items.now.items)) result }
 {
     let mut places = Vec::new(alloc);
     for item in items {
@@ -174,8 +172,7 @@ fn ring_places(alloc: Global, ring: usize, items: &Vec<Value<'_>>) -> Result<Vec
 
 /// The rings, and this one.
 fn with_ring(alloc: Global, mut rings: Vec<Ring>, value: &Value<'_>) -> Result<Vec<Ring>, PolyError>
-    ensures { ReadsText (with_ring (map places_of rings.items) (value_view value.now))
-        (result_map_both (λ rings. map places_of rings.items) (λ e. e) result) }
+    ensures { ReadsRings (with_ring (map places_of rings.items) (value_view value.now)) result }
 {
     let items = items_in(value)?;
     let places = ring_places(alloc, rings.len() + 1, items)?;
@@ -189,8 +186,8 @@ fn with_rings(
     mut rings: Vec<Ring>,
     value: &Value<'_>,
 ) -> Result<Vec<Ring>, PolyError>
-    ensures { ReadsText (fold_items with_ring (map places_of rings.items) (value_view value.now))
-        (result_map_both (λ rings. map places_of rings.items) (λ e. e) result) }
+    ensures { ReadsRings
+        (fold_items with_ring (map places_of rings.items) (value_view value.now)) result }
 {
     for item in items_in(value)? {
         rings = with_ring(alloc, rings, item)?;
@@ -239,8 +236,8 @@ fn error_after(polygons: &[Vec<Ring>], error: PolyError) -> PolyError
 
 /// The polygons, and one with these rings, if it has any.
 fn and_polygon(mut polygons: Vec<Vec<Ring>>, rings: Vec<Ring>) -> Result<Vec<Vec<Ring>>, PolyError>
-    ensures { ReadsText (Ok (and_polygon (map rings_of polygons.items) (rings_of rings)))
-        (result_map_both (λ polygons. map rings_of polygons.items) (λ e. e) result) }
+    ensures { ReadsPolygons
+        (Ok (and_polygon (map rings_of polygons.items) (rings_of rings))) result }
 {
     if !rings.is_empty() {
         polygons.push(rings)?;
@@ -254,8 +251,8 @@ fn with_polygon(
     polygons: Vec<Vec<Ring>>,
     value: &Value<'_>,
 ) -> Result<Vec<Vec<Ring>>, PolyError>
-    ensures { ReadsText (with_polygon (map rings_of polygons.items) (value_view value.now))
-        (result_map_both (λ polygons. map rings_of polygons.items) (λ e. e) result) }
+    ensures { ReadsPolygons
+        (with_polygon (map rings_of polygons.items) (value_view value.now)) result }
 {
     match with_rings(alloc, Vec::new(alloc), value) {
         Ok(rings) => and_polygon(polygons, rings),
@@ -269,8 +266,8 @@ fn with_polygons(
     mut polygons: Vec<Vec<Ring>>,
     value: &Value<'_>,
 ) -> Result<Vec<Vec<Ring>>, PolyError>
-    ensures { ReadsText (fold_items with_polygon (map rings_of polygons.items) (value_view value.now))
-        (result_map_both (λ polygons. map rings_of polygons.items) (λ e. e) result) }
+    ensures { ReadsPolygons
+        (fold_items with_polygon (map rings_of polygons.items) (value_view value.now)) result }
 {
     for item in items_in(value)? {
         polygons = with_polygon(alloc, polygons, item)?;
@@ -284,8 +281,8 @@ fn with_shape(
     polygons: Vec<Vec<Ring>>,
     value: &Value<'_>,
 ) -> Result<Vec<Vec<Ring>>, PolyError>
-    ensures { ReadsText (with_shape (map rings_of polygons.items) (value_view value.now))
-        (result_map_both (λ polygons. map rings_of polygons.items) (λ e. e) result) }
+    ensures { ReadsPolygons
+        (with_shape (map rings_of polygons.items) (value_view value.now)) result }
 {
     match geometry_of(value) {
         GeometryKind::Polygon => with_polygon(alloc, polygons, member("coordinates", value)?),
@@ -300,8 +297,8 @@ fn with_shapes(
     mut polygons: Vec<Vec<Ring>>,
     value: &Value<'_>,
 ) -> Result<Vec<Vec<Ring>>, PolyError>
-    ensures { ReadsText (fold_items with_shape (map rings_of polygons.items) (value_view value.now))
-        (result_map_both (λ polygons. map rings_of polygons.items) (λ e. e) result) }
+    ensures { ReadsPolygons
+        (fold_items with_shape (map rings_of polygons.items) (value_view value.now)) result }
 {
     for item in items_in(value)? {
         polygons = with_shape(alloc, polygons, item)?;
@@ -315,8 +312,8 @@ fn with_geometry(
     polygons: Vec<Vec<Ring>>,
     value: &Value<'_>,
 ) -> Result<Vec<Vec<Ring>>, PolyError>
-    ensures { ReadsText (with_geometry (map rings_of polygons.items) (value_view value.now))
-        (result_map_both (λ polygons. map rings_of polygons.items) (λ e. e) result) }
+    ensures { ReadsPolygons
+        (with_geometry (map rings_of polygons.items) (value_view value.now)) result }
 {
     match geometry_of(value) {
         GeometryKind::GeometryCollection => with_shapes(
@@ -334,8 +331,8 @@ fn with_feature(
     polygons: Vec<Vec<Ring>>,
     value: &Value<'_>,
 ) -> Result<Vec<Vec<Ring>>, PolyError>
-    ensures { ReadsText (with_feature (map rings_of polygons.items) (value_view value.now))
-        (result_map_both (λ polygons. map rings_of polygons.items) (λ e. e) result) }
+    ensures { ReadsPolygons
+        (with_feature (map rings_of polygons.items) (value_view value.now)) result }
 {
     match geometry_of(value) {
         GeometryKind::Feature => with_geometry(alloc, polygons, member("geometry", value)?),
@@ -349,8 +346,8 @@ fn with_features(
     mut polygons: Vec<Vec<Ring>>,
     value: &Value<'_>,
 ) -> Result<Vec<Vec<Ring>>, PolyError>
-    ensures { ReadsText (fold_items with_feature (map rings_of polygons.items) (value_view value.now))
-        (result_map_both (λ polygons. map rings_of polygons.items) (λ e. e) result) }
+    ensures { ReadsPolygons
+        (fold_items with_feature (map rings_of polygons.items) (value_view value.now)) result }
 {
     for item in items_in(value)? {
         polygons = with_feature(alloc, polygons, item)?;
@@ -360,8 +357,8 @@ fn with_features(
 
 /// The polygons of all that the text has.
 fn polygons_in(alloc: Global, value: &Value<'_>) -> Result<Vec<Vec<Ring>>, PolyError>
-    ensures { ReadsText (document_by (geometry_of (value_view value.now)) (value_view value.now))
-        (result_map_both (λ polygons. map rings_of polygons.items) (λ e. e) result) }
+    ensures { ReadsPolygons
+        (document_by (geometry_of (value_view value.now)) (value_view value.now)) result }
 {
     let polygons = Vec::new(alloc);
     match geometry_of(value) {
@@ -377,8 +374,7 @@ fn polygons_in(alloc: Global, value: &Value<'_>) -> Result<Vec<Vec<Ring>>, PolyE
 
 /// The polygons, if there is one.
 fn if_some(polygons: Vec<Vec<Ring>>) -> Result<Vec<Vec<Ring>>, PolyError>
-    ensures { ReadsText (if_some (map rings_of polygons.items))
-        (result_map_both (λ polygons. map rings_of polygons.items) (λ e. e) result) }
+    ensures { ReadsPolygons (if_some (map rings_of polygons.items)) result }
 {
     if polygons.is_empty() {
         return Err(refused(PolyPlace::Text, PolyReason::Empty));
@@ -395,8 +391,7 @@ pub fn read_polygon_coordinates(
     alloc: Global,
     value: &Value<'_>,
 ) -> Result<Vec<Vec<Ring>>, PolyError>
-    ensures { ReadsText (polygon_coordinates (value_view value.now))
-        (result_map_both (λ polygons. map rings_of polygons.items) (λ e. e) result) }
+    ensures { ReadsPolygons (polygon_coordinates (value_view value.now)) result }
 {
     let polygons = with_polygon(alloc, Vec::new(alloc), value)?;
     if_some(polygons)
@@ -411,8 +406,7 @@ pub fn read_multi_polygon_coordinates(
     alloc: Global,
     value: &Value<'_>,
 ) -> Result<Vec<Vec<Ring>>, PolyError>
-    ensures { ReadsText (multi_polygon_coordinates (value_view value.now))
-        (result_map_both (λ polygons. map rings_of polygons.items) (λ e. e) result) }
+    ensures { ReadsPolygons (multi_polygon_coordinates (value_view value.now)) result }
 {
     let polygons = with_polygons(alloc, Vec::new(alloc), value)?;
     if_some(polygons)
@@ -420,8 +414,7 @@ pub fn read_multi_polygon_coordinates(
 
 /// The polygons of a text of GeoJSON.
 pub(crate) fn read_geojson(alloc: Global, text: &str) -> Result<Vec<Vec<Ring>>, PolyError>
-    ensures { ReadsText (geojson_polygons (document text.now))
-        (result_map_both (λ polygons. map rings_of polygons.items) (λ e. e) result) }
+    ensures { ReadsPolygons (geojson_polygons (document text.now)) result }
 {
     let mut scratch = Scratch::new(alloc);
     match Value::parse(alloc, text, &mut scratch) {

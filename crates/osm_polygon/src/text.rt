@@ -1,11 +1,9 @@
 //! The text of a polygon: GeoJSON, or a .poly file.
 
-ghost use Rattle.std.specs.Prelude.{◌≡◌, ◌∷◌, [], Ok, map};
-ghost use Rattle.std.specs.Result.{result_map_both};
+ghost use Rattle.std.specs.Prelude.{◌≡◌, ◌∷◌, [], Ok};
 ghost use Rattle.osm_polygon.specs.GeoJson.{and_then};
 ghost use Rattle.osm_polygon.specs.PolyFile.{poly_rings};
-ghost use Rattle.osm_polygon.specs.Readings.{ReadsText};
-ghost use Rattle.osm_polygon.specs.RingPlaces.{rings_of};
+ghost use Rattle.osm_polygon.specs.Readings.{ReadsPolygons};
 ghost use Rattle.osm_polygon.specs.Texts.{is_geojson, polygons_of_text, without_mark};
 
 use crate::fault::PolyError;
@@ -33,8 +31,7 @@ fn is_geojson(text: &str) -> bool
 
 /// The polygon of a .poly file, by its rings.
 fn poly_polygon(alloc: Global, text: &str) -> Result<Vec<Vec<Ring>>, PolyError>
-    ensures { ReadsText (and_then (poly_rings text.now) (λ rings. Ok (rings ∷ [])))
-        (result_map_both (λ polygons. map rings_of polygons.items) (λ e. e) result) }
+    ensures { ReadsPolygons (and_then (poly_rings text.now) (λ rings. Ok (rings ∷ []))) result }
 {
     let rings = read_poly(alloc, text)?;
     let mut polygons = Vec::new(alloc);
@@ -50,8 +47,7 @@ fn poly_polygon(alloc: Global, text: &str) -> Result<Vec<Vec<Ring>>, PolyError>
 /// `Refused` with the first fault of the text, or `Memory` if memory is refused.
 #[tactic(auto, unfolding(crate::specs::Texts::polygons_of_text))]
 pub fn read_polygons(alloc: Global, text: &str) -> Result<Vec<Vec<Ring>>, PolyError>
-    ensures { ReadsText (polygons_of_text text.now)
-        (result_map_both (λ polygons. map rings_of polygons.items) (λ e. e) result) }
+    ensures { ReadsPolygons (polygons_of_text text.now) result }
 {
     let text = without_mark(text);
     if is_geojson(text) {

@@ -63,7 +63,8 @@ pub struct ChoiceStrips {
 }
 
 impl ChoiceStrips {
-    /// The strips of no choices, for about so many ids of all choices together, as `Chosen::count` says. It allocates nothing.
+    /// The strips of no choices, for about so many ids of all choices together, as `Chosen::count` says: nodes, ways and relations have as
+    /// many strips each as all of these ids would. Only speed and space depend on the number. It allocates nothing.
     pub fn new(alloc: Global, ids: u64) -> ChoiceStrips {
         ChoiceStrips {
             nodes: IdStrips::new(alloc, ids),
@@ -87,7 +88,7 @@ impl ChoiceStrips {
         Ok(())
     }
 
-    /// Marks the choices that may have this member, and says whether there are any.
+    /// Marks the choices that may have this member; `false` means that there are none. `true` says nothing, and others may be marked too.
     fn mark_member(&self, member: &MemberRef<'_>, marks: &mut [bool]) -> bool
         ensures { MarksNamed (IsNamedBy self.now (seen_member (lent_member member.now)))
             marks.old marks.new result }
@@ -99,7 +100,8 @@ impl ChoiceStrips {
         }
     }
 
-    /// Marks the choices that may keep a relation, and says whether there are any. It does not allocate.
+    /// Marks the choices that may keep a relation; `false` means that there are none. `true` says nothing, and others may be marked too.
+    /// It does not allocate.
     pub fn mark_relation(&self, relation: &RelationRef<'_>, marks: &mut [bool]) -> bool
         ensures { MarksKeepers self.now
             (λ sets. is_taken sets (seen_relation (relation_of relation.now)))

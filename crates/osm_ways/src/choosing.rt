@@ -288,7 +288,8 @@ impl Chosen {
         }
     }
 
-    /// How many ids there are of nodes, ways and relations, each as often as it was chosen or added; at most the greatest number.
+    /// How many ids there are of nodes, ways and relations, each as often as it was chosen or added; at most the greatest number. It has no
+    /// contract: only speed and space may depend on it.
     pub fn count(&self) -> u64 {
         let mut count = self
             .box_ids

@@ -1,19 +1,17 @@
 -- The entities of a payload, those of one field together.
-use Rattle.std.specs.Prelude.{List, [], ◌∷◌, ◌++◌, if◌then◌else◌, map, Option, Some, None}
+use Rattle.std.specs.Prelude.{List, [], ◌∷◌, ◌++◌, map, Option, Some, None}
 use Rattle.std.specs.List.{flat_map}
 use Rattle.pbf_wire.specs.Cursors.{found_left}
 use Rattle.pbf_wire.specs.Faults.{entered, fields_in, found_in}
 use Rattle.pbf_wire.specs.Occurrence.{Occurrence}
-use Rattle.osm_entity.specs.Entity.{NodeSpec, WaySpec, EntitySpec, node, way, relation}
+use Rattle.osm_entity.specs.Entity.{NodeSpec, WaySpec, RelationSpec, EntitySpec, node, way, relation}
 use Rattle.pbf_dense.specs.declared.dense.Dense.{Dense}
 use Rattle.pbf_dense.specs.Cursors.{dense_left}
 use Rattle.pbf_dense.specs.Nodes.{nodes_along}
 use Rattle.pbf_block.specs.declared.entities.Entities.{Entities}
 use Rattle.pbf_block.specs.declared.primitive_block.TheConstants.{PRIMITIVEGROUP}
 use Rattle.pbf_block.specs.declared.members.GroupFields.{GroupFields}
-use Rattle.pbf_block.specs.declared.unmade.UnmadeDense.{UnmadeDense}
-use Rattle.pbf_block.specs.declared.unmade.UnmadeEntity.{UnmadeEntity}
-use Rattle.pbf_block.specs.declared.way.UnmadeWay.{UnmadeWay}
+use Rattle.pbf_block.specs.declared.unmade.Unmade.{Unmade}
 use Rattle.pbf_block.specs.Node.{node_in}
 use Rattle.pbf_block.specs.Relation.{relation_in}
 use Rattle.pbf_block.specs.Way.{way_in}
@@ -23,24 +21,29 @@ use Rattle.pbf_block.specs.declared.runs.Runs.{Runs}
 use Rattle.pbf_block.specs.Kinds.{member_entities_among}
 use Rattle.pbf_block.specs.PrimitiveBlock.{streaming}
 
--- the way that a message holds, which is not made yet
-abbrev pub way_from : UnmadeWay → WaySpec
-way_from w = way_in streaming w.table.now w.scale (found_in w.message)
+-- the node that a message holds, which is not made yet
+abbrev pub node_from : Unmade → NodeSpec
+node_from u = node_in u.table.now u.scale (found_in u.message)
 
--- the node or the relation
-abbrev pub entity_from : UnmadeEntity → EntitySpec
-entity_from e = if e.is_node then node (node_in e.table.now e.scale (found_in e.message)) else relation (relation_in streaming e.table.now e.scale (found_in e.message))
+-- the way
+abbrev pub way_from : Unmade → WaySpec
+way_from u = way_in streaming u.table.now u.scale (found_in u.message)
+
+-- the relation
+abbrev pub relation_from : Unmade → RelationSpec
+relation_from u = relation_in streaming u.table.now u.scale (found_in u.message)
 
 -- the nodes of a dense message
-abbrev pub nodes_from : UnmadeDense → List NodeSpec
-nodes_from d = nodes_along d.table.now d.scale (found_in d.message)
+abbrev pub nodes_from : Unmade → List NodeSpec
+nodes_from u = nodes_along u.table.now u.scale (found_in u.message)
 
 -- those that a run holds
 abbrev pub run_entities : Run → List EntitySpec
 run_entities run.Nothing = []
-run_entities (run.One e) = entity_from e ∷ []
-run_entities (run.Way w) = way (way_from w) ∷ []
-run_entities (run.Dense d) = map node (nodes_from d)
+run_entities (run.Node u) = node (node_from u) ∷ []
+run_entities (run.Way u) = way (way_from u) ∷ []
+run_entities (run.Relation u) = relation (relation_from u) ∷ []
+run_entities (run.Dense u) = map node (nodes_from u)
 
 -- those of runs one after another
 abbrev pub joined_runs : List (List EntitySpec) → List EntitySpec

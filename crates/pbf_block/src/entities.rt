@@ -45,9 +45,10 @@ impl<'a> Iterator for Entities<'a> {
             }
             match self.runs.next()? {
                 Run::Nothing => {}
-                Run::One(unmade) => return Some(unmade.make()),
-                Run::Way(way) => return Some(EntityRef::Way(way.make())),
-                Run::Dense(dense) => self.dense = Some(dense.nodes()),
+                Run::Node(unmade) => return Some(EntityRef::Node(unmade.node())),
+                Run::Way(unmade) => return Some(EntityRef::Way(unmade.way())),
+                Run::Relation(unmade) => return Some(EntityRef::Relation(unmade.relation())),
+                Run::Dense(unmade) => self.dense = Some(unmade.nodes()),
             }
         }
     }

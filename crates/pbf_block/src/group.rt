@@ -18,7 +18,7 @@ use crate::node::{self, NODE_KINDS};
 use crate::relation::{self, RELATION_KINDS};
 use crate::runs::{Run, run_in};
 use crate::way;
-use osm_entity::{EntityRef, HIGHEST_WEIGHT, Scale};
+use osm_entity::{ENTITY_WEIGHT, EntityRef, HIGHEST_WEIGHT, PART_WEIGHT, Scale};
 use pbf_dense::{Dense, KEYS_VALS};
 use pbf_strings::Table;
 use pbf_wire::{
@@ -205,11 +205,12 @@ fn judge_weight(entity: EntityRef<'_>, place: u64) -> Option<Fault>
 /// Whether entities of so many tags, refs, locations and members can't be too heavy, if no text is longer than `longest`.
 #[tactic(auto, using(crate::proofs::LightLemmas::product_small))]
 fn are_light(parts: u64, longest: u64) -> bool
-    ensures { IsTrue result → 160 + longest + parts * (32 + 2 * longest) ≤ HIGHEST_WEIGHT }
+    ensures { IsTrue result
+        → ENTITY_WEIGHT + longest + parts * (PART_WEIGHT + 2 * longest) ≤ HIGHEST_WEIGHT }
 {
     parts <= HIGHEST_WEIGHT
         && longest <= HIGHEST_WEIGHT
-        && 160 + longest + parts * (32 + 2 * longest) <= HIGHEST_WEIGHT
+        && ENTITY_WEIGHT + longest + parts * (PART_WEIGHT + 2 * longest) <= HIGHEST_WEIGHT
 }
 
 /// Whether no entity of a field can be too heavy, by how much there is of it, if no text is longer than `longest`. None is
@@ -237,9 +238,10 @@ fn judge_members<'a>(field: Field<'a>, table: &'a Table<'a>, scale: Scale) -> Op
 {
     match run_in(field, table, scale, Kinds::all()) {
         Run::Nothing => None,
-        Run::One(unmade) => judge_weight(unmade.make(), field.offset),
-        Run::Way(way) => judge_weight(EntityRef::Way(way.make()), field.offset),
-        Run::Dense(dense) => dense.nodes().judge_nodes(field.offset),
+        Run::Node(unmade) => judge_weight(EntityRef::Node(unmade.node()), field.offset),
+        Run::Way(unmade) => judge_weight(EntityRef::Way(unmade.way()), field.offset),
+        Run::Relation(unmade) => judge_weight(EntityRef::Relation(unmade.relation()), field.offset),
+        Run::Dense(unmade) => unmade.nodes().judge_nodes(field.offset),
     }
 }
 

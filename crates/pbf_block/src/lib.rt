@@ -34,5 +34,4 @@ pub use pbf_header::{Header, HeaderBox, MOST_HEADER_TEXT};
 pub use runs::{Run, Runs};
 pub use scale::DEFAULT_SCALE;
 pub use unjudged::UnjudgedBlock;
-pub use unmade::{UnmadeDense, UnmadeEntity};
-pub use way::UnmadeWay;
+pub use unmade::Unmade;

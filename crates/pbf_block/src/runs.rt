@@ -9,8 +9,7 @@ ghost use Rattle.pbf_block.specs.Runs.{run_entities};
 use crate::group::{DENSE, NODES, RELATIONS, WAYS};
 use crate::kinds::Kinds;
 use crate::members::GroupFields;
-use crate::unmade::{UnmadeDense, UnmadeEntity};
-use crate::way::UnmadeWay;
+use crate::unmade::Unmade;
 use osm_entity::Scale;
 use pbf_strings::Table;
 use pbf_wire::{Field, Message, Payload};
@@ -20,12 +19,14 @@ use pbf_wire::{Field, Message, Payload};
 pub enum Run<'a> {
     /// None, or none of the wanted kinds.
     Nothing,
-    /// A node or a relation, which is not made yet.
-    One(UnmadeEntity<'a>),
+    /// A node, which is not made yet.
+    Node(Unmade<'a>),
     /// A way, which is not made yet.
-    Way(UnmadeWay<'a>),
+    Way(Unmade<'a>),
+    /// A relation, which is not made yet.
+    Relation(Unmade<'a>),
     /// The nodes of a dense message, of which none is made yet.
-    Dense(UnmadeDense<'a>),
+    Dense(Unmade<'a>),
 }
 
 /// What a field of a group holds, if it is of these kinds.
@@ -44,30 +45,16 @@ pub(crate) fn run_in<'a>(
     let Payload::Bytes(bytes, at) = field.payload else {
         return Run::Nothing;
     };
-    let message = Message { bytes, at };
+    let unmade = Unmade {
+        message: Message { bytes, at },
+        table,
+        scale,
+    };
     match field.number {
-        NODES => Run::One(UnmadeEntity {
-            message,
-            table,
-            scale,
-            is_node: true,
-        }),
-        DENSE => Run::Dense(UnmadeDense {
-            message,
-            table,
-            scale,
-        }),
-        WAYS => Run::Way(UnmadeWay {
-            message,
-            table,
-            scale,
-        }),
-        RELATIONS => Run::One(UnmadeEntity {
-            message,
-            table,
-            scale,
-            is_node: false,
-        }),
+        NODES => Run::Node(unmade),
+        DENSE => Run::Dense(unmade),
+        WAYS => Run::Way(unmade),
+        RELATIONS => Run::Relation(unmade),
         _ => Run::Nothing,
     }
 }

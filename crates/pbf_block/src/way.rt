@@ -19,6 +19,7 @@ use crate::entity::{self, ID, INFO, KEYS, VALS, entity_meta, last_wide, tags_in,
 use crate::info::INFO_KINDS;
 use crate::plain::{self, plain_way};
 use crate::ranges::judge_wide;
+use crate::unmade::Unmade;
 use osm_entity::{Locations, Refs, Scale, SummedLocations, WayRef};
 use pbf_dense::dense_info::judge_stored_sums;
 use pbf_strings::Table;
@@ -116,16 +117,9 @@ pub(crate) fn way_in<'a>(message: Message<'a>, table: &'a Table<'a>, scale: Scal
     )
 }
 
-/// A way that is not made yet: what counts of it to a selection is read by itself.
-#[derive(Clone, Copy)]
-pub struct UnmadeWay<'a> {
-    pub(crate) message: Message<'a>,
-    pub(crate) table: &'a Table<'a>,
-    pub(crate) scale: Scale,
-}
-
-impl<'a> UnmadeWay<'a> {
-    /// Its refs. Nothing else of the message is read.
+/// A way: what counts of it to a selection is read by itself.
+impl<'a> Unmade<'a> {
+    /// The way's refs. Nothing else of the message is read.
     #[tactic(auto, unfolding(crate::specs::Way::way_in))]
     pub fn refs(&self) -> Refs<'a>
         ensures { refs_left result ≡ (way_from self.now).refs }
@@ -136,7 +130,7 @@ impl<'a> UnmadeWay<'a> {
         }
     }
 
-    /// Its id and its refs, both from one reading if it is plain, as most are. Nothing else of the message is read.
+    /// The way's id and its refs, both from one reading if it is plain, as most are. Nothing else of the message is read.
     #[inline(always)]
     #[tactic(auto, unfolding(crate::specs::Way::way_in))]
     pub fn id_and_refs(&self) -> (i64, Refs<'a>)
@@ -170,7 +164,7 @@ impl<'a> UnmadeWay<'a> {
     }
 
     /// The way. Most are plain.
-    pub fn make(&self) -> WayRef<'a>
+    pub fn way(&self) -> WayRef<'a>
         ensures { way_of result ≡ way_from self.now }
     {
         match self.make_plain() {

@@ -1,9 +1,11 @@
 -- The texts of a header, and the edges of its box.
-use Rattle.std.proofs.Common.{◌≡◌, ℕ, Bool, true, false, cond, List, [], ◌∷◌, ◌++◌, map, refl, sym, ap, ◌∙◌, nat_eq, codes}
+use Rattle.std.proofs.Common.{◌≡◌, ℕ, Bool, true, false, cond, List, [], ◌∷◌, ◌++◌, map, refl, sym, ap, ◌∙◌, nat_eq, codes, Bor}
 use Rattle.std.specs.Prelude.{◌||◌, Option, Some}
 use Rattle.std.specs.List.{list_any}
 use Rattle.std.specs.Cmp.Lexicographic.{pointwise}
 use Rattle.std.specs.Global.{Vec}
+use Rattle.std.specs.Str.{bytes_eq}
+use Rattle.std.proofs.lemmas.Cmp.{nat_list_eq_equiv}
 use Rattle.std.proofs.lemmas.List.{append-nil}
 use Rattle.pbf_wire.specs.declared.fault.Fault.{Fault}
 use Rattle.pbf_wire.specs.Least.{lesser, least}
@@ -17,6 +19,10 @@ use Rattle.pbf_header.specs.WrittenHeader.{known_features, kept_features, header
 pub has_held : (text : List ℕ) (held : List (Vec ℕ)) → list_any (λ (t : Vec ℕ). pointwise nat_eq text t.items) held ≡ has_text (map text_of held) text
 has_held text [] = refl
 has_held text (t ∷ held) = ap (λ b. pointwise nat_eq text t.items || b) (has_held text held)
+
+pub has_among : (text : List ℕ) (texts : List (Bor (List ℕ))) → list_any (λ t. bytes_eq t.now text) texts ≡ has_text (map (λ t. t.now) texts) text
+has_among text [] = refl
+has_among text (t ∷ texts) = rw (nat_list_eq_equiv.symm t.now text, has_among text texts) refl
 
 -- by which of the three features there are
 abbrev keep : Bool → List ℕ → List (List ℕ) → List (List ℕ)

@@ -9,17 +9,11 @@ ghost use Rattle.pbf_header.specs.WrittenHeader.{kept_features, known_features, 
 use osm_entity::BoundingBox;
 use std::alloc::{AllocError, Global};
 
-// The required features that are known. Both are written.
-pub(crate) const OSM_SCHEMA: &[u8] = b"OsmSchema-V0.6";
+/// The required features that are known. All are written.
+pub(crate) const KNOWN_FEATURES: [&[u8]; 2] = [b"OsmSchema-V0.6", b"DenseNodes"];
 
-pub(crate) const DENSE_NODES: &[u8] = b"DenseNodes";
-
-// The optional features that are written if they were read.
-pub(crate) const HAS_METADATA: &[u8] = b"Has_Metadata";
-
-pub(crate) const SORTED: &[u8] = b"Sort.Type_then_ID";
-
-pub(crate) const LOCATIONS_ON_WAYS: &[u8] = b"LocationsOnWays";
+/// The optional features that are written if they were read.
+const KEPT_FEATURES: [&[u8]; 3] = [b"Has_Metadata", b"Sort.Type_then_ID", b"LocationsOnWays"];
 
 /// The program that a written header names.
 pub(crate) const PROGRAM: &[u8] = b"pbfcut";
@@ -54,7 +48,7 @@ pub struct Header {
 }
 
 /// Whether the text is among the texts.
-pub(crate) fn has(texts: &[Vec<u8>], text: &[u8]) -> bool
+fn has(texts: &[Vec<u8>], text: &[u8]) -> bool
     ensures { result ≡ has_text (map text_of texts.now) text.now }
 {
     texts.iter().any(|held| text == held.as_slice())
@@ -69,29 +63,26 @@ pub(crate) fn copied(alloc: Global, text: Option<&[u8]>) -> Result<Option<Vec<u8
 }
 
 /// The required features of what is written.
-fn known_features(alloc: Global) -> Result<Vec<Vec<u8>>, AllocError>
+pub(crate) fn known_features(alloc: Global) -> Result<Vec<Vec<u8>>, AllocError>
     ensures { IfOk result (λ features. map text_of features.items ≡ known_features) }
 {
     let mut features = Vec::new(alloc);
-    features.push(Vec::from_slice(alloc, OSM_SCHEMA)?)?;
-    features.push(Vec::from_slice(alloc, DENSE_NODES)?)?;
+    for feature in &KNOWN_FEATURES {
+        features.push(Vec::from_slice(alloc, feature)?)?;
+    }
     Ok(features)
 }
 
 /// Those of the optional features that what is written has too, each once.
-fn kept_features(alloc: Global, optional: &[Vec<u8>]) -> Result<Vec<Vec<u8>>, AllocError>
+pub(crate) fn kept_features(alloc: Global, optional: &[Vec<u8>]) -> Result<Vec<Vec<u8>>, AllocError>
     ensures { IfOk result
         (λ features. map text_of features.items ≡ kept_features (map text_of optional.now)) }
 {
     let mut features = Vec::new(alloc);
-    if has(optional, HAS_METADATA) {
-        features.push(Vec::from_slice(alloc, HAS_METADATA)?)?;
-    }
-    if has(optional, SORTED) {
-        features.push(Vec::from_slice(alloc, SORTED)?)?;
-    }
-    if has(optional, LOCATIONS_ON_WAYS) {
-        features.push(Vec::from_slice(alloc, LOCATIONS_ON_WAYS)?)?;
+    for feature in &KEPT_FEATURES {
+        if has(optional, feature) {
+            features.push(Vec::from_slice(alloc, feature)?)?;
+        }
     }
     Ok(features)
 }

@@ -1,12 +1,13 @@
 //! A HeaderBlock and the HeaderBBox in it: their fields, and their rules phase by phase.
 
-ghost use Rattle.std.specs.Prelude.{◌≡◌};
+ghost use Rattle.std.specs.Prelude.{◌≡◌, map};
 ghost use Rattle.pbf_wire.specs.Faults.{found_in};
 ghost use Rattle.pbf_wire.specs.Least.{least};
 ghost use Rattle.pbf_wire.specs.Wire.{ok_unless};
+ghost use Rattle.pbf_strings.specs.TableOut.{has_text};
 ghost use Rattle.pbf_header.specs.HeaderFaults.{edge_faults, header_structure, feature_faults, header_fault};
 
-use crate::header::{DENSE_NODES, OSM_SCHEMA};
+use crate::header::KNOWN_FEATURES;
 use pbf_wire::{
     Fault, InField, JudgeMessage, Kind, Message, Reason, fault_where, judge_fields, judge_missing,
     judge_nested, judge_twice, lesser, refuse,
@@ -86,6 +87,13 @@ fn judge_header_structure(payload: Message<'_>) -> Option<Fault>
     )
 }
 
+/// Whether one of these texts is this one.
+fn is_one_of(texts: &[&[u8]], text: &[u8]) -> bool
+    ensures { result ≡ has_text (map (λ t. t.now) texts.now) text.now }
+{
+    texts.contains(&text)
+}
+
 /// Whether a required feature is known.
 #[derive(Clone, Copy)]
 struct FeatureValue;
@@ -94,7 +102,7 @@ impl JudgeMessage for FeatureValue {
     ghost faults = { λ _. feature_faults };
 
     fn judge_message(&self, feature: Message<'_>, place: u64) -> Option<Fault> {
-        let known = feature.bytes == OSM_SCHEMA || feature.bytes == DENSE_NODES;
+        let known = is_one_of(&KNOWN_FEATURES, feature.bytes);
         fault_where(!known, place, Reason::Feature)
     }
 }

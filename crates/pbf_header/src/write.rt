@@ -1,16 +1,12 @@
 //! A HeaderBlock, written.
 
-ghost use Rattle.std.specs.Prelude.{◌≡◌, ◌++◌, ◌∷◌, [], ◌^◌, ◌<◌, OnOk, map, filter};
+ghost use Rattle.std.specs.Prelude.{◌≡◌, ◌++◌, ◌^◌, ◌<◌, OnOk, map};
 ghost use Rattle.std.specs.Option.{option_map, option_to_list};
 ghost use Rattle.pbf_wire.specs.Message.{Each, slot_bytes};
-ghost use Rattle.pbf_strings.specs.TableOut.{has_text};
 ghost use Rattle.pbf_header.specs.Header.{header_of, text_of};
-ghost use Rattle.pbf_header.specs.WrittenHeader.{box_message, known_features, kept_features, header_out_for_convert, header_message};
+ghost use Rattle.pbf_header.specs.WrittenHeader.{box_message, header_out_for_convert, header_message};
 
-use crate::header::{
-    DENSE_NODES, HAS_METADATA, Header, HeaderBox, LOCATIONS_ON_WAYS, OSM_SCHEMA, PROGRAM, SORTED,
-    has,
-};
+use crate::header::{Header, HeaderBox, PROGRAM, kept_features, known_features};
 use crate::header_block::{
     BBOX, BOTTOM, LEFT, OPTIONAL_FEATURES, REPLICATION_SEQUENCE, REPLICATION_TIMESTAMP,
     REPLICATION_URL, REQUIRED_FEATURES, RIGHT, SOURCE, TOP, WRITINGPROGRAM,
@@ -45,36 +41,14 @@ fn put_box(out: &mut Vec<u8>, bbox: Option<HeaderBox>) -> Result<(), AllocError>
     Ok(())
 }
 
-/// Appends the required features of what is written.
-fn put_required(out: &mut Vec<u8>) -> Result<(), AllocError>
-    ensures { OnOk result
-        (out.new.items ≡ out.old.items ++ slot_bytes (Each REQUIRED_FEATURES known_features)) }
-{
-    put_bytes(out, REQUIRED_FEATURES, OSM_SCHEMA)?;
-    put_bytes(out, REQUIRED_FEATURES, DENSE_NODES)?;
-    Ok(())
-}
-
-/// Appends those of the optional features that what is written has too, each once.
-fn put_optional(out: &mut Vec<u8>, optional: &[Vec<u8>]) -> Result<(), AllocError>
+/// Appends texts, each by a field with this number.
+fn put_each_text(out: &mut Vec<u8>, number: u64, texts: &[Vec<u8>]) -> Result<(), AllocError>
+    requires { number < 2 ^ 29 }
     ensures { OnOk result (out.new.items
-        ≡ out.old.items ++ slot_bytes
-        (Each OPTIONAL_FEATURES (kept_features (map text_of optional.now)))) }
+        ≡ out.old.items ++ slot_bytes (Each number (map text_of texts.now))) }
 {
-    put_feature(out, optional, HAS_METADATA)?;
-    put_feature(out, optional, SORTED)?;
-    put_feature(out, optional, LOCATIONS_ON_WAYS)?;
-    Ok(())
-}
-
-/// Appends an optional feature, if it is among these.
-fn put_feature(out: &mut Vec<u8>, optional: &[Vec<u8>], feature: &[u8]) -> Result<(), AllocError>
-    ensures { OnOk result (out.new.items
-        ≡ out.old.items ++ slot_bytes
-        (Each OPTIONAL_FEATURES (filter (has_text (map text_of optional.now)) (feature.now ∷ [])))) }
-{
-    if has(optional, feature) {
-        put_bytes(out, OPTIONAL_FEATURES, feature)?;
+    for text in texts {
+        put_bytes(out, number, text)?;
     }
     Ok(())
 }
@@ -100,9 +74,11 @@ impl Header {
         ensures { OnOk result (out.new.items
             ≡ out.old.items ++ header_message (header_out_for_convert (header_of self.now))) }
     {
+        let required = known_features(*out.allocator())?;
+        let optional = kept_features(*out.allocator(), &self.optional)?;
         put_box(out, self.bbox)?;
-        put_required(out)?;
-        put_optional(out, &self.optional)?;
+        put_each_text(out, REQUIRED_FEATURES, &required)?;
+        put_each_text(out, OPTIONAL_FEATURES, &optional)?;
         put_bytes(out, WRITINGPROGRAM, PROGRAM)?;
         put_text(out, SOURCE, &self.source)?;
         put_int64(out, REPLICATION_TIMESTAMP, self.timestamp)?;

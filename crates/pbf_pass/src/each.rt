@@ -13,7 +13,7 @@ ghost use Rattle.pbf_pass.specs.Each.{EachTook, OneFailed, each_gathered};
 use crate::pass::Gather;
 use crate::visit::Visit;
 use osm_entity::EntityRef;
-use pbf_block::{Kinds, UnmadeWay};
+use pbf_block::{Kinds, Unmade};
 use pbf_dense::Dense;
 use pbf_frame::{Frame, Stop};
 use std::alloc::{AllocError, Global};
@@ -96,7 +96,7 @@ impl<G: Gather> Gather for Each<G> {
     }
 
     #[tactic(auto, using(crate::proofs::EachLemmas::all_back))]
-    fn gather_way(&mut self, unmade: &UnmadeWay<'_>) -> Result<(), AllocError> {
+    fn gather_way(&mut self, unmade: &Unmade<'_>) -> Result<(), AllocError> {
         gather_way_each(&mut self.members, unmade)
     }
 
@@ -124,7 +124,7 @@ pub(crate) fn gather_each<G: Gather>(
 /// Gathers a way that is not made yet by each of the gatherers.
 pub(crate) fn gather_way_each<G: Gather>(
     gatherers: &mut [G],
-    unmade: &UnmadeWay<'_>,
+    unmade: &Unmade<'_>,
 ) -> Result<(), AllocError>
     ensures { OnOk result
         (gatherers.new ≡ map (λ g. G.gathered g (way (way_from unmade.now))) gatherers.old) }

@@ -17,7 +17,7 @@ use crate::way_strips::{WayStrips, take_way_each};
 use osm_area::{Area, AreaStrips};
 use osm_entity::{BoundingBox, EntityRef};
 use osm_ways::{InArea, NodeTaker};
-use pbf_block::{Kinds, UnmadeWay};
+use pbf_block::{Kinds, Unmade};
 use pbf_dense::{Dense, Place};
 use std::alloc::{AllocError, Global};
 use std::marker::Model;
@@ -222,7 +222,7 @@ impl<A: Area, P: NodeTaker> Gather for EachArea<A, P> {
 
     /// Of most ways no ref is near a node of an area: then no phase is asked.
     #[tactic(auto, using(crate::proofs::EachLemmas::all_back))]
-    fn gather_way(&mut self, unmade: &UnmadeWay<'_>) -> Result<(), AllocError> {
+    fn gather_way(&mut self, unmade: &Unmade<'_>) -> Result<(), AllocError> {
         if self.ways.leave_out(unmade) {
             return Ok(());
         }

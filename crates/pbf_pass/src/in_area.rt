@@ -12,7 +12,7 @@ use crate::pass::{Gather, seen};
 use osm_area::Area;
 use osm_entity::{BoundingBox, EntityRef};
 use osm_ways::{InArea, NodeTaker, SeenWay};
-use pbf_block::{Kinds, UnmadeWay};
+use pbf_block::{Kinds, Unmade};
 use pbf_dense::{Dense, IdsWithin};
 use std::alloc::AllocError;
 
@@ -35,7 +35,7 @@ impl<A: Area, P: NodeTaker> Gather for InArea<A, P> {
         }
     }
 
-    fn gather_way(&mut self, unmade: &UnmadeWay<'_>) -> Result<(), AllocError> {
+    fn gather_way(&mut self, unmade: &Unmade<'_>) -> Result<(), AllocError> {
         self.phase.take_refs(seen(unmade))
     }
 

@@ -6,7 +6,7 @@ ghost use Rattle.pbf_pass.specs.Pass.{with_added_way};
 use crate::pass::{Gather, seen};
 use osm_entity::EntityRef;
 use osm_ways::MemberPhase;
-use pbf_block::{Kinds, UnmadeWay};
+use pbf_block::{Kinds, Unmade};
 use pbf_dense::Dense;
 use std::alloc::AllocError;
 
@@ -28,7 +28,7 @@ impl Gather for MemberPhase {
         }
     }
 
-    fn gather_way(&mut self, unmade: &UnmadeWay<'_>) -> Result<(), AllocError> {
+    fn gather_way(&mut self, unmade: &Unmade<'_>) -> Result<(), AllocError> {
         self.take_refs(seen(unmade))
     }
 

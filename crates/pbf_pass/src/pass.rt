@@ -2,12 +2,12 @@
 
 ghost use Rattle.std.specs.Prelude.{◌≡◌, ◌≤◌, ◌+◌, [], ◌∷◌, false, None, Some, Err, IfOk, OnOk, length, map};
 ghost use Rattle.std.specs.List.{fold};
-ghost use Rattle.osm_entity.specs.Entity.{EntitySpec, node, way};
+ghost use Rattle.osm_entity.specs.Entity.{EntitySpec, node, relation, way};
 ghost use Rattle.osm_entity.specs.Views.{entity_of};
 ghost use Rattle.osm_ways.specs.Seen.{seen_refs, seen_way};
 ghost use Rattle.pbf_block.specs.Kinds.{is_among};
 ghost use Rattle.pbf_block.specs.PrimitiveBlock.{entities};
-ghost use Rattle.pbf_block.specs.Runs.{entity_from, joined_runs, nodes_from, run_entities, runs_left, way_from};
+ghost use Rattle.pbf_block.specs.Runs.{joined_runs, node_from, nodes_from, relation_from, run_entities, runs_left, way_from};
 ghost use Rattle.pbf_dense.specs.Cursors.{dense_left};
 ghost use Rattle.pbf_wire.specs.declared.fault.Fault.{Fault};
 ghost use Rattle.pbf_wire.specs.declared.fault.ReadFault.TheVariants.{Refused};
@@ -23,7 +23,7 @@ use crate::receipt::{Halt, Passes};
 use crate::visit::{FileRead, Visit, pass_over, step};
 use osm_entity::EntityRef;
 use osm_ways::{NodePhase, RelationPhase, SeenWay, WayPhase};
-use pbf_block::{Block, Counts, Kinds, Run, Runs, UnmadeDense, UnmadeEntity, UnmadeWay};
+use pbf_block::{Block, Counts, Kinds, Run, Runs, Unmade};
 use pbf_dense::Dense;
 use pbf_frame::{Feed, Frame, FrameKind, FrameReader, Stop};
 use pbf_header::Header;
@@ -45,7 +45,7 @@ pub trait Gather {
         ensures { OnOk result (self.new ≡ gathered self.old (entity_of entity.now)) };
 
     /// Gathers a way that is not made yet. If memory is refused, it may only be dropped.
-    fn gather_way(&mut self, unmade: &UnmadeWay<'_>) -> Result<(), AllocError>
+    fn gather_way(&mut self, unmade: &Unmade<'_>) -> Result<(), AllocError>
         ensures { OnOk result (self.new ≡ gathered self.old (way (way_from unmade.now))) };
 
     /// Gathers the nodes of a dense message. If memory is refused, it may only be dropped.
@@ -73,7 +73,7 @@ impl Gather for Nothing {
         Ok(())
     }
 
-    fn gather_way(&mut self, _unmade: &UnmadeWay<'_>) -> Result<(), AllocError> {
+    fn gather_way(&mut self, _unmade: &Unmade<'_>) -> Result<(), AllocError> {
         Ok(())
     }
 
@@ -101,7 +101,7 @@ impl Gather for WayPhase {
         }
     }
 
-    fn gather_way(&mut self, unmade: &UnmadeWay<'_>) -> Result<(), AllocError> {
+    fn gather_way(&mut self, unmade: &Unmade<'_>) -> Result<(), AllocError> {
         self.take_refs(seen(unmade))
     }
 
@@ -129,7 +129,7 @@ impl Gather for RelationPhase {
         }
     }
 
-    fn gather_way(&mut self, _unmade: &UnmadeWay<'_>) -> Result<(), AllocError> {
+    fn gather_way(&mut self, _unmade: &Unmade<'_>) -> Result<(), AllocError> {
         Ok(())
     }
 
@@ -140,24 +140,34 @@ impl Gather for RelationPhase {
 }
 
 /// What counts of a way that is not made yet.
-pub(crate) fn seen<'a>(unmade: &UnmadeWay<'a>) -> SeenWay<'a>
+pub(crate) fn seen<'a>(unmade: &Unmade<'a>) -> SeenWay<'a>
     ensures { seen_refs result ≡ seen_way (way_from unmade.now) }
 {
     let (id, refs) = unmade.id_and_refs();
     SeenWay { id, refs }
 }
 
-/// Makes a node or a relation, and gathers it. It is a call, so that its room is cleared only here, and not for each run.
+/// Makes a node, and gathers it. It is a call, so that its room is cleared only here, and not for each run.
 #[inline(never)]
-fn gather_one<G: Gather>(unmade: &UnmadeEntity<'_>, gathering: &mut G) -> Result<(), AllocError>
-    ensures { OnOk result (gathering.new ≡ G.gathered gathering.old (entity_from unmade.now)) }
+fn gather_node<G: Gather>(unmade: &Unmade<'_>, gathering: &mut G) -> Result<(), AllocError>
+    ensures { OnOk result
+        (gathering.new ≡ G.gathered gathering.old (node (node_from unmade.now))) }
 {
-    gathering.gather(&unmade.make())
+    gathering.gather(&EntityRef::Node(unmade.node()))
 }
 
-/// Gathers the nodes of a dense message. It is a call, like [`gather_one`].
+/// The same of a relation.
 #[inline(never)]
-fn gather_nodes<G: Gather>(unmade: &UnmadeDense<'_>, gathering: &mut G) -> Result<(), AllocError>
+fn gather_relation<G: Gather>(unmade: &Unmade<'_>, gathering: &mut G) -> Result<(), AllocError>
+    ensures { OnOk result
+        (gathering.new ≡ G.gathered gathering.old (relation (relation_from unmade.now))) }
+{
+    gathering.gather(&EntityRef::Relation(unmade.relation()))
+}
+
+/// The same of the nodes of a dense message.
+#[inline(never)]
+fn gather_nodes<G: Gather>(unmade: &Unmade<'_>, gathering: &mut G) -> Result<(), AllocError>
     ensures { OnOk result
         (gathering.new ≡ fold G.gathered gathering.old (map node (nodes_from unmade.now))) }
 {
@@ -170,9 +180,10 @@ fn gather_run<G: Gather>(run: &Run<'_>, gathering: &mut G) -> Result<(), AllocEr
 {
     match run {
         Run::Nothing => Ok(()),
-        Run::One(unmade) => gather_one(unmade, gathering),
-        Run::Way(way) => gathering.gather_way(way),
-        Run::Dense(dense) => gather_nodes(dense, gathering),
+        Run::Node(unmade) => gather_node(unmade, gathering),
+        Run::Way(unmade) => gathering.gather_way(unmade),
+        Run::Relation(unmade) => gather_relation(unmade, gathering),
+        Run::Dense(unmade) => gather_nodes(unmade, gathering),
     }
 }
 

@@ -18,7 +18,7 @@ use osm_area::{Area, AreaStrips};
 use osm_entity::Refs;
 use osm_ids::IdStrips;
 use osm_ways::{InArea, NodeTaker, SeenWay};
-use pbf_block::UnmadeWay;
+use pbf_block::Unmade;
 use std::alloc::{AllocError, Global};
 
 /// Strips of the ids of phases' nodes, and which phases take a way.
@@ -42,7 +42,7 @@ pub(crate) enum WayStrips {
     Never,
 }
 
-/// Marks the phases that may have one of these refs, and says whether there are any.
+/// Marks the phases that may have one of these refs; `false` means that there are none. `true` says nothing, and others may be marked too.
 pub fn mark_refs(strips: &IdStrips, marks: &mut [bool], refs: Refs<'_>) -> bool
     ensures marked { MarksRefs strips.now (refs_left refs.entry) marks.old marks.new }
     ensures none { result ≡ false
@@ -69,8 +69,9 @@ impl WayStrips {
         }
     }
 
-    /// Marks the phases that may have one of the way's refs. Whether it is known that there are none: then the way changes nothing.
-    pub(crate) fn leave_out(&mut self, unmade: &UnmadeWay<'_>) -> bool
+    /// Marks the phases that may have one of the way's refs, and maybe others. Whether it is known that there are none: then the way changes
+    /// nothing.
+    pub(crate) fn leave_out(&mut self, unmade: &Unmade<'_>) -> bool
         ensures marked { HasMarked (way_from unmade.now).refs self.old self.new }
         ensures none { result ≡ true → NamesNone (way_from unmade.now).refs self.old }
     {
@@ -154,7 +155,7 @@ fn add_each<A: Area, P: NodeTaker>(
     add_each(strips, number + 1, others)
 }
 
-/// How many ids of nodes these phases have together, at most the greatest number.
+/// How many ids of nodes these phases have together, at most the greatest number: only speed and space depend on it.
 fn count_inside<A: Area, P: NodeTaker>(members: &[InArea<A, P>]) -> u64 {
     let Some((member, others)) = members.split_first() else {
         return 0;
@@ -199,7 +200,7 @@ fn take_found<A: Area, P: NodeTaker>(
 pub(crate) fn take_way_each<A: Area, P: NodeTaker>(
     members: &mut [InArea<A, P>],
     strips: WayStrips,
-    unmade: &UnmadeWay<'_>,
+    unmade: &Unmade<'_>,
 ) -> Result<WayStrips, AllocError>
     requires { MaySkip P.step P.inside (seen_way (way_from unmade.now)) members.old strips }
     ensures taken { OnOk result (members.new

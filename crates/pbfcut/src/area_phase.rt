@@ -5,7 +5,7 @@ ghost use Rattle.std.specs.List.{AllByRecursion};
 ghost use Rattle.pbfcut.specs.AreaPhases.{gathered_unless};
 
 use osm_entity::EntityRef;
-use pbf_block::{Kinds, UnmadeWay};
+use pbf_block::{Kinds, Unmade};
 use pbf_dense::Dense;
 use pbf_header::Header;
 use pbf_pass::Gather;
@@ -41,7 +41,7 @@ impl<G: Gather, R> Gather for AreaPhase<G, R> {
         self.gathering.gather(entity)
     }
 
-    fn gather_way(&mut self, unmade: &UnmadeWay<'_>) -> Result<(), AllocError> {
+    fn gather_way(&mut self, unmade: &Unmade<'_>) -> Result<(), AllocError> {
         if self.is_done {
             return Ok(());
         }

@@ -56,7 +56,8 @@ fn write_chosen<A: Drop, F: Feed, D: Drain + Drop, S: BuildHasher + Copy + Drop>
 /// The file is judged once, and read once more to write all extracts. There is a pass between, over the second feed, if a node of the file comes
 /// after a way. If the call halts, it halts for all areas. If all feeds supply the same bytes, each drain then has a prefix of its own extract.
 ///
-/// Space: one frame; and for each area the sets of its ids, and the block that is open.
+/// Space: one frame; for each area the sets of its ids, and the block that is open; and for all areas together the strips of these ids, which are
+/// up to 2^20 lists for nodes, for ways and for relations each, with at most one number for each id, and about 100,000 listed runs of a block.
 pub fn extract_each<
     A: Area + Copy,
     F: Feed,

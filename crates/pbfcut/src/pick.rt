@@ -4,14 +4,14 @@ ghost use Rattle.std.specs.Prelude.{true, false, ℤ, [], ◌∷◌, ◌≡◌, 
 ghost use Rattle.std.specs.Iterator.{YieldsFirstBy};
 ghost use Rattle.std.specs.List.{AllByRecursion};
 ghost use Rattle.std.specs.Option.{option_map};
-ghost use Rattle.osm_entity.specs.Entity.{node, way};
+ghost use Rattle.osm_entity.specs.Entity.{node, relation, way};
 ghost use Rattle.osm_entity.specs.Ranges.{NodeFits};
 ghost use Rattle.osm_entity.specs.Views.{entity_of, node_of};
 ghost use Rattle.osm_entity.specs.Weight.{node_weight};
 ghost use Rattle.osm_pack.specs.Packing.{has_header};
 ghost use Rattle.pbf_wire.specs.Spans.{is_in};
 ghost use Rattle.pbf_dense.specs.Cursors.{AreIdsAfter, dense_left};
-ghost use Rattle.pbf_block.specs.Runs.{entity_from, way_from, joined_runs, run_entities, runs_left};
+ghost use Rattle.pbf_block.specs.Runs.{joined_runs, node_from, relation_from, run_entities, runs_left, way_from};
 ghost use Rattle.pbf_pass.specs.Counting.{counts_of};
 ghost use Rattle.pbf_pass.specs.Judged.{fault_in};
 ghost use Rattle.pbf_pass.specs.Payload.{primitive_block, lent_by};
@@ -23,7 +23,7 @@ ghost use Rattle.pbfcut.specs.Pick.{everything, pick_of, take_of, picks_of, pick
 use osm_entity::{EntityRef, HIGHEST_WEIGHT, NodeRef};
 use osm_pack::Packer;
 use osm_ways::{Chooser, Chosen, ChosenParents, SeenWay};
-use pbf_block::{Block, Counts, Kinds, MOST_ENTITIES, Run, Runs, UnmadeEntity, UnmadeWay};
+use pbf_block::{Block, Counts, Kinds, MOST_ENTITIES, Run, Runs, Unmade};
 use pbf_dense::Dense;
 use pbf_frame::{Drain, Feed, Frame, FrameKind, FrameReader, Stop};
 use pbf_pass::Pass;
@@ -92,7 +92,7 @@ impl<'a> Picker<'a> {
 
     /// Whether a way that is not made yet is written.
     #[tactic(auto, unfolding(crate::specs::Pick::picks_of))]
-    fn picks_way(&mut self, unmade: &UnmadeWay<'_>) -> bool
+    fn picks_way(&mut self, unmade: &Unmade<'_>) -> bool
         ensures picked { result ≡ picks_of self.old (way (way_from unmade.now)) }
         ensures same { self.new ≡ self.old }
     {
@@ -393,38 +393,53 @@ impl<'a> EntityPacker<'a> {
         }
     }
 
-    /// Makes a node or a relation, and packs it if it is picked. It is a call, so that its room is cleared only here, and not for each run.
+    /// Makes a node, and packs it if it is picked. It is a call, so that its room is cleared only here, and not for each run.
     #[inline(never)]
-    fn pack_one<D: Drain, S: BuildHasher>(
+    fn pack_single<D: Drain, S: BuildHasher>(
         &mut self,
-        unmade: &UnmadeEntity<'_>,
+        unmade: &Unmade<'_>,
         packer: &mut Packer<D, S>,
     ) -> Result<(), Stop>
         requires { IsReadyToPack packer.old }
-        ensures { PacksEach D.Drain (picks_of self.old.picker) (entity_from unmade.now ∷ [])
+        ensures { PacksEach D.Drain (picks_of self.old.picker) (node (node_from unmade.now) ∷ [])
             self.old self.new packer.old packer.new result }
     {
-        self.pack_entity(&unmade.make(), packer)
+        self.pack_entity(&EntityRef::Node(unmade.node()), packer)
+    }
+
+    /// The same of a relation.
+    #[inline(never)]
+    fn pack_relation<D: Drain, S: BuildHasher>(
+        &mut self,
+        unmade: &Unmade<'_>,
+        packer: &mut Packer<D, S>,
+    ) -> Result<(), Stop>
+        requires { IsReadyToPack packer.old }
+        ensures { PacksEach D.Drain (picks_of self.old.picker)
+            (relation (relation_from unmade.now) ∷ [])
+            self.old self.new packer.old packer.new result }
+    {
+        self.pack_entity(&EntityRef::Relation(unmade.relation()), packer)
     }
 
     /// Makes a way, and packs it, whether it is picked or not. It is a call for the same reason.
     #[inline(never)]
     fn pack_made<D: Drain, S: BuildHasher>(
         &mut self,
-        unmade: &UnmadeWay<'_>,
+        unmade: &Unmade<'_>,
         packer: &mut Packer<D, S>,
     ) -> Result<(), Stop>
         requires { IsReadyToPack packer.old }
         ensures { PacksEach D.Drain everything (way (way_from unmade.now) ∷ [])
             self.old self.new packer.old packer.new result }
     {
-        self.pack(&EntityRef::Way(unmade.make()), packer)
+        self.pack(&EntityRef::Way(unmade.way()), packer)
     }
 
     /// Packs a way if it is picked, which is made only then.
     fn pack_way<D: Drain, S: BuildHasher>(
         &mut self,
-        unmade: &UnmadeWay<'_>,
+        unmade: &Unmade<'_>,
         packer: &mut Packer<D, S>,
     ) -> Result<(), Stop>
         requires { IsReadyToPack packer.old }
@@ -507,9 +522,10 @@ impl<'a> EntityPacker<'a> {
     {
         match run {
             Run::Nothing => Ok(()),
-            Run::One(unmade) => self.pack_one(unmade, packer),
+            Run::Node(unmade) => self.pack_single(unmade, packer),
             Run::Way(unmade) => self.pack_way(unmade, packer),
-            Run::Dense(dense) => self.pack_nodes(&dense.nodes(), packer),
+            Run::Relation(unmade) => self.pack_relation(unmade, packer),
+            Run::Dense(unmade) => self.pack_nodes(&unmade.nodes(), packer),
         }
     }
 

@@ -2,17 +2,17 @@
 
 ghost use Rattle.std.specs.Prelude.{◌≡◌, List, [], ◌∷◌, ◌++◌, IfOk, IfSome, OnOk, length, map};
 ghost use Rattle.std.specs.List.{AllByRecursion};
-ghost use Rattle.osm_entity.specs.Entity.{EntitySpec, node};
+ghost use Rattle.osm_entity.specs.Entity.{EntitySpec, node, relation};
 ghost use Rattle.osm_ways.specs.ChoiceStrips.{NamesChoice};
-ghost use Rattle.pbf_block.specs.Runs.{entity_from, joined_runs, run_entities, runs_left};
+ghost use Rattle.pbf_block.specs.Runs.{joined_runs, node_from, relation_from, run_entities, runs_left};
 ghost use Rattle.pbf_dense.specs.Cursors.{dense_left};
 ghost use Rattle.pbfcut.specs.Several.{AllThree};
 ghost use Rattle.pbfcut.specs.Wanted.{AllFrom, IsShared, MarksTakers, WantedLists};
 
 use crate::carrying::AreaChoice;
-use osm_entity::{EntityRef, Refs};
+use osm_entity::Refs;
 use osm_ways::ChoiceStrips;
-use pbf_block::{Run, Runs, UnmadeEntity};
+use pbf_block::{Run, Runs, Unmade};
 use pbf_dense::Dense;
 use pbf_pass::mark_refs;
 use std::alloc::{AllocError, Global};
@@ -20,7 +20,7 @@ use std::alloc::{AllocError, Global};
 /// At most so many runs are listed: a block of which more is wanted is read for each area by itself.
 const MOST_LISTED: usize = 100_000;
 
-/// How many ids these choices have together, at most the greatest number.
+/// How many ids these choices have together, at most the greatest number: only speed and space depend on it.
 fn count_chosen(choices: &[AreaChoice]) -> u64 {
     let Some((choice, others)) = choices.split_first() else {
         return 0;
@@ -43,37 +43,45 @@ pub(crate) fn name_choices(
     Ok(strips)
 }
 
-/// Marks the choices that may keep a node of a dense message, and says whether there are any.
+/// Marks the choices that may keep a node of a dense message; `false` means that there are none. `true` says nothing, and others may be marked
+/// too.
 fn mark_dense(strips: &ChoiceStrips, dense: &Dense<'_>, marks: &mut [bool]) -> bool
     ensures { MarksTakers strips.now (map node (dense_left dense.now)) marks.old marks.new result }
 {
     mark_refs(&strips.nodes, marks, Refs::Summed(dense.ids()))
 }
 
-/// The same of a node or a relation that is not made yet. It is a call, so that its room is cleared only here.
+/// The same of a node that is not made yet. It is a call, so that its room is cleared only here.
 #[inline(never)]
-fn mark_one(strips: &ChoiceStrips, unmade: &UnmadeEntity<'_>, marks: &mut [bool]) -> bool
-    ensures { MarksTakers strips.now (entity_from unmade.now ∷ []) marks.old marks.new result }
+fn mark_node(strips: &ChoiceStrips, unmade: &Unmade<'_>, marks: &mut [bool]) -> bool
+    ensures { MarksTakers strips.now (node (node_from unmade.now) ∷ [])
+        marks.old marks.new result }
 {
-    match unmade.make() {
-        EntityRef::Node(node) => strips.nodes.mark(node.id(), marks),
-        EntityRef::Way(way) => strips.ways.mark(way.id(), marks),
-        EntityRef::Relation(relation) => strips.mark_relation(&relation, marks),
-    }
+    strips.nodes.mark(unmade.node().id(), marks)
 }
 
-/// Marks the choices that may keep something of a run, and says whether there are any.
+/// The same of a relation.
+#[inline(never)]
+fn mark_relation(strips: &ChoiceStrips, unmade: &Unmade<'_>, marks: &mut [bool]) -> bool
+    ensures { MarksTakers strips.now (relation (relation_from unmade.now) ∷ [])
+        marks.old marks.new result }
+{
+    strips.mark_relation(&unmade.relation(), marks)
+}
+
+/// Marks the choices that may keep something of a run; `false` means that there are none. `true` says nothing, and others may be marked too.
 fn mark_run(strips: &ChoiceStrips, run: &Run<'_>, marks: &mut [bool]) -> bool
     ensures { MarksTakers strips.now (run_entities run.now) marks.old marks.new result }
 {
     match run {
         Run::Nothing => false,
-        Run::One(unmade) => mark_one(strips, unmade, marks),
+        Run::Node(unmade) => mark_node(strips, unmade, marks),
         Run::Way(unmade) => {
             let (id, _) = unmade.id_and_refs();
             strips.ways.mark(id, marks)
         }
-        Run::Dense(dense) => mark_dense(strips, &dense.nodes(), marks),
+        Run::Relation(unmade) => mark_relation(strips, unmade, marks),
+        Run::Dense(unmade) => mark_dense(strips, &unmade.nodes(), marks),
     }
 }
 

@@ -1,3 +1,4 @@
 mod Rows
+mod Meanings
 mod Joining
 mod CommandLemmas

@@ -1,6 +1,6 @@
 -- What the getters read, by the rows.
 use Rattle.std.proofs.Common.{arith, ◌≡◌, ◌⊎◌, ◌∙◌, sym, List, [], ◌∷◌, map, Option, Some, None, option_map, Bool, true, codes, find, is_some}
-use Rattle.clap.specs.Words.{App, Row, Shape, Text, built, has_subcommand, is_simple, subcommand_of, subcommand_rows_of}
+use Rattle.clap.specs.Words.{App, Row, Shape, Text, built, has_subcommand, is_simple, is_simple_and_free, subcommand_of, subcommand_rows_of}
 use Rattle.clap.specs.declared.parser.matches.ArgMatches.{ArgMatches}
 use Rattle.clap.specs.declared.parser.matches.ArgMatches.TheViews.{out-ArgMatches}
 use Rattle.clap.proofs.TakesLemmas.{some_rows}
@@ -44,6 +44,9 @@ named Pbfcutz words p e = one_of_pbfcutz p (entered_name (built (program_app Pbf
 
 pub simple : (program : Program) → is_simple (program_app program) ≡ true
 simple program = grind arith
+
+pub free : (program : Program) → is_simple_and_free (program_app program) ≡ true
+free program = grind arith
 
 pub needs_command : (program : Program) → (program_app program).top.subcommand_required ≡ true
 needs_command program = grind arith

@@ -3,9 +3,10 @@ use Rattle.std.specs.Prelude.{◌≡◌, ◌⊎◌, ◌&&◌, ◌||◌, ℕ, Boo
 use Rattle.std.specs.Borrow.{Bor}
 use Rattle.std.specs.Option.{option_map_or}
 use Rattle.std.specs.Str.{bytes_eq}
-use Rattle.clap.specs.Words.{App, Row, Rule, Shape, Text, first_of, new_app, new_rule, one_of, subcommand_of, with_rule, with_subcommand}
+use Rattle.clap.specs.Words.{App, IsAmong, Row, Rule, Shape, Text, fault_of, first_of, new_app, new_rule, one_of, subcommand_of, with_rule, with_subcommand}
 use Rattle.clap.specs.Simple.{on_top}
 use Rattle.clap.specs.declared.builder.ArgAction.TheVariants.{SetTrue}
+use Rattle.clap.specs.declared.error.kind.ErrorKind.TheVariants.{DisplayHelp, DisplayVersion}
 use Rattle.osm_box.specs.Degrees.{box_of_text}
 use Rattle.pbfcut_cli.specs.declared.words.ConfigFiles.{ConfigFiles}
 use Rattle.pbfcut_cli.specs.declared.words.Files.{Files}
@@ -355,7 +356,7 @@ HasExtractFault rows f = HasStrategyFault rows f
 abbrev pub IsWriter : Text → Type 0
 IsWriter name = (name ≡ codes "convert") ⊎ ((name ≡ codes "pack") ⊎ (name ≡ codes "unpack"))
 
--- `clap` takes the words, but they have this fault: one of what `extract` cuts out, or of a file that is written
+-- they have this fault: one of what `extract` cuts out, or of a file that is written
 abbrev pub HasFault : Option (Text × List Row) → CliFault → Type 0
 HasFault None f = ⊥
 HasFault (Some p) f = ((p.0 ≡ codes "extract") × HasExtractFault p.1 f) ⊎ (IsWriter p.0 × HasFilesFault p.1 f)
@@ -371,30 +372,33 @@ abbrev pub IsHelp : Command → Type 0
 IsHelp (Help text) = Unit {0}
 IsHelp _ = ⊥
 
--- a fault of words that `clap` takes
+-- a fault of what words mean, and not of a line that is refused
 abbrev pub IsOfWords : CliFault → Type 0
 IsOfWords (fault.Line text) = ⊥
 IsOfWords (fault.Box f) = Unit {0}
 IsOfWords (fault.Choice f) = Unit {0}
 IsOfWords fault.Memory = ⊥
 
--- a fault that may come if `clap` accepts the words
-abbrev pub IsNoLine : CliFault → Type 0
-IsNoLine (fault.Line text) = ⊥
-IsNoLine _ = Unit {0}
+-- `clap` takes the words: no kind of error comes of them
+abbrev pub AreTaken : Program → List Text → Type 0
+AreTaken program words = fault_of (program_app program) words ≡ []
 
--- neither help nor a refused line
-abbrev pub IsTaken : Result Command CliFault → Type 0
-IsTaken r = MatchResult r (λ c. IsHelp c → ⊥) IsNoLine
+-- they request help or the version: that is the kind that comes of them
+abbrev pub AskForHelp : Program → List Text → Type 0
+AskForHelp program words = IsAmong DisplayHelp (fault_of (program_app program) words)
+    ⊎ IsAmong DisplayVersion (fault_of (program_app program) words)
 
--- a fault of words that `clap` takes is one that they have
-abbrev pub FitsFault : Option (Text × List Row) → CliFault → Type 0
-FitsFault stop f = IsOfWords f → HasFault stop f
+-- the command is the one that `clap` reads in the words, which it takes; or it is help, which they request
+abbrev pub IsCommandOf : Program → List Text → Command → Type 0
+IsCommandOf program words command = (AreTaken program words × IsRead (subcommand_of (program_app program) words) command)
+    ⊎ (AskForHelp program words × IsHelp command)
+
+-- why the words are no command: `clap` doesn't take them, or it does, but they have this fault
+abbrev pub IsFaultOf : Program → List Text → CliFault → Type 0
+IsFaultOf program words (fault.Line text) = AreTaken program words → ⊥
+IsFaultOf program words fault.Memory = Unit {0}
+IsFaultOf program words f = AreTaken program words × HasFault (subcommand_of (program_app program) words) f
 
 -- the texts of the words
 abbrev pub word_texts : List (Bor Text) → List Text
 word_texts = map (λ w. w.now)
-
--- the subcommand that the words name, with its matches, as `clap` defines them
-abbrev pub command_words : Program → List (Bor Text) → Option (Text × List Row)
-command_words program words = subcommand_of (program_app program) (word_texts words)

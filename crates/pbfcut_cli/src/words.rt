@@ -2,20 +2,20 @@
 
 ghost use Rattle.std.specs.Prelude.{◌≡◌, ◌⊎◌, Err, IfErr, IfOk, MatchResult, Some, codes, false, true};
 ghost use Rattle.std.specs.Option.{option_map};
-ghost use Rattle.clap.specs.Words.{first_of, found_of, kind_of, rows_of, subcommand_rows_of, takes};
+ghost use Rattle.clap.specs.Words.{first_of, found_of, kind_of, rows_of, subcommand_rows_of};
 ghost use Rattle.pbfcut_cli.specs.Words.{
-  FitsFault,
   HasConfigFault,
   HasExtractFault,
   HasFault,
   HasOutputFault,
   HasRegionFault,
   HasStrategyFault,
+  IsCommandOf,
+  IsFaultOf,
   IsHelp,
   IsOffered,
   IsOfWords,
   IsRead,
-  IsTaken,
   ReadsAs,
   ReadsConfigFiles,
   ReadsFiles,
@@ -25,14 +25,12 @@ ghost use Rattle.pbfcut_cli.specs.Words.{
   ReadsRegion,
   ReadsStrategy,
   argument_value,
-  command_words,
   is_given,
   is_or_absent,
   names_output,
   names_pbf,
   names_region,
   names_smart,
-  program_app,
   word_texts,
 };
 ghost use Rattle.pbfcut_cli.specs.declared.words.CliFault.TheVariants as fault;
@@ -501,18 +499,17 @@ fn refused<'a>(alloc: Global, error: &Error) -> Result<Command<'a>, CliFault>
 ///
 /// `Line` if `clap` refuses the words, `Box` with the fault of the box of an `extract`, `Choice` if one of two arguments is needed and there
 /// is none or both, or if a format or a strategy is unknown, or there are types for a strategy that takes none, or an area, an OUT or `smart`
-/// besides a configuration, or a folder without one, `Memory` if a request for memory was refused. Words that `clap` takes give neither `Line` nor `Help`.
+/// besides a configuration, or a folder without one, `Memory` if a request for memory was refused. Words that `clap` takes give neither `Line` nor `Help`;
+/// `Help` comes only of words that request it, or for the version.
 pub fn read_words<'a>(
     alloc: Global,
     program: Program,
     words: &'a [&'a str],
 ) -> Result<Command<'a>, CliFault>
-    // A command is help, or what `clap` reads in the words.
-    ensures read { IfOk result (λ c. IsHelp c ⊎ IsRead (command_words program words.now) c) }
-    // The fault of a box comes only for a box that has it, and that of a choice only for one not made, made twice, or made otherwise.
-    ensures fault { IfErr result (FitsFault (command_words program words.now)) }
-    // Words that `clap` takes give a command that is not help, or a fault other than `Line`.
-    ensures taken { takes (program_app program) (word_texts words.now) ≡ true → IsTaken result }
+    // A command is what `clap` reads in the words, which it takes; or help, which they request.
+    ensures read { IfOk result (IsCommandOf program (word_texts words.now)) }
+    // `Line` comes only of words that `clap` doesn't take; the fault of a box or of a choice only of words that it takes, and that have it.
+    ensures fault { IfErr result (IsFaultOf program (word_texts words.now)) }
 {
     let command_line = command_line(alloc, program, program.help())?;
     match command_line.try_get_matches_from(words) {

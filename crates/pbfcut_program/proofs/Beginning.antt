@@ -51,19 +51,19 @@ quiet_begun is files has key makes q =
     let opens = openings files.input.now 1 has in
     each_both Quiet (looks is files ++ opens) (seeded (Some key) ∷ makes) (quiet_of _ (each_both Calm (looks is files) opens (calm_looks is files) (calm_openings files.input.now 1 has))) (tt, q)
 
-pub opens_openings : (input : List ℕ) (pass : ℕ) (has : List (Option (List ℕ))) → Opens pass has (openings input pass has)
+pub opens_openings : (input : List ℕ) (pass : ℕ) (has : List (Option (List ℕ))) → Opens input pass has (openings input pass has)
 opens_openings input pass [] = tt
-opens_openings input pass (h ∷ has) = (inl (refl, refl), opens_after (pass + 1) has (opened input pass h ∷ []) (openings input (pass + 1) has) (opens_openings input (pass + 1) has))
+opens_openings input pass (h ∷ has) = (inl (refl, refl, refl), opens_after input (pass + 1) has (opened input pass h ∷ []) (openings input (pass + 1) has) (opens_openings input (pass + 1) has))
 
 pub silent_begun : (is : Bool) (files : Files) (has : List (Option (List ℕ))) (key : ℕ) (makes : List Event) → Each Silent makes → Each Silent (begun is files has key makes)
 silent_begun is files has key makes s =
     let opens = openings files.input.now 1 has in
     each_both Silent (looks is files ++ opens) (seeded (Some key) ∷ makes) (silent_of (looks is files ++ opens) (each_both Calm (looks is files) opens (calm_looks is files) (calm_openings files.input.now 1 has))) (tt, s)
 
-pub opens_begun : (is : Bool) (files : Files) (has : List (Option (List ℕ))) (key : ℕ) (makes : List Event) → Opens 1 has (begun is files has key makes)
+pub opens_begun : (is : Bool) (files : Files) (has : List (Option (List ℕ))) (key : ℕ) (makes : List Event) → Opens files.input.now 1 has (begun is files has key makes)
 opens_begun is files has key makes =
     let opens = openings files.input.now 1 has in
-    opens_before 1 has (looks is files ++ opens) (seeded (Some key) ∷ makes) (opens_after 1 has (looks is files) opens (opens_openings files.input.now 1 has))
+    opens_before files.input.now 1 has (looks is files ++ opens) (seeded (Some key) ∷ makes) (opens_after files.input.now 1 has (looks is files) opens (opens_openings files.input.now 1 has))
 
 pub length_has : {A B : Type 0} (f : A → B) (xs : List A) → length (map f xs) ≡ length xs
 length_has f [] = refl

@@ -318,7 +318,7 @@ text_fails program digests check f d task before out name (Some why) l m n olds 
       events,
       done.2,
       subst (λ h. Fails by (judging_for task) has h events) (sym ends) (text_stops by (judging_for task) has why events (has_after _ (reads done.0) (wrote done.1 ∷ []) (inl done.3))),
-      inr (record { before = []; rs = done.0; out = done.1; after = []; happened = refl; by = check; counts = report.counts; digest = report.input; raw = report.raw; work = done.5 }),
+      inr (record { before = []; rs = done.0; out = done.1; after = []; happened = refl; quiet = (tt, tt); by = check; counts = report.counts; digest = report.input; raw = report.raw; work = done.5 }),
       each_both Silent (reads done.0) (wrote done.1 ∷ []) (returned_silent (λ w. Unit {0}) (reads done.0) (reads_return (λ w. Unit {0}) done.0)) (tt, tt),
     )
 text_fails program digests check f d task before out name (Some why) l m n olds news (Err halted) (Err how) fresh begun c fin works front ends =

@@ -86,10 +86,10 @@ text_stops m j has finishing.Exists events h = inr h
 text_stops m j has finishing.Closed events h = has_weaker (FailsToFinish finishing.Closed) FailsAsClosed closed events h
 
 -- before IN was opened
-pub fails_early : (m : Manner) (j : Judging) (how : Ending) (events : List Event) → Fails m j [] how events → FailsFor m j how events
+pub fails_early : {input : List ℕ} (m : Manner) (j : Judging) (how : Ending) (events : List Event) → Fails m j [] how events → FailsFor input m j how events
 fails_early m j how events f = record { has = []; opens = tt; why = f }
 
-pub opening_fails : (m : Manner) (j : Judging) (how : Ending) (events : List Event) → FailsOpening how events → FailsFor m j how events
+pub opening_fails : {input : List ℕ} (m : Manner) (j : Judging) (how : Ending) (events : List Event) → FailsOpening how events → FailsFor input m j how events
 opening_fails m j how events f = fails_early m j how events (of how f) where
   of : (h : Ending) → FailsOpening h events → Fails m j [] h events
   of ending.CannotOpen f = (f.1, nothing_in events (quiet_of events f.0))
@@ -139,25 +139,25 @@ stops_sound m judge sound also has events s h c = caused_weaker _ _ _ _ _ _ _ _ 
 fails_sound : (m : Manner) (judge : Option (List ℕ) → Option Verdict) (sound also : List ℕ → Type 0) (has : List (Option (List ℕ))) (how : Ending) (events : List Event) → ((file : List ℕ) → also file → sound file) → Fails m (judging judge sound) has how events → Fails m (judging judge also) has how events
 fails_sound m judge sound also has how events h f = grind (arith, stops_sound m judge sound also has events)
 
-pub sound_fails : (m : Manner) (judge : Option (List ℕ) → Option Verdict) (sound also : List ℕ → Type 0) (how : Ending) (events : List Event) → ((file : List ℕ) → also file → sound file) → FailsFor m (judging judge sound) how events → FailsFor m (judging judge also) how events
+pub sound_fails : {input : List ℕ} (m : Manner) (judge : Option (List ℕ) → Option Verdict) (sound also : List ℕ → Type 0) (how : Ending) (events : List Event) → ((file : List ℕ) → also file → sound file) → FailsFor input m (judging judge sound) how events → FailsFor input m (judging judge also) how events
 sound_fails m judge sound also how events h f = record { has = f.has; opens = f.opens; why = fails_sound m judge sound also f.has how events h f.why }
 
 -- ---- after those in which IN was opened
 
-pub opens_after : (pass : ℕ) (has : List (Option (List ℕ))) (xs ys : List Event) → Opens pass has ys → Opens pass has (xs ++ ys)
-opens_after pass [] xs ys o = tt
-opens_after pass (h ∷ has) xs ys o = (has_after _ xs ys o.0, opens_after (pass + 1) has xs ys o.1)
+pub opens_after : (input : List ℕ) (pass : ℕ) (has : List (Option (List ℕ))) (xs ys : List Event) → Opens input pass has ys → Opens input pass has (xs ++ ys)
+opens_after input pass [] xs ys o = tt
+opens_after input pass (h ∷ has) xs ys o = (has_after _ xs ys o.0, opens_after input (pass + 1) has xs ys o.1)
 
-pub opens_before : (pass : ℕ) (has : List (Option (List ℕ))) (xs ys : List Event) → Opens pass has xs → Opens pass has (xs ++ ys)
-opens_before pass [] xs ys o = tt
-opens_before pass (h ∷ has) xs ys o = (has_before _ xs ys o.0, opens_before (pass + 1) has xs ys o.1)
+pub opens_before : (input : List ℕ) (pass : ℕ) (has : List (Option (List ℕ))) (xs ys : List Event) → Opens input pass has xs → Opens input pass has (xs ++ ys)
+opens_before input pass [] xs ys o = tt
+opens_before input pass (h ∷ has) xs ys o = (has_before _ xs ys o.0, opens_before input (pass + 1) has xs ys o.1)
 
-pub opened_fails : (m : Manner) (j : Judging) (has : List (Option (List ℕ))) (how : Ending) (xs ys : List Event) → Each Quiet xs → Opens 1 has xs → Fails m j has how ys → FailsFor m j how (xs ++ ys)
-opened_fails m j has how xs ys q o f = record { has = has; opens = opens_before 1 has xs ys o; why = fails_after m j has how xs ys q f }
+pub opened_fails : {input : List ℕ} (m : Manner) (j : Judging) (has : List (Option (List ℕ))) (how : Ending) (xs ys : List Event) → Each Quiet xs → Opens input 1 has xs → Fails m j has how ys → FailsFor input m j how (xs ++ ys)
+opened_fails m j has how xs ys q o f = record { has = has; opens = opens_before _ 1 has xs ys o; why = fails_after m j has how xs ys q f }
 
 -- the same of a failure of what comes later
-pub failed_after : (m : Manner) (j : Judging) (how : Ending) (xs ys : List Event) → Each Quiet xs → FailsFor m j how ys → FailsFor m j how (xs ++ ys)
-failed_after m j how xs ys q f = record { has = f.has; opens = opens_after 1 f.has xs ys f.opens; why = fails_after m j f.has how xs ys q f.why }
+pub failed_after : {input : List ℕ} (m : Manner) (j : Judging) (how : Ending) (xs ys : List Event) → Each Quiet xs → FailsFor input m j how ys → FailsFor input m j how (xs ++ ys)
+failed_after m j how xs ys q f = record { has = f.has; opens = opens_after _ 1 f.has xs ys f.opens; why = fails_after m j f.has how xs ys q f.why }
 
 -- how it ended is shown, after more was reported quietly
 pub told_fails : (m : Manner) (j : Judging) (has : List (Option (List ℕ))) (how shown : Ending) (k l n : Option (List Event)) (xs : List Event) → l ≡ then_all k xs → Fails m j has how xs
@@ -197,7 +197,7 @@ broken_printing well how es b = subst (λ xs. FailsPrinting how xs) (sym b.happe
 print_stops : (m : Manner) (j : Judging) (how : Ending) (events : List Event) → FailsPrinting how events → Fails m j [] how events
 print_stops m j how events h4 = grind (arith, write_stops, memory_fails)
 
-pub broken_fails : (m : Manner) (j : Judging) (well : List Event → Type 0) (how : Ending) (es : List Event) → BreaksOff well how es → FailsFor m j how es
+pub broken_fails : {input : List ℕ} (m : Manner) (j : Judging) (well : List Event → Type 0) (how : Ending) (es : List Event) → BreaksOff well how es → FailsFor input m j how es
 broken_fails m j well how es b = fails_early m j how es (print_stops m j how es (broken_printing well how es b))
 
 -- what `Tells` says if one of these lines isn't printed
@@ -217,8 +217,8 @@ pub printing_first : (how : Ending) (l m : Option (List Event)) (xs ys : List Ev
 printing_first how l m xs ys t = (t.0, t.1, lines_before xs ys how t.0 t.2)
 
 -- lines couldn't be printed after what had happened
-pub print_fails : (m : Manner) (j : Judging) (how : Ending) (k l n : Option (List Event)) (well : List Event → Type 0) (xs lines : List Event) → l ≡ then_all k xs → well (xs ++ lines) → TellsSome l n lines how
-    → (events : List Event) × (n ≡ then_all k events) × FailsFor m j how events × BreaksOff well how events
+pub print_fails : {input : List ℕ} (m : Manner) (j : Judging) (how : Ending) (k l n : Option (List Event)) (well : List Event → Type 0) (xs lines : List Event) → l ≡ then_all k xs → well (xs ++ lines) → TellsSome l n lines how
+    → (events : List Event) × (n ≡ then_all k events) × FailsFor input m j how events × BreaksOff well how events
 print_fails m j how k l n well xs lines e ends t =
     let broken = lines_in well xs lines how t.0 ends t.2 in
     (xs ++ t.0, and_then k l n xs t.0 e t.1, broken_fails m j well how (xs ++ t.0) broken, broken)

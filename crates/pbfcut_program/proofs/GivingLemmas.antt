@@ -52,7 +52,7 @@ area_still (region.Polygon path) events area m = subst (λ (es : List Event). Ea
 
 -- ---- what was read, and what was opened
 
-area_on : (disk : Disk) (cut : Region) (events : List Event) (area : AreaSpec) → MeansArea cut events area → AllowsAll disk events → IsAreaOn disk cut area
+pub area_on : (disk : Disk) (cut : Region) (events : List Event) (area : AreaSpec) → MeansArea cut events area → AllowsAll disk events → IsAreaOn disk cut area
 area_on disk (region.Box box) events area m a = m.1
 area_on disk (region.Polygon path) events area m a = (m.0, m.1, (subst (λ (es : List Event). AllowsAll disk es) m.2 a).0, m.3, m.4)
 
@@ -171,7 +171,6 @@ module _ (m : Manner) (cut : Region) (by : Strategy) (files : Files) (events : L
       let took = extract_had file m cut by files events x had in
       record {
         took = extracts_had file m cut by files events x had;
-        area_first = (x.after ++ advice x.counts, x.happened ∙ append_assoc x.before x.after (advice x.counts) ∙ ap (λ es. es ++ (x.after ++ advice x.counts)) (sym took.1));
         area_on = area_on disk cut _ _ (extracts_had file m cut by files events x had).means (subst (λ es. AllowsAll disk es) (sym took.1) reads_allowed);
         gives = subst (λ (bytes : List ℕ). GivesFile m files bytes events disk) (sym took.0)
             (subst (λ (es : List Event). GivesFile m files x.writes.out.bytes es disk) (sym x.happened) (gives_file m extract files x.counts x.before x.after (advice x.counts) x.writes around disk allowed));

@@ -157,8 +157,20 @@ unkept_after (extracting by area) xs ys q x = each_both IsUnkept xs ys (each_qui
 -- after quiet events
 pub leaves_after : (m : Manner) (task : Task) (has : List (Option (List ℕ))) (xs ys : List Event) → Each Quiet xs → Leaves m task has ys → Leaves m task has (xs ++ ys)
 leaves_after m task has xs ys q (inl l) = inl (unkept_after task xs ys q l.0, λ bytes all. each_both _ xs ys (each_quiet _ (quiet_front _) xs q) (l.1 bytes all))
-leaves_after m task has xs ys q (inr w) = grind (arith, append_assoc xs w.before (map (λ r. read r) w.rs ++ wrote w.out ∷ w.after))
+leaves_after m task has xs ys q (inr w) = inr (record {
+  before = xs ++ w.before;
+  rs = w.rs;
+  out = w.out;
+  after = w.after;
+  happened = ap (λ es. xs ++ es) w.happened ∙ sym (append_assoc xs w.before (map (λ r. read r) w.rs ++ wrote w.out ∷ w.after));
+  quiet = (each_both Quiet xs w.before q w.quiet.0, w.quiet.1);
+  by = w.by;
+  counts = w.counts;
+  digest = w.digest;
+  raw = w.raw;
+  work = w.work;
+})
 
 -- before IN was read
-pub opening_leaves : (m : Manner) (task : Task) (how : Ending) (events : List Event) → FailsOpening how events → LeavesFor m task events
+pub opening_leaves : {input : List ℕ} (m : Manner) (task : Task) (how : Ending) (events : List Event) → FailsOpening how events → LeavesFor input m task events
 opening_leaves m task how events f = record { has = []; opens = tt; leaves = inl (keeps_none task events (each_quiet IsUnkept quiet_unkept events (quiet_of events f.0)), λ bytes all. each_quiet _ (quiet_front _) events (quiet_of events f.0)) }

@@ -4,6 +4,7 @@ pub mod ConfiguredLemmas
 pub mod DiskLemmas
 pub mod EventLemmas
 pub mod FailLemmas
+pub mod FailureLemmas
 pub mod FrontLemmas
 pub mod GivingLemmas
 pub mod LeavingLemmas

@@ -68,11 +68,11 @@ module _ {F D : Type 0} (f : feed.Ghosts F) (d : drain.Ghosts D) (now : F) (out 
   all_listing k input has e = and_then k l n (opened input 1 has ∷ screened true ∷ []) (read (reading f now c.0.0) ∷ wrote lost ∷ []) e some_listing
 
   -- a prefix of the lines, if that is what the drain took
-  abbrev LeavesLines : Manner → Option (List ℕ) → List Event → Type 0
-  LeavesLines m has events = ((bytes : List ℕ) → has ≡ Some bytes → TakenFront (d.taken out) (raw_file, answer_of listing_frames (of_input m bytes))) → LeavesFor (to_raw m) listing_frames events
+  abbrev LeavesLines : (input : List ℕ) → Manner → Option (List ℕ) → List Event → Type 0
+  LeavesLines input m has events = ((bytes : List ℕ) → has ≡ Some bytes → TakenFront (d.taken out) (raw_file, answer_of listing_frames (of_input m bytes))) → LeavesFor input (to_raw m) listing_frames events
 
-  lines_left : (m : Manner) (input : List ℕ) (has : Option (List ℕ)) → LeavesLines m has (all input has)
-  lines_left m input has front = record { has = has ∷ []; opens = (inl (refl, refl), tt); leaves = inl (tt, λ bytes same. (tt, (tt, (tt, (taken_is (IsFrontAs (raw_file, answer_of listing_frames (of_input m bytes))) fin.0.0 (d.taken out) fin.0.1 (front bytes same.0), tt))))) }
+  lines_left : (m : Manner) (input : List ℕ) (has : Option (List ℕ)) → LeavesLines input m has (all input has)
+  lines_left m input has front = record { has = has ∷ []; opens = (inl (refl, refl, refl), tt); leaves = inl (tt, λ bytes same. (tt, (tt, (tt, (taken_is (IsFrontAs (raw_file, answer_of listing_frames (of_input m bytes))) fin.0.0 (d.taken out) fin.0.1 (front bytes same.0), tt))))) }
 
   pub list_front : (program : Program) (old : F) (before : D) (outcome : Result ℕ Halted) → IsFreshOut d before → ListsBy program f d old now before out outcome → Fronts (input_form program) listing_frames (f.remaining old ∷ []) (d.taken before) (d.taken out) outcome
       → (bytes : List ℕ) → f.remaining old ≡ Some bytes → TakenFront (d.taken out) (raw_file, answer_of listing_frames (meant (input_form program) bytes))
@@ -83,15 +83,15 @@ module _ {F D : Type 0} (f : feed.Ghosts F) (d : drain.Ghosts D) (now : F) (out 
 
   -- by what it has
   pub listing_fails : (m : Manner) (j : Judging) (how : Ending) (k : Option (List Event)) (input : List ℕ) (has : Option (List ℕ)) → l ≡ then_all k (opened input 1 has ∷ screened true ∷ []) → Fails m j (has ∷ []) how (all input has)
-      → (events : List Event) × (n ≡ then_all k events) × FailsFor m j how events × LeavesLines m has events × Each Silent events
-  listing_fails m j how k input has e why = (all input has, all_listing k input has e, record { has = has ∷ []; opens = (inl (refl, refl), tt); why = why }, lines_left m input has, (tt, (tt, (tt, (tt, tt)))))
+      → (events : List Event) × (n ≡ then_all k events) × FailsFor input m j how events × LeavesLines input m has events × Each Silent events
+  listing_fails m j how k input has e why = (all input has, all_listing k input has e, record { has = has ∷ []; opens = (inl (refl, refl, refl), tt); why = why }, lines_left m input has, (tt, (tt, (tt, (tt, tt)))))
 
   pub listing_lost : (m : Manner) (j : Judging) (k : Option (List Event)) (input : List ℕ) (has : Option (List ℕ)) → l ≡ then_all k (opened input 1 has ∷ screened true ∷ []) → (why : FinishFault) → fault ≡ Some why
-      → (events : List Event) × (n ≡ then_all k events) × FailsFor m j (ending_of_text why) events × LeavesLines m has events × Each Silent events
+      → (events : List Event) × (n ≡ then_all k events) × FailsFor input m j (ending_of_text why) events × LeavesLines input m has events × Each Silent events
   listing_lost m j k input has e why gone = listing_fails m j (ending_of_text why) k input has e (text_stops m j (has ∷ []) why (all input has) (inr (inr (inr (inl gone)))))
 
   pub list_fails : (m : Manner) (old : F) (before : D) (outcome : Result ℕ Halted) (k : Option (List Event)) (input : List ℕ) → l ≡ then_all k (opened input 1 (f.remaining old) ∷ screened true ∷ []) → ListsBy m.program f d old now before out outcome
-      → IfErr outcome (λ halted. (events : List Event) × (n ≡ then_all k events) × FailsFor m listing halted.ending events × LeavesLines m (f.remaining old) events × Each Silent events)
+      → IfErr outcome (λ halted. (events : List Event) × (n ≡ then_all k events) × FailsFor input m listing halted.ending events × LeavesLines input m (f.remaining old) events × Each Silent events)
   list_fails m old before (Err halted) k input e ends =
       listing_fails m listing halted.ending k input (f.remaining old) e (stop_fails m listing (f.remaining old ∷ []) halted.ending (all input (f.remaining old)) ends.0 ends.1
       (caused_weaker _ _ _ _ _ _ _ _ ends.0 (λ x fault. fault) (λ risen. inr (inr (inl (has_risen _ _ risen)))) (λ risen. inr (inr (inr (inl (inl (has_risen _ _ risen)))))) (λ p c. c) ends.2))
@@ -99,7 +99,7 @@ module _ {F D : Type 0} (f : feed.Ghosts F) (d : drain.Ghosts D) (now : F) (out 
 
   pub info_fails : {T : Type 0} (digests : Bool) (old : F) (before : D) (outcome : Result T Halted) (k : Option (List Event)) (input : List ℕ) → IsFreshFeed f old → IsFreshOut d before → l ≡ then_all k (opened input 1 (f.remaining old) ∷ screened true ∷ [])
       → IfErr outcome (λ halted. EndsFor Pbfcutz f judged_headings (old ∷ []) (now ∷ []) (Added d before [] out) (WriteFailed d before out) halted.ending)
-      → IfErr outcome (λ halted. (events : List Event) × (n ≡ then_all k events) × FailsFor (manner Pbfcutz false digests) (judging judged_headings (λ file. ⊥)) halted.ending events × Each Silent events)
+      → IfErr outcome (λ halted. (events : List Event) × (n ≡ then_all k events) × FailsFor input (manner Pbfcutz false digests) (judging judged_headings (λ file. ⊥)) halted.ending events × Each Silent events)
   info_fails digests old before (Err halted) k input fresh start e ends =
       let took = d.has_taken out 0 in
       let failed = WriteFailed d before out in
@@ -109,5 +109,5 @@ module _ {F D : Type 0} (f : feed.Ghosts F) (d : drain.Ghosts D) (now : F) (out 
       let end = stop_told f false digests judged_headings (λ file. ⊥) took failed ⊥ (Each (IsReturn (IsReturned (d.taken out) kept))) l m n tail Pbfcutz works.0 (old ∷ []) (now ∷ []) (fresh, tt) (m, c, refl) works.2 in
       let why = stop_fails (manner Pbfcutz false digests) (judging judged_headings (λ file. ⊥)) (f.remaining old ∷ []) halted.ending end.0 works.0 works.1 end.2 in
       let gone = end.3 in
-      (_, and_then k l n first end.0 e end.1, opened_fails (manner Pbfcutz false digests) (judging judged_headings (λ file. ⊥)) (f.remaining old ∷ []) halted.ending first end.0 (tt, (tt, tt)) (inl (refl, refl), tt) why, (tt, (tt, returned_silent _ end.0 (returned_all _ gone.0 gone.1 end.0 gone.2 gone.3))))
+      (_, and_then k l n first end.0 e end.1, opened_fails (manner Pbfcutz false digests) (judging judged_headings (λ file. ⊥)) (f.remaining old ∷ []) halted.ending first end.0 (tt, (tt, tt)) (inl (refl, refl, refl), tt) why, (tt, (tt, returned_silent _ end.0 (returned_all _ gone.0 gone.1 end.0 gone.2 gone.3))))
   info_fails digests old before (Ok t) k input fresh start e ends = tt

@@ -109,12 +109,18 @@ kept_quiet program overwrite output name events k = each_weaker Mute Quiet (λ e
 pub kept_silent : (program : Program) (overwrite : Bool) (output : List ℕ) (name : Option (List ℕ)) (events : List Event) → IsKept program overwrite output name events → Each Silent events
 kept_silent program overwrite output name events k = each_weaker Mute Silent (λ e m. m.1) events (kept_mute program overwrite output name events k)
 
+ends_mute : {A : Type 0} (program : Program) (overwrite : Bool) (output : List ℕ) (name : Option (List ℕ)) (fault : Option FinishFault) (result : Result A FinishFault) (events : List Event) → EndsOut program overwrite output name fault result events → Each Mute events
+ends_mute program overwrite output name (Some why) (Ok a) events e = absurd e
+ends_mute program overwrite output name (Some why) (Err told) events e = dropped_mute program name events e.1
+ends_mute program overwrite output name None (Ok a) events e = kept_mute program overwrite output name events e
+ends_mute program overwrite output name None (Err told) events (cause, inl dropped) = dropped_mute program name events dropped
+ends_mute program overwrite output name None (Err told) events (cause, inr kept) = kept_mute program overwrite output name events kept
+
+pub ends_quiet : {A : Type 0} (program : Program) (overwrite : Bool) (output : List ℕ) (name : Option (List ℕ)) (fault : Option FinishFault) (result : Result A FinishFault) (events : List Event) → EndsOut program overwrite output name fault result events → Each Quiet events
+ends_quiet program overwrite output name fault result events e = each_weaker Mute Quiet (λ e m. m.0) events (ends_mute program overwrite output name fault result events e)
+
 pub ends_silent : {A : Type 0} (program : Program) (overwrite : Bool) (output : List ℕ) (name : Option (List ℕ)) (fault : Option FinishFault) (result : Result A FinishFault) (events : List Event) → EndsOut program overwrite output name fault result events → Each Silent events
-ends_silent program overwrite output name (Some why) (Ok a) events e = absurd e
-ends_silent program overwrite output name (Some why) (Err told) events e = dropped_silent program name events e.1
-ends_silent program overwrite output name None (Ok a) events e = kept_silent program overwrite output name events e
-ends_silent program overwrite output name None (Err told) events (cause, inl dropped) = dropped_silent program name events dropped
-ends_silent program overwrite output name None (Err told) events (cause, inr kept) = kept_silent program overwrite output name events kept
+ends_silent program overwrite output name fault result events e = each_weaker Mute Silent (λ e m. m.1) events (ends_mute program overwrite output name fault result events e)
 
 -- the same place, as it is said
 pub ends_at : {A : Type 0} (p program : Program) → p ≡ program → (o overwrite : Bool) → o ≡ overwrite → (path output : List ℕ) → path ≡ output → (name : Option (List ℕ)) (fault : Option FinishFault) (result : Result A FinishFault) (events : List Event) → EndsOut p o path name fault result events → EndsOut program overwrite output name fault result events

@@ -4,10 +4,10 @@ use Rattle.std.specs.Str.{bytes_eq}
 use Rattle.std.proofs.lemmas.Bool.{false≢true}
 use Rattle.std.proofs.lemmas.Slice.Eq.{bytes_eq-Decides}
 use Rattle.std.specs.Option.{is_some}
-use Rattle.clap.specs.Words.{Row, Text, subcommand_of, takes}
+use Rattle.clap.specs.Words.{Row, Text, subcommand_of}
 use Rattle.pbfcut_cli.specs.Endings.{ending_status}
 use Rattle.pbfcut_cli.specs.Joined.{normalized}
-use Rattle.pbfcut_cli.specs.Words.{IsRead, ReadsAs, is_given, program_app}
+use Rattle.pbfcut_cli.specs.Words.{AreTaken, IsRead, ReadsAs, is_given, program_app}
 use Rattle.pbfcut_cli.specs.declared.endings.Ending.{Ending}
 use Rattle.pbfcut_cli.specs.declared.programs.Program.{Program}
 use Rattle.pbfcut_cli.specs.declared.words.Command.{Command}
@@ -16,6 +16,7 @@ use Rattle.pbfcut_cli.specs.declared.words.ConfigFiles.{ConfigFiles}
 use Rattle.pbfcut_cli.specs.declared.words.Files.{Files}
 use Rattle.pbfcut_cli.specs.declared.words.Region.{Region}
 use Rattle.pbfcut_cli.specs.declared.words.Strategy.{Strategy}
+use Rattle.pbfcut_program.proofs.Meaning.{not_asked}
 use Rattle.pbfcut_program.specs.Events.{Event}
 use Rattle.pbfcut_program.specs.Program.{Does, IsRun, RunsExtract, Writes, manner_in}
 use Rattle.pbfcut_program.specs.Changes.{EndsWell}
@@ -53,18 +54,32 @@ pub record RunsWriting (program : Program) (name : List ℕ) (rows : List Row) (
   pub reads : ReadsAs name rows (command files)
   pub writes : Writes (manner_in program (command files)) task files events
 
+-- the command that they mean is `extract` with a region, and this holds of it
+pub record IsExtract (p : Command → Type 0) (rows : List Row) : Type 0 where
+  pub cut : Region
+  pub by : Strategy
+  pub files : Files
+  pub reads : ReadsAs (codes "extract") rows (Extract cut by files)
+  pub holds : p (Extract cut by files)
+
+module _ (rows : List Row) (p : Command → Type 0) where
+  pub extract_is : is_given (codes "config") rows ≡ false → (command : Command) → ReadsAs (codes "extract") rows command → p command → IsExtract p rows
+  extract_is plain (Extract cut by files) r x = record { cut = cut; by = by; files = files; reads = r; holds = x }
+  extract_is plain (ExtractEach parents files) r x = absurd (false≢true (sym plain ∙ ap (λ o. is_some o) r.2.config))
+  extract_is plain (Blobs input) r x = absurd (differ (codes "extract") (codes "blobs") refl r.0)
+  extract_is plain (Info input json) r x = absurd (differ (codes "extract") (codes "info") refl r.0)
+  extract_is plain (Show input dates progress) r x = absurd (differ (codes "extract") (codes "show") refl r.0)
+  extract_is plain (Check input progress digests) r x = absurd (differ (codes "extract") (codes "check") refl r.0)
+  extract_is plain (Convert files) r x = absurd (differ (codes "extract") (codes "convert") refl r.0)
+  extract_is plain (Pack files) r x = absurd (differ (codes "extract") (codes "pack") refl r.0)
+  extract_is plain (Unpack files) r x = absurd (differ (codes "extract") (codes "unpack") refl r.0)
+  extract_is plain (Help text) r x = absurd r
+
 module _ (program : Program) (rows : List Row) (events : List Event) where
   extract_done : is_given (codes "config") rows ≡ false → (command : Command) → ReadsAs (codes "extract") rows command → Does (manner_in program command) command events → RunsRegion program rows events
-  extract_done plain (Extract cut by files) r d = record { cut = cut; by = by; files = files; reads = r; extracts = d }
-  extract_done plain (ExtractEach parents files) r d = absurd (false≢true (sym plain ∙ ap (λ o. is_some o) r.2.config))
-  extract_done plain (Blobs input) r d = absurd (differ (codes "extract") (codes "blobs") refl r.0)
-  extract_done plain (Info input json) r d = absurd (differ (codes "extract") (codes "info") refl r.0)
-  extract_done plain (Show input dates progress) r d = absurd (differ (codes "extract") (codes "show") refl r.0)
-  extract_done plain (Check input progress digests) r d = absurd (differ (codes "extract") (codes "check") refl r.0)
-  extract_done plain (Convert files) r d = absurd (differ (codes "extract") (codes "convert") refl r.0)
-  extract_done plain (Pack files) r d = absurd (differ (codes "extract") (codes "pack") refl r.0)
-  extract_done plain (Unpack files) r d = absurd (differ (codes "extract") (codes "unpack") refl r.0)
-  extract_done plain (Help text) r d = absurd r
+  extract_done plain command r d =
+      let x = extract_is rows (λ c. Does (manner_in program c) c events) plain command r d in
+      record { cut = x.cut; by = x.by; files = x.files; reads = x.reads; extracts = x.holds }
 
   configured_done : is_given (codes "config") rows ≡ true → (command : Command) → ReadsAs (codes "extract") rows command → Does (manner_in program command) command events → RunsConfigured program rows events
   configured_done given (ExtractEach parents files) r d = record { parents = parents; files = files; reads = r; extracts = d }
@@ -116,12 +131,12 @@ module _ (program : Program) (rows : List Row) (events : List Event) where
 
   -- what was done is what the words mean
   ran : {Runs : Type 0} (name : List ℕ) (words : List Text) → ((command : Command) → ReadsAs name rows command → Does (manner_in program command) command events → Runs)
-      → takes (program_app program) (normalized words) ≡ true → subcommand_of (program_app program) (normalized words) ≡ Some (name, rows) → IsRun program words events 0 → Runs
+      → AreTaken program (normalized words) → subcommand_of (program_app program) (normalized words) ≡ Some (name, rows) → IsRun program words events 0 → Runs
   ran name words done t s (inr f) = absurd (no_zero f.how f.status_is)
-  ran name words done t s (inl (z, (command, inl h, d))) = absurd (h.1 t)
-  ran name words done t s (inl (z, (command, inr r, d))) = done command (subst (λ x. IsRead x command) s r) d
+  ran name words done t s (inl (z, (command, inl r, d))) = done command (subst (λ x. IsRead x command) s r.1) d
+  ran name words done t s (inl (z, (command, inr h, d))) = absurd (not_asked program (normalized words) t h.0)
 
-  pub run_extracts : (words : List Text) → is_given (codes "config") rows ≡ false → takes (program_app program) (normalized words) ≡ true → subcommand_of (program_app program) (normalized words) ≡ Some (codes "extract", rows) → IsRun program words events 0 → RunsRegion program rows events
+  pub run_extracts : (words : List Text) → is_given (codes "config") rows ≡ false → AreTaken program (normalized words) → subcommand_of (program_app program) (normalized words) ≡ Some (codes "extract", rows) → IsRun program words events 0 → RunsRegion program rows events
   run_extracts words plain = ran (codes "extract") words (extract_done plain)
 
   module _ (words : List Text) (disk : Disk) (file : List ℕ) where

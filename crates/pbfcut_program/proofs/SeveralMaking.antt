@@ -57,10 +57,10 @@ begun_calm files outputs has key =
     let opens = openings files.input.now 1 has in
     each_both Calm (looks_each files.overwrite outputs) (opens ++ seeded (Some key) ∷ []) (calm_looks_each files.overwrite outputs) (each_both Calm opens (seeded (Some key) ∷ []) (calm_openings files.input.now 1 has) (tt, tt))
 
-pub begun_opens : (files : ConfigFiles) (outputs : List (List ℕ)) (has : List (Option (List ℕ))) (key : ℕ) → Opens 1 has (begun_each files outputs has key)
+pub begun_opens : (files : ConfigFiles) (outputs : List (List ℕ)) (has : List (Option (List ℕ))) (key : ℕ) → Opens files.input.now 1 has (begun_each files outputs has key)
 begun_opens files outputs has key =
     let opens = openings files.input.now 1 has in
-    opens_after 1 has (looks_each files.overwrite outputs) (opens ++ seeded (Some key) ∷ []) (opens_before 1 has opens (seeded (Some key) ∷ []) (opens_openings files.input.now 1 has))
+    opens_after files.input.now 1 has (looks_each files.overwrite outputs) (opens ++ seeded (Some key) ∷ []) (opens_before files.input.now 1 has opens (seeded (Some key) ∷ []) (opens_openings files.input.now 1 has))
 
 -- ---- OUTs are made
 

@@ -13,7 +13,6 @@ use Rattle.pbfcut_cli.specs.declared.endings.Ending.{Ending}
 use Rattle.pbfcut_cli.specs.declared.endings.Ending.TheVariants as ending
 use Rattle.pbfcut_cli.specs.declared.words.ConfigFiles.{ConfigFiles}
 use Rattle.pbfcut_program.specs.declared.configured.OutputCut.{OutputCut}
-use Rattle.pbfcut_program.specs.declared.host.Screen.{Screen}
 use Rattle.pbfcut_program.specs.declared.host.Screen.TheVariants.{Output}
 use Rattle.pbfcut_program.specs.declared.several.OutputArea.{OutputArea}
 use Rattle.pbfcut_program.specs.declared.several_files.OutPart.{OutPart}
@@ -32,6 +31,7 @@ use Rattle.pbfcut_program.proofs.EventLemmas.{each_both, quiet_of}
 use Rattle.pbfcut_program.proofs.FailLemmas.{TellsSome, broken_fails, failed_after, fails_early, memory_fails, opens_before}
 use Rattle.pbfcut_program.proofs.Logging.{and_then}
 use Rattle.pbfcut_program.proofs.OutLemmas.{kept_quiet}
+use Rattle.pbfcut_program.proofs.Printed.{quiet_prints}
 use Rattle.pbfcut_program.proofs.SayingLemmas.{broken_quiet, lines_in}
 use Rattle.pbfcut_program.proofs.SeveralClosing.{writes}
 use Rattle.pbfcut_program.proofs.SeveralMaking.{AreWritten, are_written, begun_calm, begun_opens, begun_same, makes_quiet, written_left, written_writes}
@@ -47,17 +47,13 @@ cause_caused m j (ending.Config e) events c none = (c, none)
 cause_caused m j (ending.Stopped stop.Memory) events c none = memory_fails m j [] events
 cause_caused m j _ events c none = absurd c
 
-pub cause_fails : (m : Manner) (j : Judging) (how : Ending) (first events : List Event) → Each Quiet first → CauseOfOpening how events → Each WroteNothing events → FailsFor m j how (first ++ events)
+pub cause_fails : {input : List ℕ} (m : Manner) (j : Judging) (how : Ending) (first events : List Event) → Each Quiet first → CauseOfOpening how events → Each WroteNothing events → FailsFor input m j how (first ++ events)
 cause_fails m j how first events quiet c none = failed_after m j how first events quiet (fails_early m j how events (cause_caused m j how events c none))
 
 -- ---- lines
 
-quiet_prints : (s : Screen) (lines : List (List ℕ)) → Each Quiet (prints s lines)
-quiet_prints s [] = tt
-quiet_prints s (l ∷ lines) = (tt, quiet_prints s lines)
-
-pub opens_first : (files : ConfigFiles) (outputs : List (List ℕ)) (has : List (Option (List ℕ))) (key : ℕ) (makes : List Event) → Opens 1 has (begun_each files outputs has key ++ makes)
-opens_first files outputs has key makes = opens_before 1 has (begun_each files outputs has key) makes (begun_opens files outputs has key)
+pub opens_first : (files : ConfigFiles) (outputs : List (List ℕ)) (has : List (Option (List ℕ))) (key : ℕ) (makes : List Event) → Opens files.input.now 1 has (begun_each files outputs has key ++ makes)
+opens_first files outputs has key makes = opens_before files.input.now 1 has (begun_each files outputs has key) makes (begun_opens files outputs has key)
 
 four_after : (a b c d e xs : List Event) → (a ++ (b ++ (c ++ (d ++ e)))) ++ xs ≡ a ++ (b ++ (c ++ (d ++ (e ++ xs))))
 four_after a b c d e xs =
@@ -130,7 +126,7 @@ module _ {D : Type 0} (d : drain.Ghosts D) (m : Manner) (s : Strategy) (files : 
 
   -- one of them wasn't
   pub printed_each : (how : Ending) (q : Option (List Event)) → TellsSome p q (prints Output lines) how
-      → (events : List Event) × (q ≡ then_all k events) × FailsFor m (judging (judge_by s) (AllGiveRaw s (areas_of areas))) how events × AreLeftFor m s (areas_of areas) events × IsSaid m.digests (WritesOuts m s files areas) how events
+      → (events : List Event) × (q ≡ then_all k events) × FailsFor files.input.now m (judging (judge_by s) (AllGiveRaw s (areas_of areas))) how events × AreLeftFor files.input.now m s (areas_of areas) events × IsSaid m.digests (WritesOuts m s files areas) how events
   printed_each how q t =
       let broken = lines_in (WritesOuts m s files areas) before (prints Output lines) how t.0 writes_all t.2 in
       let calm = begun_calm files (map (λ out. string_bytes out.output) outs) has key in
@@ -140,7 +136,7 @@ module _ {D : Type 0} (d : drain.Ghosts D) (m : Manner) (s : Strategy) (files : 
         broken_fails m (judging (judge_by s) (AllGiveRaw s (areas_of areas))) (WritesOuts m s files areas) how (before ++ t.0) broken,
         record {
           has = has;
-          opens = opens_before 1 has before t.0 (opens_before 1 has first (makes ++ (reads ++ (outs_closed ++ names))) (begun_opens files (map (λ out. string_bytes out.output) outs) has key));
+          opens = opens_before files.input.now 1 has before t.0 (opens_before files.input.now 1 has first (makes ++ (reads ++ (outs_closed ++ names))) (begun_opens files (map (λ out. string_bytes out.output) outs) has key));
           left = inr (record {
             before = first ++ makes;
             rs = ended.rs;

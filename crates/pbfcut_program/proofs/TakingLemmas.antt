@@ -1,5 +1,5 @@
 -- What a command wrote that ended well is made of the one file that its passes read.
-use Rattle.std.proofs.Common.{◌≡◌, inl, inr, ℕ, ◌-◌, List, [], ◌∷◌, ◌++◌, map, Bool, Option, Some, None, refl, ap, sym, subst, ◌∙◌}
+use Rattle.std.proofs.Common.{◌≡◌, inl, inr, ℕ, ◌-◌, List, [], ◌∷◌, ◌++◌, map, Bool, Option, Some, None, refl, ap, sym, subst, ◌∙◌, append_assoc}
 use Rattle.std.proofs.lemmas.List.{append-nil}
 use Rattle.std.specs.Prelude.{IfSome}
 use Rattle.osm_area.specs.Area.{AreaSpec}
@@ -40,7 +40,7 @@ happened_before e (x ∷ xs) ys (inr h) = inr (happened_before e xs ys h)
 
 -- ---- what was read
 
-none_some : {A : Type 0} {a : A} → ◌≡◌ {A = Option A} None (Some a) → ⊥
+pub none_some : {A : Type 0} {a : A} → ◌≡◌ {A = Option A} None (Some a) → ⊥
 none_some e = cc
 
 some_same : {A : Type 0} {a b : A} → Some a ≡ Some b → a ≡ b
@@ -51,7 +51,7 @@ module _ (file : List ℕ) where
   AllOf [] = Unit {0}
   AllOf (r ∷ rs) = (prepend r.bytes r.left ≡ Some file) × AllOf rs
 
-  abbrev AllAre : List (List ℕ) → Type 0
+  abbrev pub AllAre : List (List ℕ) → Type 0
   AllAre [] = Unit {0}
   AllAre (b ∷ bs) = (b ≡ file) × AllAre bs
 
@@ -176,6 +176,8 @@ module _ (file : List ℕ) where
         record {
           area = x.area;
           before = x.before;
+          later = x.after ++ advice x.counts;
+          happened = x.happened ∙ append_assoc x.before x.after (advice x.counts);
           means = x.means;
           counts = x.counts;
           bytes = w.out.bytes;

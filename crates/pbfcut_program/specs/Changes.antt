@@ -1,8 +1,8 @@
 -- What the events of a run are to the file system: those of one file, which is kept or dropped, among others that change nothing.
 use Rattle.std.specs.Prelude.{◌≡◌, List, ℕ, ◌∷◌, ◌++◌, Bool, true, false, Some, None, codes}
-use Rattle.clap.specs.Words.{Row, Text, subcommand_of, takes}
+use Rattle.clap.specs.Words.{Row, Text, subcommand_of}
 use Rattle.pbfcut_cli.specs.Joined.{normalized}
-use Rattle.pbfcut_cli.specs.Words.{argument_value, program_app}
+use Rattle.pbfcut_cli.specs.Words.{AreTaken, argument_value, program_app}
 use Rattle.pbfcut_cli.specs.declared.programs.Program.{Program}
 use Rattle.pbfcut_cli.specs.declared.words.Files.{Files}
 use Rattle.pbfcut_cli.specs.declared.words.Region.{Region}
@@ -45,7 +45,7 @@ pub record DropsFile (program : Program) (output : List ℕ) (w : Writing) (even
 
 -- of words that `clap` takes as the command of this name, over a disk of which all that is said is so, and on which IN has these bytes
 pub record EndsWell (program : Program) (words : List Text) (name : List ℕ) (rows : List Row) (events : List Event) (disk : Disk) (file : List ℕ) : Type 0 where
-  pub taken : takes (program_app program) (normalized words) ≡ true
+  pub taken : AreTaken program (normalized words)
   pub command : subcommand_of (program_app program) (normalized words) ≡ Some (name, rows)
   pub run : IsRun program words events 0
   pub allowed : AllowsAll disk events
@@ -59,10 +59,9 @@ pub record GivesFile (m : Manner) (files : Files) (bytes : List ℕ) (events : L
   pub others : (path : List ℕ) → (is_screen m.program files.output.now ≡ false → path ≡ files.output.now → ⊥) → (Happened (stays path) events → ⊥) → after events old path ≡ old path
   pub parts : (path : List ℕ) → Happened (stays path) events → old path ≡ None
 
--- OUT took the extract of this file, by the area that the words name on this disk, in a run that began with what it had to read of it
+-- OUT took the extract of this file, by the area that the words name on this disk
 pub record GivesExtract (m : Manner) (cut : Region) (by : Strategy) (files : Files) (file : List ℕ) (events : List Event) (old : Disk) : Type 0 where
   pub took : TookExtract m cut by file events
-  pub area_first : (later : List Event) × (events ≡ took.before ++ later)
   pub area_on : IsAreaOn old cut took.area
   pub gives : GivesFile m files took.bytes events old
 

@@ -225,18 +225,18 @@ Fails m j has (ending.Polygon fault) events = Has (FailsAsPolygon fault) events 
 Fails m j has (ending.Config fault) events = Has (FailsAsConfig fault) events × Each WroteNothing events
 Fails m j has how events = (s : Stop) × EndsAsStop m.program s how × Stops m j has events s
 
--- IN is opened for this pass, and has this, if the host reports it
-abbrev pub OpensFor : ℕ → (has : Option (List ℕ)) → Event → Type 0
-OpensFor pass has (opened path number known) = (number ≡ pass) × (known ≡ has)
-OpensFor pass has _ = ⊥
+-- IN, by its path, is opened for this pass, and has this, if the host reports it
+abbrev pub OpensFor : (input : List ℕ) → ℕ → (has : Option (List ℕ)) → Event → Type 0
+OpensFor input pass has (opened path number known) = (path ≡ input) × (number ≡ pass) × (known ≡ has)
+OpensFor input pass has _ = ⊥
 
 -- the same for each pass from this one on
-abbrev pub Opens : ℕ → (has : List (Option (List ℕ))) → List Event → Type 0
-Opens pass [] events = Unit {0}
-Opens pass (has ∷ later) events = Has (OpensFor pass has) events × Opens (pass + 1) later events
+abbrev pub Opens : (input : List ℕ) → ℕ → (has : List (Option (List ℕ))) → List Event → Type 0
+Opens input pass [] events = Unit {0}
+Opens input pass (has ∷ later) events = Has (OpensFor input pass has) events × Opens input (pass + 1) later events
 
 -- a command failed: IN has this for the passes, and by it the ending has its cause
-pub record FailsFor (m : Manner) (j : Judging) (how : Ending) (events : List Event) : Type 0 where
+pub record FailsFor (input : List ℕ) (m : Manner) (j : Judging) (how : Ending) (events : List Event) : Type 0 where
   pub has : List (Option (List ℕ))
-  pub opens : Opens 1 has events
+  pub opens : Opens input 1 has events
   pub why : Fails m j has how events

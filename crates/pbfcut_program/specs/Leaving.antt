@@ -6,7 +6,7 @@ use Rattle.pbf_unpack.specs.declared.below.Course.{Course}
 use Rattle.pbf_unpack.specs.Course.{HasWhole}
 use Rattle.pbf_unpack.specs.Unpacked.{unpacked}
 use Rattle.pbfcut_program.specs.Events.{Event, Reading, Writing, read, wrote}
-use Rattle.pbfcut_program.specs.Fails.{Each, Opens}
+use Rattle.pbfcut_program.specs.Fails.{Each, Opens, Quiet}
 use Rattle.pbfcut_program.specs.Manner.{Form, Manner, of_input, output_form, packed_file, raw_file}
 use Rattle.pbfcut.specs.Calls.{AllSupply}
 use Rattle.pbfcut_program.specs.Readings.{IsWork}
@@ -44,13 +44,14 @@ abbrev pub KeepsNone : Task → List Event → Type 0
 KeepsNone listing_frames events = Unit {0}
 KeepsNone task events = Each IsUnkept events
 
--- the work was done, and OUT took all of it; what comes after it failed: a rest that didn't go out, OUT's name, or a line
+-- the work was done, and OUT took all of it; what comes after it failed: a rest that didn't go out, OUT's name, or a line. OUT was returned only once
 pub record IsWorked (m : Manner) (task : Task) (has : List (Option (List ℕ))) (events : List Event) : Type 0 where
   pub before : List Event
   pub rs : List Reading
   pub out : Writing
   pub after : List Event
   pub happened : events ≡ before ++ (map read rs ++ wrote out ∷ after)
+  pub quiet : Each Quiet before × Each Quiet after
   pub by : PassCheck
   pub counts : Counts
   pub digest : List ℕ
@@ -64,7 +65,7 @@ Leaves m task has events =
     ⊎ IsWorked m task has events
 
 -- IN has this for the passes, and by that the command leaves such an OUT
-pub record LeavesFor (m : Manner) (task : Task) (events : List Event) : Type 0 where
+pub record LeavesFor (input : List ℕ) (m : Manner) (task : Task) (events : List Event) : Type 0 where
   pub has : List (Option (List ℕ))
-  pub opens : Opens 1 has events
+  pub opens : Opens input 1 has events
   pub leaves : Leaves m task has events

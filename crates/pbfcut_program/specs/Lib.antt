@@ -4,6 +4,7 @@ pub mod ConfiguredCuts
 pub mod Devices
 pub mod Events
 pub mod Fails
+pub mod Failures
 pub mod Files
 pub mod Inputs
 pub mod Jobs

@@ -2,7 +2,7 @@
 use Rattle.std.specs.Prelude.{◌≡◌, ◌⊎◌, ℕ, ◌+◌, List, [], ◌∷◌, ◌++◌, length, map, Bool, true, false, ◌||◌, ◌&&◌, ◌==◌, not, if◌then◌else◌, Option, Some, None, codes}
 use Rattle.std.specs.Str.{bytes_eq}
 use Rattle.std.specs.String.{string_bytes}
-use Rattle.clap.specs.Words.{Text, subcommand_of, takes}
+use Rattle.clap.specs.Words.{Text}
 use Rattle.osm_area.specs.Area.{AreaSpec, box_area}
 use Rattle.osm_ways.specs.Selection as selection
 use Rattle.osm_ways.specs.Whole.{is_wanted_by}
@@ -16,7 +16,7 @@ use Rattle.pbfcut.specs.Receipts.{judge_by}
 use Rattle.pbfcut.specs.Summary.{judged_headings}
 use Rattle.pbfcut_cli.specs.Endings.{message_of, ending_status, program_name}
 use Rattle.pbfcut_cli.specs.Joined.{normalized}
-use Rattle.pbfcut_cli.specs.Words.{FitsFault, IsHelp, IsRead, program_app}
+use Rattle.pbfcut_cli.specs.Words.{IsCommandOf, IsFaultOf}
 use Rattle.pbfcut_cli.specs.declared.endings.Ending.{Ending}
 use Rattle.pbfcut_cli.specs.declared.endings.Ending.TheVariants as ending
 use Rattle.pbfcut_cli.specs.declared.programs.Program.{Program}
@@ -226,33 +226,45 @@ manner_for m (Show input dates progress) = to_raw m
 manner_for m _ = m
 
 -- nothing was written before it was known what is cut out; and then it is an extract of that
-pub record LeavesCut (m : Manner) (cut : Region) (by : Strategy) (events : List Event) : Type 0 where
+pub record LeavesCut (input : List ℕ) (m : Manner) (cut : Region) (by : Strategy) (events : List Event) : Type 0 where
   pub area : AreaSpec
   pub before : List Event
   pub after : List Event
   pub happened : events ≡ before ++ after
   pub means : MeansArea cut before area
-  pub leaves : LeavesFor m (extracting (strategy_of by) area) after
+  pub leaves : LeavesFor input m (extracting (strategy_of by) area) after
 
 abbrev pub LeavesIn : Manner → Command → List Event → Type 0
-LeavesIn m (Blobs input) events = LeavesFor (to_raw m) listing_frames events
-LeavesIn m (Show input dates progress) events = LeavesFor (to_raw m) (showing dates) events
-LeavesIn m (Convert files) events = LeavesFor m converting events
-LeavesIn m (Pack files) events = LeavesFor m copying events
-LeavesIn m (Unpack files) events = LeavesFor m copying events
-LeavesIn m (Extract region by files) events = Each Quiet events ⊎ LeavesCut m region by events
+LeavesIn m (Blobs input) events = LeavesFor input.now (to_raw m) listing_frames events
+LeavesIn m (Show input dates progress) events = LeavesFor input.now (to_raw m) (showing dates) events
+LeavesIn m (Convert files) events = LeavesFor files.input.now m converting events
+LeavesIn m (Pack files) events = LeavesFor files.input.now m copying events
+LeavesIn m (Unpack files) events = LeavesFor files.input.now m copying events
+LeavesIn m (Extract region by files) events = Each Quiet events ⊎ LeavesCut files.input.now m region by events
 LeavesIn m (ExtractEach parents files) events = Each Quiet events ⊎ LeavesEach m (strategy_with parents) files events
 LeavesIn m _ events = Unit {0}
 
+-- the path of IN
+abbrev pub input_of : Command → List ℕ
+input_of (Blobs input) = input.now
+input_of (Info input json) = input.now
+input_of (Show input dates progress) = input.now
+input_of (Check input progress digests) = input.now
+input_of (Convert files) = files.input.now
+input_of (Pack files) = files.input.now
+input_of (Unpack files) = files.input.now
+input_of (Extract region by files) = files.input.now
+input_of (ExtractEach parents files) = files.input.now
+input_of (Help text) = []
+
 abbrev pub FailsIn : Manner → Command → Ending → List Event → Type 0
-FailsIn m command how events = FailsFor (manner_for m command) (judging_in command events) how events × LeavesIn m command events × IsSaid m.digests (Does m command) how events
+FailsIn m command how events = FailsFor (input_of command) (manner_for m command) (judging_in command events) how events × LeavesIn m command events × IsSaid m.digests (Does m command) how events
 
 -- ---- the whole run
 
--- the command that the words mean, as `clap` reads them; or help, for words that `clap` doesn't take
+-- the command that `clap` reads in the words, if it takes them; or help, if they request it
 abbrev pub IsMeant : Program → List Text → Command → Type 0
-IsMeant program words command = (IsHelp command × (takes (program_app program) (normalized words) ≡ true → ⊥))
-    ⊎ IsRead (subcommand_of (program_app program) (normalized words)) command
+IsMeant program words command = IsCommandOf program (normalized words) command
 
 -- it did its work
 abbrev pub IsDone : Program → List Text → List Event → Type 0
@@ -260,9 +272,9 @@ IsDone program words events = (command : Command) × IsMeant program words comma
 
 -- it failed: for wrong words nothing had happened; and if memory was refused, nothing, or a command failed, for this or another cause
 abbrev pub IsWhy : Program → List Text → Ending → List Event → Type 0
-IsWhy program words (ending.Words text) events = (takes (program_app program) (normalized words) ≡ true → ⊥) × (events ≡ [])
-IsWhy program words (ending.Box f) events = FitsFault (subcommand_of (program_app program) (normalized words)) (fault.Box f) × (events ≡ [])
-IsWhy program words (ending.Choice f) events = FitsFault (subcommand_of (program_app program) (normalized words)) (fault.Choice f) × (events ≡ [])
+IsWhy program words (ending.Words text) events = IsFaultOf program (normalized words) (fault.Line text) × (events ≡ [])
+IsWhy program words (ending.Box f) events = IsFaultOf program (normalized words) (fault.Box f) × (events ≡ [])
+IsWhy program words (ending.Choice f) events = IsFaultOf program (normalized words) (fault.Choice f) × (events ≡ [])
 IsWhy program words (ending.Stopped stop.Memory) events = (events ≡ [])
     ⊎ ((command : Command) × IsMeant program words command × (cause : Ending) × FailsIn (manner_in program command) command cause events)
 IsWhy program words how events = (command : Command) × IsMeant program words command × FailsIn (manner_in program command) command how events

@@ -129,9 +129,9 @@ abbrev pub AreLeft : Manner → Strategy → (has : List (Option (List ℕ))) �
 AreLeft m s has areas events = (Each WroteNothing events × Each IsUnkept events) ⊎ LeavesOuts m s has areas events
 
 -- what is left once it is known what is cut out: IN has this for the passes, and by that the OUTs have what they have
-pub record AreLeftFor (m : Manner) (s : Strategy) (areas : List AreaSpec) (events : List Event) : Type 0 where
+pub record AreLeftFor (input : List ℕ) (m : Manner) (s : Strategy) (areas : List AreaSpec) (events : List Event) : Type 0 where
   pub has : List (Option (List ℕ))
-  pub opens : Opens 1 has events
+  pub opens : Opens input 1 has events
   pub left : AreLeft m s has areas events
 
 -- nothing was written before the configuration was read
@@ -141,4 +141,4 @@ pub record LeavesEach (m : Manner) (s : Strategy) (files : ConfigFiles) (events 
   pub after : List Event
   pub happened : events ≡ before ++ after
   pub means : MeansConfig files.config.now (folder_of files) before outs
-  pub left : AreLeftFor m s (areas_of outs) after
+  pub left : AreLeftFor files.input.now m s (areas_of outs) after

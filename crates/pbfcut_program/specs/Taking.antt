@@ -1,5 +1,5 @@
 -- What OUT took of a command that ended well, if each pass read the same file.
-use Rattle.std.specs.Prelude.{◌≡◌, ◌⊎◌, ℕ, List, [], ◌∷◌, true, Some, None}
+use Rattle.std.specs.Prelude.{◌≡◌, ◌⊎◌, ℕ, List, [], ◌∷◌, ◌++◌, true, Some, None}
 use Rattle.osm_area.specs.Area.{AreaSpec}
 use Rattle.pbf_block.specs.declared.counts.Counts.{Counts}
 use Rattle.pbf_frame.specs.Devices.{prepend}
@@ -32,10 +32,12 @@ pub record TookWhole (bytes : List ℕ) (events : List Event) : Type 0 where
   pub whole : out.fault ≡ None
   pub kept : out.kept ≡ true
 
--- they mean the extract, by this strategy, of what the file means, of the area that is cut out
+-- they mean the extract, by this strategy, of what the file means, of the area that is cut out. If that is one of polygons, the first event read their text
 pub record TookExtract (m : Manner) (cut : Region) (by : Strategy) (file : List ℕ) (events : List Event) : Type 0 where
   pub area : AreaSpec
   pub before : List Event
+  pub later : List Event
+  pub happened : events ≡ before ++ later
   pub means : MeansArea cut before area
   pub counts : Counts
   pub bytes : List ℕ

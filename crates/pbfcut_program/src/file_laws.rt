@@ -16,6 +16,7 @@ ghost use Rattle.pbfcut_cli.specs.declared.words.Region.{Region};
 ghost use Rattle.pbfcut_cli.specs.declared.words.Strategy.{Strategy};
 ghost use Rattle.pbfcut_program.specs.Changes.{DropsFile, EndsWell, GivesConversion, GivesCopy, GivesExtract, KeepsFile};
 ghost use Rattle.pbfcut_program.specs.Events.{Event, Writing, stays};
+ghost use Rattle.pbfcut_program.specs.Failures.{EndsBadly, LeavesExtract};
 ghost use Rattle.pbfcut_program.specs.Files.{AllowsAll, Disk, after};
 ghost use Rattle.pbfcut_program.specs.Program.{IsMeant, manner_in};
 ghost use Rattle.pbfcut_program.specs.Settling.{HandlesIn, RunSettles};
@@ -134,6 +135,19 @@ pub fn run_of_extract()
         → (cut : Region) × (by : Strategy) × (files : Files)
         × ReadsAs (codes "extract") rows (Extract cut by files)
         × GivesExtract (manner_in program (Extract cut by files)) cut by files file events disk }
+{}
+
+/// What another status of `extract` says of them, of pbfcutz: OUT is as it was; or it was kept before the run failed, and has the whole extract
+/// of what IN has on the disk, by the area and the strategy of the words. Every other file is as it was, but a part may be left, which is
+/// new. IN and OUT have two paths, and the words name no configuration.
+pub fn failure_of_extract()
+    ensures { (words : List Text) (rows : List Row) (events : List Event) (disk : Disk)
+        (file : List ℕ) → is_given (codes "config") rows ≡ false
+        → EndsBadly Pbfcutz words (codes "extract") rows events disk file
+        → ((path : List ℕ) → after events disk path ≡ disk path)
+        ⊎ ((cut : Region) × (by : Strategy) × (files : Files)
+        × ReadsAs (codes "extract") rows (Extract cut by files)
+        × LeavesExtract (manner_in Pbfcutz (Extract cut by files)) cut by files file events disk) }
 {}
 
 /// What status 0 of `extract --config` says of them: each OUT has bytes that mean exactly the extract of those that IN has on the disk, by the

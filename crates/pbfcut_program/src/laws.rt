@@ -2,7 +2,7 @@
 //! that name from this crate's `proofs/`.
 
 ghost use Rattle.std.specs.Prelude.{◌≡◌, ◌≤◌, ℕ, true, false, List, None, Some, codes, length};
-ghost use Rattle.clap.specs.Words.{Row, Text, subcommand_of, takes};
+ghost use Rattle.clap.specs.Words.{Row, Text, subcommand_of};
 ghost use Rattle.osm_area.specs.Area.{AreaSpec, IsAreaWithin};
 ghost use Rattle.osm_ways.specs.Selection.{IsWider};
 ghost use Rattle.pbf_frame.specs.declared.frame.TheConstants.{FILE_LIMIT};
@@ -11,7 +11,7 @@ ghost use Rattle.pbf_header.specs.WrittenHeader.{EdgesTyped, edges_of};
 ghost use Rattle.pbf_pass.specs.Judged.{fully};
 ghost use Rattle.pbfcut.specs.Kept.{IsWritable, conversion_of, extract_of};
 ghost use Rattle.pbfcut_cli.specs.Joined.{normalized};
-ghost use Rattle.pbfcut_cli.specs.Words.{ReadsAs, is_given, program_app};
+ghost use Rattle.pbfcut_cli.specs.Words.{AreTaken, ReadsAs, is_given, program_app};
 ghost use Rattle.pbfcut_cli.specs.declared.programs.Program.{Program};
 ghost use Rattle.pbfcut_cli.specs.declared.words.Command.TheVariants.{Extract};
 ghost use Rattle.pbfcut_cli.specs.declared.words.Files.{Files};
@@ -44,7 +44,7 @@ pub fn commands_take()
 pub fn run_takes_extract()
     ensures { (program : Program) (words : List Text) (rows : List Row) (events : List Event)
         (file : List ℕ) → is_given (codes "config") rows ≡ false
-        → takes (program_app program) (normalized words) ≡ true
+        → AreTaken program (normalized words)
         → subcommand_of (program_app program) (normalized words) ≡ Some (codes "extract", rows)
         → IsRun program words events 0 → ReadsOnly file events
         → (cut : Region) × (by : Strategy) × (files : Files)

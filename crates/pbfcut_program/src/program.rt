@@ -92,8 +92,8 @@ fn run_writing<H: Host>(
         × Writes (manner_of engine) (plan_of plan) files.now events) }
     ensures err { IfErr result (λ how. (events : List Event)
         × (H.log host.new ≡ then_all (H.log host.old) events)
-        × FailsFor (manner_of engine) (judging_for (plan_of plan)) how events
-        × LeavesFor (manner_of engine) (plan_of plan) events
+        × FailsFor files.now.input.now (manner_of engine) (judging_for (plan_of plan)) how events
+        × LeavesFor files.now.input.now (manner_of engine) (plan_of plan) events
         × IsSaid engine.digests (Writes (manner_of engine) (plan_of plan) files.now) how events) }
     ensures files { Settles engine.program files.now (H.log host.old) (H.log host.new) }
 {

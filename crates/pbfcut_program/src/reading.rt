@@ -41,7 +41,7 @@ fn read_once<H: Host>(
         report.counts report.input report.raw) }
     ensures err { IfErr result (λ how. (events : List Event)
         × (H.log host.new ≡ then_all (H.log host.old) events)
-        × FailsFor (manner_of engine) (judging_for checking) how events
+        × FailsFor path.now (manner_of engine) (judging_for checking) how events
         × SaysLittle engine.digests events) }
     ensures files { IsStill (H.log host.old) (H.log host.new) }
 {
@@ -71,7 +71,7 @@ pub(crate) fn run_check<H: Host>(
         × RunsCheck (manner_of engine) path.now events) }
     ensures err { IfErr result (λ how. (events : List Event)
         × (H.log host.new ≡ then_all (H.log host.old) events)
-        × FailsFor (manner_of engine) (judging_for checking) how events
+        × FailsFor path.now (manner_of engine) (judging_for checking) how events
         × IsSaid engine.digests (RunsCheck (manner_of engine) path.now) how events) }
     ensures files { IsStill (H.log host.old) (H.log host.new) }
 {
@@ -124,8 +124,10 @@ pub(crate) fn run_show<H: Host>(
         × RunsShow (manner_of engine) dates input.now.path.now events) }
     ensures err { IfErr result (λ how. (events : List Event)
         × (H.log host.new ≡ then_all (H.log host.old) events)
-        × FailsFor (to_raw (manner_of engine)) (judging_for (showing dates)) how events
-        × LeavesFor (to_raw (manner_of engine)) (showing dates) events × Each Silent events) }
+        × FailsFor input.now.path.now (to_raw (manner_of engine)) (judging_for (showing dates)) how
+        events
+        × LeavesFor input.now.path.now (to_raw (manner_of engine)) (showing dates) events
+        × Each Silent events) }
     ensures files { IsStill (H.log host.old) (H.log host.new) }
 {
     let feeds = open_passes(engine.alloc, host, input)?;
@@ -157,8 +159,9 @@ pub(crate) fn run_blobs<H: Host>(
         × RunsListing (IsListing engine.program) input.now.path.now events) }
     ensures err { IfErr result (λ how. (events : List Event)
         × (H.log host.new ≡ then_all (H.log host.old) events)
-        × FailsFor (manner_of engine) listing how events
-        × LeavesFor (to_raw (manner_of engine)) listing_frames events × Each Silent events) }
+        × FailsFor input.now.path.now (manner_of engine) listing how events
+        × LeavesFor input.now.path.now (to_raw (manner_of engine)) listing_frames events
+        × Each Silent events) }
     ensures files { IsStill (H.log host.old) (H.log host.new) }
 {
     let mut pass = open_pass(host, input, 1)?;
@@ -181,7 +184,7 @@ pub(crate) fn run_info<H: Host>(
         × RunsListing (TellsInfo json) input.now.path.now events) }
     ensures err { IfErr result (λ how. (events : List Event)
         × (H.log host.new ≡ then_all (H.log host.old) events)
-        × FailsFor (manner program.Pbfcutz false engine.digests)
+        × FailsFor input.now.path.now (manner program.Pbfcutz false engine.digests)
         (judging judged_headings (λ file. ⊥)) how events × Each Silent events) }
     ensures files { IsStill (H.log host.old) (H.log host.new) }
 {

@@ -331,10 +331,11 @@ fn cut_out_each<H: Host>(
         (map output_area_of outs.now) events) }
     ensures err { IfErr result (λ how. (events : List Event)
         × (H.log host.new ≡ then_all (H.log host.old) events)
-        × FailsFor (manner_of engine) (judging (judge_by (each_strategy run.entry.strategy))
+        × FailsFor run.entry.files.input.now (manner_of engine)
+        (judging (judge_by (each_strategy run.entry.strategy))
         (AllGiveRaw (each_strategy run.entry.strategy)
         (areas_of (map output_area_of outs.now)))) how events
-        × AreLeftFor (manner_of engine) (each_strategy run.entry.strategy)
+        × AreLeftFor run.entry.files.input.now (manner_of engine) (each_strategy run.entry.strategy)
         (areas_of (map output_area_of outs.now)) events
         × IsSaid engine.digests (WritesOuts (manner_of engine) (each_strategy run.entry.strategy)
         run.entry.files (map output_area_of outs.now)) how events) }
@@ -364,7 +365,7 @@ pub(crate) fn run_extract_each<H: Host>(
         run.entry.files events) }
     ensures err { IfErr result (λ how. (events : List Event)
         × (H.log host.new ≡ then_all (H.log host.old) events)
-        × FailsFor (manner_of engine)
+        × FailsFor run.entry.files.input.now (manner_of engine)
         (judging_each (each_strategy run.entry.strategy) run.entry.files events) how events
         × (Each Quiet events
         ⊎ LeavesEach (manner_of engine) (each_strategy run.entry.strategy) run.entry.files events)

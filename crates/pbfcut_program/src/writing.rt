@@ -470,8 +470,8 @@ pub(crate) fn write<H: Host>(
         × WritesCounts (manner_of engine) (plan_of plan) files.now counts events) }
     ensures err { IfErr result (λ how. (events : List Event)
         × (H.log host.new ≡ then_all (H.log host.old) events)
-        × FailsFor (manner_of engine) (judging_for (plan_of plan)) how events
-        × LeavesFor (manner_of engine) (plan_of plan) events
+        × FailsFor files.now.input.now (manner_of engine) (judging_for (plan_of plan)) how events
+        × LeavesFor files.now.input.now (manner_of engine) (plan_of plan) events
         × IsSaid engine.digests (Writes (manner_of engine) (plan_of plan) files.now) how events) }
     ensures files { Settles engine.program files.now (H.log host.old) (H.log host.new) }
 {
@@ -526,8 +526,10 @@ pub(crate) fn run_extract<H: Host>(
         × RunsExtract (manner_of engine) region.now strategy.entry files.now events) }
     ensures err { IfErr result (λ how. (events : List Event)
         × (H.log host.new ≡ then_all (H.log host.old) events)
-        × FailsFor (manner_of engine) (judging_cut region.now strategy.entry events) how events
-        × (Each Quiet events ⊎ LeavesCut (manner_of engine) region.now strategy.entry events)
+        × FailsFor files.now.input.now (manner_of engine)
+        (judging_cut region.now strategy.entry events) how events
+        × (Each Quiet events
+        ⊎ LeavesCut files.now.input.now (manner_of engine) region.now strategy.entry events)
         × IsSaid engine.digests
         (RunsExtract (manner_of engine) region.now strategy.entry files.now) how events) }
     ensures files { Settles engine.program files.now (H.log host.old) (H.log host.new) }

@@ -33,7 +33,7 @@ use Rattle.pbfcut_program.specs.Telling.{SaysLittle}
 use Rattle.run_examples.proofs.Computing.{runs_on_literals}
 use Rattle.run_examples.proofs.PackedLemmas.{meant_is, not_output}
 use Rattle.run_examples.specs.Dropped.{dropped, drops}
-use Rattle.run_examples.specs.Extract.{output}
+use Rattle.run_examples.specs.Extract.{input, output}
 use Rattle.run_examples.specs.Lines.{empty}
 use Rattle.run_examples.specs.Packed.{meaning_raw, part, typed_raw}
 use Rattle.run_examples.specs.Refused.{short_disk, short_file}
@@ -62,13 +62,13 @@ unfolding runs_on_literals
 fault_is = ((verdict_on short_file).0, refl)
 
 module _ (key : ℕ) where
-  opens_are : Opens 1 had (drops key)
-  opens_are = (inr (inl (refl, refl)), (inr (inr (inl (refl, refl))), (inr (inr (inr (inl (refl, refl)))), tt)))
+  opens_are : Opens input 1 had (drops key)
+  opens_are = (inr (inl (refl, refl, refl)), (inr (inr (inl (refl, refl, refl))), (inr (inr (inr (inl (refl, refl, refl)))), tt)))
 
   took_nothing : Each WroteNothing (drops key)
   took_nothing = (tt, (tt, (tt, (tt, (tt, (tt, (tt, (tt, (tt, (refl, (tt, tt)))))))))))
 
-  fails_for : FailsFor m (judging_cut (region.Box box) CompleteWays (drops key)) how (drops key)
+  fails_for : FailsFor input m (judging_cut (region.Box box) CompleteWays (drops key)) how (drops key)
   fails_for = record {
     has = had;
     opens = opens_are;
@@ -81,10 +81,10 @@ module _ (key : ℕ) where
   takes_none : (bytes : List ℕ) → AllSupply bytes had → Each (TookFront (output_form m.packs m.program, answer_of task (of_input m bytes))) (drops key)
   takes_none bytes supply = (tt, (tt, (tt, (tt, (tt, (tt, (tt, (tt, (tt, ((λ e. (0, refl)), (tt, tt)))))))))))
 
-  leaves_for : LeavesFor m task (drops key)
+  leaves_for : LeavesFor input m task (drops key)
   leaves_for = record { has = had; opens = opens_are; leaves = inl (unkept, takes_none) }
 
-  leaves_cut : LeavesCut m (region.Box box) CompleteWays (drops key)
+  leaves_cut : LeavesCut input m (region.Box box) CompleteWays (drops key)
   leaves_cut = record {
     area = box_area box;
     before = [];

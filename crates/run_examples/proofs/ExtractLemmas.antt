@@ -1,6 +1,6 @@
 -- The lines of the extract's tables.
 use Rattle.std.proofs.Common.{Ok, arith, ◌≡◌, inl, inr, ℕ, List, [], ◌∷◌, ◌++◌, Bool, true, false, take, drop, Some, None, ap, codes, refl, sym, subst, ◌∙◌}
-use Rattle.clap.specs.Words.{Text, subcommand_of, takes}
+use Rattle.clap.specs.Words.{Text, subcommand_of}
 use Rattle.osm_area.specs.Area.{box_area}
 use Rattle.osm_box.specs.Degrees.{box_of_text}
 use Rattle.osm_ways.specs.Selection.{complete_ways}
@@ -12,7 +12,7 @@ use Rattle.pbfcut.specs.Tasks.{extracting}
 use Rattle.pbfcut.specs.Theorem.{IsExtraction}
 use Rattle.pbfcut_cli.specs.Endings.{message_of, program_name}
 use Rattle.pbfcut_cli.specs.Joined.{normalized}
-use Rattle.pbfcut_cli.specs.Words.{IsRead, ReadsAs, program_app}
+use Rattle.pbfcut_cli.specs.Words.{AreTaken, IsRead, ReadsAs, program_app}
 use Rattle.pbfcut_cli.specs.declared.programs.Program.TheVariants.{Pbfcut}
 use Rattle.pbfcut_cli.specs.declared.words.Region.TheVariants as region
 use Rattle.pbfcut_cli.specs.declared.words.Strategy.TheVariants.{CompleteWays}
@@ -57,7 +57,7 @@ pub values_are : subcommand_of (program_app Pbfcut) (normalized typed) ≡ Some 
 unfolding runs_on_literals
 values_are = refl
 
-pub taken_is : takes (program_app Pbfcut) (normalized typed) ≡ true
+pub taken_is : AreTaken Pbfcut (normalized typed)
 unfolding runs_on_literals
 taken_is = refl
 
@@ -66,7 +66,7 @@ unfolding runs_on_literals
 degrees_are = refl
 
 pub meant_is : IsMeant Pbfcut typed meaning
-meant_is = inr (subst (λ command. IsRead command meaning) (sym values_are) reads)
+meant_is = inl (taken_is, subst (λ command. IsRead command meaning) (sym values_are) reads)
 
 -- ---- what happens
 

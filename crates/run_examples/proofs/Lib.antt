@@ -6,3 +6,4 @@ pub mod AnyLemmas
 pub mod RefusedLemmas
 pub mod PackedLemmas
 pub mod DroppedLemmas
+pub mod MistypedLemmas

@@ -1,8 +1,8 @@
 -- The lines of the extract by pbfcutz.
-use Rattle.std.proofs.Common.{arith, false, ◌≡◌, inl, inr, ℕ, List, [], ◌∷◌, true, Some, None, codes, refl, sym, subst, ◌∙◌, ◌⊎◌, take, drop}
+use Rattle.std.proofs.Common.{arith, false, ◌≡◌, inl, inr, ℕ, List, [], ◌∷◌, Some, None, codes, refl, sym, subst, ◌∙◌, ◌⊎◌, take, drop}
 use Rattle.std.specs.Prelude.{replicate}
 use Rattle.std.proofs.lemmas.Slice.Eq.{bytes_eq-Decides}
-use Rattle.clap.specs.Words.{Text, subcommand_of, takes}
+use Rattle.clap.specs.Words.{Text, subcommand_of}
 use Rattle.osm_area.specs.Area.{box_area}
 use Rattle.osm_ways.specs.Selection.{complete_ways}
 use Rattle.pbf_examples.specs.Extracts.{two_nodes}
@@ -16,7 +16,7 @@ use Rattle.pbfcut.specs.Kept.{IsWritable}
 use Rattle.pbfcut.specs.Tasks.{Task, extracting}
 use Rattle.pbfcut.specs.Theorem.{IsExtraction}
 use Rattle.pbfcut_cli.specs.Joined.{normalized}
-use Rattle.pbfcut_cli.specs.Words.{IsRead, ReadsAs, program_app}
+use Rattle.pbfcut_cli.specs.Words.{AreTaken, IsRead, ReadsAs, program_app}
 use Rattle.pbfcut_cli.specs.declared.programs.Program.TheVariants.{Pbfcutz}
 use Rattle.pbfcut_cli.specs.declared.words.Region.TheVariants as region
 use Rattle.pbfcut_cli.specs.declared.words.Strategy.TheVariants.{CompleteWays}
@@ -61,12 +61,12 @@ pub values_are : subcommand_of (program_app Pbfcutz) (normalized typed_raw) ≡ 
 unfolding runs_on_literals
 values_are = refl
 
-pub taken_is : takes (program_app Pbfcutz) (normalized typed_raw) ≡ true
+pub taken_is : AreTaken Pbfcutz (normalized typed_raw)
 unfolding runs_on_literals
 taken_is = refl
 
 pub meant_is : IsMeant Pbfcutz typed_raw meaning_raw
-meant_is = inr (subst (λ command. IsRead command meaning_raw) (sym values_are) reads)
+meant_is = inl (taken_is, subst (λ command. IsRead command meaning_raw) (sym values_are) reads)
 
 -- ---- what happens
 

@@ -26,7 +26,7 @@ use Rattle.pbfcut_program.specs.Settling.{RunSettles}
 use Rattle.pbfcut_program.specs.Telling.{SaysLittle}
 use Rattle.run_examples.proofs.Computing.{runs_on_literals}
 use Rattle.run_examples.proofs.ExtractLemmas.{meant_is}
-use Rattle.run_examples.specs.Extract.{meaning, output, typed}
+use Rattle.run_examples.specs.Extract.{input, meaning, output, typed}
 use Rattle.run_examples.specs.Lines.{all_of, empty, none_of}
 use Rattle.run_examples.specs.Refused.{fails, refused, short_file}
 
@@ -46,8 +46,8 @@ abbrev task : Task
 task = extracting complete_ways (box_area box)
 
 module _ (key : ℕ) where
-  opens_are : Opens 1 had (fails key)
-  opens_are = (inr (inl (refl, refl)), (inr (inr (inl (refl, refl))), (inr (inr (inr (inl (refl, refl)))), tt)))
+  opens_are : Opens input 1 had (fails key)
+  opens_are = (inr (inl (refl, refl, refl)), (inr (inr (inl (refl, refl, refl))), (inr (inr (inr (inl (refl, refl, refl)))), tt)))
 
   refused_is : IsRefused (judge_by complete_ways) cause (fails key)
   unfolding runs_on_literals
@@ -59,7 +59,7 @@ module _ (key : ℕ) where
     nothing = (tt, (tt, (tt, (tt, (tt, (tt, (tt, (tt, (tt, (refl, tt))))))))));
   }
 
-  fails_for : FailsFor raw (judging_cut (region.Box box) CompleteWays (fails key)) how (fails key)
+  fails_for : FailsFor input raw (judging_cut (region.Box box) CompleteWays (fails key)) how (fails key)
   fails_for = record { has = had; opens = opens_are; why = (stop.Refused cause, refl, refused_is) }
 
   unkept : KeepsNone task (fails key)
@@ -68,14 +68,14 @@ module _ (key : ℕ) where
   takes_none : (bytes : List ℕ) → AllSupply bytes had → Each (TookFront (output_form raw.packs raw.program, answer_of task (of_input raw bytes))) (fails key)
   takes_none bytes supply = (tt, (tt, (tt, (tt, (tt, (tt, (tt, (tt, (tt, ((λ e. (0, refl)), tt))))))))))
 
-  leaves_for : LeavesFor raw task (fails key)
+  leaves_for : LeavesFor input raw task (fails key)
   leaves_for = record {
     has = had;
     opens = opens_are;
     leaves = inl (unkept, takes_none);
   }
 
-  leaves_cut : LeavesCut raw (region.Box box) CompleteWays (fails key)
+  leaves_cut : LeavesCut input raw (region.Box box) CompleteWays (fails key)
   leaves_cut = record {
     area = box_area box;
     before = [];

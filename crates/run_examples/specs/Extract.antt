@@ -6,8 +6,8 @@
 -- `three_nodes`, `box` and `two_nodes` are spelled in pbf_examples, byte by byte: three nodes, of
 -- which one lies south of the equator, a box of one degree north and east of the equator and the
 -- prime meridian, and the file of the other two.
-use Rattle.std.specs.Prelude.{◌≡◌, ℕ, true, false, List, [], ◌∷◌, map, take, Option, Some, None, Ok, codes}
-use Rattle.clap.specs.Words.{Row, Text, subcommand_of, takes}
+use Rattle.std.specs.Prelude.{◌≡◌, ℕ, false, List, [], ◌∷◌, map, take, Option, Some, None, Ok, codes}
+use Rattle.clap.specs.Words.{Row, Text, subcommand_of}
 use Rattle.osm_area.specs.Area.{box_area}
 use Rattle.osm_box.specs.Degrees.{box_of_text}
 use Rattle.osm_ways.specs.Selection.{complete_ways}
@@ -17,7 +17,7 @@ use Rattle.pbf_examples.specs.Frames.{three_nodes}
 use Rattle.pbf_examples.specs.Reading.{◌cut_by◌gives◌, box}
 use Rattle.pbfcut.specs.Theorem.{IsExtraction}
 use Rattle.pbfcut_cli.specs.Joined.{normalized}
-use Rattle.pbfcut_cli.specs.Words.{program_app}
+use Rattle.pbfcut_cli.specs.Words.{AreTaken, program_app}
 use Rattle.pbfcut_cli.specs.declared.programs.Program.TheVariants.{Pbfcut}
 use Rattle.pbfcut_cli.specs.declared.words.Command.{Command}
 use Rattle.pbfcut_cli.specs.declared.words.Command.TheVariants as command
@@ -55,7 +55,7 @@ meaning = command.Extract (region.Box box) CompleteWays (files input output)
 
 pub record Typed : Type 0 where
   -- `clap` takes it, as `extract` with these values
-  pub taken : takes (program_app Pbfcut) (normalized typed) ≡ true
+  pub taken : AreTaken Pbfcut (normalized typed)
   pub values : subcommand_of (program_app Pbfcut) (normalized typed) ≡ Some (codes "extract", rows)
   -- the box counts in degrees
   pub degrees : box_of_text (codes "0,0,1,1") ≡ Ok box

@@ -4,3 +4,4 @@ pub mod AnyRun
 pub mod Refused
 pub mod Packed
 pub mod Dropped
+pub mod Mistyped

@@ -4,14 +4,14 @@
 --     pbfcutz extract --raw --box=0,0,1,1 in.osm.pbf out.osm.pbf
 --
 -- OUT is written by another name, as a part, and gets its own when it is whole.
-use Rattle.std.specs.Prelude.{◌≡◌, ℕ, true, false, List, [], ◌∷◌, map, take, Option, Some, None, codes}
-use Rattle.clap.specs.Words.{Row, Text, subcommand_of, takes}
+use Rattle.std.specs.Prelude.{◌≡◌, ℕ, false, List, [], ◌∷◌, map, take, Option, Some, None, codes}
+use Rattle.clap.specs.Words.{Row, Text, subcommand_of}
 use Rattle.pbf_examples.specs.Extracts.{two_nodes}
 use Rattle.pbf_examples.specs.Frames.{three_nodes}
 use Rattle.pbf_examples.specs.Reading.{box}
 use Rattle.pbf_unpack.specs.Unpacked.{unpacked}
 use Rattle.pbfcut_cli.specs.Joined.{normalized}
-use Rattle.pbfcut_cli.specs.Words.{program_app}
+use Rattle.pbfcut_cli.specs.Words.{AreTaken, program_app}
 use Rattle.pbfcut_cli.specs.declared.programs.Program.TheVariants.{Pbfcutz}
 use Rattle.pbfcut_cli.specs.declared.words.Command.{Command}
 use Rattle.pbfcut_cli.specs.declared.words.Command.TheVariants as command
@@ -40,7 +40,7 @@ abbrev pub meaning_raw : Command
 meaning_raw = command.Extract (region.Box box) CompleteWays (raw_files input output)
 
 pub record TypedRaw : Type 0 where
-  pub taken : takes (program_app Pbfcutz) (normalized typed_raw) ≡ true
+  pub taken : AreTaken Pbfcutz (normalized typed_raw)
   pub values :
       subcommand_of (program_app Pbfcutz) (normalized typed_raw) ≡ Some (codes "extract", rows_raw)
   pub meant : IsMeant Pbfcutz typed_raw meaning_raw

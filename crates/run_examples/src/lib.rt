@@ -5,6 +5,7 @@
 ghost use Rattle.run_examples.specs.AnyRun.{EachRun};
 ghost use Rattle.run_examples.specs.Dropped.{AsBefore, DroppedRun};
 ghost use Rattle.run_examples.specs.Extract.{Happens, OnDisk, Typed};
+ghost use Rattle.run_examples.specs.Mistyped.{Asked, Mistyped};
 ghost use Rattle.run_examples.specs.Packed.{PartOnDisk, PartRun, TypedRaw};
 ghost use Rattle.run_examples.specs.Refused.{EmptyOut, RefusedRun};
 
@@ -45,4 +46,10 @@ pub fn packed()
 pub fn dropped()
     ensures run { DroppedRun }
     ensures on_disk { AsBefore }
+{}
+
+/// Command lines that are no command, and one that requests help.
+pub fn mistyped()
+    ensures refused { Mistyped }
+    ensures asked { Asked }
 {}

@@ -100,7 +100,7 @@ returns-in-ExtractEach-clause-err g c =
     let m = manner_of c.args.engine in
     let files = c.in-ExtractEach.files in
     let same = c.strategy_with.ensures in
-    rw c.in-ExtractEach.is (IfErr-weaker c.run_extract_each.result _ _ (λ how f. (f.0, f.1, subst (λ s. FailsFor m (judging_each s files f.0) how f.0 × (Each Quiet f.0 ⊎ LeavesEach m s files f.0) × IsSaid m.digests (RunsExtractEach m s files) how f.0) same (f.2, f.3, f.4))) c.run_extract_each.ensures.err)
+    rw c.in-ExtractEach.is (IfErr-weaker c.run_extract_each.result _ _ (λ how f. (f.0, f.1, subst (λ s. FailsFor files.input.now m (judging_each s files f.0) how f.0 × (Each Quiet f.0 ⊎ LeavesEach m s files f.0) × IsSaid m.digests (RunsExtractEach m s files) how f.0) same (f.2, f.3, f.4))) c.run_extract_each.ensures.err)
 
 pub returns-in-ExtractEach-clause-files : goal.returns-in-ExtractEach-clause-files
 returns-in-ExtractEach-clause-files g c = rw c.in-ExtractEach.is c.run_extract_each.ensures.files

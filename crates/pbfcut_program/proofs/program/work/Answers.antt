@@ -12,13 +12,13 @@ returns-in_err-command-clause-err g c =
     let words = map string_bytes c.args.words.now in
     let is : word_texts c.as_slice.result.now ≡ normalized words = ap word_texts c.as_slice.ensures.value ∙ c.in_ok-texts.ensures ∙ ap (map string_bytes) c.deref.ensures.value ∙ c.in_ok-normalized.ensures in
     let p = err_from_is_err_and c.from_residual-in_err-command.result c.from_residual-in_err-command.ensures.1 in
-    rw (p.1, p.2) (refl, cli_why c.args.program words (word_texts c.as_slice.result.now) c.in_err-command.field-0.0 is c.in_err-command.ensures.fault c.in_err-command.ensures.taken)
+    rw (p.1, p.2) (refl, cli_why c.args.program words (word_texts c.as_slice.result.now) c.in_err-command.field-0.0 is c.in_err-command.ensures.fault)
 
 pub returns-in-Ok-clause-ok : goal.returns-in-Ok-clause-ok
 returns-in-Ok-clause-ok g c =
     let words = map string_bytes c.args.words.now in
     let is : word_texts c.as_slice.result.now ≡ normalized words = ap word_texts c.as_slice.ensures.value ∙ c.in_ok-texts.ensures ∙ ap (map string_bytes) c.deref.ensures.value ∙ c.in_ok-normalized.ensures in
-    let meant = is_meant c.args.program words (word_texts c.as_slice.result.now) c.in_ok-command.command is c.in_ok-command.ensures.read c.in_ok-command.ensures.taken in
+    let meant = is_meant c.args.program words (word_texts c.as_slice.result.now) c.in_ok-command.command is c.in_ok-command.ensures.read in
     let d = c.in-Ok.ensures.ok in
     let does = rw (c.prints_digests.ensures, c.packs.ensures) at d.2 in
     (d.0, d.1, inl (refl, (c.in_ok-command.command, meant, does)))
@@ -27,7 +27,7 @@ pub returns-clause-ok : goal.returns-clause-ok
 returns-clause-ok g c =
     let words = map string_bytes c.args.words.now in
     let is : word_texts c.as_slice.result.now ≡ normalized words = ap word_texts c.as_slice.ensures.value ∙ c.in_ok-texts.ensures ∙ ap (map string_bytes) c.deref.ensures.value ∙ c.in_ok-normalized.ensures in
-    let meant = is_meant c.args.program words (word_texts c.as_slice.result.now) c.in_ok-command.command is c.in_ok-command.ensures.read c.in_ok-command.ensures.taken in
+    let meant = is_meant c.args.program words (word_texts c.as_slice.result.now) c.in_ok-command.command is c.in_ok-command.ensures.read in
     let f = c.in-Err.ensures.err in
     let r = c.report_command.ensures in
     let fails = rw (c.prints_digests.ensures, c.packs.ensures) at f.2 in
@@ -47,11 +47,11 @@ pub returns-in-Ok-clause-files : goal.returns-in-Ok-clause-files
 returns-in-Ok-clause-files g c =
     let words = map string_bytes c.args.words.now in
     let is : word_texts c.as_slice.result.now ≡ normalized words = ap word_texts c.as_slice.ensures.value ∙ c.in_ok-texts.ensures ∙ ap (map string_bytes) c.deref.ensures.value ∙ c.in_ok-normalized.ensures in
-    inr (c.in_ok-command.command, is_meant c.args.program words (word_texts c.as_slice.result.now) c.in_ok-command.command is c.in_ok-command.ensures.read c.in_ok-command.ensures.taken, c.in-Ok.ensures.files)
+    inr (c.in_ok-command.command, is_meant c.args.program words (word_texts c.as_slice.result.now) c.in_ok-command.command is c.in_ok-command.ensures.read, c.in-Ok.ensures.files)
 
 pub returns-clause-files : goal.returns-clause-files
 returns-clause-files g c =
     let words = map string_bytes c.args.words.now in
     let is : word_texts c.as_slice.result.now ≡ normalized words = ap word_texts c.as_slice.ensures.value ∙ c.in_ok-texts.ensures ∙ ap (map string_bytes) c.deref.ensures.value ∙ c.in_ok-normalized.ensures in
-    let meant = is_meant c.args.program words (word_texts c.as_slice.result.now) c.in_ok-command.command is c.in_ok-command.ensures.read c.in_ok-command.ensures.taken in
+    let meant = is_meant c.args.program words (word_texts c.as_slice.result.now) c.in_ok-command.command is c.in_ok-command.ensures.read in
     run_settles_before c.args.program words _ _ _ (inr (c.in_ok-command.command, meant, c.in-Err.ensures.files)) (_, c.report_command.ensures.1, (tt, (tt, tt)))

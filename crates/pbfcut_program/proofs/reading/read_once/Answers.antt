@@ -36,7 +36,7 @@ returns-in-Err-clause-err g c =
     let begun : List Event = opened c.args.path.now 1 has ∷ [] in (
       begun ++ told.0,
       and_then (log c.args.host.now) (log c.open_pass.new.host) (log c.tell_refusal.new.host) begun told.0 c.in_ok-pass.ensures.opened told.1,
-      opened_fails m (judging_for checking) (has ∷ []) c.tell_refusal.result begun told.0 (tt, tt) (inl (refl, refl), tt) told.2,
+      opened_fails m (judging_for checking) (has ∷ []) c.tell_refusal.result begun told.0 (tt, tt) (inl (refl, refl, refl), tt) told.2,
       little_after c.args.engine.digests begun told.0 (tt, tt) (told.3 (returned_silent (λ w. ⊥) fail.0 fail.3)),
     )
 

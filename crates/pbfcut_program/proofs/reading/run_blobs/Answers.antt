@@ -51,7 +51,7 @@ returns-clause-err g c =
     let begun = and_then (log c.args.host.now) _ _ (opened input 1 has ∷ []) (screened true ∷ []) c.in_ok-pass.ensures.opened c.in_ok-out.ensures.opened.0 in
     let e = c.ended.ensures in
     let left = list_front g.H.In.Feed g.H.Out.Drain c.list_blobs-outcome.new.pass c.list_blobs-outcome.new.drain None (is_ok c.list_blobs-outcome.result) e.0 (log c.open_screen.new.host) (log c.close.new.self) (log c.ended.new.host) (c.close.ensures.some, c.close.ensures.logged) e.1 c.args.engine.program c.in_ok-pass.pass c.in_ok-out.out c.list_blobs-outcome.result c.in_ok-out.ensures.opened.1 c.list_blobs-outcome.ensures.lists c.list_blobs-outcome.ensures.front in
-    text_err e.0 c.list_blobs-outcome.result c.ended.result (λ how. (events : List Event) × (log c.ended.new.host ≡ then_all (log c.args.host.now) events) × FailsFor (manner_of c.args.engine) listing how events × LeavesFor (to_raw (manner_of c.args.engine)) listing_frames events × Each Silent events) e.2
+    text_err e.0 c.list_blobs-outcome.result c.ended.result (λ how. (events : List Event) × (log c.ended.new.host ≡ then_all (log c.args.host.now) events) × FailsFor c.args.input.now.path.now (manner_of c.args.engine) listing how events × LeavesFor c.args.input.now.path.now (to_raw (manner_of c.args.engine)) listing_frames events × Each Silent events) e.2
     (λ why gone. (let f = listing_lost g.H.In.Feed g.H.Out.Drain c.list_blobs-outcome.new.pass c.list_blobs-outcome.new.drain None (is_ok c.list_blobs-outcome.result) e.0 (log c.open_screen.new.host) (log c.close.new.self) (log c.ended.new.host) (c.close.ensures.some, c.close.ensures.logged) e.1 (manner_of c.args.engine) listing (log c.args.host.now) input has begun why gone in (f.0, f.1, f.2, f.3 left, f.4)))
     (IfErr-weaker c.list_blobs-outcome.result _ _ (λ halted f. (f.0, f.1, f.2, f.3 left, f.4)) (list_fails g.H.In.Feed g.H.Out.Drain c.list_blobs-outcome.new.pass c.list_blobs-outcome.new.drain None (is_ok c.list_blobs-outcome.result) e.0 (log c.open_screen.new.host) (log c.close.new.self) (log c.ended.new.host) (c.close.ensures.some, c.close.ensures.logged) e.1 (manner_of c.args.engine) c.in_ok-pass.pass c.in_ok-out.out c.list_blobs-outcome.result (log c.args.host.now) input begun c.list_blobs-outcome.ensures.lists))
 

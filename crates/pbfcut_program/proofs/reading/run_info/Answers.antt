@@ -48,7 +48,7 @@ returns-clause-err g c =
     let has = g.H.In.Feed.remaining c.in_ok-pass.pass in
     let begun = and_then (log c.args.host.now) _ _ (opened input 1 has ∷ []) (screened true ∷ []) c.in_ok-pass.ensures.opened c.in_ok-out.ensures.opened.0 in
     let e = c.ended.ensures in
-    text_err e.0 c.show_info-outcome.result c.ended.result (λ how. (events : List Event) × (log c.ended.new.host ≡ then_all (log c.args.host.now) events) × FailsFor (manner Pbfcutz false c.args.engine.digests) (judging judged_headings (λ file. ⊥)) how events × Each Silent events) e.2
+    text_err e.0 c.show_info-outcome.result c.ended.result (λ how. (events : List Event) × (log c.ended.new.host ≡ then_all (log c.args.host.now) events) × FailsFor c.args.input.now.path.now (manner Pbfcutz false c.args.engine.digests) (judging judged_headings (λ file. ⊥)) how events × Each Silent events) e.2
     (λ why gone. let f = listing_lost g.H.In.Feed g.H.Out.Drain c.show_info-outcome.new.pass c.show_info-outcome.new.drain None (is_ok c.show_info-outcome.result) e.0 (log c.open_screen.new.host) (log c.close.new.self) (log c.ended.new.host) (c.close.ensures.some, c.close.ensures.logged) e.1 (manner Pbfcutz false c.args.engine.digests) (judging judged_headings (λ file. ⊥)) (log c.args.host.now) input has begun why gone in (f.0, f.1, f.2, f.4))
     (info_fails g.H.In.Feed g.H.Out.Drain c.show_info-outcome.new.pass c.show_info-outcome.new.drain None (is_ok c.show_info-outcome.result) e.0 (log c.open_screen.new.host) (log c.close.new.self) (log c.ended.new.host) (c.close.ensures.some, c.close.ensures.logged) e.1 c.args.engine.digests c.in_ok-pass.pass c.in_ok-out.out c.show_info-outcome.result (log c.args.host.now) input c.in_ok-pass.ensures.fresh c.in_ok-out.ensures.opened.1 begun c.show_info-outcome.ensures.ends)
 

@@ -135,12 +135,12 @@ returns-clause-err g c =
     let calm = calm_openings input 1 hs in
     let quiet : Each Quiet first = each_both Quiet opening last (quiet_of opening calm) (each_both Quiet drawn (screened true ∷ []) (quiet_of drawn (calm_draws c.args.engine.program c.in_ok-key.key)) (tt, tt)) in
     let silent : Each Silent first = each_both Silent opening last (silent_of opening calm) (each_both Silent drawn (screened true ∷ []) (silent_of drawn (calm_draws c.args.engine.program c.in_ok-key.key)) (tt, tt)) in
-    let opens : Opens 1 hs first = opens_before 1 hs opening last (opens_openings input 1 hs) in
+    let opens : Opens input 1 hs first = opens_before input 1 hs opening last (opens_openings input 1 hs) in
     IfErr-weaker c.ended.result _ _ (λ how f. (
       _,
       and_then (log c.args.host.now) _ _ first f.0 begun f.1,
       opened_fails m (judging_for (showing c.args.dates)) hs how first f.0 quiet opens f.2,
-      record { has = hs; opens = opens_before 1 hs first f.0 opens; leaves = leaves_after m (showing c.args.dates) hs first f.0 quiet f.3 },
+      record { has = hs; opens = opens_before input 1 hs first f.0 opens; leaves = leaves_after m (showing c.args.dates) hs first f.0 quiet f.3 },
       each_both Silent first f.0 silent f.4,
     ))
     (text_fails c.args.engine.program c.args.engine.digests (check_in c.args.engine c.in_ok-key.key) g.H.In.Feed g.H.Out.Drain (showing c.args.dates) c.in_ok-out.out c.run_task-outcome.new.drain None e.0 (log c.open_screen.new.host) (log c.close_inputs.new.host) (log c.ended.new.host) olds news c.run_task-outcome.result c.ended.result

@@ -134,7 +134,7 @@ returns-in_err-done-clause-err g c =
       first ++ f.0,
       and_then (log c.args.host.now) (log c.make_outs.new.host) (log c.run_ready_each.new.host) first f.0 before f.1,
       opened_fails m (judging (judge_by s) (AllGiveRaw s (areas_of (map output_area_of outs)))) has how first f.0 quiet opens fails,
-      record { has = has; opens = opens_before 1 has first f.0 opens; left = left_after m s has (areas_of (map output_area_of outs)) first f.0 quiet left },
+      record { has = has; opens = opens_before files.input.now 1 has first f.0 opens; left = left_after m s has (areas_of (map output_area_of outs)) first f.0 quiet left },
       inl (little_after c.args.engine.digests first f.0 silent f.4),
     )
 

@@ -16,7 +16,7 @@ use Rattle.pbfcut_program.proofs.EventLemmas.{each_both, each_quiet, has_after}
 use Rattle.pbfcut_program.proofs.FailLemmas.{fails_before, file_stops, told_fails}
 use Rattle.pbfcut_program.proofs.LeavingLemmas.{IsReturned, quiet_front, quiet_unkept, reads_return, returned_front, returned_silent, returned_unkept}
 use Rattle.pbfcut_program.proofs.Logging.{and_then, then_none}
-use Rattle.pbfcut_program.proofs.OutLemmas.{dropped_quiet, dropped_silent, ends_at, ends_kept, ends_silent, ends_told}
+use Rattle.pbfcut_program.proofs.OutLemmas.{dropped_quiet, dropped_silent, ends_at, ends_kept, ends_quiet, ends_silent, ends_told}
 use Rattle.pbfcut_program.proofs.SayingLemmas.{refusal_still, silent_little}
 use Rattle.pbfcut_program.proofs.SettlingLemmas.{is_ended}
 use Rattle.pbfcut_program.proofs.writing.run_job.Goals as goal
@@ -67,7 +67,7 @@ returns-in-Ok-clause-err g c =
       rs ++ last,
       all,
       rw e.2 (file_stops (manner_of engine) (judging_for (task_of job)) (map g.H.In.Feed.remaining (feeds_of job)) e.0 (rs ++ last) (has_after _ rs last lost)),
-      inr (record { before = []; rs = done.0; out = done.1; after = k.3; happened = refl; by = check_in engine c.args.ready.seed.key; counts = report.counts; digest = report.input; raw = report.raw; work = done.5 }),
+      inr (record { before = []; rs = done.0; out = done.1; after = k.3; happened = refl; quiet = (tt, ends_quiet engine.program c.args.files.now.overwrite c.args.files.now.output.now name k.0 c.keep_out.result k.3 closes); by = check_in engine c.args.ready.seed.key; counts = report.counts; digest = report.input; raw = report.raw; work = done.5 }),
       silent_little engine.digests (rs ++ last) (each_both Silent rs last (returned_silent (λ w. Unit {0}) rs (reads_return (λ w. Unit {0}) done.0)) (tt, ends_silent engine.program c.args.files.now.overwrite c.args.files.now.output.now name k.0 c.keep_out.result k.3 closes)),
     )) c.kept.ensures.err
 

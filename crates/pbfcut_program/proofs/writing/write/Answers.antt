@@ -2,7 +2,7 @@ use Rattle.std.proofs.Common.{◌≡◌, ◌∙◌, ◌∷◌, ◌++◌, List, a
 use Rattle.std.proofs.lemmas.Result.{err_from_is_err_and}
 use Rattle.pbfcut_program.specs.declared.host.Screen.{Screen}
 use Rattle.pbfcut_program.specs.Events.{Event, read, wrote, then_all}
-use Rattle.pbfcut_program.specs.Fails.{Fails, judging_for}
+use Rattle.pbfcut_program.specs.Fails.{Fails, Quiet, judging_for}
 use Rattle.pbfcut_program.specs.Jobs.{feeds_of, plan_of, task_of}
 use Rattle.pbfcut_program.specs.Leaving.{Leaves}
 use Rattle.pbfcut_program.specs.Program.{Writes, begun, is_screen, screen_of}
@@ -12,9 +12,11 @@ use Rattle.pbfcut_program.specs.Readings.{IsWork}
 use Rattle.pbfcut_program.proofs.Beginning.{length_has, opens_begun, quiet_begun, quiet_makes, silent_begun, silent_makes}
 use Rattle.pbfcut_program.proofs.FailLemmas.{broken_fails, opened_fails, opening_fails, opens_before}
 use Rattle.pbfcut_program.proofs.LeavingLemmas.{leaves_after, opening_leaves}
+use Rattle.pbfcut_program.proofs.EventLemmas.{each_both}
 use Rattle.pbfcut_program.proofs.Logging.{and_then}
-use Rattle.pbfcut_program.proofs.Printed.{still_prints}
-use Rattle.pbfcut_program.proofs.SayingLemmas.{lines_in, little_after, opening_little}
+use Rattle.pbfcut_program.proofs.OutLemmas.{kept_quiet}
+use Rattle.pbfcut_program.proofs.Printed.{quiet_prints, still_prints}
+use Rattle.pbfcut_program.proofs.SayingLemmas.{broken_quiet, lines_in, little_after, opening_little}
 use Rattle.pbfcut_program.proofs.SettlingLemmas.{calm_done, settles_before, still_settles, told_still, write_settles}
 use Rattle.pbfcut_program.proofs.WritingLemmas.{writes_lines}
 use Rattle.pbfcut_program.proofs.writing.write.Goals as goal
@@ -50,7 +52,7 @@ returns-in_err-done-clause-err g c =
       first ++ f.0,
       and_then log _ _ first f.0 ready.1 f.1,
       opened_fails m (judging_for (plan_of c.args.plan)) has how first f.0 quiet opens fails,
-      record { has = has; opens = opens_before 1 has first f.0 opens; leaves = leaves_after m (plan_of c.args.plan) has first f.0 quiet leaves },
+      record { has = has; opens = opens_before files.input.now 1 has first f.0 opens; leaves = leaves_after m (plan_of c.args.plan) has first f.0 quiet leaves },
       inl (little_after m.digests first f.0 silent f.4),
     )
 
@@ -71,6 +73,8 @@ returns-in_err-print_done-clause-err g c =
     let m = manner_of c.args.engine in
     let how = c.in_err-print_done.field-0.0 in
     let j = judging_for (plan_of c.args.plan) in
+    let program = c.args.engine.program in
+    let quiet = quiet_begun is files has key ready.0 (quiet_makes program is files.output.now _ ready.0 ready.2) in
     let before : List Event = first ++ (rs ++ out) in
     let r = c.in_ok-done.done in
     let report = r.report in
@@ -90,13 +94,14 @@ returns-in_err-print_done-clause-err g c =
       broken_fails m j (Writes m task files) how (before ++ lines.0) broken,
       record {
         has = has;
-        opens = opens_before 1 has before lines.0 (opens_before 1 has first (rs ++ out) (opens_begun is files has key ready.0));
+        opens = opens_before files.input.now 1 has before lines.0 (opens_before files.input.now 1 has first (rs ++ out) (opens_begun is files has key ready.0));
         leaves = inr (record {
           before = first;
           rs = d.0;
           out = d.1;
           after = d.2 ++ lines.0;
           happened = append_assoc first (rs ++ out) lines.0 ∙ ap (λ es. first ++ es) (append_assoc rs out lines.0);
+          quiet = (quiet, each_both Quiet d.2 lines.0 (kept_quiet program files.overwrite files.output.now d.1.name d.2 d.6) (broken_quiet shown how lines.0 (quiet_prints screen texts) lines.2));
           by = check_of m key;
           counts = report.counts;
           digest = report.input;

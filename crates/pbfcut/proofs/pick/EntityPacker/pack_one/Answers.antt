@@ -1,8 +1,0 @@
-use Rattle.std.proofs.Common.{[], ◌∷◌, ap}
-use Rattle.osm_entity.specs.Entity.{EntitySpec}
-use Rattle.pbfcut.specs.Pick.{picks_of}
-use Rattle.pbfcut.proofs.PackingLemmas.{each_as}
-use Rattle.pbfcut.proofs.pick.EntityPacker.pack_one.Goals as goal
-
-pub returns : goal.returns
-returns g c = each_as g.D.Drain (picks_of c.args.self.now.picker) _ _ _ _ _ _ _ (ap (λ (e : EntitySpec). e ∷ []) c.make.ensures) c.pack_entity.ensures
