@@ -1,14 +1,15 @@
 #!/usr/bin/env python3
 """What has to be believed to believe a public call: its contract, and the definitions under it.
 
-usage: tools/statement.py                        lists the calls, and how many definitions are under each
+usage: tools/statement.py                        lists calls and laws, and how many definitions are under each
        tools/statement.py CALL [CLAUSE]          prints the contract of CALL, or only its clause, and what is under it
 
 CALL is one of the list, or CRATE::NAME for any other public function, laws included. A definition is under a contract if the contract names it, or
 a definition under it does. Each comes after those that name it, except where definitions name one another, with the file and line that it is in and
 the laws that name it: a law (a function of `src/laws.rt`) compares it with another definition, such as reading with writing. After them come the
-constants of the code that they name, and what they have from outside the repository. It reads only `specs/` and the contracts in `src/`. Types of the
-code (structs and enums) and the traits `Feed`, `Drain` and `Host` are not printed.
+constants of the code that they name, and what they have from outside the repository. Under a law of files is not what the call `run` ensures and the
+law requires: nobody has to believe it. It reads only `specs/` and the contracts in `src/`. Types of the code (structs and enums) and the traits `Feed`,
+`Drain` and `Host` are not printed.
 """
 
 import os
@@ -19,18 +20,20 @@ import sys
 TOP = os.path.dirname(os.path.dirname(os.path.abspath(__file__)))
 # Each public call, with the crate and the file that have it.
 CALLS = {
-    # the program itself
+    # the program itself, and what a user finds after a run
     "pbfcut_program::run": ("pbfcut_program", "program"),
+    "pbfcut_program::run_of_extract": ("pbfcut_program", "file_laws"), "pbfcut_program::failure_of_extract": ("pbfcut_program", "file_laws"),
+    "pbfcut_program::run_of_extracts": ("pbfcut_program", "file_laws"), "pbfcut_program::run_of_convert": ("pbfcut_program", "file_laws"),
+    "pbfcut_program::run_of_copy": ("pbfcut_program", "file_laws"),
     # what `pbfcutz` calls for `show`, `convert`, `pack`, `unpack` and `extract`
     "pbf_published::run_published": ("pbf_published", "running"),
-    "extract": ("pbfcut", "extracting"), "extract_with_receipt": ("pbfcut", "extracting"), "extract_parents": ("pbfcut", "extracting"),
-    "extract_sorted": ("pbfcut", "sorted"), "extract_sorted_with_receipt": ("pbfcut", "sorted"),
-    "extract_smart_with_receipt": ("pbfcut", "smart"),
-    "convert": ("pbfcut", "converting"), "show": ("pbfcut", "showing"), "check": ("pbf_pass", "checking"), "list_blobs": ("pbfcut", "blobs"),
+    "extract": ("pbfcut", "extracting"), "convert": ("pbfcut", "converting"), "show": ("pbfcut", "showing"), "check": ("pbf_pass", "checking"),
 }
 # The calls with a clause of this name, which says what the answer means, and what is refused.
 PROMISE = "promise"
-PROMISED = ("extract", "extract_parents", "convert")
+PROMISED = ("extract", "convert")
+# what `run` ensures, and a law of files requires
+ENSURED = {"IsRun", "RunSettles"}
 MODIFIERS = ("abbrev", "unfoldable", "pub", "record", "data")
 
 
@@ -160,9 +163,9 @@ class Sources:
     def found_in(self, module: str, text: str) -> list:
         return [self.home(place) for place in self.scopes[module].found_in(text)]
 
-    def closure(self, first: list) -> list:
-        """These places and all that are under them, each after those that name it."""
-        done, order = set(), []
+    def closure(self, first: list, but: set = frozenset()) -> list:
+        """These places and all that are under them, each after those that name it, but not what has one of these names and is only under it."""
+        done, order = {place for place in self.all if place[1] in but}, []
 
         def visit(place: tuple):
             done.add(place)
@@ -227,7 +230,8 @@ class Statement:
         self.text = read("crates", self.crate, "src", self.file + ".rt")
         if not clauses_of(self.text, call, clause):
             fail(f"'{call}' has no clause '{clause}'")
-        places = sources.closure(sources.under_contract(self.crate, self.file, call, clause))
+        self.ensured = ENSURED if self.file == "file_laws" else set()
+        places = sources.closure(sources.under_contract(self.crate, self.file, call, clause), self.ensured)
         self.definitions = [sources.all[place] for place in places if place in sources.all]
         others = [place for place in places if place not in sources.all]
         self.constants = sorted(place for place in others if place[0].endswith(".TheConstants"))
@@ -279,6 +283,8 @@ def printed(statement: Statement):
     """A statement as a text."""
     whole = "\n".join(clauses_of(statement.text, statement.call, statement.clause)) if statement.clause else signature(statement.text, statement.call)
     yield f"==== {statement.title()}: {statement.counts()}"
+    if statement.ensured:
+        yield f"\nWithout what `run` ensures: {', '.join(sorted(statement.ensured))}"
     yield f"\n==== {statement.source}\n\n{whole}"
     file = None
     for definition in statement.definitions:
