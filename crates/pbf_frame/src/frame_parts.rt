@@ -25,7 +25,7 @@ use crate::transfer::fill;
 use byteorder::{BigEndian, ByteOrder};
 use pbf_wire::{Fault, Reason, fault_where, lesser};
 
-// How many bytes of a blob of another type are skipped at a time.
+/// How many bytes of a blob of another type are skipped at a time.
 const SKIPPED_PIECE: usize = 8192;
 
 /// Where a frame begins, and whether the header came before it.
@@ -58,7 +58,7 @@ pub fn fill_vec<F: Feed>(feed: &mut F, buf: &mut Vec<u8>, count: usize) -> Resul
     Ok(())
 }
 
-// The four bytes before the next frame's header, or nothing at the end.
+/// The four bytes before the next frame's header, or nothing at the end.
 #[tactic(auto, unfolding(crate::specs::Steps::prefix_at))]
 fn read_prefix<F: Feed>(feed: &mut F, start: FrameStart) -> Result<Option<[u8; 4]>, Stop>
     ensures reads { ReadsPart F.Feed (prefix_at start.had_header start.place) (λ o. o)
@@ -88,7 +88,7 @@ fn read_prefix<F: Feed>(feed: &mut F, start: FrameStart) -> Result<Option<[u8; 4
     Ok(Some(prefix))
 }
 
-// This many bytes.
+/// This many bytes.
 #[tactic(auto, using(crate::proofs::FrontLemmas::bytes_at_ok), unfolding(crate::specs::Steps::bytes_at))]
 fn read_bytes<F: Feed>(feed: &mut F, buf: &mut Vec<u8>, count: u32, cut: Fault) -> Result<(), Stop>
     ensures reads { ReadsPart F.Feed (bytes_at cut count) (λ _. buf.new.items)
@@ -104,7 +104,7 @@ fn read_bytes<F: Feed>(feed: &mut F, buf: &mut Vec<u8>, count: u32, cut: Fault) 
     Ok(())
 }
 
-// Whether a frame of this kind may be here and end here.
+/// Whether a frame of this kind may be here and end here.
 #[tactic(auto, using(crate::proofs::Parts::lesser_parts))]
 fn judge_order(start: FrameStart, kind: FrameKind, end: u64) -> Option<Fault>
     ensures { result ≡ least
@@ -122,7 +122,7 @@ fn judge_order(start: FrameStart, kind: FrameKind, end: u64) -> Option<Fault>
     )
 }
 
-// The header after a prefix, and what it says.
+/// The header after a prefix, and what it says.
 #[tactic(auto, unfolding(crate::specs::Steps::header_after))]
 fn read_header<F: Feed>(
     feed: &mut F,
@@ -159,7 +159,7 @@ fn read_header<F: Feed>(
     Ok(head)
 }
 
-// Skips this many bytes, in pieces of the room's length.
+/// Skips this many bytes, in pieces of the room's length.
 fn skip<F: Feed>(feed: &mut F, count: u32, room: &mut [u8], cut: Fault) -> Result<(), Stop>
     requires { 0 < length room.old }
     ensures skips { OnOk result
@@ -180,7 +180,7 @@ fn skip<F: Feed>(feed: &mut F, count: u32, room: &mut [u8], cut: Fault) -> Resul
     Ok(())
 }
 
-// The blob of a header or of data.
+/// The blob of a header or of data.
 #[tactic(auto, unfolding(crate::specs::Steps::known_blob_of))]
 fn read_known_blob<F: Feed>(
     feed: &mut F,
@@ -207,7 +207,7 @@ fn read_known_blob<F: Feed>(
     Ok(())
 }
 
-// The blob after a header; one of another type is skipped.
+/// The blob after a header; one of another type is skipped.
 fn read_blob<F: Feed>(feed: &mut F, blob: &mut Vec<u8>, head: Head, at: u64) -> Result<(), Stop>
     requires in_range { at + head.size ≤ OFFSET_LIMIT }
     ensures gave { OnOk result
@@ -242,7 +242,7 @@ pub(crate) struct BufferedFrame {
     pub(crate) blob_at: u64,
 }
 
-// The next frame, or nothing at the end.
+/// The next frame, or nothing at the end.
 pub(crate) fn read_frame<F: Feed>(
     feed: &mut F,
     header: &mut Vec<u8>,

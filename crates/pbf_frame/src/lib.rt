@@ -21,7 +21,7 @@ pub use frame_parts::fill_vec;
 pub use header::{HEADER_LIMIT, Head, LARGEST_SIZE, read_head};
 pub use memory::{Pieces, Sink};
 pub use pbf_wire::RAW_LIMIT;
-pub use put::{HEAD_ROOM, put_frame, put_front, put_head};
+pub use put::{HEAD_ROOM, put_frame, put_frame_head, put_head};
 pub use reader::{FrameReader, MOST_BUFFERED};
 pub use std_device::{FromRead, ToWrite};
 pub use stop::{DrainFault, FeedFault, Stop};

@@ -23,7 +23,7 @@ use pbf_wire::shortest_spelling;
 /// The room for all of a frame but its payload.
 pub const HEAD_ROOM: usize = 128;
 
-// Puts bytes after the first ones of the room, and reports how many there are then.
+/// Puts bytes after the first ones of the room, and reports how many there are then.
 fn put(room: &mut [u8], at: usize, bytes: &[u8]) -> usize
     requires { at + length bytes.now ≤ length room.old }
     ensures front { take result room.new ≡ take at room.old ++ bytes.now }
@@ -34,7 +34,7 @@ fn put(room: &mut [u8], at: usize, bytes: &[u8]) -> usize
     end
 }
 
-// Puts a varint there.
+/// Puts a varint there.
 fn put_varint(room: &mut [u8], at: usize, value: u64) -> usize
     requires { at + 10 ≤ length room.old }
     ensures front { take result room.new ≡ take at room.old ++ shortest value }
@@ -55,7 +55,7 @@ fn name_of(kind: FrameKind) -> &'static [u8]
     }
 }
 
-// Puts a BlobHeader at the start of the room, and returns its length.
+/// Puts a BlobHeader at the start of the room, and returns its length.
 #[tactic(auto, using(crate::proofs::Putting::header_put))]
 fn put_header(room: &mut [u8], kind: FrameKind, size: u64) -> usize
     requires { length room.old ≡ 64 }
@@ -70,7 +70,7 @@ fn put_header(room: &mut [u8], kind: FrameKind, size: u64) -> usize
     put_varint(room, end, size)
 }
 
-// Puts what a Blob has before its raw data of this length at the start of the room, and returns its length.
+/// Puts what a Blob has before its raw data of this length at the start of the room, and returns its length.
 #[tactic(auto, using(crate::proofs::Putting::blob_put))]
 fn put_blob_head(room: &mut [u8], payload: usize) -> usize
     requires { length room.old ≡ 32 }
@@ -83,7 +83,7 @@ fn put_blob_head(room: &mut [u8], payload: usize) -> usize
 
 /// Puts what a frame has before its blob, which has this length, at the start of the room, and returns how many bytes that is.
 #[tactic(auto, using(crate::proofs::Putting::front_put, crate::proofs::Putting::cuts))]
-pub fn put_front(room: &mut [u8], kind: FrameKind, blob: u64) -> usize
+pub fn put_frame_head(room: &mut [u8], kind: FrameKind, blob: u64) -> usize
     requires { length room.old ≡ HEAD_ROOM }
     ensures front { take result room.new
         ≡ big_bytes 4 (length (written_header kind blob)) ++ written_header kind blob }
@@ -106,7 +106,7 @@ pub fn put_head(room: &mut [u8], kind: FrameKind, payload: usize) -> usize
 {
     let mut blob = [0; 32];
     let blob_end = put_blob_head(&mut blob, payload);
-    let end = put_front(room, kind, (blob_end + payload) as u64);
+    let end = put_frame_head(room, kind, (blob_end + payload) as u64);
     put(room, end, &blob[..blob_end])
 }
 

@@ -73,7 +73,7 @@ impl<F: Feed> FrameReader<F> {
         }
     }
 
-    // The next frame, whose bytes are left in the buffers.
+    /// The next frame, whose bytes are left in the buffers.
     fn advance(&mut self) -> Result<Option<BufferedFrame>, Stop>
         ensures next { IsSeeingNext F.remaining F.failures F.lender F.has_passed self.old result
             self.new }
@@ -124,7 +124,7 @@ impl<F: Feed> FrameReader<F> {
         Ok(Some(self.lend(seen)))
     }
 
-    // The frame whose bytes are left in the buffers.
+    /// The frame whose bytes are left in the buffers.
     fn lend(&self, seen: BufferedFrame) -> Frame<'_>
         requires placed { IsWithinFile seen }
         requires sound { IsSoundBlob seen.kind seen.blob_at self.now.blob.items }

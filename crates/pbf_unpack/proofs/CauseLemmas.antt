@@ -2,8 +2,8 @@
 use Rattle.std.proofs.Common.{◌≡◌, ℕ, ◌+◌, ◌≤◌, List, ◌++◌, length, take, Some, refl, subst, length-append, arith}
 use Rattle.pbf_frame.specs.declared.device.Drain as drain
 use Rattle.pbf_frame.specs.declared.header.TheConstants.{HEADER_LIMIT, LARGEST_SIZE}
-use Rattle.pbf_unpack.specs.declared.below.Course.{Course}
-use Rattle.pbf_unpack.specs.declared.below.Course.TheVariants.{Taking, Failed, Unfit, Refused}
+use Rattle.pbf_unpack.specs.declared.below.DrainState.{DrainState}
+use Rattle.pbf_unpack.specs.declared.below.DrainState.TheVariants.{Taking, Failed, Unfit, Refused}
 use Rattle.pbf_unpack.specs.declared.drain.PackedDrain.{PackedDrain}
 use Rattle.pbf_unpack.specs.declared.frame.Part.{Part}
 use Rattle.pbf_unpack.specs.declared.frame.Part.TheVariants.{Prefix, Header, Blob}
@@ -29,7 +29,7 @@ module _ {D : Type 0} {d : drain.Ghosts D} (p : PackedDrain D d) where
   known_of : (raw : List ℕ) → taken_raw p ≡ Some raw → (packed : List ℕ) × (d.taken p.below.drain ≡ Some packed)
   known_of raw is = grind arith
 
-  pub has_cause : (course : Course) → p.below.course ≡ course → HasCause p course
+  pub has_cause : (state : DrainState) → p.below.state ≡ state → HasCause p state
   has_cause Taking is = tt
   has_cause Failed is = p.below.failed is
   has_cause Unfit is = λ packed raw rest known taken file.

@@ -2,10 +2,10 @@
 use Rattle.std.proofs.Common.{◌≡◌, ℕ, List, [], ◌++◌, take, Option, Some, None, refl, sym, ap, subst, ◌∙◌, arith}
 use Rattle.std.proofs.lemmas.List.{append-nil, take_all}
 use Rattle.pbf_frame.specs.declared.device.Drain as drain
-use Rattle.pbf_unpack.specs.declared.below.Course.{Course}
-use Rattle.pbf_unpack.specs.declared.below.Course.TheVariants.{Taking}
+use Rattle.pbf_unpack.specs.declared.below.DrainState.{DrainState}
+use Rattle.pbf_unpack.specs.declared.below.DrainState.TheVariants.{Taking}
 use Rattle.pbf_unpack.specs.declared.drain.PackedDrain.{PackedDrain}
-use Rattle.pbf_unpack.specs.Course.{HasWhole, IsPackedAs}
+use Rattle.pbf_unpack.specs.DrainStates.{HasWhole, IsPackedAs}
 use Rattle.pbf_unpack.specs.Packing.{frame_held, taken_raw, GaveAll, HasCompressed, PacksTo, TookSame}
 use Rattle.pbf_unpack.specs.Unpacked.{as_they_stand, unpacked}
 use Rattle.pbf_unpack.proofs.PackingLemmas.{packed_means, raw_in}
@@ -25,10 +25,10 @@ module _ {D : Type 0} {d : drain.Ghosts D} (old new : PackedDrain D d) where
   gave_logged : frame_held new.frame ≡ [] → (log : ℕ) (raw : List ℕ) → HasCompressed new log raw → PacksTo (d.has_taken new.below.drain log) raw
   gave_logged empty log raw has = grind (arith, append-nil has.done, packed_means has.done has.packed has.means)
 
-  pub gave_all : taken_raw new ≡ taken_raw old → TookSame old new → frame_held new.frame ≡ [] → new.below.course ≡ Taking → GaveAll old new
+  pub gave_all : taken_raw new ≡ taken_raw old → TookSame old new → frame_held new.frame ≡ [] → new.below.state ≡ Taking → GaveAll old new
   gave_all same logged empty taking = record {
     told = λ raw is.
         gave_told (d.taken new.below.drain) new.below.place (frame_held new.frame) raw
-        (λ taken known. subst (λ (x : Course). HasWhole x new.below.place taken) taking (new.below.whole taken known)) empty (same ∙ is);
+        (λ taken known. subst (λ (x : DrainState). HasWhole x new.below.place taken) taking (new.below.whole taken known)) empty (same ∙ is);
     logged = λ log raw has. gave_logged empty log raw (logged log raw has);
   }

@@ -13,8 +13,8 @@ use Rattle.pbf_frame.specs.declared.frame.FrameKind.{FrameKind}
 use Rattle.pbf_frame.specs.declared.frame.FrameKind.TheVariants as kind
 use Rattle.pbf_frame.specs.Writing.{written_frame}
 use Rattle.zlib.specs.Stream.{inflated}
-use Rattle.pbf_unpack.specs.declared.below.Course.TheVariants.{Taking, Failed}
-use Rattle.pbf_unpack.specs.Course.{IsPackedAt, IsPackedAs, BeginsPacked, HasWhole}
+use Rattle.pbf_unpack.specs.declared.below.DrainState.TheVariants.{Taking, Failed}
+use Rattle.pbf_unpack.specs.DrainStates.{IsPackedAt, IsPackedAs, BeginsPacked, HasWhole}
 use Rattle.pbf_unpack.specs.declared.whole.WholeFrame.{WholeFrame}
 use Rattle.pbf_unpack.specs.Packed.{packed_in, fits_size}
 use Rattle.pbf_unpack.specs.Unpacked.{as_they_stand, unpacked_frame, unpacked_from, unpacked}

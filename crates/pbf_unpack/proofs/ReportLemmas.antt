@@ -4,7 +4,7 @@ use Rattle.std.specs.Option.{is_none, option_map}
 use Rattle.std.proofs.lemmas.List.{append-nil}
 use Rattle.std.proofs.lemmas.Option.{same_Some}
 use Rattle.pbf_frame.specs.Frames.{blob_at, frame_end, frame_kind, frame_bytes, frame_at}
-use Rattle.pbf_unpack.specs.declared.feed.State.{State}
+use Rattle.pbf_unpack.specs.declared.feed.FeedState.{FeedState}
 use Rattle.pbf_unpack.specs.declared.feed.UnpackedFeed.{UnpackedFeed}
 use Rattle.pbf_unpack.specs.Reports.{stop_in, has_all, GavePacked}
 use Rattle.pbf_unpack.specs.Supplying.{more, unless_failed, IsEndBelow, left_in, remaining_in, HasSupplied}
@@ -31,14 +31,14 @@ joined_none [] ys is = is
 joined_none (x ∷ xs) ys is = (let bad : ⊥ = (let none : length (x ∷ (xs ++ ys)) ≡ 0 = ap length is in omega (arith, none)) in absurd bad)
 
 -- if nothing is reported to be left, the feed below is at its end
-ended_below : (s : State) (place : ℕ) (left : List ℕ) (known : Option (List ℕ)) → IsEndBelow s known → unless_failed s (option_map (λ bytes. left ++ (more s place bytes).0) known) ≡ Some [] → known ≡ Some []
+ended_below : (s : FeedState) (place : ℕ) (left : List ℕ) (known : Option (List ℕ)) → IsEndBelow s known → unless_failed s (option_map (λ bytes. left ++ (more s place bytes).0) known) ≡ Some [] → known ≡ Some []
 ended_below s place left known h1 h2 = grind (arith, means_none, joined_none, same_Some)
 
 none_joined : (xs ys : List ℕ) → xs ++ ys ≡ [] → (length xs == 0) ≡ true
 none_joined [] ys is = refl
 none_joined (x ∷ xs) ys is = (let bad : ⊥ = (let none : length (x ∷ (xs ++ ys)) ≡ 0 = ap length is in omega (arith, none)) in absurd bad)
 
-all_by : (s : State) (place : ℕ) (left : List ℕ) (known : Option (List ℕ)) → unless_failed s (option_map (λ bytes. left ++ (more s place bytes).0) known) ≡ Some [] → (is_none (stop_in s) && length left == 0) ≡ true
+all_by : (s : FeedState) (place : ℕ) (left : List ℕ) (known : Option (List ℕ)) → unless_failed s (option_map (λ bytes. left ++ (more s place bytes).0) known) ≡ Some [] → (is_none (stop_in s) && length left == 0) ≡ true
 all_by s place left known h1 = grind (arith, none_joined, same_Some)
 
 -- if nothing is reported to be left, all was supplied

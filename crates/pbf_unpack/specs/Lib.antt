@@ -7,7 +7,7 @@ pub mod Supplying
 pub mod Reports
 pub mod Laws
 pub mod Parts
-pub mod Course
+pub mod DrainStates
 pub mod Packing
 pub mod Packs
 pub mod Streams

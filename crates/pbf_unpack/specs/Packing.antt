@@ -5,12 +5,12 @@ use Rattle.pbf_frame.specs.declared.device.Drain as drain
 use Rattle.pbf_frame.specs.Devices.{HasRisen, IsFront}
 use Rattle.pbf_unpack.specs.declared.frame.RawFrame.{RawFrame}
 use Rattle.pbf_unpack.specs.declared.below.Below.{Below}
-use Rattle.pbf_unpack.specs.declared.below.Course.{Course}
-use Rattle.pbf_unpack.specs.declared.below.Course.TheVariants.{Taking, Failed, Unfit, Refused}
+use Rattle.pbf_unpack.specs.declared.below.DrainState.{DrainState}
+use Rattle.pbf_unpack.specs.declared.below.DrainState.TheVariants.{Taking, Failed, Unfit, Refused}
 use Rattle.pbf_unpack.specs.declared.drain.PackedDrain.{PackedDrain}
 use Rattle.pbf_unpack.specs.RawFrames.{IsNearLimit, IsRawFile}
 use Rattle.pbf_unpack.specs.Unpacked.{as_they_stand, unpacked_from, unpacked}
-use Rattle.pbf_unpack.specs.Course.{IsPackedAs, spent_failures}
+use Rattle.pbf_unpack.specs.DrainStates.{IsPackedAs, spent_failures}
 
 -- the bytes of a raw frame that were taken so far
 abbrev pub frame_held : RawFrame → List ℕ
@@ -25,7 +25,7 @@ taken_raw {d = d} p = option_map (λ packed. unpacked (take p.below.place packed
 -- the drain below failed within a frame
 pub record IsStuck {D : Type 0} {d : drain.Ghosts D} (frame : List ℕ) (old new : Below D d) : Type 0 where
   pub place_same : new.place ≡ old.place
-  pub course_is : new.course ≡ Failed
+  pub course_is : new.state ≡ Failed
   pub front : IsFront (d.taken old.drain) (d.taken new.drain) frame
   pub risen : HasRisen (d.failures old.drain) (d.failures new.drain)
 
@@ -59,16 +59,16 @@ TookSame old new = (log : ℕ) (raw : List ℕ) → HasCompressed old log raw �
 pub record IsEmptied {D : Type 0} {d : drain.Ghosts D} (p : PackedDrain D d) : Type 0 where
   pub held : frame_held p.frame ≡ []
   pub wants : 0 < p.frame.wanted
-  pub course : p.below.course ≡ Taking
+  pub state : p.below.state ≡ Taking
 
 -- ---- failures
 
 -- why a write fails, by the failures of the drain below: it failed, or the drain takes nothing more
 abbrev pub failures_of_drain : {D : Type 0} {d : drain.Ghosts D} → PackedDrain D d → ℕ
-failures_of_drain {d = d} p = spent_failures p.below.course + d.failures p.below.drain
+failures_of_drain {d = d} p = spent_failures p.below.state + d.failures p.below.drain
 
 -- why it takes nothing more: the drain below failed; or no raw file begins with what it took, unless the packed one is near its limit. Of memory nothing is said
-abbrev pub HasCause : {D : Type 0} {d : drain.Ghosts D} → PackedDrain D d → Course → Type 0
+abbrev pub HasCause : {D : Type 0} {d : drain.Ghosts D} → PackedDrain D d → DrainState → Type 0
 HasCause p Taking = Unit {0}
 HasCause {d = d} p Failed = 0 < d.failures p.below.drain
 HasCause {d = d} p Unfit = (packed raw rest : List ℕ) → d.taken p.below.drain ≡ Some packed → taken_raw p ≡ Some raw → IsRawFile (raw ++ rest) → IsNearLimit packed

@@ -6,15 +6,15 @@ use Rattle.pbf_frame.specs.declared.stop.Stop.TheVariants as stop
 use Rattle.zlib.specs.Names.{fault_name}
 use Rattle.pbf_unpack.specs.declared.fault.UnpackReason.{UnpackReason}
 use Rattle.pbf_unpack.specs.declared.fault.UnpackReason.TheVariants.{Inflate, RawSize}
-use Rattle.pbf_unpack.specs.declared.feed.State.{State}
-use Rattle.pbf_unpack.specs.declared.feed.State.TheVariants.{Reading, PassingOn, Ended, Failed, Refused}
+use Rattle.pbf_unpack.specs.declared.feed.FeedState.{FeedState}
+use Rattle.pbf_unpack.specs.declared.feed.FeedState.TheVariants.{Reading, PassingOn, Ended, Failed, Refused}
 use Rattle.pbf_unpack.specs.declared.feed.UnpackedFeed.{UnpackedFeed}
 use Rattle.pbf_unpack.specs.Stored.{stored_from}
 use Rattle.pbf_unpack.specs.Supplying.{left_in, remaining_in}
 use Rattle.pbf_unpack.specs.Unpacked.{unpacked_from}
 
 -- why a feed failed
-abbrev pub stop_in : State → Option Stop
+abbrev pub stop_in : FeedState → Option Stop
 stop_in Failed = Some stop.Read
 stop_in Refused = Some stop.Memory
 stop_in Reading = None

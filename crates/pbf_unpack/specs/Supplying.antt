@@ -6,15 +6,15 @@ use Rattle.pbf_frame.specs.declared.stop.Stop.{Stop}
 use Rattle.pbf_frame.specs.Keeps.{KeepsFeed}
 use Rattle.pbf_frame.specs.declared.stop.Stop.TheVariants as stop
 use Rattle.pbf_frame.specs.Devices.{HasRisen, IsAtEnd}
-use Rattle.pbf_unpack.specs.declared.feed.State.{State}
-use Rattle.pbf_unpack.specs.declared.feed.State.TheVariants.{Reading, PassingOn, Ended, Failed, Refused}
+use Rattle.pbf_unpack.specs.declared.feed.FeedState.{FeedState}
+use Rattle.pbf_unpack.specs.declared.feed.FeedState.TheVariants.{Reading, PassingOn, Ended, Failed, Refused}
 use Rattle.pbf_unpack.specs.declared.feed.UnpackedFeed.{UnpackedFeed}
 use Rattle.pbf_unpack.specs.declared.stored.Stored.{Stored}
 use Rattle.pbf_unpack.specs.Stored.{none_stored, stored_from, together}
 use Rattle.pbf_unpack.specs.Unpacked.{Unpacked, then_unpacked, as_they_stand, unpacked_from}
 
 -- what the bytes that follow at this place mean: frames, or bytes as they are, or nothing more
-abbrev pub more : State → ℕ → List ℕ → Unpacked
+abbrev pub more : FeedState → ℕ → List ℕ → Unpacked
 more Reading place rest = unpacked_from place rest
 more PassingOn place rest = as_they_stand rest
 more Ended place rest = as_they_stand []
@@ -22,7 +22,7 @@ more Failed place rest = as_they_stand rest
 more Refused place rest = as_they_stand []
 
 -- nothing follows the end, and of what follows a failure nothing is said
-abbrev pub CanFollow : State → List ℕ → Type 0
+abbrev pub CanFollow : FeedState → List ℕ → Type 0
 CanFollow Reading rest = Unit {0}
 CanFollow PassingOn rest = Unit {0}
 CanFollow Ended rest = rest ≡ []
@@ -30,11 +30,11 @@ CanFollow Failed rest = ⊥
 CanFollow Refused rest = ⊥
 
 -- bytes that were read from one place up to another mean this, and then what those that follow mean
-abbrev pub Carries : (start : ℕ) → State → (place : ℕ) → List ℕ → Unpacked → Type 0
+abbrev pub Carries : (start : ℕ) → FeedState → (place : ℕ) → List ℕ → Unpacked → Type 0
 Carries start state place read meaning = (rest : List ℕ) → CanFollow state rest → unpacked_from start (read ++ rest) ≡ then_unpacked meaning (more state place rest)
 
 -- how blobs are stored that follow at this place
-abbrev pub more_stored : State → ℕ → List ℕ → Stored
+abbrev pub more_stored : FeedState → ℕ → List ℕ → Stored
 more_stored Reading place rest = stored_from place rest
 more_stored PassingOn place rest = none_stored
 more_stored Ended place rest = none_stored
@@ -42,7 +42,7 @@ more_stored Failed place rest = none_stored
 more_stored Refused place rest = none_stored
 
 -- the blobs of bytes that were read from one place up to another are stored so
-abbrev pub CarriesStored : (start : ℕ) → State → (place : ℕ) → List ℕ → Stored → Type 0
+abbrev pub CarriesStored : (start : ℕ) → FeedState → (place : ℕ) → List ℕ → Stored → Type 0
 CarriesStored start state place read stored = (rest : List ℕ) → CanFollow state rest → stored_from start (read ++ rest) ≡ together stored (more_stored state place rest)
 
 -- the bytes in the buffers that are still to supply
@@ -50,7 +50,7 @@ abbrev pub left_in : {F : Type 0} → UnpackedFeed F → List ℕ
 left_in u = drop u.done (u.buffers.front.items ++ u.buffers.raw.items)
 
 -- nothing is reported once a read failed
-abbrev pub unless_failed : State → Option (List ℕ) → Option (List ℕ)
+abbrev pub unless_failed : FeedState → Option (List ℕ) → Option (List ℕ)
 unless_failed Reading known = known
 unless_failed PassingOn known = known
 unless_failed Ended known = known
@@ -62,7 +62,7 @@ abbrev pub remaining_in : {F : Type 0} → (F → Option (List ℕ)) → Unpacke
 remaining_in remaining u = unless_failed u.state (option_map (λ bytes. left_in u ++ (more u.state u.place bytes).0) (remaining u.feed))
 
 -- once the end was reached, the feed below is at its own
-abbrev pub IsEndBelow : State → Option (List ℕ) → Type 0
+abbrev pub IsEndBelow : FeedState → Option (List ℕ) → Type 0
 IsEndBelow Reading known = Unit {0}
 IsEndBelow PassingOn known = Unit {0}
 IsEndBelow Ended known = IsAtEnd known
@@ -81,7 +81,7 @@ pub record HasSupplied {F : Type 0} (remaining : F → Option (List ℕ)) (has_p
 -- ---- failures
 
 -- how many failures count once memory was refused: as many as can be counted, since each later read fails too
-abbrev pub refusals : State → ℕ
+abbrev pub refusals : FeedState → ℕ
 refusals Refused = 2 ^ 64 - 1
 refusals Reading = 0
 refusals PassingOn = 0
@@ -89,7 +89,7 @@ refusals Ended = 0
 refusals Failed = 0
 
 -- why a read fails: memory was refused; or, if it never was, a read of the feed below failed, whose count has risen
-abbrev pub IsSupplyStop : State → (old new : ℕ) → Stop → Type 0
+abbrev pub IsSupplyStop : FeedState → (old new : ℕ) → Stop → Type 0
 IsSupplyStop state old new stop.Memory = Unit {0}
 IsSupplyStop state old new stop.Read = (refusals state ≡ 0) × HasRisen old new
 IsSupplyStop state old new stop.Write = ⊥
@@ -110,7 +110,7 @@ pub record SuppliesTheSame {F : Type 0} (remaining : F → Option (List ℕ)) (h
   pub supplied_same : (log : ℕ) (bytes : List ℕ) → HasSupplied remaining has_passed old log bytes → HasSupplied remaining has_passed new log bytes
 
 -- there are bytes in the buffers, or the end was reached
-abbrev pub HasSupply : State → List ℕ → Type 0
+abbrev pub HasSupply : FeedState → List ℕ → Type 0
 HasSupply Reading left = 0 < length left
 HasSupply PassingOn left = Unit {0}
 HasSupply Ended left = Unit {0}

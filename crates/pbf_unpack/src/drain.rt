@@ -5,13 +5,13 @@ ghost use Rattle.pbf_frame.specs.Keeps.{KeepsDrain};
 ghost use Rattle.pbf_frame.specs.declared.header.TheConstants.{HEADER_LIMIT, LARGEST_SIZE};
 ghost use Rattle.pbf_frame.specs.declared.put.TheConstants.{HEAD_ROOM};
 ghost use Rattle.pbf_unpack.specs.declared.packer.TheConstants.{MOST_ROOM};
-ghost use Rattle.pbf_unpack.specs.Course.{spent_failures, stop_of_course, HasWhole};
+ghost use Rattle.pbf_unpack.specs.DrainStates.{spent_failures, stop_of_course, HasWhole};
 ghost use Rattle.pbf_unpack.specs.RawFrames.{IsNoRaw};
-ghost use Rattle.pbf_unpack.specs.declared.below.Course.TheVariants as courses;
+ghost use Rattle.pbf_unpack.specs.declared.below.DrainState.TheVariants as states;
 
-use crate::below::{Below, Course};
+use crate::below::{Below, DrainState};
 use crate::frame::RawFrame;
-use crate::packer::Packer;
+use crate::packer::FramePacker;
 use deflate::Deflater;
 use pbf_frame::{Drain, DrainFault, Stop};
 use std::alloc::Global;
@@ -26,8 +26,8 @@ use std::alloc::Global;
 pub struct PackedDrain<D: Drain> {
     pub(crate) below: Below<D>,
     pub(crate) frame: RawFrame,
-    packer: Packer,
-    ghost unfit: { below.course ≡ courses.Unfit
+    packer: FramePacker,
+    ghost unfit: { below.state ≡ states.Unfit
         → IsNoRaw below.place (frame.front.items ++ frame.blob.items) },
 }
 
@@ -41,43 +41,43 @@ impl<D: Drain> PackedDrain<D> {
         ensures lender { D.lender result.below.drain ≡ D.lender drain }
         ensures taken { taken_raw result ≡ D.taken drain }
         ensures logged { (log : ℕ) → D.has_taken drain log [] → HasCompressed result log [] }
-        ensures failures { spent_failures result.below.course ≡ 0 }
+        ensures failures { spent_failures result.below.state ≡ 0 }
     {
         PackedDrain {
             below: Below::new(drain),
             frame: RawFrame::new(alloc),
-            packer: Packer::new(alloc, deflater),
+            packer: FramePacker::new(alloc, deflater),
         }
     }
 
     /// Takes nothing more.
-    fn stop_as(&mut self, course: Course) -> DrainFault
-        requires stops { (course ≡ courses.Taking → ⊥) × (course ≡ courses.Failed → ⊥) }
-        requires unfit { course ≡ courses.Unfit
+    fn stop_as(&mut self, state: DrainState) -> DrainFault
+        requires stops { (state ≡ states.Taking → ⊥) × (state ≡ states.Failed → ⊥) }
+        requires unfit { state ≡ states.Unfit
             → IsNoRaw self.old.below.place (frame_held self.old.frame) }
-        ensures course { self.new.below.course ≡ course }
+        ensures state { self.new.below.state ≡ state }
         ensures drain { self.new.below.drain ≡ self.old.below.drain }
         ensures place { self.new.below.place ≡ self.old.below.place }
         ensures frame { self.new.frame ≡ self.old.frame }
     {
-        self.below.course = course;
+        self.below.state = state;
         DrainFault
     }
 
     /// Gives the drain below the frame that is held.
     fn send(&mut self) -> Result<(), DrainFault>
-        requires taking { self.old.below.course ≡ courses.Taking }
+        requires taking { self.old.below.state ≡ states.Taking }
         requires complete { self.old.frame.wanted ≡ 0 }
         ensures taken { taken_raw self.new ≡ taken_raw self.old }
         ensures logged { OnOk result (TookSame self.old self.new) }
         ensures empty { OnOk result (IsEmptied self.new) }
-        ensures stopped { OnErr result (self.new.below.course ≡ courses.Taking → ⊥) }
+        ensures stopped { OnErr result (self.new.below.state ≡ states.Taking → ⊥) }
         ensures keeps { KeepsDrain D.Drain self.old.below.drain self.new.below.drain }
     {
         let packing = match self.packer.pack(&self.frame, self.below.place) {
             Ok(Some(packing)) => packing,
-            Ok(None) => return Err(self.stop_as(Course::Unfit)),
-            Err(_) => return Err(self.stop_as(Course::Refused)),
+            Ok(None) => return Err(self.stop_as(DrainState::Unfit)),
+            Err(_) => return Err(self.stop_as(DrainState::Refused)),
         };
         let (front, blob) = self.packer.parts(&self.frame, packing);
         self.below.send(front, blob)?;
@@ -90,11 +90,11 @@ impl<D: Drain> PackedDrain<D> {
     pub fn finish(&mut self) -> Result<(), DrainFault>
         ensures gave { OnOk result (GaveAll self.old self.new) }
         ensures taken { taken_raw self.new ≡ taken_raw self.old }
-        ensures stopped { OnErr result (IsSome (stop_of_course self.new.below.course)
+        ensures stopped { OnErr result (IsSome (stop_of_course self.new.below.state)
             ⊎ TookNoRawFile self.new) }
         ensures keeps { KeepsDrain D.Drain self.old.below.drain self.new.below.drain }
     {
-        if self.below.course != Course::Taking {
+        if self.below.state != DrainState::Taking {
             return Err(DrainFault);
         }
         if self.frame.is_empty() {
@@ -110,13 +110,13 @@ impl<D: Drain> PackedDrain<D> {
     /// Why it takes nothing more: `Write` if a write of the drain below failed, or if the bytes are no raw file; `Memory` if memory was refused. If
     /// the drain below reports what it took, the refused bytes don't begin a raw file, unless the packed file is near its limit.
     pub fn stop(&self) -> Option<Stop>
-        ensures stop { result ≡ stop_of_course self.now.below.course }
-        ensures cause { HasCause self.now self.now.below.course }
+        ensures stop { result ≡ stop_of_course self.now.below.state }
+        ensures cause { HasCause self.now self.now.below.state }
     {
-        match self.below.course {
-            Course::Taking => None,
-            Course::Failed | Course::Unfit => Some(Stop::Write),
-            Course::Refused => Some(Stop::Memory),
+        match self.below.state {
+            DrainState::Taking => None,
+            DrainState::Failed | DrainState::Unfit => Some(Stop::Write),
+            DrainState::Refused => Some(Stop::Memory),
         }
     }
 
@@ -131,7 +131,7 @@ impl<D: Drain> PackedDrain<D> {
     pub fn into_inner(self) -> D
         ensures drain { result ≡ self.below.drain }
         ensures whole { (taken : List ℕ) → D.taken result ≡ Some taken
-            → HasWhole self.below.course self.below.place taken }
+            → HasWhole self.below.state self.below.place taken }
         ensures lender { D.lender result ≡ D.lender self.below.drain }
     {
         self.below.drain
@@ -150,7 +150,7 @@ impl<D: Drain> Drain for PackedDrain<D> {
     ghost lender = { λ p. D.lender p.below.drain };
 
     fn write(&mut self, bytes: &[u8]) -> Result<usize, DrainFault> {
-        if self.below.course != Course::Taking {
+        if self.below.state != DrainState::Taking {
             return Err(DrainFault);
         }
         if self.frame.is_complete() {
@@ -158,7 +158,7 @@ impl<D: Drain> Drain for PackedDrain<D> {
         }
         match self.frame.take(bytes) {
             Ok(count) => Ok(count),
-            Err(_) => Err(self.stop_as(Course::Refused)),
+            Err(_) => Err(self.stop_as(DrainState::Refused)),
         }
     }
 }

@@ -12,7 +12,7 @@ use zlib::Inflater;
 
 /// How a feed goes on.
 #[derive(Clone, Copy, PartialEq, Eq)]
-pub(crate) enum State {
+pub(crate) enum FeedState {
     /// With the next frame.
     Reading,
     /// With bytes as they are, since they begin no whole frame.
@@ -49,16 +49,16 @@ pub struct UnpackedFeed<F> {
     pub(crate) feed: F,
     pub(crate) inflater: Inflater,
     pub(crate) buffers: Buffers,
-    // How many bytes of those in the buffers were supplied.
+    /// How many bytes of those in the buffers were supplied.
     pub(crate) done: usize,
-    // Where in the packed file the frame in the buffers ends.
+    /// Where in the packed file the frame in the buffers ends.
     pub(crate) place: u64,
-    pub(crate) state: State,
-    // The first fault of zlib data.
+    pub(crate) state: FeedState,
+    /// The first fault of zlib data.
     pub(crate) fault: Option<UnpackFault>,
-    // How the blobs are stored that were read.
+    /// How the blobs are stored that were read.
     pub(crate) stored: Stored,
-    // Of the frame in the buffers, and of the first one that is a header.
+    /// Of the frame in the buffers, and of the first one that is a header.
     pub(crate) origin: Origin,
     pub(crate) header: Option<Origin>,
     ghost in_range: { place ≤ FILE_LIMIT },

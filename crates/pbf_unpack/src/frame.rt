@@ -61,7 +61,7 @@ pub(crate) struct RawFrame {
     pub(crate) front: Vec<u8>,
     pub(crate) blob: Vec<u8>,
     part: Part,
-    // How many bytes of that part are still to come. None are if the frame is whole, or can't become a whole one.
+    /// How many bytes of that part are still to come. None are if the frame is whole, or can't become a whole one.
     wanted: usize,
     ghost prefix: { part ≡ parts.Prefix → vec_len front + wanted ≡ 4 },
     ghost prefix_begun: { part ≡ parts.Prefix → 0 < wanted },

@@ -7,7 +7,7 @@ ghost use Rattle.pbf_frame.specs.Writing.{written_frame};
 ghost use Rattle.zlib.specs.Stream.{inflated};
 ghost use Rattle.pbf_unpack.specs.Streams.{stream_in, HasStream};
 ghost use Rattle.pbf_unpack.specs.Unpacked.{as_they_stand, unpacked_frame};
-ghost use Rattle.pbf_unpack.specs.Course.{IsPackedAt, Stands};
+ghost use Rattle.pbf_unpack.specs.DrainStates.{IsPackedAt, Stands};
 ghost use Rattle.pbf_unpack.specs.Packed.{HoldsPacked};
 ghost use Rattle.pbf_unpack.specs.RawFrames.{IsOneFrame, IsPastLimit};
 ghost use Rattle.pbf_unpack.specs.declared.packer.TheConstants.{FIELDS_ROOM, MOST_ROOM};
@@ -18,7 +18,7 @@ use crate::frame::{RawFrame, is_same};
 use crate::payload::fits_size;
 use crate::whole::{WholeFrame, whole_frame};
 use deflate::{Deflater, most_packed};
-use pbf_frame::{FrameKind, HEAD_ROOM, RAW, RAW_LIMIT, RAW_SIZE, ZLIB_DATA, put_front};
+use pbf_frame::{FrameKind, HEAD_ROOM, RAW, RAW_LIMIT, RAW_SIZE, ZLIB_DATA, put_frame_head};
 use pbf_wire::{Message, last_field, shortest_spelling};
 use std::alloc::{AllocError, Global};
 
@@ -39,11 +39,11 @@ pub(crate) enum Packing {
 
 /// Packs frames, one after the other.
 #[derive(Drop)]
-pub(crate) struct Packer {
+pub(crate) struct FramePacker {
     deflater: Deflater,
     /// The four bytes and the header of the packed frame.
     front: Vec<u8>,
-    // Its blob is here, from `start` to `end`.
+    /// Its blob is here, from `start` to `end`.
     room: Vec<u8>,
     start: usize,
     end: usize,
@@ -116,13 +116,13 @@ fn put_fields(raw_size: usize, room: &mut [u8], end: usize) -> usize
     start
 }
 
-impl Packer {
+impl FramePacker {
     ghost use Rattle.pbf_unpack.specs.Packing.{frame_held};
     ghost use Rattle.pbf_unpack.specs.Packs.{packed_blob, packed_stream, packed_held, goes_on};
 
     /// It allocates its buffers when a frame needs them.
-    pub(crate) fn new(alloc: Global, deflater: Deflater) -> Packer {
-        Packer {
+    pub(crate) fn new(alloc: Global, deflater: Deflater) -> FramePacker {
+        FramePacker {
             deflater,
             front: Vec::new(alloc),
             room: Vec::new(alloc),
@@ -174,13 +174,13 @@ impl Packer {
     }
 
     /// Puts the four bytes and the header before the blob.
-    fn put_front(&mut self, kind: FrameKind) -> Result<(), AllocError>
+    fn put_frame_head(&mut self, kind: FrameKind) -> Result<(), AllocError>
         ensures stream { packed_stream self.new ≡ packed_stream self.old }
         ensures end { self.new.end ≡ self.old.end }
     {
         let blob = self.blob().len() as u64;
         self.front.resize(HEAD_ROOM, 0)?;
-        let end = put_front(&mut self.front, kind, blob);
+        let end = put_frame_head(&mut self.front, kind, blob);
         self.front.truncate(end);
         Ok(())
     }
@@ -242,7 +242,7 @@ impl Packer {
             return Ok(false);
         }
         self.start = put_fields(payload.len(), &mut self.room, self.end);
-        self.put_front(raw.kind)?;
+        self.put_frame_head(raw.kind)?;
         Ok(self.is_sound(raw.kind, payload.len(), place))
     }
 

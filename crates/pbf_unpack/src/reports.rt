@@ -9,7 +9,7 @@ ghost use Rattle.pbf_unpack.specs.Unpacked.{unpacked};
 
 use crate::buffers::Buffers;
 use crate::fault::UnpackFault;
-use crate::feed::{Origin, State, UnpackedFeed};
+use crate::feed::{FeedState, Origin, UnpackedFeed};
 use crate::stored::Stored;
 use pbf_frame::{Feed, Stop};
 use std::alloc::Global;
@@ -54,7 +54,7 @@ impl<F: Feed> UnpackedFeed<F> {
             buffers: Buffers::new(alloc),
             done: 0,
             place: 0,
-            state: State::Reading,
+            state: FeedState::Reading,
             fault: None,
             stored: Stored::none(),
             origin: Origin {
@@ -88,9 +88,9 @@ impl<F: Feed> UnpackedFeed<F> {
         ensures { result ≡ stop_in self.now.state }
     {
         match self.state {
-            State::Failed => Some(Stop::Read),
-            State::Refused => Some(Stop::Memory),
-            State::Reading | State::PassingOn | State::Ended => None,
+            FeedState::Failed => Some(Stop::Read),
+            FeedState::Refused => Some(Stop::Memory),
+            FeedState::Reading | FeedState::PassingOn | FeedState::Ended => None,
         }
     }
 

@@ -3,12 +3,12 @@
 ghost use Rattle.std.specs.Prelude.{◌≡◌, ◌+◌, ◌-◌, ◌<◌, ◌≤◌, ◌++◌, ◌==◌, [], None, length, take, drop, vec_len, IfOk, OnOk};
 ghost use Rattle.pbf_frame.specs.Devices.{prepend, Passes, IsAtEnd};
 ghost use Rattle.pbf_frame.specs.Reads.{FillsFrom};
-ghost use Rattle.pbf_unpack.specs.declared.feed.State.TheVariants as states;
+ghost use Rattle.pbf_unpack.specs.declared.feed.FeedState.TheVariants as states;
 ghost use Rattle.pbf_unpack.specs.Stored.{stored_by_kind, together};
 ghost use Rattle.pbf_unpack.specs.Supplying.{left_in, remaining_in, refusals, HasSupplied, SuppliesTheSame, HasSupply, IsSameBut, SuppliesFrom};
 
 use crate::buffers::Buffers;
-use crate::feed::{Origin, State, UnpackedFeed};
+use crate::feed::{FeedState, Origin, UnpackedFeed};
 use crate::unpack::{Outcome, unpack};
 use crate::whole::{Found, WholeFrame, read_whole};
 use pbf_frame::{Feed, FeedFault, FrameKind, Stop};
@@ -98,12 +98,12 @@ impl<F: Feed> UnpackedFeed<F> {
             }
             Found::Unfit => {
                 self.buffers.stand();
-                self.state = State::PassingOn;
+                self.state = FeedState::PassingOn;
                 self.origin = next;
             }
             Found::Cut => {
                 self.buffers.stand();
-                self.state = State::Ended;
+                self.state = FeedState::Ended;
                 self.origin = next;
             }
         }
@@ -116,10 +116,10 @@ impl<F: Feed> UnpackedFeed<F> {
         ensures ready { OnOk result (HasSupply self.new.state (left_in self.new)) }
         ensures feed { SuppliesFrom F.Feed self.old self.new result }
     {
-        if self.state == State::Refused {
+        if self.state == FeedState::Refused {
             return Err(Stop::Memory);
         }
-        if self.state == State::Reading && self.is_spent() {
+        if self.state == FeedState::Reading && self.is_spent() {
             self.next_frame()?;
         }
         Ok(())
@@ -148,7 +148,7 @@ impl<F: Feed> UnpackedFeed<F> {
     {
         self.buffers.drop_supplied();
         self.done = 0;
-        self.state = State::Failed;
+        self.state = FeedState::Failed;
     }
 
     /// The end was reached: no memory is held for frames any more, since other passes may follow.
@@ -180,7 +180,7 @@ impl<F: Feed> UnpackedFeed<F> {
         if !self.is_spent() {
             return Ok(self.give(buf));
         }
-        if self.state == State::PassingOn || self.state == State::Failed {
+        if self.state == FeedState::PassingOn || self.state == FeedState::Failed {
             return Ok(self.feed.read(buf)?);
         }
         self.free_buffers();
@@ -201,7 +201,7 @@ impl<F: Feed> Feed for UnpackedFeed<F> {
         match self.supply(buf) {
             Ok(count) => Ok(count),
             Err(Stop::Memory) => {
-                self.state = State::Refused;
+                self.state = FeedState::Refused;
                 Err(FeedFault)
             }
             Err(_) => {

@@ -42,7 +42,7 @@ impl Outcome {
 }
 
 /// Fills the vector with what a written frame has before its payload.
-fn put_front(front: &mut Vec<u8>, kind: FrameKind, payload: &[u8]) -> Result<(), AllocError>
+fn put_raw_head(front: &mut Vec<u8>, kind: FrameKind, payload: &[u8]) -> Result<(), AllocError>
     requires known { kind ≡ kinds.Other → ⊥ }
     requires short { length payload.now < RAW_LIMIT }
     ensures front { OnOk result (front.new.items ++ payload.now ≡ written_frame kind payload.now) }
@@ -84,6 +84,6 @@ pub(crate) fn unpack(
         buffers.stand();
         return Ok(Outcome::Faulty(fault));
     }
-    put_front(&mut buffers.front, frame.kind, &buffers.raw)?;
+    put_raw_head(&mut buffers.front, frame.kind, &buffers.raw)?;
     Ok(Outcome::Unpacked)
 }

@@ -7,7 +7,7 @@ use Rattle.std.specs.Prelude.{IfSome}
 use Rattle.pbf_frame.specs.Devices.{IsFront}
 use Rattle.pbf_frame.proofs.Beginnings.{front_whole}
 use Rattle.pbf_frame.specs.declared.device.Drain as drain
-use Rattle.pbf_unpack.specs.declared.below.Course.TheVariants.{Taking}
+use Rattle.pbf_unpack.specs.declared.below.DrainState.TheVariants.{Taking}
 use Rattle.pbf_unpack.specs.declared.drain.PackedDrain.{PackedDrain}
 use Rattle.pbf_unpack.specs.Packing.{frame_held, taken_raw}
 use Rattle.pbf_unpack.specs.Unpacked.{Unpacked, unpacked}
@@ -42,7 +42,7 @@ taken_is p bytes (Some taken) same is some = subst p (sym same) is
 -- nothing is
 nothing_is_front : (answer : Answer) → IsFrontAs answer []
 nothing_is_front (raw_file, answer) = (0, refl)
-nothing_is_front (packed_file, answer) = record { course = Taking; place = 0; whole = whole_nothing; count = 0; means = ap (λ (u : Unpacked). u.0) (nothing_more 0) }
+nothing_is_front (packed_file, answer) = record { state = Taking; place = 0; whole = whole_nothing; count = 0; means = ap (λ (u : Unpacked). u.0) (nothing_more 0) }
 
 -- ---- by a drain that packs
 
@@ -59,7 +59,7 @@ module _ {D : Type 0} {d : drain.Ghosts D} (p : PackedDrain D d) (before : Optio
   packed_known None is = tt
   packed_known (Some packed) is =
       let done = unpacked (take p.below.place packed) in record {
-        course = p.below.course;
+        state = p.below.state;
         place = p.below.place;
         whole = p.below.whole packed is;
         count = length done;

@@ -2,8 +2,8 @@
 use Rattle.std.specs.Prelude.{◌≡◌, ◌⊎◌, ℕ, List, ◌∷◌, ◌++◌, map, take, false, true, Option}
 use Rattle.pbf_block.specs.declared.counts.Counts.{Counts}
 use Rattle.pbf_pass.specs.declared.hashing.PassCheck.{PassCheck}
-use Rattle.pbf_unpack.specs.declared.below.Course.{Course}
-use Rattle.pbf_unpack.specs.Course.{HasWhole}
+use Rattle.pbf_unpack.specs.declared.below.DrainState.{DrainState}
+use Rattle.pbf_unpack.specs.DrainStates.{HasWhole}
 use Rattle.pbf_unpack.specs.Unpacked.{unpacked}
 use Rattle.pbfcut_program.specs.Events.{Event, Reading, Writing, read, wrote}
 use Rattle.pbfcut_program.specs.Fails.{Each, Opens, Quiet}
@@ -14,9 +14,9 @@ use Rattle.pbfcut.specs.Tasks.{Task, answer_of, listing_frames}
 
 -- zlib blobs: whole frames that mean a prefix of the answer, and after them a prefix of one at most
 pub record IsPackedFront (answer bytes : List ℕ) : Type 0 where
-  pub course : Course
+  pub state : DrainState
   pub place : ℕ
-  pub whole : HasWhole course place bytes
+  pub whole : HasWhole state place bytes
   pub count : ℕ
   pub means : unpacked (take place bytes) ≡ take count answer
 

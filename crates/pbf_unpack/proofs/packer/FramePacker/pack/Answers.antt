@@ -2,7 +2,7 @@ use Rattle.std.proofs.Common.{rules}
 use Rattle.pbf_unpack.specs.Packed.{HoldsPacked}
 use Rattle.pbf_unpack.specs.RawFrames.{IsFrameOf}
 use Rattle.pbf_unpack.proofs.FrameHeld.{one_frame, packed_is_past}
-use Rattle.pbf_unpack.proofs.packer.Packer.pack.Goals as goal
+use Rattle.pbf_unpack.proofs.packer.FramePacker.pack.Goals as goal
 
 pub returns-then-not-stands-clause-past : goal.returns-then-not-stands-clause-past
 returns-then-not-stands-clause-past c none =

@@ -3,8 +3,8 @@ use Rattle.std.specs.Prelude.{◌≡◌, ℕ, ◌+◌, ◌-◌, ◌^◌, ◌≤�
 use Rattle.pbf_frame.specs.declared.frame.TheConstants.{FILE_LIMIT}
 use Rattle.pbf_frame.specs.declared.stop.Stop.{Stop}
 use Rattle.pbf_frame.specs.declared.stop.Stop.TheVariants as stop
-use Rattle.pbf_unpack.specs.declared.below.Course.{Course}
-use Rattle.pbf_unpack.specs.declared.below.Course.TheVariants.{Taking, Failed, Unfit, Refused}
+use Rattle.pbf_unpack.specs.declared.below.DrainState.{DrainState}
+use Rattle.pbf_unpack.specs.declared.below.DrainState.TheVariants.{Taking, Failed, Unfit, Refused}
 use Rattle.pbf_unpack.specs.RawFrames.{GoesOn}
 use Rattle.pbf_unpack.specs.Unpacked.{then_unpacked, as_they_stand, unpacked_from, unpacked}
 
@@ -23,12 +23,12 @@ pub record BeginsPacked (place : ℕ) (bytes : List ℕ) : Type 0 where
 
 -- what it took begins with `place` bytes of whole frames; after them a prefix of one frame at most, and nothing unless a write failed. Every raw file that
 -- begins with what they mean goes on with frames
-pub record HasWhole (course : Course) (place : ℕ) (taken : List ℕ) : Type 0 where
+pub record HasWhole (state : DrainState) (place : ℕ) (taken : List ℕ) : Type 0 where
   pub whole : IsPackedAs (unpacked (take place taken)) (take place taken)
   pub within : place ≤ length taken
   pub begun : ∥ BeginsPacked place (drop place taken) ∥₁
   pub goes_on : GoesOn (unpacked (take place taken))
-  pub exact : course ≡ Taking → length taken ≡ place
+  pub exact : state ≡ Taking → length taken ≡ place
 
 -- these bytes at a place mean a raw frame, and end within the limit of a file
 pub record Stands (place : ℕ) (raw packed : List ℕ) : Type 0 where
@@ -38,14 +38,14 @@ pub record Stands (place : ℕ) (raw packed : List ℕ) : Type 0 where
 -- ---- failures
 
 -- how many failures count once the drain takes nothing more: as many as can be counted, since each later write fails too
-abbrev pub spent_failures : Course → ℕ
+abbrev pub spent_failures : DrainState → ℕ
 spent_failures Taking = 0
 spent_failures Failed = 2 ^ 64 - 1
 spent_failures Unfit = 2 ^ 64 - 1
 spent_failures Refused = 2 ^ 64 - 1
 
 -- why it takes nothing more
-abbrev pub stop_of_course : Course → Option Stop
+abbrev pub stop_of_course : DrainState → Option Stop
 stop_of_course Taking = None
 stop_of_course Failed = Some stop.Write
 stop_of_course Unfit = Some stop.Write
