@@ -15,11 +15,15 @@ pub record NodeTexts : Type 0 where
   pub tags : List TagSpec
   pub user : Option (List ℕ)
 
--- those of so many nodes, by their columns, which move together
+-- the text of the next node's user, by what is left of their column
+abbrev pub next_user_text : List (List ℕ) → List ℤ → Option (List ℕ)
+next_user_text table users = option_map (user_text table) (slice_get users 0)
+
+-- the tags and users of so many nodes, by their columns, which move together
 abbrev pub texts_along : List (List ℕ) → ℕ → List ℤ → List ℕ → List NodeTexts
 texts_along table zero users keys_vals = []
 texts_along table (suc n) users keys_vals =
-    record { tags = map (tag_of table) (run keys_vals); user = option_map (user_text table) (slice_get users 0) }
+    record { tags = map (tag_of table) (run keys_vals); user = next_user_text table users }
     ∷ texts_along table n (drop 1 users) (after_run keys_vals)
 
 -- ---- what is written for them

@@ -13,7 +13,7 @@ ghost use Rattle.pbf_dense.specs.Taking.{PassesRun, TakesTags};
 use crate::dense_nodes::{ID, KEYS_VALS, LAT, LON};
 use crate::info::InfoColumns;
 use crate::places::Places;
-use crate::run_out::next_pair;
+use crate::take_runs::next_pair;
 use crate::within::IdsWithin;
 use osm_entity::{BoundingBox, MetaRef, NodeRef, RunTags, STORED_LIMIT, Scale, Tags};
 use pbf_strings::Table;

@@ -17,7 +17,7 @@ ghost use Rattle.pbf_strings.specs.declared.table.TheConstants.{MOST_USED_TEXTS}
 use crate::dense::Dense;
 use crate::dense_nodes::{DENSEINFO, ID, KEYS_VALS, LAT, LON};
 use crate::info_out::InfoOut;
-use crate::text_source::TextSource;
+use crate::take_texts::TextSource;
 use osm_entity::NodeRef;
 use pbf_strings::TableOut;
 use pbf_wire::{ColumnOut, DeltaOut, put_column, put_unless_empty};

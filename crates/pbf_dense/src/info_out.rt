@@ -11,7 +11,7 @@ ghost use Rattle.pbf_dense.specs.WrittenDense.{bit_of, info_columns, dense_info_
 
 use crate::dense_info::{CHANGESET, TIMESTAMP, UID, USER_SID, VERSION, VISIBLE};
 use crate::info::InfoColumns;
-use crate::numbers_out::{take_flags, take_versions};
+use crate::take_numbers::{take_flags, take_versions};
 use osm_entity::MetaRef;
 use pbf_wire::{ColumnOut, DeltaOut, put_column, sign_extended};
 use std::alloc::{AllocError, Global};

@@ -2,7 +2,7 @@ use Rattle.std.proofs.Common.{◌≡◌, map, refl, sym, ap, subst, ◌∙◌, a
 use Rattle.pbf_wire.specs.Cursors.{numbers_left, sums_left}
 use Rattle.osm_entity.specs.Sources.{low_32}
 use Rattle.pbf_dense.specs.Steady.{AreSame, first_weight}
-use Rattle.pbf_dense.specs.declared.steady.Weights.{Weights}
+use Rattle.pbf_dense.specs.declared.weigh.Weights.{Weights}
 use Rattle.pbf_dense.proofs.SteadyLemmas.{AreWeighed, one_weighed, same_weighed, nodes_weighed}
 use Rattle.pbf_dense.proofs.dense.Dense.weigh.Goals as goal
 

@@ -6,7 +6,7 @@ use Rattle.osm_entity.specs.Sources.{low_32}
 use Rattle.pbf_dense.specs.Info.{user_text}
 use Rattle.pbf_dense.proofs.MovingLemmas.{low_zeros}
 use Rattle.pbf_dense.proofs.SteadyLemmas.{bare_weight}
-use Rattle.pbf_dense.proofs.steady.Weights.next_same.Goals as goal
+use Rattle.pbf_dense.proofs.weigh.Weights.next_same.Goals as goal
 
 pub returns-clause-same : goal.returns-clause-same
 returns-clause-same c =

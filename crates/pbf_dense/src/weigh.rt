@@ -10,7 +10,7 @@ ghost use Rattle.pbf_dense.specs.Taking.{PassesRun};
 
 use crate::dense::Dense;
 use crate::entries::next_sum;
-use crate::run_out::next_pair;
+use crate::take_runs::next_pair;
 use crate::user_texts::{text_if_some, user_text_of};
 use osm_entity::{ENTITY_WEIGHT, PART_WEIGHT};
 use pbf_strings::Table;
@@ -52,7 +52,7 @@ pub(crate) fn numbers_go_with(numbers: &Column<'_>, count: usize) -> bool
 }
 
 /// The length of the text of a stored number.
-fn user_length(table: &Table<'_>, number: u32) -> u64
+fn text_length(table: &Table<'_>, number: u32) -> u64
     ensures { result ≡ length (text table.now number) }
 {
     table.text(number as usize).len() as u64
@@ -73,8 +73,8 @@ fn weigh_run(numbers: &mut Column<'_>, table: &Table<'_>) -> u64
     'tags: while let Some((key, value)) = next_pair(&mut rest) {
         weight = weight
             .saturating_add(PART_WEIGHT)
-            .saturating_add(user_length(table, key))
-            .saturating_add(user_length(table, value));
+            .saturating_add(text_length(table, key))
+            .saturating_add(text_length(table, value));
     }
     *numbers = rest;
     weight

@@ -4,7 +4,7 @@ use Rattle.osm_entity.specs.Sources.{low_32, run_tags}
 use Rattle.pbf_dense.specs.Runs.{after_run}
 use Rattle.pbf_dense.specs.WrittenDense.{are_some}
 use Rattle.pbf_dense.proofs.DenseOutLemmas.{RunPut}
-use Rattle.pbf_dense.proofs.run_out.take_run.Given as goal
+use Rattle.pbf_dense.proofs.take_runs.take_run.Given as goal
 
 abbrev pub invariant-tags : goal.invariant-tags
 invariant-tags g l = record {

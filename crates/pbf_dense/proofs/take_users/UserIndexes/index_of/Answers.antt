@@ -2,7 +2,7 @@ use Rattle.std.proofs.Common.{◌≡◌, sym, ap, ◌∙◌, rules, w64, to_z}
 use mir.Val.{SFits}
 use Rattle.std.proofs.lemmas.Int.{to_z-of_z}
 use Rattle.pbf_dense.proofs.TextLemmas.{known_gives}
-use Rattle.pbf_dense.proofs.user_indexes.UserIndexes.index_of.Goals as goal
+use Rattle.pbf_dense.proofs.take_users.UserIndexes.index_of.Goals as goal
 
 -- the user of the node before
 pub returns-then-self-user-clause-given : goal.returns-then-self-user-clause-given

@@ -1,6 +1,6 @@
 use Rattle.pbf_wire.specs.Cursors.{numbers_left}
 use Rattle.pbf_dense.specs.InfoTaken.{written_flag, TakesNumbers}
-use Rattle.pbf_dense.proofs.numbers_out.take_flags.Given as goal
+use Rattle.pbf_dense.proofs.take_numbers.take_flags.Given as goal
 
 abbrev pub invariant-flags : goal.invariant-flags
 invariant-flags l = TakesNumbers written_flag l.fn.column l.column (numbers_left l.fn.flags) (numbers_left l.flags) l.count l.left

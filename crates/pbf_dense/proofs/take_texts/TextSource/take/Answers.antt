@@ -11,8 +11,8 @@ use Rattle.pbf_dense.specs.Runs.{after_runs}
 use Rattle.pbf_dense.specs.WrittenDense.{are_some}
 use Rattle.pbf_dense.proofs.MovingLemmas.{one_run}
 use Rattle.pbf_dense.proofs.TextLemmas.{first_texts, one_along, none_along, one_passed, known_later, room_for_tags, room_for_user, node_taken, all_taken}
-use Rattle.pbf_dense.proofs.text_source.TextSource.take.Goals.{then-tagged, else-tagged}
-use Rattle.pbf_dense.proofs.text_source.TextSource.take.Goals as goal
+use Rattle.pbf_dense.proofs.take_texts.TextSource.take.Goals.{then-tagged, else-tagged}
+use Rattle.pbf_dense.proofs.take_texts.TextSource.take.Goals as goal
 
 pub take_run-requires : goal.take_run-requires
 take_run-requires g c =

@@ -1,12 +1,12 @@
 //! The users of nodes that are taken over from a dense message to one that is being written.
 
-ghost use Rattle.std.specs.Prelude.{◌≡◌, ◌++◌, ◌+◌, ◌<◌, ◌≤◌, ℕ, List, OnOk, length, drop, slice_get};
-ghost use Rattle.std.specs.Option.{option_map, option_to_list};
+ghost use Rattle.std.specs.Prelude.{◌≡◌, ◌++◌, ◌+◌, ◌<◌, ◌≤◌, ℕ, List, OnOk, length, drop};
+ghost use Rattle.std.specs.Option.{option_to_list};
 ghost use Rattle.pbf_wire.specs.Cursors.{sums_left};
 ghost use Rattle.pbf_strings.specs.TableOut.{GivesIndex, texts_after};
 ghost use Rattle.pbf_strings.specs.declared.table.TheConstants.{MOST_USED_TEXTS};
 ghost use Rattle.pbf_dense.specs.Info.{user_text};
-ghost use Rattle.pbf_dense.specs.NodeTexts.{user_index, IsKnown};
+ghost use Rattle.pbf_dense.specs.NodeTexts.{next_user_text, user_index, IsKnown};
 
 use crate::entries::next_sum;
 use crate::user_texts::user_text_of;
@@ -69,14 +69,14 @@ impl<'a> UserIndexes<'a> {
         users: &mut Sums<'_>,
         table: &mut TableOut<S>,
     ) -> Result<(), AllocError>
-        requires room { length table.old + length (option_to_list (option_map
-            (user_text self.old.texts.now) (slice_get (sums_left users.old) 0))) ≤ MOST_USED_TEXTS }
+        requires room { length table.old + length (option_to_list
+            (next_user_text self.old.texts.now (sums_left users.old))) ≤ MOST_USED_TEXTS }
         requires known { IsKnown self.old.texts.now table.old self.old.user self.old.index }
-        ensures texts { OnOk result (table.new ≡ texts_after table.old (option_to_list (option_map
-            (user_text self.old.texts.now) (slice_get (sums_left users.old) 0)))) }
+        ensures texts { OnOk result (table.new ≡ texts_after table.old
+            (option_to_list (next_user_text self.old.texts.now (sums_left users.old)))) }
         ensures added { (used : List (List ℕ)) → OnOk result (column.new ≡ column.old
-            ++ option_to_list (user_index (texts_after table.new used) (option_map
-            (user_text self.old.texts.now) (slice_get (sums_left users.old) 0)))) }
+            ++ option_to_list (user_index (texts_after table.new used)
+            (next_user_text self.old.texts.now (sums_left users.old)))) }
         ensures rest { sums_left users.new ≡ drop 1 (sums_left users.old) }
         ensures known { OnOk result
             (IsKnown self.old.texts.now table.new self.new.user self.new.index) }

@@ -4,7 +4,7 @@ use Rattle.std.proofs.lemmas.Int.{to_z-of_z}
 use Rattle.pbf_strings.specs.TableOut.{with_text, index_in}
 use Rattle.pbf_dense.specs.Info.{user_text}
 use Rattle.pbf_dense.proofs.TextLemmas.{index_added}
-use Rattle.pbf_dense.proofs.user_indexes.UserIndexes.take_next.Goals as goal
+use Rattle.pbf_dense.proofs.take_users.UserIndexes.take_next.Goals as goal
 
 pub returns-clause-added : goal.returns-clause-added
 returns-clause-added g c =

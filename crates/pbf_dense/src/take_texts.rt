@@ -7,8 +7,8 @@ ghost use Rattle.osm_entity.specs.Sources.{low_32};
 ghost use Rattle.pbf_dense.specs.NodeTexts.{texts_along, texts_used, columns_with, TakesTexts};
 ghost use Rattle.pbf_dense.specs.Runs.{after_runs};
 
-use crate::run_out::take_run;
-use crate::user_indexes::UserIndexes;
+use crate::take_runs::take_run;
+use crate::take_users::UserIndexes;
 use pbf_strings::{Table, TableOut};
 use pbf_wire::{Column, ColumnOut, DeltaOut, Sums};
 use std::alloc::AllocError;

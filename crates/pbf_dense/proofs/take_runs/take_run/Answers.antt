@@ -5,7 +5,7 @@ use Rattle.osm_entity.specs.Entity.{TagSpec}
 use Rattle.osm_entity.specs.Sources.{tag_of, run_tags}
 use Rattle.pbf_dense.proofs.DenseOutLemmas.{run_step, run_put}
 use Rattle.pbf_dense.proofs.TextLemmas.{tag_seen}
-use Rattle.pbf_dense.proofs.run_out.take_run.Goals as goal
+use Rattle.pbf_dense.proofs.take_runs.take_run.Goals as goal
 
 pub tags-preserved : goal.tags-preserved
 tags-preserved g c =

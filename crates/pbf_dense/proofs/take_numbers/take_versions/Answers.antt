@@ -1,7 +1,7 @@
 use Rattle.pbf_wire.specs.Cursors.{numbers_left}
 use Rattle.pbf_dense.specs.InfoTaken.{written_version}
 use Rattle.pbf_dense.proofs.InfoLemmas.{all_same, some_taken, both_taken}
-use Rattle.pbf_dense.proofs.numbers_out.take_versions.Goals as goal
+use Rattle.pbf_dense.proofs.take_numbers.take_versions.Goals as goal
 
 pub versions-preserved : goal.versions-preserved
 versions-preserved c =

@@ -3,7 +3,7 @@ use Rattle.pbf_wire.specs.Cursors.{numbers_left}
 use Rattle.osm_entity.specs.Sources.{low_32, run_tags}
 use Rattle.osm_entity.specs.Weight.{tags_weight}
 use Rattle.pbf_dense.specs.Runs.{after_run}
-use Rattle.pbf_dense.proofs.steady.weigh_run.Given as goal
+use Rattle.pbf_dense.proofs.weigh.weigh_run.Given as goal
 
 abbrev pub invariant-tags : goal.invariant-tags
 invariant-tags l = record {

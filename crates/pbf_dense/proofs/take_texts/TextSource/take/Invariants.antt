@@ -4,7 +4,7 @@ use Rattle.osm_entity.specs.Sources.{low_32}
 use Rattle.pbf_dense.specs.NodeTexts.{texts_along, columns_with, IsKnown}
 use Rattle.pbf_dense.specs.Runs.{after_runs}
 use Rattle.pbf_dense.proofs.TextLemmas.{TextsGoOn}
-use Rattle.pbf_dense.proofs.text_source.TextSource.take.Given as goal
+use Rattle.pbf_dense.proofs.take_texts.TextSource.take.Given as goal
 
 abbrev pub invariant-nodes : goal.invariant-nodes
 invariant-nodes g l = record {
