@@ -30,7 +30,7 @@ use Rattle.osm_pack.specs.Cuts.{pending_after, written_after}
 use Rattle.osm_pack.proofs.CutLemmas.{kept_bounds}
 use Rattle.osm_pack.proofs.RunLemmas.{pending_joined, written_joined, pending_more, written_more}
 use Rattle.pbf_wire.proofs.AllLemmas.{all_append, all_drop}
-use Rattle.pbfcut.specs.declared.pick.Picker.{Picker}
+use Rattle.pbfcut.specs.declared.picker.Picker.{Picker}
 use Rattle.pbfcut.specs.declared.pick.EntityPacker.{EntityPacker}
 use Rattle.pbfcut.specs.Pick.{picks_of, picks_id, HasPacked, PacksEach}
 use Rattle.pbfcut.specs.Many.{AreEven, AreEvenAfter}

@@ -12,7 +12,7 @@ use Rattle.pbf_frame.specs.declared.device.Drain as drain
 use Rattle.pbf_frame.specs.declared.stop.Stop.{Stop}
 use Rattle.osm_pack.specs.Packing.{Packing, IsPacking, has_header}
 use Rattle.pbfcut.specs.declared.pick.EntityPacker.{EntityPacker}
-use Rattle.pbfcut.specs.declared.pick.Picker.{Picker}
+use Rattle.pbfcut.specs.declared.picker.Picker.{Picker}
 use Rattle.osm_ways.specs.Phases.{KeptSets}
 use Rattle.pbfcut.specs.Many.{PacksSome}
 use Rattle.pbfcut.specs.Pick.{everything, picks_by, id_picked, picks_of, picks_id, PacksEach, KeepsPacker}

@@ -18,7 +18,7 @@ use Rattle.pbf_pass.specs.Counting.{counts_of, count_one}
 use Rattle.pbf_pass.specs.Stops.{Caused, WriteFailed}
 use Rattle.pbf_pass.proofs.CountLemmas.{counts_together}
 use Rattle.pbfcut.specs.declared.pick.EntityPacker.{EntityPacker}
-use Rattle.pbfcut.specs.declared.pick.Picker.{Picker}
+use Rattle.pbfcut.specs.declared.picker.Picker.{Picker}
 use Rattle.pbfcut.specs.Pick.{Pick, everything, picks_of, HasPacked, PacksPicked, StopsAmong, PacksEach, KeepsPacker}
 use Rattle.pbfcut.proofs.PickingLemmas.{packed_push, begins_push, begins_none, none_gone, pack_stop}
 

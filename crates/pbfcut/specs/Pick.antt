@@ -25,7 +25,7 @@ use Rattle.pbf_wire.specs.declared.fault.Fault.{Fault}
 use Rattle.pbf_pass.specs.declared.pass.Pass.{Pass}
 use Rattle.osm_ways.specs.declared.phases.Chosen.{Chosen}
 use Rattle.pbfcut.specs.declared.pick.EntityPacker.{EntityPacker}
-use Rattle.pbfcut.specs.declared.pick.Picker.{Picker}
+use Rattle.pbfcut.specs.declared.picker.Picker.{Picker}
 use Rattle.pbf_block.specs.declared.counts.Counts.{Counts}
 use Rattle.pbf_pass.specs.Counting.{entities_in, counts_of}
 use Rattle.pbf_pass.specs.Judged.{fault_in}

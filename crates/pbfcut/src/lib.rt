@@ -13,6 +13,8 @@ mod extracting_each;
 mod extraction;
 pub mod laws;
 mod pick;
+mod pick_nodes;
+mod picker;
 mod repeat;
 mod showing;
 mod smart;

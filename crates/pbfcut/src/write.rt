@@ -9,7 +9,8 @@ ghost use Rattle.pbfcut.specs.Calls.{fed, drained};
 ghost use Rattle.pbfcut.specs.Pick.{picks_of, IsFreshPacker, IsReadyToPack};
 ghost use Rattle.pbfcut.specs.Write.{PacksUnjudged, PacksNext, FailsAtNext, WritesUnjudged, WritesAgain};
 
-use crate::pick::{EntityPacker, Picker};
+use crate::pick::EntityPacker;
+use crate::picker::Picker;
 use crate::repeat::LaterPass;
 use osm_pack::Packer;
 use osm_ways::Chosen;

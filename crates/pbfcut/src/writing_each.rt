@@ -15,7 +15,8 @@ ghost use Rattle.pbfcut.specs.Wanted.{AllFrom, listed_entities};
 ghost use Rattle.pbfcut.specs.Several.{AllThree, AreNamed, CanPackEach, CanBegin, IsFreshWriter, IsOutputOf, IsReadyWriter, IsWriterOf, OneStopped, OneStoppedWith, PutsHeader, StopsAtHeader, StopsAtLast, WriterFailsAtPayload, WriterPacks, WriterStops, WriterTakesPayload, WritersFail, WritersTake, WritesEach, WritesEachUnjudged, WritesLast};
 
 use crate::carrying::{AreaChoice, AreaOutput};
-use crate::pick::{EntityPacker, Picker};
+use crate::pick::EntityPacker;
+use crate::picker::Picker;
 use crate::repeat::LaterPass;
 use crate::wanted::{name_choices, wanted_each};
 use crate::write::pack_payload;

@@ -1,6 +1,6 @@
 use Rattle.std.proofs.Common.{sym, ap, ◌∙◌}
 use Rattle.osm_entity.specs.Views.{entity_of}
-use Rattle.pbfcut.specs.declared.pick.Picker.{Picker}
+use Rattle.pbfcut.specs.declared.picker.Picker.{Picker}
 use Rattle.pbfcut.specs.Pick.{picks_of}
 use Rattle.pbfcut.proofs.PackingLemmas.{each_left, each_picked, none_picked}
 use Rattle.pbfcut.proofs.pick.EntityPacker.pack_entity.Goals as goal

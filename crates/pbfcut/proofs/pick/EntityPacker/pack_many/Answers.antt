@@ -7,7 +7,7 @@ use Rattle.pbf_wire.proofs.AllLemmas.{all_take, all_fewer}
 use Rattle.pbf_dense.specs.Cursors.{dense_left}
 use Rattle.pbf_dense.proofs.NumberLemmas.{dense_fits}
 use Rattle.pbfcut.specs.declared.pick.EntityPacker.{EntityPacker}
-use Rattle.pbfcut.specs.declared.pick.Picker.{Picker}
+use Rattle.pbfcut.specs.declared.picker.Picker.{Picker}
 use Rattle.pbfcut.specs.Pick.{picks_of}
 use Rattle.pbfcut.proofs.PackingLemmas.{each_left}
 use Rattle.pbfcut.proofs.ManyLemmas.{alike_after, scaled_taken, each_many, each_refused}

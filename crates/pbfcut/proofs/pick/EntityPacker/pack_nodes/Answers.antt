@@ -10,7 +10,7 @@ use Rattle.pbf_dense.specs.Cursors.{dense_left}
 use Rattle.pbf_dense.specs.Steady.{NumbersFit}
 use Rattle.pbf_dense.proofs.NumberLemmas.{dense_fits}
 use Rattle.pbfcut.specs.declared.pick.EntityPacker.{EntityPacker}
-use Rattle.pbfcut.specs.declared.pick.Picker.{Picker}
+use Rattle.pbfcut.specs.declared.picker.Picker.{Picker}
 use Rattle.pbfcut.specs.Pick.{picks_of, picks_id}
 use Rattle.pbfcut.specs.Many.{AreEven}
 use Rattle.pbfcut.proofs.NodeLemmas.{NonePicked, OnNodes, at_first, all_gone, some_passed, rest_passed, passed_left, taken_left, one_packed, one_stops, many_packed, many_stop}

@@ -1,7 +1,7 @@
 use Rattle.std.proofs.Common.{sym, ap, ◌∙◌}
 use Rattle.osm_entity.specs.Entity.{way}
 use Rattle.pbf_block.specs.Runs.{way_from}
-use Rattle.pbfcut.specs.declared.pick.Picker.{Picker}
+use Rattle.pbfcut.specs.declared.picker.Picker.{Picker}
 use Rattle.pbfcut.specs.Pick.{picks_of}
 use Rattle.pbfcut.proofs.PackingLemmas.{each_left, each_picked, none_picked}
 use Rattle.pbfcut.proofs.pick.EntityPacker.pack_way.Goals as goal

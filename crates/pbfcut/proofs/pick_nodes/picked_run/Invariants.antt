@@ -3,7 +3,7 @@ use Rattle.pbf_wire.specs.Cursors.{sums_left}
 use Rattle.pbf_dense.specs.Cursors.{dense_left}
 use Rattle.pbf_dense.specs.Places.{BeginWithIds}
 use Rattle.pbfcut.proofs.NodeLemmas.{ArePicked}
-use Rattle.pbfcut.proofs.pick.picked_run.Given as goal
+use Rattle.pbfcut.proofs.pick_nodes.picked_run.Given as goal
 
 -- the ids that are left are those of the nodes after so many, all of which are picked
 abbrev pub invariant-ids : goal.invariant-ids

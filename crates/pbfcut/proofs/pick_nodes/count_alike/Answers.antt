@@ -3,7 +3,7 @@ use Rattle.osm_entity.specs.declared.scale.Scale.{Scale}
 use Rattle.osm_entity.specs.Scale.{ScaleFits}
 use Rattle.pbf_dense.specs.Cursors.{dense_left}
 use Rattle.pbfcut.proofs.ManyLemmas.{steady_even, none_even}
-use Rattle.pbfcut.proofs.pick.count_alike.Goals as goal
+use Rattle.pbfcut.proofs.pick_nodes.count_alike.Goals as goal
 
 pub returns-then-not-fits : goal.returns-then-not-fits
 returns-then-not-fits c = none_even (dense_left c.args.dense.now)

@@ -6,10 +6,10 @@ use Rattle.pbf_wire.specs.Cursors.{sums_left}
 use Rattle.pbf_dense.specs.Cursors.{dense_left}
 use Rattle.pbf_dense.specs.Places.{BeginWithIds}
 use Rattle.pbf_dense.proofs.PlaceLemmas.{passed_ids, read_id}
-use Rattle.pbfcut.specs.declared.pick.Picker.{Picker}
+use Rattle.pbfcut.specs.declared.picker.Picker.{Picker}
 use Rattle.pbfcut.specs.Pick.{picks_id}
 use Rattle.pbfcut.proofs.NodeLemmas.{AreInside, one_more, more_inside, none_more, none_picked_of, fewer_left}
-use Rattle.pbfcut.proofs.pick.unpicked.Goals as goal
+use Rattle.pbfcut.proofs.pick_nodes.unpicked.Goals as goal
 
 pub ids-smaller : goal.ids-smaller
 ids-smaller c =

@@ -3,7 +3,7 @@ use Rattle.pbf_wire.specs.Cursors.{sums_left}
 use Rattle.pbf_dense.specs.Cursors.{AreIdsAfter, dense_left}
 use Rattle.pbf_dense.specs.Places.{BeginWithIds}
 use Rattle.pbfcut.proofs.NodeLemmas.{ArePicked}
-use Rattle.pbfcut.proofs.pick.unpicked.Given as goal
+use Rattle.pbfcut.proofs.pick_nodes.unpicked.Given as goal
 
 -- the ids that are left are those of the nodes after so many, of which none is picked
 abbrev pub invariant-ids : goal.invariant-ids
