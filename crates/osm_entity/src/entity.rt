@@ -24,49 +24,67 @@ pub enum EntityRef<'a> {
     Relation(RelationRef<'a>),
 }
 
+/// What an entity of any kind has.
+#[derive(Clone, Copy)]
+struct EntityHead<'a> {
+    id: i64,
+    meta: MetaRef<'a>,
+    tags: Tags<'a>,
+    scale: Scale,
+}
+
 impl<'a> EntityRef<'a> {
+    /// What it has, whatever its kind is.
+    fn head(&self) -> EntityHead<'a>
+        ensures id { result.id ≡ entity_id (entity_of self.now) }
+        ensures meta { meta_of result.meta ≡ entity_meta (entity_of self.now) }
+        ensures tags { tags_left result.tags ≡ entity_tags (entity_of self.now) }
+        ensures scale { result.scale ≡ entity_scale (entity_of self.now) }
+    {
+        let (id, meta, tags, scale) = match self {
+            EntityRef::Node(node) => (node.id(), node.meta(), node.tags(), node.scale()),
+            EntityRef::Way(way) => (way.id(), way.meta(), way.tags(), way.scale()),
+            EntityRef::Relation(relation) => (
+                relation.id(),
+                relation.meta(),
+                relation.tags(),
+                relation.scale(),
+            ),
+        };
+        EntityHead {
+            id,
+            meta,
+            tags,
+            scale,
+        }
+    }
+
     /// The entity's id. Nodes, ways and relations have ids of their own.
     pub fn id(&self) -> i64
         ensures { result ≡ entity_id (entity_of self.now) }
     {
-        match self {
-            EntityRef::Node(node) => node.id(),
-            EntityRef::Way(way) => way.id(),
-            EntityRef::Relation(relation) => relation.id(),
-        }
+        self.head().id
     }
 
     /// What the stored numbers mean.
     pub fn scale(&self) -> Scale
         ensures { result ≡ entity_scale (entity_of self.now) }
     {
-        match self {
-            EntityRef::Node(node) => node.scale(),
-            EntityRef::Way(way) => way.scale(),
-            EntityRef::Relation(relation) => relation.scale(),
-        }
+        self.head().scale
     }
 
     /// The metadata.
     pub fn meta(&self) -> MetaRef<'a>
         ensures { meta_of result ≡ entity_meta (entity_of self.now) }
     {
-        match self {
-            EntityRef::Node(node) => node.meta(),
-            EntityRef::Way(way) => way.meta(),
-            EntityRef::Relation(relation) => relation.meta(),
-        }
+        self.head().meta
     }
 
     /// The tags in order.
     pub fn tags(&self) -> Tags<'a>
         ensures { tags_left result ≡ entity_tags (entity_of self.now) }
     {
-        match self {
-            EntityRef::Node(node) => node.tags(),
-            EntityRef::Way(way) => way.tags(),
-            EntityRef::Relation(relation) => relation.tags(),
-        }
+        self.head().tags
     }
 
     /// The time in milliseconds, from 1970 on.
@@ -74,11 +92,8 @@ impl<'a> EntityRef<'a> {
         ensures { result ≡ option_map (millis (entity_scale (entity_of self.now)))
             (entity_meta (entity_of self.now)).timestamp }
     {
-        match self {
-            EntityRef::Node(node) => node.millis(),
-            EntityRef::Way(way) => way.millis(),
-            EntityRef::Relation(relation) => relation.millis(),
-        }
+        let head = self.head();
+        head.meta.millis(head.scale)
     }
 
     /// What the entity counts for in a block, or the greatest number if it is more: [`ENTITY_WEIGHT`](crate::ENTITY_WEIGHT),
@@ -111,10 +126,6 @@ impl<'a> EntityRef<'a> {
     pub fn fits(&self) -> bool
         ensures { IsTrue result ↔ EntityFits (entity_of self.now) }
     {
-        match self {
-            EntityRef::Node(node) => node.fits(),
-            EntityRef::Way(way) => way.fits(),
-            EntityRef::Relation(relation) => relation.fits(),
-        }
+        self.weight_if_fits().is_some()
     }
 }
