@@ -16,7 +16,7 @@ ghost use Rattle.pbfcut_cli.specs.declared.words.Region.{Region};
 ghost use Rattle.pbfcut_cli.specs.declared.words.Strategy.{Strategy};
 ghost use Rattle.pbfcut_program.specs.Changes.{DropsFile, EndsWell, GivesConversion, GivesCopy, GivesExtract, KeepsFile};
 ghost use Rattle.pbfcut_program.specs.Events.{Event, Writing, stays};
-ghost use Rattle.pbfcut_program.specs.Failures.{EndsBadly, LeavesExtract};
+ghost use Rattle.pbfcut_program.specs.Failures.{AreConversion, AreExtract, EndsBadly, LeavesOut};
 ghost use Rattle.pbfcut_program.specs.Files.{AllowsAll, Disk, after};
 ghost use Rattle.pbfcut_program.specs.Program.{IsMeant, manner_in};
 ghost use Rattle.pbfcut_program.specs.Settling.{HandlesIn, RunSettles};
@@ -147,7 +147,8 @@ pub fn failure_of_extract()
         → ((path : List ℕ) → after events disk path ≡ disk path)
         ⊎ ((cut : Region) × (by : Strategy) × (files : Files)
         × ReadsAs (codes "extract") rows (Extract cut by files)
-        × LeavesExtract (manner_in Pbfcutz (Extract cut by files)) cut by files file events disk) }
+        × LeavesOut (AreExtract (manner_in Pbfcutz (Extract cut by files)) cut by file events disk)
+        files events disk) }
 {}
 
 /// What status 0 of `extract --config` says of them: each OUT has bytes that mean exactly the extract of those that IN has on the disk, by the
@@ -170,6 +171,17 @@ pub fn run_of_convert()
         (disk : Disk) (file : List ℕ) → EndsWell program words (codes "convert") rows events disk file
         → (files : Files) × ReadsAs (codes "convert") rows (Convert files)
         × GivesConversion (manner_in program (Convert files)) files file events disk }
+{}
+
+/// What another status of `convert` says of them, of pbfcutz: OUT is as it was; or it was kept before the run failed, and has bytes that mean a
+/// conversion of what those of IN mean. The rest is as in `failure_of_extract`.
+pub fn failure_of_convert()
+    ensures { (words : List Text) (rows : List Row) (events : List Event) (disk : Disk)
+        (file : List ℕ) → EndsBadly Pbfcutz words (codes "convert") rows events disk file
+        → ((path : List ℕ) → after events disk path ≡ disk path)
+        ⊎ ((files : Files) × ReadsAs (codes "convert") rows (Convert files)
+        × LeavesOut (AreConversion (manner_in Pbfcutz (Convert files)) file events) files events
+        disk) }
 {}
 
 /// What status 0 of `pack` and of `unpack` says of them: OUT has bytes that mean the same raw file as those of IN. The rest is as
