@@ -16,7 +16,7 @@ ghost use Rattle.pbfcut_cli.specs.declared.words.Region.{Region};
 ghost use Rattle.pbfcut_cli.specs.declared.words.Strategy.{Strategy};
 ghost use Rattle.pbfcut_program.specs.Changes.{DropsFile, EndsWell, GivesConversion, GivesCopy, GivesExtract, KeepsFile};
 ghost use Rattle.pbfcut_program.specs.Events.{Event, Writing, stays};
-ghost use Rattle.pbfcut_program.specs.Failures.{AreConversion, AreExtract, EndsBadly, LeavesOut};
+ghost use Rattle.pbfcut_program.specs.Failures.{AreConversion, AreCopy, AreExtract, EndsBadly, LeavesOut};
 ghost use Rattle.pbfcut_program.specs.Files.{AllowsAll, Disk, after};
 ghost use Rattle.pbfcut_program.specs.Program.{IsMeant, manner_in};
 ghost use Rattle.pbfcut_program.specs.Settling.{HandlesIn, RunSettles};
@@ -195,4 +195,19 @@ pub fn run_of_copy()
         (disk : Disk) (file : List ℕ) → EndsWell program words (codes "unpack") rows events disk file
         → (files : Files) × ReadsAs (codes "unpack") rows (Unpack files)
         × GivesCopy (manner_in program (Unpack files)) files file events disk }
+{}
+
+/// What another status of `pack` and of `unpack` says of them, of pbfcutz: OUT is as it was; or it was kept before the run failed, and has bytes
+/// that mean the same raw file as those of IN. The rest is as in `failure_of_extract`.
+pub fn failure_of_copy()
+    ensures pack { (words : List Text) (rows : List Row) (events : List Event) (disk : Disk)
+        (file : List ℕ) → EndsBadly Pbfcutz words (codes "pack") rows events disk file
+        → ((path : List ℕ) → after events disk path ≡ disk path)
+        ⊎ ((files : Files) × ReadsAs (codes "pack") rows (Pack files)
+        × LeavesOut (AreCopy (manner_in Pbfcutz (Pack files)) file events) files events disk) }
+    ensures unpack { (words : List Text) (rows : List Row) (events : List Event) (disk : Disk)
+        (file : List ℕ) → EndsBadly Pbfcutz words (codes "unpack") rows events disk file
+        → ((path : List ℕ) → after events disk path ≡ disk path)
+        ⊎ ((files : Files) × ReadsAs (codes "unpack") rows (Unpack files)
+        × LeavesOut (AreCopy (manner_in Pbfcutz (Unpack files)) file events) files events disk) }
 {}
