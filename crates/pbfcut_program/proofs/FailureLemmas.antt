@@ -43,7 +43,7 @@ module _ (w : Writing) where
   no_wrote : (e : Event) → Quiet e → e ≡ wrote w → ⊥
   no_wrote e q is = subst (λ x. Quiet x) is q
 
-  none_wrote : (xs : List Event) → Each Quiet xs → Happened (wrote w) xs → ⊥
+  pub none_wrote : (xs : List Event) → Each Quiet xs → Happened (wrote w) xs → ⊥
   none_wrote [] q h = h
   none_wrote (x ∷ xs) q (inl h) = no_wrote x q.0 h
   none_wrote (x ∷ xs) q (inr h) = none_wrote xs q.1 h
@@ -55,13 +55,13 @@ module _ (w : Writing) where
     other e = cc
   none_read (r ∷ rs) (inr h) = none_read rs h
 
-  wrote_later : (xs ys : List Event) → Each Quiet xs → Happened (wrote w) (xs ++ ys) → Happened (wrote w) ys
+  pub wrote_later : (xs ys : List Event) → Each Quiet xs → Happened (wrote w) (xs ++ ys) → Happened (wrote w) ys
   wrote_later xs ys q h = of (happened_either (wrote w) xs ys h) where
     of : Happened (wrote w) xs ⊎ Happened (wrote w) ys → Happened (wrote w) ys
     of (inl k) = absurd (none_wrote xs q k)
     of (inr k) = k
 
-  wrote_earlier : (xs ys : List Event) → Each Quiet ys → Happened (wrote w) (xs ++ ys) → Happened (wrote w) xs
+  pub wrote_earlier : (xs ys : List Event) → Each Quiet ys → Happened (wrote w) (xs ++ ys) → Happened (wrote w) xs
   wrote_earlier xs ys q h = of (happened_either (wrote w) xs ys h) where
     of : Happened (wrote w) xs ⊎ Happened (wrote w) ys → Happened (wrote w) xs
     of (inl k) = k
@@ -82,7 +82,7 @@ module _ (w : Writing) where
   file_wrote : (program : Program) (output : List ℕ) (part events : List Event) → HasOneFile program output w part events → Happened (wrote w) events
   file_wrote program output part events x = subst (λ es. Happened (wrote w) es) (sym x.happened) (happened_after (wrote w) x.before _ (happened_after (wrote w) x.makes _ (happened_after (wrote w) x.between _ (inl refl))))
 
-  unkept : (xs : List Event) → Each IsUnkept xs → Happened (wrote w) xs → w.kept ≡ false
+  pub unkept : (xs : List Event) → Each IsUnkept xs → Happened (wrote w) xs → w.kept ≡ false
   unkept [] u h = absurd h
   unkept (x ∷ xs) u (inl h) = subst (λ e. IsUnkept e) h u.0
   unkept (x ∷ xs) u (inr h) = unkept xs u.1 h
@@ -108,22 +108,21 @@ opened_here : (input : List ℕ) (pass : ℕ) (has : Option (List ℕ)) (e : Eve
 opened_here input pass has (opened path number known) disk o a = sym o.2 ∙ a ∙ ap disk o.0
 opened_here input pass has _ disk o a = absurd o
 
--- if OUT was kept, which has another path, it had the same each time that it was opened
-module _ (overwrite : Bool) (output : List ℕ) (w : Writing) (events : List Event) (disk : Disk) (k : KeepsFile Pbfcutz overwrite output w events) (allowed : AllowsAll disk events) (input file : List ℕ) (there : disk input ≡ Some file) (apart : input ≡ output → ⊥) where
+-- if it has the same after each event, it had that each time that it was opened
+module _ (events : List Event) (disk : Disk) (allowed : AllowsAll disk events) (input file : List ℕ) (there : (started later : List Event) → events ≡ started ++ later → after started disk input ≡ Some file) where
   one_had : (pass : ℕ) (has : Option (List ℕ)) → Has (OpensFor input pass has) events → has ≡ Some file
   one_had pass has h =
       let a = among (OpensFor input pass has) events h in
       let all = subst (λ es. AllowsAll disk es) a.happened allowed in
-      let now = keeps_others Pbfcutz overwrite output w a.started (a.e ∷ a.later) disk (subst (λ es. KeepsFile Pbfcutz overwrite output w es) a.happened k) all input file apart there in
-      opened_here input pass has a.e (after a.started disk) a.holds (allows_last a.started (a.e ∷ a.later) disk all).0 ∙ now
+      opened_here input pass has a.e (after a.started disk) a.holds (allows_last a.started (a.e ∷ a.later) disk all).0 ∙ there a.started (a.e ∷ a.later) a.happened
 
-  all_opened : (pass : ℕ) (has : List (Option (List ℕ))) → Opens input pass has events → AllHad file has
+  pub all_opened : (pass : ℕ) (has : List (Option (List ℕ))) → Opens input pass has events → AllHad file has
   all_opened pass [] o = tt
   all_opened pass (h ∷ hs) o = (one_had pass h o.0, all_opened (pass + 1) hs o.1)
 
 -- ---- an OUT that was kept
 
-true_false : true ≡ false → ⊥
+pub true_false : true ≡ false → ⊥
 true_false h = cc
 
 -- these bytes are the work of this task, each pass of which read this file
@@ -223,29 +222,27 @@ one_output rows a b (inr x) (inr y) = some_same (sym x.1 ∙ y.1)
 one_output rows a b (inl x) (inr y) = absurd (none_some (sym y.0 ∙ x.0))
 one_output rows a b (inr x) (inl y) = absurd (none_some (sym x.0 ∙ y.0))
 
+-- the command of this name is one of these
 module _ (words : List Text) (name : List ℕ) (rows : List Row) (events : List Event) (disk : Disk) (file : List ℕ) (e : EndsBadly Pbfcutz words name rows events disk file) where
-  -- the command of this name is one of these, with these files, and this holds of what it keeps
-  module _ {K : Type 0} (command : K → Command) (is : (p : Command → Type 0) (c : Command) → ReadsAs name rows c → p c → IsOneOf command name rows p)
-      (files_of : K → Files) (reads_files : (k : K) → ReadsAs name rows (command k) → ReadsFiles rows (files_of k)) (handles : (k : K) → HandlesIn Pbfcutz (command k) events → HandlesOut Pbfcutz (files_of k) events)
-      (holds : K → List ℕ → Type 0) (gives : (k : K) (w : Writing) (before : List Event) → IsKeptOf (files_of k).input.now file w before events → LeavesIn (manner_in Pbfcutz (command k)) (command k) before → holds k w.bytes) where
+  module _ {K : Type 0} (command : K → Command) (is : (p : Command → Type 0) (c : Command) → ReadsAs name rows c → p c → IsOneOf command name rows p) where
     meant_is : (p : Command → Type 0) (c : Command) → IsMeant Pbfcutz words c → p c → IsOneOf command name rows p
     meant_is p c (inl r) x = is p c (subst (λ s. IsRead s c) e.command r.1) x
     meant_is p c (inr h) x = absurd (not_asked Pbfcutz (normalized words) e.taken h.0)
 
-    abbrev Handles : Command → Type 0
+    abbrev pub Handles : Command → Type 0
     Handles c = HandlesIn Pbfcutz c events
 
-    handled : IsSame events disk ⊎ IsOneOf command name rows Handles
+    pub handled : IsSame events disk ⊎ IsOneOf command name rows Handles
     handled = of (run_same Pbfcutz words events disk e.settles) where
       of : IsSame events disk ⊎ ((c : Command) × IsMeant Pbfcutz words c × Handles c) → IsSame events disk ⊎ IsOneOf command name rows Handles
       of (inl same) = inl same
       of (inr (c, meant, h)) = inr (meant_is Handles c meant h)
 
     -- why it failed
-    abbrev Why : List Event → Command → Type 0
+    abbrev pub Why : List Event → Command → Type 0
     Why before c = (cause : Ending) × FailsIn (manner_in Pbfcutz c) c cause before
 
-    why : (how : Ending) (before : List Event) → IsWhy Pbfcutz words how before → (before ≡ []) ⊎ IsOneOf command name rows (Why before)
+    pub why : (how : Ending) (before : List Event) → IsWhy Pbfcutz words how before → (before ≡ []) ⊎ IsOneOf command name rows (Why before)
     why (ending.Words text) before x = inl x.1
     why (ending.Box f) before x = inl x.1
     why (ending.Choice f) before x = inl x.1
@@ -253,62 +250,64 @@ module _ (words : List Text) (name : List ℕ) (rows : List Row) (events : List 
     why (ending.Stopped stop.Memory) before (inr (c, meant, cause, x)) = inr (meant_is (Why before) c meant (cause, x))
     why how before x = inr (meant_is (Why before) x.0 x.1 (how, x.2))
 
-    failed : IsRun Pbfcutz words events e.status → IsFailed Pbfcutz words events e.status
+    pub failed : IsRun Pbfcutz words events e.status → IsFailed Pbfcutz words events e.status
     failed (inl done) = absurd (e.failed done.0)
     failed (inr f) = f
 
-    -- ---- what is left
-
-    abbrev IsLeft : Type 0
-    IsLeft = (k : K) × ReadsAs name rows (command k) × LeavesOut (holds k) (files_of k) events disk
-
     -- its last events
-    abbrev last : Ending → List Event
+    abbrev pub last : Ending → List Event
     last how = told (message_of (program_name Pbfcutz) how) ∷ advised ∷ []
 
-    module _ (x : IsOneOf command name rows Handles) where
-      abbrev files : Files
-      files = files_of x.words
+    -- they write one OUT, and this holds of what it has if it is kept
+    module _ (files_of : K → Files) (reads_files : (k : K) → ReadsAs name rows (command k) → ReadsFiles rows (files_of k)) (handles : (k : K) → HandlesIn Pbfcutz (command k) events → HandlesOut Pbfcutz (files_of k) events)
+        (holds : K → List ℕ → Type 0) (gives : (k : K) (w : Writing) (before : List Event) → IsKeptOf (files_of k).input.now file w before events → LeavesIn (manner_in Pbfcutz (command k)) (command k) before → holds k w.bytes) where
+      abbrev IsLeft : Type 0
+      IsLeft = (k : K) × ReadsAs name rows (command k) × LeavesOut (holds k) (files_of k) events disk
 
-      keeps : (w : Writing) → KeepsFile Pbfcutz files.overwrite files.output.now w events → (f : IsFailed Pbfcutz words events e.status) → (f.before ≡ []) ⊎ IsOneOf command name rows (Why f.before) → IsLeft
-      keeps w k f (inl none) = absurd (none_wrote w (last f.how) (tt, (tt, tt)) (subst (λ es. Happened (wrote w) (es ++ last f.how)) none (subst (λ es. Happened (wrote w) es) f.happened (file_wrote w Pbfcutz files.output.now k.keeps events k.file))))
-      keeps w k f (inr y) =
-          let now = keeps_now Pbfcutz files.overwrite files.output.now w events disk k e.allowed in
-          let mine = files_of y.words in
-          let read = reads_files y.words y.reads in
-          let name = one_output rows files.output mine.output (reads_files x.words x.reads).output read.output in
-          let kept_of : (mine.input.now ≡ mine.output.now → ⊥) → IsKeptOf mine.input.now file w f.before events = λ apart. record {
-            last = last f.how;
-            happened = f.happened;
-            quiet = (tt, (tt, tt));
-            kept = k.kept;
-            whole = k.whole;
-            is = file_wrote w Pbfcutz files.output.now k.keeps events k.file;
-            had = all_opened files.overwrite files.output.now w events disk k e.allowed mine.input.now file (ap disk read.input ∙ e.there) (λ same. apart (same ∙ name)) 1;
-          } in (
-            y.words,
-            y.reads,
-            record {
-              out = λ apart. inr (record { bytes = w.bytes; there = subst (λ o. after events disk o ≡ Some w.bytes) name now.there; has = gives y.words w f.before (kept_of apart) y.holds.1.1 });
-              others = subst (λ o. (p : List ℕ) → (p ≡ o → ⊥) → (Happened (stays p) events → ⊥) → after events disk p ≡ disk p) name now.left.others;
-              parts = subst (λ o. (p : List ℕ) → Happened (stays p) events → (p ≡ o → ⊥) × (disk p ≡ None)) name now.left.parts;
-            },
-          )
+      module _ (x : IsOneOf command name rows Handles) where
+        abbrev files : Files
+        files = files_of x.words
 
-      drops : (w : Writing) → DropsFile Pbfcutz files.output.now w events → IsLeft
-      drops w d =
-          let back = drops_back files.output.now w events disk d e.allowed in
-          (x.words, x.reads, record { out = λ apart. inl back.back; others = back.left.others; parts = back.left.parts })
+        keeps : (w : Writing) → KeepsFile Pbfcutz files.overwrite files.output.now w events → (f : IsFailed Pbfcutz words events e.status) → (f.before ≡ []) ⊎ IsOneOf command name rows (Why f.before) → IsLeft
+        keeps w k f (inl none) = absurd (none_wrote w (last f.how) (tt, (tt, tt)) (subst (λ es. Happened (wrote w) (es ++ last f.how)) none (subst (λ es. Happened (wrote w) es) f.happened (file_wrote w Pbfcutz files.output.now k.keeps events k.file))))
+        keeps w k f (inr y) =
+            let now = keeps_now Pbfcutz files.overwrite files.output.now w events disk k e.allowed in
+            let mine = files_of y.words in
+            let read = reads_files y.words y.reads in
+            let name = one_output rows files.output mine.output (reads_files x.words x.reads).output read.output in
+            let kept_of : (mine.input.now ≡ mine.output.now → ⊥) → IsKeptOf mine.input.now file w f.before events = λ apart. record {
+              last = last f.how;
+              happened = f.happened;
+              quiet = (tt, (tt, tt));
+              kept = k.kept;
+              whole = k.whole;
+              is = file_wrote w Pbfcutz files.output.now k.keeps events k.file;
+              had = all_opened events disk e.allowed mine.input.now file
+                  (λ started later is. keeps_others Pbfcutz files.overwrite files.output.now w started later disk (subst (λ es. KeepsFile Pbfcutz files.overwrite files.output.now w es) is k) (subst (λ es. AllowsAll disk es) is e.allowed) mine.input.now file (λ same. apart (same ∙ name)) (ap disk read.input ∙ e.there)) 1;
+            } in (
+              y.words,
+              y.reads,
+              record {
+                out = λ apart. inr (record { bytes = w.bytes; there = subst (λ o. after events disk o ≡ Some w.bytes) name now.there; has = gives y.words w f.before (kept_of apart) y.holds.1.1 });
+                others = subst (λ o. (p : List ℕ) → (p ≡ o → ⊥) → (Happened (stays p) events → ⊥) → after events disk p ≡ disk p) name now.left.others;
+                parts = subst (λ o. (p : List ℕ) → Happened (stays p) events → (p ≡ o → ⊥) × (disk p ≡ None)) name now.left.parts;
+              },
+            )
 
-      by_file : HandlesOut Pbfcutz files events → IsLeft
-      by_file (w, inl k) = (let f = failed e.run in keeps w k f (why f.how f.before f.why))
-      by_file (w, inr d) = drops w d
+        drops : (w : Writing) → DropsFile Pbfcutz files.output.now w events → IsLeft
+        drops w d =
+            let back = drops_back files.output.now w events disk d e.allowed in
+            (x.words, x.reads, record { out = λ apart. inl back.back; others = back.left.others; parts = back.left.parts })
 
-    left : IsSame events disk ⊎ IsLeft
-    left = of handled where
-      of : IsSame events disk ⊎ IsOneOf command name rows Handles → IsSame events disk ⊎ IsLeft
-      of (inl same) = inl same
-      of (inr x) = inr (by_file x (handles x.words x.holds))
+        by_file : HandlesOut Pbfcutz files events → IsLeft
+        by_file (w, inl k) = (let f = failed e.run in keeps w k f (why f.how f.before f.why))
+        by_file (w, inr d) = drops w d
+
+      left : IsSame events disk ⊎ IsLeft
+      left = of handled where
+        of : IsSame events disk ⊎ IsOneOf command name rows Handles → IsSame events disk ⊎ IsLeft
+        of (inl same) = inl same
+        of (inr x) = inr (by_file x (handles x.words x.holds))
 
 -- ---- each command
 

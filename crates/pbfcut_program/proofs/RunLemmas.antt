@@ -67,6 +67,13 @@ Cut = Region × Strategy × Files
 abbrev pub extract_of : Cut → Command
 extract_of cut = Extract cut.0 cut.1 cut.2
 
+-- with a configuration
+abbrev pub Configured : Type 0
+Configured = Bool × ConfigFiles
+
+abbrev pub each_of : Configured → Command
+each_of words = ExtractEach words.0 words.1
+
 module _ (rows : List Row) (p : Command → Type 0) where
   pub extract_is : is_given (codes "config") rows ≡ false → (command : Command) → ReadsAs (codes "extract") rows command → p command → IsOneOf extract_of (codes "extract") rows p
   extract_is plain (Extract cut by files) r x = record { words = (cut, by, files); reads = r; holds = x }
@@ -79,6 +86,18 @@ module _ (rows : List Row) (p : Command → Type 0) where
   extract_is plain (Pack files) r x = absurd (differ (codes "extract") (codes "pack") refl r.0)
   extract_is plain (Unpack files) r x = absurd (differ (codes "extract") (codes "unpack") refl r.0)
   extract_is plain (Help text) r x = absurd r
+
+  pub configured_is : is_given (codes "config") rows ≡ true → (command : Command) → ReadsAs (codes "extract") rows command → p command → IsOneOf each_of (codes "extract") rows p
+  configured_is given (ExtractEach parents files) r x = record { words = (parents, files); reads = r; holds = x }
+  configured_is given (Extract cut by files) r x = absurd (false≢true (sym r.1 ∙ given))
+  configured_is given (Blobs input) r x = absurd (differ (codes "extract") (codes "blobs") refl r.0)
+  configured_is given (Info input json) r x = absurd (differ (codes "extract") (codes "info") refl r.0)
+  configured_is given (Show input dates progress) r x = absurd (differ (codes "extract") (codes "show") refl r.0)
+  configured_is given (Check input progress digests) r x = absurd (differ (codes "extract") (codes "check") refl r.0)
+  configured_is given (Convert files) r x = absurd (differ (codes "extract") (codes "convert") refl r.0)
+  configured_is given (Pack files) r x = absurd (differ (codes "extract") (codes "pack") refl r.0)
+  configured_is given (Unpack files) r x = absurd (differ (codes "extract") (codes "unpack") refl r.0)
+  configured_is given (Help text) r x = absurd r
 
   pub convert_is : (command : Command) → ReadsAs (codes "convert") rows command → p command → IsOneOf Convert (codes "convert") rows p
   convert_is (Convert files) r x = record { words = files; reads = r; holds = x }
@@ -123,16 +142,9 @@ module _ (program : Program) (rows : List Row) (events : List Event) where
       record { cut = x.words.0; by = x.words.1; files = x.words.2; reads = x.reads; extracts = x.holds }
 
   configured_done : is_given (codes "config") rows ≡ true → (command : Command) → ReadsAs (codes "extract") rows command → Does (manner_in program command) command events → RunsConfigured program rows events
-  configured_done given (ExtractEach parents files) r d = record { parents = parents; files = files; reads = r; extracts = d }
-  configured_done given (Extract cut by files) r d = absurd (false≢true (sym r.1 ∙ given))
-  configured_done given (Blobs input) r d = absurd (differ (codes "extract") (codes "blobs") refl r.0)
-  configured_done given (Info input json) r d = absurd (differ (codes "extract") (codes "info") refl r.0)
-  configured_done given (Show input dates progress) r d = absurd (differ (codes "extract") (codes "show") refl r.0)
-  configured_done given (Check input progress digests) r d = absurd (differ (codes "extract") (codes "check") refl r.0)
-  configured_done given (Convert files) r d = absurd (differ (codes "extract") (codes "convert") refl r.0)
-  configured_done given (Pack files) r d = absurd (differ (codes "extract") (codes "pack") refl r.0)
-  configured_done given (Unpack files) r d = absurd (differ (codes "extract") (codes "unpack") refl r.0)
-  configured_done given (Help text) r d = absurd r
+  configured_done given command r d =
+      let x = configured_is rows (λ c. Does (manner_in program c) c events) given command r d in
+      record { parents = x.words.0; files = x.words.1; reads = x.reads; extracts = x.holds }
 
   convert_done : (command : Command) → ReadsAs (codes "convert") rows command → Does (manner_in program command) command events → RunsWriting program (codes "convert") rows events Convert converting
   convert_done command r d =
