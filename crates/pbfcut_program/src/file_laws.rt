@@ -21,6 +21,7 @@ ghost use Rattle.pbfcut_program.specs.Files.{AllowsAll, Disk, after};
 ghost use Rattle.pbfcut_program.specs.Program.{IsMeant, manner_in};
 ghost use Rattle.pbfcut_program.specs.Settling.{HandlesIn, RunSettles};
 ghost use Rattle.pbfcut_program.specs.SeveralChanges.{HandlesFiles, IsApart, IsDroppedFile, IsKeptWhole, OneFile, Pairwise};
+ghost use Rattle.pbfcut_program.specs.SeveralFailures.{LeavesSeveral};
 ghost use Rattle.pbfcut_program.specs.SeveralGives.{GivesEach};
 ghost use Rattle.pbfcut_program.specs.SeveralWrites.{strategy_with};
 ghost use Rattle.pbfcut_program.specs.Taking.{Happened};
@@ -162,6 +163,21 @@ pub fn run_of_extracts()
         × ReadsAs (codes "extract") rows (ExtractEach parents files)
         × GivesEach (manner_in Pbfcutz (ExtractEach parents files)) (strategy_with parents) files
         file events disk }
+{}
+
+/// What another status of `extract --config` says of them: each OUT that was made is as it was; or it was kept before the run failed, and has
+/// bytes that mean exactly the extract of what IN has on the disk, by its area. They are the first OUTs of the configuration that the disk has,
+/// if not all: if one can't be made, those after it aren't made. Every other file is as it was, but a part may be left, which is new. IN has
+/// another path than each OUT, two OUTs have two paths, and no OUT has the name that another one has until it is whole.
+pub fn failure_of_extracts()
+    ensures { (words : List Text) (rows : List Row) (events : List Event) (disk : Disk)
+        (file : List ℕ) → is_given (codes "config") rows ≡ true
+        → EndsBadly Pbfcutz words (codes "extract") rows events disk file
+        → ((path : List ℕ) → after events disk path ≡ disk path)
+        ⊎ ((parents : Bool) × (files : ConfigFiles)
+        × ReadsAs (codes "extract") rows (ExtractEach parents files)
+        × LeavesSeveral (manner_in Pbfcutz (ExtractEach parents files)) (strategy_with parents) files
+        file events disk) }
 {}
 
 /// What status 0 of `convert` says of them: OUT has bytes that mean a conversion of what those of IN mean. The rest is as after
