@@ -28,6 +28,7 @@ pub mod SeveralSettling
 pub mod SeveralTelling
 pub mod SeveralClosing
 pub mod SeveralDisk
+pub mod SeveralFailing
 pub mod SeveralFileLemmas
 pub mod SeveralGiving
 pub mod SeveralMaking

@@ -54,17 +54,29 @@ pub record RunsWriting (program : Program) (name : List ℕ) (rows : List Row) (
   pub reads : ReadsAs name rows (command files)
   pub writes : Writes (manner_in program (command files)) task files events
 
--- the command that they mean is `extract` with a region, and this holds of it
-pub record IsExtract (p : Command → Type 0) (rows : List Row) : Type 0 where
-  pub cut : Region
-  pub by : Strategy
-  pub files : Files
-  pub reads : ReadsAs (codes "extract") rows (Extract cut by files)
-  pub holds : p (Extract cut by files)
+-- the command that they mean is one of these, and this holds of it
+pub record IsOneOf {K : Type 0} (command : K → Command) (name : List ℕ) (rows : List Row) (p : Command → Type 0) : Type 0 where
+  pub words : K
+  pub reads : ReadsAs name rows (command words)
+  pub holds : p (command words)
+
+-- `extract` with a region
+abbrev pub Cut : Type 0
+Cut = Region × Strategy × Files
+
+abbrev pub extract_of : Cut → Command
+extract_of cut = Extract cut.0 cut.1 cut.2
+
+-- with a configuration
+abbrev pub Configured : Type 0
+Configured = Bool × ConfigFiles
+
+abbrev pub each_of : Configured → Command
+each_of words = ExtractEach words.0 words.1
 
 module _ (rows : List Row) (p : Command → Type 0) where
-  pub extract_is : is_given (codes "config") rows ≡ false → (command : Command) → ReadsAs (codes "extract") rows command → p command → IsExtract p rows
-  extract_is plain (Extract cut by files) r x = record { cut = cut; by = by; files = files; reads = r; holds = x }
+  pub extract_is : is_given (codes "config") rows ≡ false → (command : Command) → ReadsAs (codes "extract") rows command → p command → IsOneOf extract_of (codes "extract") rows p
+  extract_is plain (Extract cut by files) r x = record { words = (cut, by, files); reads = r; holds = x }
   extract_is plain (ExtractEach parents files) r x = absurd (false≢true (sym plain ∙ ap (λ o. is_some o) r.2.config))
   extract_is plain (Blobs input) r x = absurd (differ (codes "extract") (codes "blobs") refl r.0)
   extract_is plain (Info input json) r x = absurd (differ (codes "extract") (codes "info") refl r.0)
@@ -75,59 +87,79 @@ module _ (rows : List Row) (p : Command → Type 0) where
   extract_is plain (Unpack files) r x = absurd (differ (codes "extract") (codes "unpack") refl r.0)
   extract_is plain (Help text) r x = absurd r
 
+  pub configured_is : is_given (codes "config") rows ≡ true → (command : Command) → ReadsAs (codes "extract") rows command → p command → IsOneOf each_of (codes "extract") rows p
+  configured_is given (ExtractEach parents files) r x = record { words = (parents, files); reads = r; holds = x }
+  configured_is given (Extract cut by files) r x = absurd (false≢true (sym r.1 ∙ given))
+  configured_is given (Blobs input) r x = absurd (differ (codes "extract") (codes "blobs") refl r.0)
+  configured_is given (Info input json) r x = absurd (differ (codes "extract") (codes "info") refl r.0)
+  configured_is given (Show input dates progress) r x = absurd (differ (codes "extract") (codes "show") refl r.0)
+  configured_is given (Check input progress digests) r x = absurd (differ (codes "extract") (codes "check") refl r.0)
+  configured_is given (Convert files) r x = absurd (differ (codes "extract") (codes "convert") refl r.0)
+  configured_is given (Pack files) r x = absurd (differ (codes "extract") (codes "pack") refl r.0)
+  configured_is given (Unpack files) r x = absurd (differ (codes "extract") (codes "unpack") refl r.0)
+  configured_is given (Help text) r x = absurd r
+
+  pub convert_is : (command : Command) → ReadsAs (codes "convert") rows command → p command → IsOneOf Convert (codes "convert") rows p
+  convert_is (Convert files) r x = record { words = files; reads = r; holds = x }
+  convert_is (Pack files) r x = absurd (differ (codes "convert") (codes "pack") refl r.0)
+  convert_is (Unpack files) r x = absurd (differ (codes "convert") (codes "unpack") refl r.0)
+  convert_is (Extract cut by files) r x = absurd (differ (codes "convert") (codes "extract") refl r.0)
+  convert_is (ExtractEach parents files) r x = absurd (differ (codes "convert") (codes "extract") refl r.0)
+  convert_is (Blobs input) r x = absurd (differ (codes "convert") (codes "blobs") refl r.0)
+  convert_is (Info input json) r x = absurd (differ (codes "convert") (codes "info") refl r.0)
+  convert_is (Show input dates progress) r x = absurd (differ (codes "convert") (codes "show") refl r.0)
+  convert_is (Check input progress digests) r x = absurd (differ (codes "convert") (codes "check") refl r.0)
+  convert_is (Help text) r x = absurd r
+
+  pub pack_is : (command : Command) → ReadsAs (codes "pack") rows command → p command → IsOneOf Pack (codes "pack") rows p
+  pack_is (Pack files) r x = record { words = files; reads = r; holds = x }
+  pack_is (Convert files) r x = absurd (differ (codes "pack") (codes "convert") refl r.0)
+  pack_is (Unpack files) r x = absurd (differ (codes "pack") (codes "unpack") refl r.0)
+  pack_is (Extract cut by files) r x = absurd (differ (codes "pack") (codes "extract") refl r.0)
+  pack_is (ExtractEach parents files) r x = absurd (differ (codes "pack") (codes "extract") refl r.0)
+  pack_is (Blobs input) r x = absurd (differ (codes "pack") (codes "blobs") refl r.0)
+  pack_is (Info input json) r x = absurd (differ (codes "pack") (codes "info") refl r.0)
+  pack_is (Show input dates progress) r x = absurd (differ (codes "pack") (codes "show") refl r.0)
+  pack_is (Check input progress digests) r x = absurd (differ (codes "pack") (codes "check") refl r.0)
+  pack_is (Help text) r x = absurd r
+
+  pub unpack_is : (command : Command) → ReadsAs (codes "unpack") rows command → p command → IsOneOf Unpack (codes "unpack") rows p
+  unpack_is (Unpack files) r x = record { words = files; reads = r; holds = x }
+  unpack_is (Convert files) r x = absurd (differ (codes "unpack") (codes "convert") refl r.0)
+  unpack_is (Pack files) r x = absurd (differ (codes "unpack") (codes "pack") refl r.0)
+  unpack_is (Extract cut by files) r x = absurd (differ (codes "unpack") (codes "extract") refl r.0)
+  unpack_is (ExtractEach parents files) r x = absurd (differ (codes "unpack") (codes "extract") refl r.0)
+  unpack_is (Blobs input) r x = absurd (differ (codes "unpack") (codes "blobs") refl r.0)
+  unpack_is (Info input json) r x = absurd (differ (codes "unpack") (codes "info") refl r.0)
+  unpack_is (Show input dates progress) r x = absurd (differ (codes "unpack") (codes "show") refl r.0)
+  unpack_is (Check input progress digests) r x = absurd (differ (codes "unpack") (codes "check") refl r.0)
+  unpack_is (Help text) r x = absurd r
+
 module _ (program : Program) (rows : List Row) (events : List Event) where
   extract_done : is_given (codes "config") rows ≡ false → (command : Command) → ReadsAs (codes "extract") rows command → Does (manner_in program command) command events → RunsRegion program rows events
   extract_done plain command r d =
       let x = extract_is rows (λ c. Does (manner_in program c) c events) plain command r d in
-      record { cut = x.cut; by = x.by; files = x.files; reads = x.reads; extracts = x.holds }
+      record { cut = x.words.0; by = x.words.1; files = x.words.2; reads = x.reads; extracts = x.holds }
 
   configured_done : is_given (codes "config") rows ≡ true → (command : Command) → ReadsAs (codes "extract") rows command → Does (manner_in program command) command events → RunsConfigured program rows events
-  configured_done given (ExtractEach parents files) r d = record { parents = parents; files = files; reads = r; extracts = d }
-  configured_done given (Extract cut by files) r d = absurd (false≢true (sym r.1 ∙ given))
-  configured_done given (Blobs input) r d = absurd (differ (codes "extract") (codes "blobs") refl r.0)
-  configured_done given (Info input json) r d = absurd (differ (codes "extract") (codes "info") refl r.0)
-  configured_done given (Show input dates progress) r d = absurd (differ (codes "extract") (codes "show") refl r.0)
-  configured_done given (Check input progress digests) r d = absurd (differ (codes "extract") (codes "check") refl r.0)
-  configured_done given (Convert files) r d = absurd (differ (codes "extract") (codes "convert") refl r.0)
-  configured_done given (Pack files) r d = absurd (differ (codes "extract") (codes "pack") refl r.0)
-  configured_done given (Unpack files) r d = absurd (differ (codes "extract") (codes "unpack") refl r.0)
-  configured_done given (Help text) r d = absurd r
+  configured_done given command r d =
+      let x = configured_is rows (λ c. Does (manner_in program c) c events) given command r d in
+      record { parents = x.words.0; files = x.words.1; reads = x.reads; extracts = x.holds }
 
   convert_done : (command : Command) → ReadsAs (codes "convert") rows command → Does (manner_in program command) command events → RunsWriting program (codes "convert") rows events Convert converting
-  convert_done (Convert files) r d = record { files = files; reads = r; writes = d }
-  convert_done (Extract cut by files) r d = absurd (differ (codes "convert") (codes "extract") refl r.0)
-  convert_done (ExtractEach parents files) r d = absurd (differ (codes "convert") (codes "extract") refl r.0)
-  convert_done (Blobs input) r d = absurd (differ (codes "convert") (codes "blobs") refl r.0)
-  convert_done (Info input json) r d = absurd (differ (codes "convert") (codes "info") refl r.0)
-  convert_done (Show input dates progress) r d = absurd (differ (codes "convert") (codes "show") refl r.0)
-  convert_done (Check input progress digests) r d = absurd (differ (codes "convert") (codes "check") refl r.0)
-  convert_done (Pack files) r d = absurd (differ (codes "convert") (codes "pack") refl r.0)
-  convert_done (Unpack files) r d = absurd (differ (codes "convert") (codes "unpack") refl r.0)
-  convert_done (Help text) r d = absurd r
+  convert_done command r d =
+      let x = convert_is rows (λ c. Does (manner_in program c) c events) command r d in
+      record { files = x.words; reads = x.reads; writes = x.holds }
 
   pack_done : (command : Command) → ReadsAs (codes "pack") rows command → Does (manner_in program command) command events → RunsWriting program (codes "pack") rows events Pack copying
-  pack_done (Pack files) r d = record { files = files; reads = r; writes = d }
-  pack_done (Extract cut by files) r d = absurd (differ (codes "pack") (codes "extract") refl r.0)
-  pack_done (ExtractEach parents files) r d = absurd (differ (codes "pack") (codes "extract") refl r.0)
-  pack_done (Blobs input) r d = absurd (differ (codes "pack") (codes "blobs") refl r.0)
-  pack_done (Info input json) r d = absurd (differ (codes "pack") (codes "info") refl r.0)
-  pack_done (Show input dates progress) r d = absurd (differ (codes "pack") (codes "show") refl r.0)
-  pack_done (Check input progress digests) r d = absurd (differ (codes "pack") (codes "check") refl r.0)
-  pack_done (Convert files) r d = absurd (differ (codes "pack") (codes "convert") refl r.0)
-  pack_done (Unpack files) r d = absurd (differ (codes "pack") (codes "unpack") refl r.0)
-  pack_done (Help text) r d = absurd r
+  pack_done command r d =
+      let x = pack_is rows (λ c. Does (manner_in program c) c events) command r d in
+      record { files = x.words; reads = x.reads; writes = x.holds }
 
   unpack_done : (command : Command) → ReadsAs (codes "unpack") rows command → Does (manner_in program command) command events → RunsWriting program (codes "unpack") rows events Unpack copying
-  unpack_done (Unpack files) r d = record { files = files; reads = r; writes = d }
-  unpack_done (Extract cut by files) r d = absurd (differ (codes "unpack") (codes "extract") refl r.0)
-  unpack_done (ExtractEach parents files) r d = absurd (differ (codes "unpack") (codes "extract") refl r.0)
-  unpack_done (Blobs input) r d = absurd (differ (codes "unpack") (codes "blobs") refl r.0)
-  unpack_done (Info input json) r d = absurd (differ (codes "unpack") (codes "info") refl r.0)
-  unpack_done (Show input dates progress) r d = absurd (differ (codes "unpack") (codes "show") refl r.0)
-  unpack_done (Check input progress digests) r d = absurd (differ (codes "unpack") (codes "check") refl r.0)
-  unpack_done (Convert files) r d = absurd (differ (codes "unpack") (codes "convert") refl r.0)
-  unpack_done (Pack files) r d = absurd (differ (codes "unpack") (codes "pack") refl r.0)
-  unpack_done (Help text) r d = absurd r
+  unpack_done command r d =
+      let x = unpack_is rows (λ c. Does (manner_in program c) c events) command r d in
+      record { files = x.words; reads = x.reads; writes = x.holds }
 
   -- what was done is what the words mean
   ran : {Runs : Type 0} (name : List ℕ) (words : List Text) → ((command : Command) → ReadsAs name rows command → Does (manner_in program command) command events → Runs)

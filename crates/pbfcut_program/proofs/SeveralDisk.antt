@@ -12,7 +12,7 @@ use Rattle.pbfcut_program.specs.Files.{AllowsAll, Disk, Drops, IsDropped, IsEnd,
 use Rattle.pbfcut_program.specs.SeveralChanges.{HandlesFiles, IsApart, IsDroppedFile, IsHandled, IsKeptWhole, OneFile, Pairwise}
 use Rattle.pbfcut_program.specs.Taking.{Happened}
 use Rattle.pbfcut_program.proofs.DiskLemmas.{IsFile, after_both, after_still, allows_first, allows_last, allows_past, file_of, happened_after, happened_before, misnames_still, misses_still, past_still, put_other, put_same, some_same, which}
-use Rattle.pbfcut_program.proofs.EventLemmas.{each_both}
+use Rattle.pbfcut_program.proofs.EventLemmas.{each_both, each_front}
 
 -- ---- events that change nothing by this name
 
@@ -499,6 +499,37 @@ find overwrite p (one ∷ more) h = of (which (file overwrite one h.0).name p) (
   of (inl e) rest = inr (record { fronts = []; one = one; backs = more; are = refl; is = (file overwrite one h.0).is ∙ ap (λ n. Some n) e })
   of (inr n) (inl d) = inl ((λ e. n (some_same (sym (file overwrite one h.0).is ∙ e))), d)
   of (inr n) (inr k) = inr (record { fronts = one ∷ k.fronts; one = k.one; backs = k.backs; are = ap (λ l. one ∷ l) k.are; is = k.is })
+
+-- a file that was there, whose path is that of no OUT, is no part either, and has the same bytes after each event
+module _ (overwrite : Bool) (files : List OneFile) (events : List Event) (x : HandlesFiles Pbfcutz overwrite files events) (apart : Pairwise IsApart files) (disk : Disk) (a : AllowsAll disk events) (p bytes : List ℕ) (there : disk p ≡ Some bytes) (outputs : AllByRecursion (λ (one : OneFile). p ≡ one.output → ⊥) files) where
+  differs_from : AllByRecursion (Differs p) files
+  differs_from = of (find overwrite p files x.each) where
+    of : AllByRecursion (IsNotNamed p) files ⊎ IsOneOf p files → AllByRecursion (Differs p) files
+    of (inl d) = all_two (IsNotNamed p) (λ one. p ≡ one.output → ⊥) (Differs p) (λ one n o. (n, o)) files d outputs
+    of (inr k) =
+        let split = subst (λ (fs : List OneFile). HandlesFiles Pbfcutz overwrite fs events) k.are x in
+        let pairs = subst (λ (fs : List OneFile). Pairwise IsApart fs) k.are apart in
+        let same : (mine overwrite k.fronts k.one k.backs events split pairs disk).name ≡ p = some_same (sym (mine overwrite k.fronts k.one k.backs events split pairs disk).is ∙ k.is) in
+        absurd (none_some (sym (part_free overwrite k.fronts k.one k.backs events split pairs disk a) ∙ ap disk same ∙ there))
+
+  all_writes : (ones : List OneFile) → AllByRecursion (IsNotNamed p) ones → Each (Spares p) (map (λ (one : OneFile). wrote one.out) ones)
+  all_writes [] d = tt
+  all_writes (one ∷ more) d = (d.0, all_writes more d.1)
+
+  all_spare : Each (Spares p) events
+  all_spare =
+      let unnamed_all = unnamed p files differs_from in
+      let writes = map (λ (one : OneFile). wrote one.out) files in
+      let ends = flat_map ends_of files in
+      subst (λ (es : List Event). Each (Spares p) es) (sym x.happened)
+      (each_both (Spares p) x.before (flat_map made_of files ++ (x.between ++ (writes ++ (ends ++ x.last)))) (all_still_spare p x.before x.still.0)
+      (each_both (Spares p) (flat_map made_of files) (x.between ++ (writes ++ (ends ++ x.last))) (all_makes_spare overwrite p files x.each unnamed_all)
+      (each_both (Spares p) x.between (writes ++ (ends ++ x.last)) (all_still_spare p x.between x.still.1)
+      (each_both (Spares p) writes (ends ++ x.last) (all_writes files unnamed_all)
+      (each_both (Spares p) ends x.last (all_ends_spare overwrite p files x.each differs_from) (all_still_spare p x.last x.still.2))))))
+
+  pub always_there : (started later : List Event) → events ≡ started ++ later → after started disk p ≡ Some bytes
+  always_there started later is = spared p started disk (each_front (Spares p) started later (subst (λ (es : List Event). Each (Spares p) es) is all_spare)) ∙ there
 
 pub others_back : (overwrite : Bool) (files : List OneFile) (events : List Event) (x : HandlesFiles Pbfcutz overwrite files events) → Pairwise IsApart files → (disk : Disk) → AllowsAll disk events → (p : List ℕ) → AllByRecursion (λ (one : OneFile). p ≡ one.output → ⊥) files → (Happened (stays p) events → ⊥) → after events disk p ≡ disk p
 others_back overwrite files events x apart disk a p outputs left = of (find overwrite p files x.each) where

@@ -50,7 +50,7 @@ module _ (disk : Disk) where
         each_on xs m.1 os m.5 (allows_past m.0 m.1 disk (still_of m.0 (calm_area x.area m.0 o.area m.4)) allowed),
       )
 
-  outs_on : (config : List ℕ) (folder : Option (List ℕ)) (es : List Event) (os : List OutputArea) → MeansConfig config folder es os → AllowsAll disk es → AreOutsOn disk config folder os
+  pub outs_on : (config : List ℕ) (folder : Option (List ℕ)) (es : List Event) (os : List OutputArea) → MeansConfig config folder es os → AllowsAll disk es → AreOutsOn disk config folder os
   outs_on config folder es os m a =
       let allowed = subst (λ l. AllowsAll disk l) m.happened a in
       (m.text, m.extracts, allowed.0, m.are, each_on m.extracts m.later os m.each allowed.1)

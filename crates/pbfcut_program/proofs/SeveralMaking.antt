@@ -1,5 +1,5 @@
 -- What a run for several areas did from its first event to its last.
-use Rattle.std.proofs.Common.{◌≡◌, ◌∙◌, inl, inr, ℕ, List, [], ◌∷◌, ◌++◌, map, Bool, false, Option, Some, None, refl, sym, ap, subst, append_assoc}
+use Rattle.std.proofs.Common.{◌≡◌, ◌∙◌, ◌⊎◌, inl, inr, ℕ, List, [], ◌∷◌, ◌++◌, map, Bool, false, Option, Some, None, refl, sym, ap, subst, append_assoc}
 use Rattle.std.proofs.lemmas.List.{append-nil}
 use Rattle.std.specs.List.{AllByRecursion, AllZip, flat_map, zip}
 use Rattle.std.specs.String.{string_bytes}
@@ -26,7 +26,7 @@ use Rattle.pbfcut_program.specs.Leaving.{IsUnkept}
 use Rattle.pbfcut_program.specs.Lines.{out_lines}
 use Rattle.pbfcut_program.specs.Manner.{Manner, check_of}
 use Rattle.pbfcut_program.specs.Readings.{IsWork}
-use Rattle.pbfcut_program.specs.SeveralChanges.{HandlesEach, IsHandled, OneFile, SettlesOuts}
+use Rattle.pbfcut_program.specs.SeveralChanges.{HandlesEach, IsDroppedFile, IsHandled, OneFile, SettlesOuts}
 use Rattle.pbfcut_program.specs.SeveralEnds.{Ended, EndsKept, FailsMaking, IsEndedPart, ReturnsEach, areas_into, outs_lines}
 use Rattle.pbfcut_program.specs.SeveralFiles.{ClosesEmpty, DropsPart, IsBegun, IsPartOf, MakesPart, UnmakesEach, flatten, looks_each}
 use Rattle.pbfcut_program.specs.SeveralWrites.{AreLeft, LeavesOne, OneOut, WritesOne, areas_of, begun_each, paths_of}
@@ -78,10 +78,11 @@ pub record AreFiles (program : Program) (overwrite : Bool) (parts : List OutPart
   pub outs : map (λ one. wrote one.out) files ≡ map (λ one. wrote one.out) ones
   pub ends : flat_map (λ one. one.ends) files ≡ flat_map (λ one. one.ends) ones
   pub paths : map (λ one. one.output) files ≡ map (λ p. string_bytes p.path) parts
+  pub dropped : AllByRecursion (λ e. IsDropped program e.out.name e.ends) ones → AllByRecursion (IsDroppedFile program) files
 
 module _ (program : Program) (overwrite : Bool) where
   pub are_files : (parts : List OutPart) (mss : List (List Event)) (ones : List Ended) → AllZip (MakesPart program) parts mss → AllZip (IsEndedPart program overwrite) parts ones → AreFiles program overwrite parts mss ones
-  are_files [] [] [] m e = record { files = []; each = tt; makes = refl; outs = refl; ends = refl; paths = refl }
+  are_files [] [] [] m e = record { files = []; each = tt; makes = refl; outs = refl; ends = refl; paths = refl; dropped = λ d. tt }
   are_files (p ∷ ps) (ms ∷ mss) (e ∷ es) made ended =
       let rest = are_files ps mss es made.1 ended.1 in
       let one : OneFile = record { output = string_bytes p.path; out = e.out; makes = ms; ends = e.ends } in
@@ -92,6 +93,7 @@ module _ (program : Program) (overwrite : Bool) where
         outs = ap (λ xs. wrote e.out ∷ xs) rest.outs;
         ends = ap (λ xs. e.ends ++ xs) rest.ends;
         paths = ap (λ xs. string_bytes p.path ∷ xs) rest.paths;
+        dropped = λ d. (d.0, rest.dropped d.1);
       }
   are_files [] (ms ∷ mss) ones m e = absurd m
   are_files (p ∷ ps) [] ones m e = absurd m
@@ -111,9 +113,9 @@ module _ (program : Program) (overwrite : Bool) where
 
   -- all that was done to files, in order
   pub handles_all : (outs done later : List OutputCut) (parts : List OutPart) (mss : List (List Event)) (ones : List Ended) (before between last : List Event) → outs ≡ done ++ later → AllZip IsPartOf done parts → AllZip (MakesPart program) parts mss → AllZip (IsEndedPart program overwrite) parts ones
-      → Each Still before → Each Still between → Each Still last
+      → Each Still before → Each Still between → Each Still last → (later ≡ []) ⊎ AllByRecursion (λ e. IsDropped program e.out.name e.ends) ones
       → HandlesEach program overwrite (paths_of (map output_area_of outs)) (before ++ (flatten mss ++ (between ++ (map (λ one. wrote one.out) ones ++ (flat_map (λ one. one.ends) ones ++ last)))))
-  handles_all outs done later parts mss ones before between last are paths made ended s t u =
+  handles_all outs done later parts mss ones before between last are paths made ended s t u all =
       let f = are_files parts mss ones made ended in
       let rest = map (λ one. wrote one.out) ones ++ (flat_map (λ one. one.ends) ones ++ last) in (
         f.files,
@@ -129,7 +131,11 @@ module _ (program : Program) (overwrite : Bool) where
           each = f.each;
           still = (s, t, u);
         },
-      )
+        all_or_dropped all,
+      ) where
+        all_or_dropped : (later ≡ []) ⊎ AllByRecursion (λ e. IsDropped program e.out.name e.ends) ones → (paths_of (map output_area_of later) ≡ []) ⊎ AllByRecursion (IsDroppedFile program) (are_files parts mss ones made ended).files
+        all_or_dropped (inl none) = inl (ap (λ os. paths_of (map output_area_of os)) none)
+        all_or_dropped (inr d) = inr ((are_files parts mss ones made ended).dropped d)
 
   -- a run whose OUTs have all ended
   pub returns_handled : (outs : List OutputCut) (parts : List OutPart) (mss : List (List Event)) (before : List Event) (k l m n : Option (List Event)) → AllZip IsPartOf outs parts → AllZip (MakesPart program) parts mss → Each Still before → l ≡ then_all k before → m ≡ then_all l (flatten mss) → ReturnsEach program overwrite parts m n
@@ -137,7 +143,7 @@ module _ (program : Program) (overwrite : Bool) where
   returns_handled outs parts mss before k l m n paths made s begun makes r =
       let reads = map (λ x. read x) r.rs in
       let rest = reads ++ (map (λ one. wrote one.out) r.ones ++ (flat_map (λ one. one.ends) r.ones ++ r.last)) in
-      (before ++ (flatten mss ++ rest), and_then k l n before (flatten mss ++ rest) begun (and_then l m n (flatten mss) rest makes r.log), inr (handles_all outs outs [] parts mss r.ones before reads r.last (sym (append-nil outs)) paths made r.each s (reads_still r.rs) r.still)) where
+      (before ++ (flatten mss ++ rest), and_then k l n before (flatten mss ++ rest) begun (and_then l m n (flatten mss) rest makes r.log), inr (handles_all outs outs [] parts mss r.ones before reads r.last (sym (append-nil outs)) paths made r.each s (reads_still r.rs) r.still (inl refl))) where
         reads_still : (rs : List Reading) → Each Still (map (λ x. read x) rs)
         reads_still [] = tt
         reads_still (x ∷ rs) = (tt, reads_still rs)
@@ -147,23 +153,26 @@ module _ (program : Program) (overwrite : Bool) where
 -- what was closed empty and dropped
 abbrev EndsEmpty : Program → (overwrite : Bool) → List OutPart → (css dss : List (List Event)) → List Ended → Type 0
 EndsEmpty program overwrite parts css dss ones = AllZip (IsEndedPart program overwrite) parts ones × (flatten css ≡ map (λ one. wrote one.out) ones) × (flatten dss ≡ flat_map (λ one. one.ends) ones) × Each WroteNothing (flatten css) × Each IsUnkept (flatten css) × Each Silent (flatten css)
+    × AllByRecursion (λ one. IsDropped program one.out.name one.ends) ones
 
 module _ (program : Program) (overwrite : Bool) where
   ends_empty : (parts : List OutPart) (css dss : List (List Event)) → AllZip ClosesEmpty parts css → AllZip (DropsPart program) parts dss → (ones : List Ended) × EndsEmpty program overwrite parts css dss ones
-  ends_empty [] [] [] c d = ([], (tt, refl, refl, tt, tt, tt))
+  ends_empty [] [] [] c d = ([], (tt, refl, refl, tt, tt, tt, tt))
   ends_empty (p ∷ ps) (cs ∷ css) (ds ∷ dss) c d =
       let rest = ends_empty ps css dss c.1 d.1 in
       let w : Writing = c.0.0 in
       let is : cs ≡ wrote w ∷ [] = c.0.1 in
-      let one : Ended = record { readings = []; out = w; ends = ds } in (
+      let one : Ended = record { readings = []; out = w; ends = ds } in
+      let dropped : IsDropped program w.name ds = subst (λ n. IsDropped program n ds) (sym c.0.2) d.0 in (
         one ∷ rest.0,
         (
-          (record { name = c.0.2; ended = inr (subst (λ n. IsDropped program n ds) (sym c.0.2) d.0) }, rest.1.0),
+          (record { name = c.0.2; ended = inr dropped }, rest.1.0),
           ap (λ xs. xs ++ flatten css) is ∙ ap (λ xs. wrote w ∷ xs) rest.1.1,
           ap (λ xs. ds ++ xs) rest.1.2,
           each_both WroteNothing cs (flatten css) (subst (Each WroteNothing) (sym is) (c.0.4, tt)) rest.1.3,
           each_both IsUnkept cs (flatten css) (subst (Each IsUnkept) (sym is) (c.0.3, tt)) rest.1.4,
           each_both Silent cs (flatten css) (subst (Each Silent) (sym is) (tt, tt)) rest.1.5,
+          (dropped, rest.1.6),
         ),
       )
   ends_empty [] (cs ∷ css) dss c d = absurd c
@@ -195,7 +204,7 @@ module _ (program : Program) (overwrite : Bool) where
           silent = each_both Silent makes (u.tries ++ (closes ++ drops)) (makes_silent program u.parts mss u.makes.2) (each_both Silent u.tries (closes ++ drops) (silent_of u.tries u.fails.0) (each_both Silent closes drops e.1.5 drops_silent));
           files = inr (subst (λ xs. HandlesEach program overwrite (paths_of (map output_area_of outs)) (makes ++ (u.tries ++ xs)))
               (sym (ap (λ xs. xs ++ drops) e.1.1 ∙ ap (λ xs. map (λ one. wrote one.out) ones ++ xs) (e.1.2 ∙ sym (append-nil (flat_map (λ one. one.ends) ones)))))
-              (handles_all program overwrite outs u.done u.later u.parts mss ones [] u.tries [] u.are u.paths u.makes.2 e.1.0 tt (still_of u.tries u.fails.0) tt));
+              (handles_all program overwrite outs u.done u.later u.parts mss ones [] u.tries [] u.are u.paths u.makes.2 e.1.0 tt (still_of u.tries u.fails.0) tt (inr e.1.6)));
         },
       )
 

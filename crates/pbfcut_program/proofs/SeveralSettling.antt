@@ -19,7 +19,7 @@ five_after a b c d e xs ys =
     ∙ ap (λ zs. c ++ zs) (append_assoc d (e ++ xs) ys ∙ ap (λ zs. d ++ zs) (append_assoc e xs ys))))
 
 module _ (program : Program) (overwrite : Bool) where
-  files_after : (files : List OneFile) (events xs : List Event) → Each Still xs → HandlesFiles program overwrite files events → HandlesFiles program overwrite files (xs ++ events)
+  pub files_after : (files : List OneFile) (events xs : List Event) → Each Still xs → HandlesFiles program overwrite files events → HandlesFiles program overwrite files (xs ++ events)
   files_after files events xs s h = record {
     before = xs ++ h.before;
     between = h.between;
@@ -40,10 +40,10 @@ module _ (program : Program) (overwrite : Bool) where
   }
 
   handles_after : (outputs : List (List ℕ)) (events xs : List Event) → Each Still xs → HandlesEach program overwrite outputs events → HandlesEach program overwrite outputs (xs ++ events)
-  handles_after outputs events xs s (files, later, are, h) = (files, later, are, files_after files events xs s h)
+  handles_after outputs events xs s (files, later, are, h, all) = (files, later, are, files_after files events xs s h, all)
 
   handles_before : (outputs : List (List ℕ)) (events ys : List Event) → Each Still ys → HandlesEach program overwrite outputs events → HandlesEach program overwrite outputs (events ++ ys)
-  handles_before outputs events ys s (files, later, are, h) = (files, later, are, files_before files events ys s h)
+  handles_before outputs events ys s (files, later, are, h, all) = (files, later, are, files_before files events ys s h, all)
 
   pub outs_after : (outputs : List (List ℕ)) (l m n : Option (List Event)) → IsStill l m → SettlesOuts program overwrite outputs m n → SettlesOuts program overwrite outputs l n
   outs_after outputs l m n s (events, e, inl t) = (s.0 ++ events, and_then l m n s.0 events s.1 e, inl (each_both Still s.0 events s.2 t))

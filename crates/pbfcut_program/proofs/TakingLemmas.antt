@@ -114,7 +114,7 @@ module _ (file : List ℕ) where
   holds_extract m by area (b ∷ c ∷ []) counts written are h = absurd h
   holds_extract m by area (b ∷ c ∷ d ∷ e ∷ f ∷ bs) counts written are h = absurd h
 
-  holds_convert : (m : Manner) (bs : List (List ℕ)) (counts : Counts) (written : List ℕ) → AllAre bs → TaskHolds converting (map (of_input m) bs) counts written → IsConverted (of_input m file) counts written
+  pub holds_convert : (m : Manner) (bs : List (List ℕ)) (counts : Counts) (written : List ℕ) → AllAre bs → TaskHolds converting (map (of_input m) bs) counts written → IsConverted (of_input m file) counts written
   holds_convert m (b ∷ c ∷ []) counts written are h =
       let one = ap (of_input m) are.0 in
       subst (λ (f : List ℕ). IsConverted f counts written) one (h.1 (one ∙ sym (ap (of_input m) are.1.0)))
@@ -122,7 +122,7 @@ module _ (file : List ℕ) where
   holds_convert m (b ∷ []) counts written are h = absurd h
   holds_convert m (b ∷ c ∷ d ∷ bs) counts written are h = absurd h
 
-  holds_copy : (m : Manner) (bs : List (List ℕ)) (counts : Counts) (written : List ℕ) → AllAre bs → TaskHolds copying (map (of_input m) bs) counts written → written ≡ of_input m file
+  pub holds_copy : (m : Manner) (bs : List (List ℕ)) (counts : Counts) (written : List ℕ) → AllAre bs → TaskHolds copying (map (of_input m) bs) counts written → written ≡ of_input m file
   holds_copy m (b ∷ c ∷ []) counts written are h = h.1 ∙ ap (of_input m) are.1.0
   holds_copy m [] counts written are h = absurd h
   holds_copy m (b ∷ []) counts written are h = absurd h

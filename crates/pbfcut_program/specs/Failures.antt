@@ -1,4 +1,4 @@
--- What a failed run of `extract` did to files.
+-- What a failed run of a command that writes one OUT did to files.
 use Rattle.std.specs.Prelude.{◌≡◌, ◌⊎◌, ℕ, List, [], Some, None, codes}
 use Rattle.clap.specs.Words.{Row, Text, subcommand_of}
 use Rattle.pbfcut_cli.specs.Joined.{normalized}
@@ -13,7 +13,7 @@ use Rattle.pbfcut_program.specs.Manner.{Manner}
 use Rattle.pbfcut_program.specs.OnDisk.{IsAreaOn}
 use Rattle.pbfcut_program.specs.Program.{IsRun}
 use Rattle.pbfcut_program.specs.Settling.{RunSettles}
-use Rattle.pbfcut_program.specs.Taking.{Happened, TookExtract}
+use Rattle.pbfcut_program.specs.Taking.{Happened, TookConversion, TookCopy, TookExtract}
 
 -- of words that `clap` takes as the command of this name, with another status than 0, over a disk of which all that is said is so, and on which IN has these bytes
 pub record EndsBadly (program : Program) (words : List Text) (name : List ℕ) (rows : List Row) (events : List Event) (disk : Disk) (file : List ℕ) : Type 0 where
@@ -26,14 +26,34 @@ pub record EndsBadly (program : Program) (words : List Text) (name : List ℕ) (
   pub allowed : AllowsAll disk events
   pub there : disk (argument_value (codes "IN") rows) ≡ Some file
 
--- OUT was kept, all that it took went out, and it has that: the extract of this file, by the area that the words name on this disk
-pub record KeepsExtract (m : Manner) (cut : Region) (by : Strategy) (output : List ℕ) (file : List ℕ) (events : List Event) (old : Disk) : Type 0 where
+-- ---- what a kept OUT has
+
+-- these bytes are what OUT took, of which all went out: the extract of this file, by the area that the words name on this disk
+pub record AreExtract (m : Manner) (cut : Region) (by : Strategy) (file : List ℕ) (events : List Event) (old : Disk) (bytes : List ℕ) : Type 0 where
   pub took : TookExtract m cut by file events
+  pub are : took.bytes ≡ bytes
   pub area_on : IsAreaOn old cut took.area
-  pub there : after events old output ≡ Some took.bytes
+
+-- a conversion of it
+pub record AreConversion (m : Manner) (file : List ℕ) (events : List Event) (bytes : List ℕ) : Type 0 where
+  pub took : TookConversion m file events
+  pub are : took.bytes ≡ bytes
+
+-- the same in other blobs
+pub record AreCopy (m : Manner) (file : List ℕ) (events : List Event) (bytes : List ℕ) : Type 0 where
+  pub took : TookCopy m file events
+  pub are : took.bytes ≡ bytes
+
+-- ---- what is left
+
+-- OUT was kept, and has bytes of which this holds
+pub record KeepsOut (holds : List ℕ → Type 0) (output : List ℕ) (events : List Event) (old : Disk) : Type 0 where
+  pub bytes : List ℕ
+  pub there : after events old output ≡ Some bytes
+  pub has : holds bytes
 
 -- OUT has what it had; or that, unless its path is that of IN. Each other file has what it had, but a part that stays, which is new
-pub record LeavesExtract (m : Manner) (cut : Region) (by : Strategy) (files : Files) (file : List ℕ) (events : List Event) (old : Disk) : Type 0 where
-  pub out : (files.input.now ≡ files.output.now → ⊥) → (after events old files.output.now ≡ old files.output.now) ⊎ KeepsExtract m cut by files.output.now file events old
+pub record LeavesOut (holds : List ℕ → Type 0) (files : Files) (events : List Event) (old : Disk) : Type 0 where
+  pub out : (files.input.now ≡ files.output.now → ⊥) → (after events old files.output.now ≡ old files.output.now) ⊎ KeepsOut holds files.output.now events old
   pub others : (path : List ℕ) → (path ≡ files.output.now → ⊥) → (Happened (stays path) events → ⊥) → after events old path ≡ old path
   pub parts : (path : List ℕ) → Happened (stays path) events → (path ≡ files.output.now → ⊥) × (old path ≡ None)

@@ -19,6 +19,7 @@ pub mod Settling
 pub mod Several
 pub mod SeveralChanges
 pub mod SeveralEnds
+pub mod SeveralFailures
 pub mod SeveralFiles
 pub mod SeveralGives
 pub mod SeveralOuts

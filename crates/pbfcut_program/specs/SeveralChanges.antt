@@ -42,10 +42,11 @@ pub record HandlesFiles (program : Program) (overwrite : Bool) (files : List One
   pub each : AllByRecursion (IsHandled program overwrite) files
   pub still : Each Still before × Each Still between × Each Still last
 
--- so are the OUTs of the first of these paths, at least: if one of them can't be made, those before it are dropped
+-- so are the OUTs of all these paths; or of the first of them, if one of them can't be made, and then those before it are dropped
 abbrev pub HandlesEach : Program → (overwrite : Bool) → (outputs : List (List ℕ)) → List Event → Type 0
 HandlesEach program overwrite outputs events = (files : List OneFile) × (later : List (List ℕ))
     × (outputs ≡ map (λ one. one.output) files ++ later) × HandlesFiles program overwrite files events
+    × ((later ≡ []) ⊎ AllByRecursion (IsDroppedFile program) files)
 
 -- that was done, or nothing
 abbrev pub SettlesOuts : Program → (overwrite : Bool) → (outputs : List (List ℕ)) → (before after : Option (List Event)) → Type 0

@@ -16,11 +16,12 @@ ghost use Rattle.pbfcut_cli.specs.declared.words.Region.{Region};
 ghost use Rattle.pbfcut_cli.specs.declared.words.Strategy.{Strategy};
 ghost use Rattle.pbfcut_program.specs.Changes.{DropsFile, EndsWell, GivesConversion, GivesCopy, GivesExtract, KeepsFile};
 ghost use Rattle.pbfcut_program.specs.Events.{Event, Writing, stays};
-ghost use Rattle.pbfcut_program.specs.Failures.{EndsBadly, LeavesExtract};
+ghost use Rattle.pbfcut_program.specs.Failures.{AreConversion, AreCopy, AreExtract, EndsBadly, LeavesOut};
 ghost use Rattle.pbfcut_program.specs.Files.{AllowsAll, Disk, after};
 ghost use Rattle.pbfcut_program.specs.Program.{IsMeant, manner_in};
 ghost use Rattle.pbfcut_program.specs.Settling.{HandlesIn, RunSettles};
 ghost use Rattle.pbfcut_program.specs.SeveralChanges.{HandlesFiles, IsApart, IsDroppedFile, IsKeptWhole, OneFile, Pairwise};
+ghost use Rattle.pbfcut_program.specs.SeveralFailures.{LeavesSeveral};
 ghost use Rattle.pbfcut_program.specs.SeveralGives.{GivesEach};
 ghost use Rattle.pbfcut_program.specs.SeveralWrites.{strategy_with};
 ghost use Rattle.pbfcut_program.specs.Taking.{Happened};
@@ -147,7 +148,8 @@ pub fn failure_of_extract()
         → ((path : List ℕ) → after events disk path ≡ disk path)
         ⊎ ((cut : Region) × (by : Strategy) × (files : Files)
         × ReadsAs (codes "extract") rows (Extract cut by files)
-        × LeavesExtract (manner_in Pbfcutz (Extract cut by files)) cut by files file events disk) }
+        × LeavesOut (AreExtract (manner_in Pbfcutz (Extract cut by files)) cut by file events disk)
+        files events disk) }
 {}
 
 /// What status 0 of `extract --config` says of them: each OUT has bytes that mean exactly the extract of those that IN has on the disk, by the
@@ -163,6 +165,21 @@ pub fn run_of_extracts()
         file events disk }
 {}
 
+/// What another status of `extract --config` says of them: each OUT that was made is as it was; or it was kept before the run failed, and has
+/// bytes that mean exactly the extract of what IN has on the disk, by its area. They are the first OUTs of the configuration that the disk has,
+/// if not all: if one can't be made, those after it aren't made. Every other file is as it was, but a part may be left, which is new. IN has
+/// another path than each OUT, two OUTs have two paths, and no OUT has the name that another one has until it is whole.
+pub fn failure_of_extracts()
+    ensures { (words : List Text) (rows : List Row) (events : List Event) (disk : Disk)
+        (file : List ℕ) → is_given (codes "config") rows ≡ true
+        → EndsBadly Pbfcutz words (codes "extract") rows events disk file
+        → ((path : List ℕ) → after events disk path ≡ disk path)
+        ⊎ ((parents : Bool) × (files : ConfigFiles)
+        × ReadsAs (codes "extract") rows (ExtractEach parents files)
+        × LeavesSeveral (manner_in Pbfcutz (ExtractEach parents files)) (strategy_with parents) files
+        file events disk) }
+{}
+
 /// What status 0 of `convert` says of them: OUT has bytes that mean a conversion of what those of IN mean. The rest is as after
 /// `extract`.
 pub fn run_of_convert()
@@ -170,6 +187,17 @@ pub fn run_of_convert()
         (disk : Disk) (file : List ℕ) → EndsWell program words (codes "convert") rows events disk file
         → (files : Files) × ReadsAs (codes "convert") rows (Convert files)
         × GivesConversion (manner_in program (Convert files)) files file events disk }
+{}
+
+/// What another status of `convert` says of them, of pbfcutz: OUT is as it was; or it was kept before the run failed, and has bytes that mean a
+/// conversion of what those of IN mean. The rest is as in `failure_of_extract`.
+pub fn failure_of_convert()
+    ensures { (words : List Text) (rows : List Row) (events : List Event) (disk : Disk)
+        (file : List ℕ) → EndsBadly Pbfcutz words (codes "convert") rows events disk file
+        → ((path : List ℕ) → after events disk path ≡ disk path)
+        ⊎ ((files : Files) × ReadsAs (codes "convert") rows (Convert files)
+        × LeavesOut (AreConversion (manner_in Pbfcutz (Convert files)) file events) files events
+        disk) }
 {}
 
 /// What status 0 of `pack` and of `unpack` says of them: OUT has bytes that mean the same raw file as those of IN. The rest is as
@@ -183,4 +211,19 @@ pub fn run_of_copy()
         (disk : Disk) (file : List ℕ) → EndsWell program words (codes "unpack") rows events disk file
         → (files : Files) × ReadsAs (codes "unpack") rows (Unpack files)
         × GivesCopy (manner_in program (Unpack files)) files file events disk }
+{}
+
+/// What another status of `pack` and of `unpack` says of them, of pbfcutz: OUT is as it was; or it was kept before the run failed, and has bytes
+/// that mean the same raw file as those of IN. The rest is as in `failure_of_extract`.
+pub fn failure_of_copy()
+    ensures pack { (words : List Text) (rows : List Row) (events : List Event) (disk : Disk)
+        (file : List ℕ) → EndsBadly Pbfcutz words (codes "pack") rows events disk file
+        → ((path : List ℕ) → after events disk path ≡ disk path)
+        ⊎ ((files : Files) × ReadsAs (codes "pack") rows (Pack files)
+        × LeavesOut (AreCopy (manner_in Pbfcutz (Pack files)) file events) files events disk) }
+    ensures unpack { (words : List Text) (rows : List Row) (events : List Event) (disk : Disk)
+        (file : List ℕ) → EndsBadly Pbfcutz words (codes "unpack") rows events disk file
+        → ((path : List ℕ) → after events disk path ≡ disk path)
+        ⊎ ((files : Files) × ReadsAs (codes "unpack") rows (Unpack files)
+        × LeavesOut (AreCopy (manner_in Pbfcutz (Unpack files)) file events) files events disk) }
 {}
