@@ -105,7 +105,7 @@ each_paths [] es (o ∷ os) m = absurd m
 each_paths (x ∷ xs) es [] m = absurd m
 each_paths (x ∷ xs) es (o ∷ os) m = ap (λ p. p ∷ paths_of os) m.3 ∙ ap (λ ps. x.output ∷ ps) (each_paths xs m.1 os m.5)
 
--- the paths are those that it names, whoever read it
+-- the paths are those that it names, however the configuration was read
 same_paths : (config : List ℕ) (folder : Option (List ℕ)) (events fs ls gs ks : List Event) (xs ys : List OutputArea) → events ≡ fs ++ ls → events ≡ gs ++ ks → MeansConfig config folder fs xs → MeansConfig config folder gs ys → paths_of xs ≡ paths_of ys
 same_paths config folder events fs ls gs ks xs ys a b m n =
     let one : text_read config m.text ∷ (m.later ++ ls) ≡ text_read config n.text ∷ (n.later ++ ks) = ap (λ es. es ++ ls) (sym m.happened) ∙ sym a ∙ b ∙ ap (λ es. es ++ ks) n.happened in

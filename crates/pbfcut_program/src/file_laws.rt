@@ -66,9 +66,9 @@ pub fn drops_out()
         → (path ≡ output → ⊥) × (disk path ≡ None) }
 {}
 
-/// OUT of pbfcutz is never incomplete: after each event, also if the run is killed then, OUT is as it was before, or it has all that was
-/// written to it. (`moved` is one event; a file system without links takes two steps for it, and has an empty OUT between them.) In a run that drops OUT it is always as it was before. Of both programs, every other file that was there keeps
-/// its bytes at each moment.
+/// OUT of pbfcutz is never incomplete: after each event, also if the run is killed then, OUT is as it was before, or it has all that was written
+/// to it. (`moved` is one event; a file system without links takes two steps for it, and has an empty OUT between them.) In a run that drops OUT
+/// it is always as it was before. Of both programs, every other file that was there keeps its bytes at each moment.
 pub fn always_whole()
     ensures kept { (overwrite : Bool) (output : List ℕ) (w : Writing) (started later : List Event)
         (disk : Disk) → KeepsFile Pbfcutz overwrite output w (started ++ later)
@@ -127,8 +127,9 @@ pub fn any_run()
 {}
 
 /// What status 0 of `extract` says of a user's files: OUT has bytes that mean exactly the extract of those that IN has on the disk, by the area
-/// and the strategy of the words; the area of a polygon is that of the text that its file has on the disk. Every other file is as it was, but a part may be left, which is new. Without `--overwrite` there was
-/// nothing by OUT's name before. If OUT is standard output, it took the extract, and no file has changed. The words name no configuration.
+/// and the strategy of the words; the area of a polygon is that of the text that its file has on the disk. Every other file is as it was, but a
+/// part may be left, which is new. Without `--overwrite` there was nothing by OUT's name before. If OUT is standard output, it took the extract,
+/// and no file has changed. The words name no configuration.
 pub fn run_of_extract()
     ensures { (program : Program) (words : List Text) (rows : List Row) (events : List Event)
         (disk : Disk) (file : List ℕ) → is_given (codes "config") rows ≡ false
@@ -153,8 +154,9 @@ pub fn failure_of_extract()
 {}
 
 /// What status 0 of `extract --config` says of them: each OUT has bytes that mean exactly the extract of those that IN has on the disk, by the
-/// area that the configuration gives it, as the disk has this and the files of polygons that it names. Without `--overwrite` none was there before. Every other file is as it was, but a part may be
-/// left, which is new. Two OUTs have two paths, and no OUT has the name that another one has until it is whole.
+/// area that the configuration gives it, as the disk has this and the files of polygons that it names. Without `--overwrite` none was there
+/// before. Every other file is as it was, but a part may be left, which is new. Two OUTs have two paths, and no OUT has the name that another one
+/// has until it is whole.
 pub fn run_of_extracts()
     ensures { (words : List Text) (rows : List Row) (events : List Event) (disk : Disk)
         (file : List ℕ) → is_given (codes "config") rows ≡ true
