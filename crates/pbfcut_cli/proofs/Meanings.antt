@@ -4,7 +4,7 @@ use Rattle.clap.specs.Words.{HasKind, IsAmong, Kinds, Row, Text, fault_of, kind_
 use Rattle.clap.specs.declared.error.Error.{Error}
 use Rattle.clap.specs.declared.error.kind.ErrorKind.{ErrorKind}
 use Rattle.clap.specs.declared.error.kind.ErrorKind.TheVariants.{DisplayHelp, DisplayVersion, OutOfMemory}
-use Rattle.pbfcut_cli.specs.Words.{AreTaken, AskForHelp, HasFault, IsCommandOf, IsFaultOf, IsHelp, IsOfWords, program_app}
+use Rattle.pbfcut_cli.specs.Words.{AreTaken, AskForHelp, HasFault, IsCommandOf, IsFaultOf, IsHelp, ComesTo, program_app}
 use Rattle.pbfcut_cli.specs.declared.programs.Program.{Program}
 use Rattle.pbfcut_cli.specs.declared.words.ChoiceFault.{ChoiceFault}
 use Rattle.pbfcut_cli.specs.declared.words.ChoiceFault.TheVariants.{DirectoryAlone}
@@ -17,10 +17,6 @@ no_help e = cc
 
 no_version : DisplayVersion ≡ OutOfMemory → ⊥
 no_version e = cc
-
--- no kind is among none
-none_among : (k : ErrorKind) (kinds : Kinds) → kinds ≡ [] → IsAmong k kinds → ⊥
-none_among k kinds none among = subst (λ ks. IsAmong k ks) none among
 
 abbrev IsLine : CliFault → Type 0
 IsLine (fault.Line text) = Unit {0}
@@ -70,14 +66,14 @@ module _ (program : Program) (words : List Text) (error : Error) (has : HasKind 
   help_asked (Ok c) h = inr (asked h.1, h.0)
   help_asked (Err e) h = h
 
-  -- a line is refused only if `clap` doesn't take the words
-  pub line_refused : (r : Result Command CliFault) → (kind_of error ≡ OutOfMemory → r ≡ Err fault.Memory) → IfErr r (λ e. IsOfWords e → ⊥) → IfErr r (IsFaultOf program words)
+  -- a line is refused only if the error is no request
+  pub line_refused : (r : Result Command CliFault) → (kind_of error ≡ OutOfMemory → r ≡ Err fault.Memory) → IfErr r (ComesTo (kind_of error)) → IfErr r (IsFaultOf program words)
   line_refused (Ok c) memory line = line
-  line_refused (Err (fault.Line text)) memory line = λ taken. of taken has
+  line_refused (Err (fault.Line text)) memory line = (kind_of error, of has, line)
     where
-      of : AreTaken program words → HasKind kinds error → ⊥
-      of taken (inl m) = let same : ◌≡◌ {A = Result Command CliFault} (Err (fault.Line text)) (Err fault.Memory) = memory m in cc
-      of taken (inr a) = none_among (kind_of error) kinds taken a
-  line_refused (Err (fault.Box f)) memory line = absurd (line tt)
-  line_refused (Err (fault.Choice f)) memory line = absurd (line tt)
+      of : HasKind kinds error → IsAmong (kind_of error) kinds
+      of (inl m) = let same : ◌≡◌ {A = Result Command CliFault} (Err (fault.Line text)) (Err fault.Memory) = memory m in cc
+      of (inr a) = a
+  line_refused (Err (fault.Box f)) memory line = absurd line
+  line_refused (Err (fault.Choice f)) memory line = absurd line
   line_refused (Err fault.Memory) memory line = tt

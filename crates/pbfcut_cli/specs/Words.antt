@@ -6,6 +6,7 @@ use Rattle.std.specs.Str.{bytes_eq}
 use Rattle.clap.specs.Words.{App, IsAmong, Row, Rule, Shape, Text, fault_of, first_of, new_app, new_rule, one_of, subcommand_of, with_rule, with_subcommand}
 use Rattle.clap.specs.Simple.{on_top}
 use Rattle.clap.specs.declared.builder.ArgAction.TheVariants.{SetTrue}
+use Rattle.clap.specs.declared.error.kind.ErrorKind.{ErrorKind}
 use Rattle.clap.specs.declared.error.kind.ErrorKind.TheVariants.{DisplayHelp, DisplayVersion}
 use Rattle.osm_box.specs.Degrees.{box_of_text}
 use Rattle.pbfcut_cli.specs.declared.words.ConfigFiles.{ConfigFiles}
@@ -372,12 +373,17 @@ abbrev pub IsHelp : Command → Type 0
 IsHelp (Help text) = Unit {0}
 IsHelp _ = ⊥
 
--- a fault of what words mean, and not of a line that is refused
-abbrev pub IsOfWords : CliFault → Type 0
-IsOfWords (fault.Line text) = ⊥
-IsOfWords (fault.Box f) = Unit {0}
-IsOfWords (fault.Choice f) = Unit {0}
-IsOfWords fault.Memory = ⊥
+-- an error of this kind is a request
+abbrev pub IsRequest : ErrorKind → Type 0
+IsRequest DisplayHelp = Unit {0}
+IsRequest DisplayVersion = Unit {0}
+IsRequest _ = ⊥
+
+-- an error of this kind comes to this: to a line unless it is a request, or memory was refused
+abbrev pub ComesTo : ErrorKind → CliFault → Type 0
+ComesTo kind (fault.Line text) = IsRequest kind → ⊥
+ComesTo kind fault.Memory = Unit {0}
+ComesTo kind f = ⊥
 
 -- `clap` takes the words: no kind of error comes of them
 abbrev pub AreTaken : Program → List Text → Type 0
@@ -393,9 +399,13 @@ abbrev pub IsCommandOf : Program → List Text → Command → Type 0
 IsCommandOf program words command = (AreTaken program words × IsRead (subcommand_of (program_app program) words) command)
     ⊎ (AskForHelp program words × IsHelp command)
 
--- why the words are no command: `clap` doesn't take them, or it does, but they have this fault
+-- `clap` refuses the words: an error comes of them that is no request
+abbrev pub AreRefused : Program → List Text → Type 0
+AreRefused program words = (kind : ErrorKind) × IsAmong kind (fault_of (program_app program) words) × (IsRequest kind → ⊥)
+
+-- why the words are no command: `clap` refuses them, or it takes them, but they have this fault
 abbrev pub IsFaultOf : Program → List Text → CliFault → Type 0
-IsFaultOf program words (fault.Line text) = AreTaken program words → ⊥
+IsFaultOf program words (fault.Line text) = AreRefused program words
 IsFaultOf program words fault.Memory = Unit {0}
 IsFaultOf program words f = AreTaken program words × HasFault (subcommand_of (program_app program) words) f
 

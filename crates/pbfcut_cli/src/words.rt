@@ -14,7 +14,7 @@ ghost use Rattle.pbfcut_cli.specs.Words.{
   IsFaultOf,
   IsHelp,
   IsOffered,
-  IsOfWords,
+  ComesTo,
   IsRead,
   ReadsAs,
   ReadsConfigFiles,
@@ -481,7 +481,7 @@ fn refused<'a>(alloc: Global, error: &Error) -> Result<Command<'a>, CliFault>
         × ((kind_of error.now ≡ ErrorKind.DisplayHelp)
         ⊎ (kind_of error.now ≡ ErrorKind.DisplayVersion))) }
     ensures memory { kind_of error.now ≡ ErrorKind.OutOfMemory → result ≡ Err fault.Memory }
-    ensures line { IfErr result (λ e. IsOfWords e → ⊥) }
+    ensures line { IfErr result (ComesTo (kind_of error.now)) }
 {
     match error.kind() {
         ErrorKind::OutOfMemory => Err(CliFault::Memory),
@@ -508,7 +508,7 @@ pub fn read_words<'a>(
 ) -> Result<Command<'a>, CliFault>
     // A command is what `clap` reads in the words, which it takes; or help, which they request.
     ensures read { IfOk result (IsCommandOf program (word_texts words.now)) }
-    // `Line` comes only of words that `clap` doesn't take; the fault of a box or of a choice only of words that it takes, and that have it.
+    // `Line` comes only of words that `clap` refuses; the fault of a box or of a choice only of words that it takes, and that have it.
     ensures fault { IfErr result (IsFaultOf program (word_texts words.now)) }
 {
     let command_line = command_line(alloc, program, program.help())?;
