@@ -1,5 +1,5 @@
 -- What a failed run of pbfcutz left that writes one OUT.
-use Rattle.std.proofs.Common.{◌≡◌, ◌⊎◌, inl, inr, ℕ, ◌+◌, Bool, List, [], ◌∷◌, ◌++◌, map, true, false, Option, Some, None, Bor, codes, refl, ap, subst, sym, ◌∙◌, append_assoc}
+use Rattle.std.proofs.Common.{◌≡◌, ◌⊎◌, inl, inr, ℕ, ◌+◌, List, [], ◌∷◌, ◌++◌, map, true, false, Option, Some, None, Bor, codes, refl, ap, subst, sym, ◌∙◌, append_assoc}
 use Rattle.clap.specs.Words.{Row, Text}
 use Rattle.pbf_frame.specs.declared.stop.Stop.TheVariants as stop
 use Rattle.pbf_block.specs.declared.counts.Counts.{Counts}

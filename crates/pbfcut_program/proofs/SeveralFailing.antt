@@ -1,5 +1,5 @@
 -- What a failed run of pbfcutz left that cuts out the areas of a configuration.
-use Rattle.std.proofs.Common.{arith, ◌≡◌, ◌∙◌, ◌⊎◌, inl, inr, ℕ, ◌+◌, Bool, List, [], ◌∷◌, ◌++◌, length, length-append, map, true, false, Option, Some, None, Result, Ok, codes, refl, ap, subst, sym, append_assoc}
+use Rattle.std.proofs.Common.{arith, ◌≡◌, ◌∙◌, ◌⊎◌, inl, inr, ℕ, ◌+◌, Bool, List, [], ◌∷◌, ◌++◌, length, length-append, map, true, false, Option, Some, Result, Ok, codes, refl, ap, subst, sym, append_assoc}
 use Rattle.std.proofs.lemmas.List.{append-nil}
 use Rattle.std.specs.List.{AllByRecursion, AllZip, flat_map}
 use Rattle.clap.specs.Words.{Row, Text}
@@ -7,7 +7,7 @@ use Rattle.osm_area.specs.Area.{AreaSpec}
 use Rattle.osm_config.specs.Configs.{ExtractSpec}
 use Rattle.osm_config.specs.Paths.{extracts_of_text}
 use Rattle.osm_ways.specs.Selection.{Strategy}
-use Rattle.pbfcut_cli.specs.Words.{ReadsAs, ReadsConfigFiles, is_given}
+use Rattle.pbfcut_cli.specs.Words.{ReadsAs, is_given}
 use Rattle.pbfcut_cli.specs.declared.endings.Ending.{Ending}
 use Rattle.pbfcut_cli.specs.declared.programs.Program.TheVariants.{Pbfcutz}
 use Rattle.pbfcut_cli.specs.declared.words.Command.TheVariants.{ExtractEach}
@@ -17,9 +17,8 @@ use Rattle.pbfcut_program.specs.Events.{Event, Reading, Writing, read, text_read
 use Rattle.pbfcut_program.specs.Fails.{Each, Opens, Quiet}
 use Rattle.pbfcut_program.specs.Failures.{EndsBadly}
 use Rattle.pbfcut_program.specs.Files.{AllowsAll, Disk, after}
-use Rattle.pbfcut_program.specs.Leaving.{IsUnkept}
 use Rattle.pbfcut_program.specs.Manner.{Manner}
-use Rattle.pbfcut_program.specs.Program.{IsFailed, manner_in}
+use Rattle.pbfcut_program.specs.Program.{manner_in}
 use Rattle.pbfcut_program.specs.Settling.{HandlesConfigured}
 use Rattle.pbfcut_program.specs.SeveralChanges.{HandlesFiles, IsApart, IsDroppedFile, IsHandled, IsKeptWhole, OneFile, Pairwise}
 use Rattle.pbfcut_program.specs.SeveralFailures.{LeavesItsOut, LeavesSeveral, MeansExtract}
