@@ -11,7 +11,7 @@ use Rattle.std.proofs.lemmas.Nat.{div-mul-add}
 use Rattle.std.specs.Int.Bits.{bit_and}
 use Rattle.osm_ids.specs.declared.strips.IdStrips.{IdStrips}
 use Rattle.osm_ids.specs.Pages.{rising}
-use Rattle.osm_ids.specs.Strips.{AlsoLists, HasNumber, IsMarked, IsNamed, Marks, NamesAll, StillNames, id_run, id_strip, listed_at, named_at, strip_numbers}
+use Rattle.osm_ids.specs.Strips.{AlsoLists, HasNumber, IsMarked, IsNamed, Marks, MarksNamed, NamesAll, StillNames, id_run, id_strip, listed_at, named_at, strip_numbers}
 use Rattle.osm_ids.proofs.Sets.{Ids}
 use Rattle.osm_ids.proofs.Kept.{has_rising}
 use Rattle.osm_ids.proofs.OrderLemmas.{with_late, contains-with_late}
@@ -31,7 +31,7 @@ also_append [] more index number there = absurd (none_listed number there)
 also_append (strip ∷ strips) more zero number there = there
 also_append (strip ∷ strips) more (suc index) number there = also_append strips more index number there
 
--- one strip in place of another that has no number besides
+-- one strip in place of another, which has all numbers of it
 pub also_set : (strips : List (Vec ℕ)) (at : ℕ) (old new : Vec ℕ) → slice_get strips at ≡ Some old → ((number : ℕ) → HasNumber old.items number → HasNumber new.items number) → AlsoLists strips (set_at strips at new)
 also_set [] at old new is more index number there = absurd (none_listed number there)
 also_set (strip ∷ strips) zero old new is more zero number there = more number (subst (λ (o : List ℕ). HasNumber o number) (ap strip_numbers is) there)
@@ -147,19 +147,36 @@ pub named_alike : (strips : IdStrips) (id other : ℤ) → id_run strips.runs ot
 unfolding named_at
 named_alike strips id other same = ap (λ (run : ℕ). listed_at strips.strips.items (bit_and run strips.runs.mask)) same
 
-pub marks_named : (strips : IdStrips) (id : ℤ) (numbers : List ℕ) (old new : List Bool) → named_at strips id ≡ numbers → Marks (HasNumber numbers) old new → Marks (IsNamed strips id) old new
+marks_named : (strips : IdStrips) (id : ℤ) (numbers : List ℕ) (old new : List Bool) → named_at strips id ≡ numbers → Marks (HasNumber numbers) old new → Marks (IsNamed strips id) old new
 marks_named strips id numbers old new named marks = subst (λ (ns : List ℕ). Marks (HasNumber ns) old new) (sym named) marks
 
 -- a list of no names has none of any number
-pub not_named : (strips : IdStrips) (id : ℤ) (number : ℕ) → named_at strips id ≡ [] → IsNamed strips id number → ⊥
+not_named : (strips : IdStrips) (id : ℤ) (number : ℕ) → named_at strips id ≡ [] → IsNamed strips id number → ⊥
 not_named strips id number none named = none_listed number (subst (λ (ns : List ℕ). HasNumber ns number) none named)
 
+-- no set is named
+pub marks_nobody : (strips : IdStrips) (id : ℤ) (marks : List Bool) → named_at strips id ≡ [] → MarksNamed (IsNamed strips id) marks marks false
+marks_nobody strips id marks none = record {
+  marked = marks_named strips id [] marks marks none (marks_none marks);
+  none = λ told number named. not_named strips id number none named;
+}
+
+-- sets are named
+pub marks_some : (strips : IdStrips) (id : ℤ) (numbers : List ℕ) (old new : List Bool) → named_at strips id ≡ numbers → Marks (HasNumber numbers) old new → MarksNamed (IsNamed strips id) old new true
+marks_some strips id numbers old new named marks = record {
+  marked = marks_named strips id numbers old new named marks;
+  none = λ told. absurd (true≢false told);
+}
+
 -- those that are marked besides don't matter
-pub marks_fewer : (some more : ℕ → Type 0) (old new : List Bool) → ((number : ℕ) → some number → more number) → Marks more old new → Marks some old new
-marks_fewer some more old new within marks = record {
-  set = λ number is. marks.set number (within number is);
-  kept = marks.kept;
-  as_many = marks.as_many;
+pub marks_fewer : (some more : ℕ → Type 0) (old new : List Bool) (is_any : Bool) → ((number : ℕ) → some number → more number) → MarksNamed more old new is_any → MarksNamed some old new is_any
+marks_fewer some more old new is_any within marks = record {
+  marked = record {
+    set = λ number is. marks.marked.set number (within number is);
+    kept = marks.marked.kept;
+    as_many = marks.marked.as_many;
+  };
+  none = λ told number is. marks.none told number (within number is);
 }
 
 -- the set is named for each of the ids but those that are left

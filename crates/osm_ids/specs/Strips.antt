@@ -43,6 +43,13 @@ IsNamed strips id number = HasNumber (named_at strips id) number
 abbrev pub NamesAll : IdStrips → ℕ → set.FinSet int_cmp → Type 0
 NamesAll strips number ids = (id : ℤ) → set.contains ids id ≡ true → IsNamed strips id number
 
+-- whether it is named for one of these ids
+abbrev pub names_any : IdStrips → List ℤ → ℕ → Bool
+names_any strips ids number = list_any (λ id. list_any (nat_eq number) (named_at strips id)) ids
+
+abbrev pub NamesAny : IdStrips → List ℤ → ℕ → Type 0
+NamesAny strips ids number = names_any strips ids number ≡ true
+
 -- what was named still is
 abbrev pub StillNames : IdStrips → IdStrips → Type 0
 StillNames old new = (id : ℤ) (number : ℕ) → IsNamed old id number → IsNamed new id number
@@ -56,3 +63,8 @@ pub record Marks (named : ℕ → Type 0) (old new : List Bool) : Type 0 where
   pub set : (number : ℕ) → named number → IsMarked new number
   pub kept : (number : ℕ) → IsMarked old number → IsMarked new number
   pub as_many : length new ≡ length old
+
+-- the sets that are named were marked; if this is false, none is
+pub record MarksNamed (named : ℕ → Type 0) (old new : List Bool) (some : Bool) : Type 0 where
+  pub marked : Marks named old new
+  pub none : some ≡ false → (number : ℕ) → named number → ⊥

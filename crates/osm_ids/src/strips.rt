@@ -1,7 +1,7 @@
 //! Strips of ids, each with the numbers of the sets that have an id in it: they name the sets that may have an id.
 
-ghost use Rattle.std.specs.Prelude.{◌≡◌, ◌<◌, ◌≤◌, ◌*◌, ◌/◌, ◌^◌, [], ℤ, false, length, true, OnOk};
-ghost use Rattle.osm_ids.specs.Strips.{AlsoLists, HasNumber, IsNamed, Marks, NamesAll, StillNames, id_run, id_strip, listed_at, named_at};
+ghost use Rattle.std.specs.Prelude.{◌≡◌, ◌<◌, ◌≤◌, ◌*◌, ◌/◌, ◌^◌, ℤ, length, true, OnOk};
+ghost use Rattle.osm_ids.specs.Strips.{AlsoLists, HasNumber, IsNamed, Marks, MarksNamed, NamesAll, StillNames, id_run, id_strip, listed_at, named_at};
 ghost use Rattle.pbf_wire.specs.Spans.{is_in};
 
 use crate::id_runs::IdRuns;
@@ -208,8 +208,7 @@ impl IdStrips {
     /// not allocate, and is inlined where each node is looked up.
     #[inline(always)]
     pub fn mark(&self, id: i64, marks: &mut [bool]) -> bool
-        ensures marked { Marks (IsNamed self.now id) marks.old marks.new }
-        ensures none { result ≡ false → named_at self.now id ≡ [] }
+        ensures { MarksNamed (IsNamed self.now id) marks.old marks.new result }
     {
         let Some(strip) = self.strips.get(strip_for_id(self.runs, id)) else {
             return false;

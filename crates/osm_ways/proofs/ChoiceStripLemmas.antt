@@ -4,14 +4,15 @@ use Rattle.std.specs.List.{list_any}
 use Rattle.std.specs.Ordering.{int_cmp}
 use Rattle.std.specs.Cmp.{int_cmp_total}
 use Rattle.std.specs.FinSet as set
-use Rattle.std.proofs.lemmas.Bool.{or_cases, and_parts, cases_Bool, or_from, or_left, or_parts, or_right}
+use Rattle.std.proofs.lemmas.Bool.{or_cases, and_parts, or_from, or_left, or_right}
 use Rattle.osm_ids.specs.declared.strips.IdStrips.{IdStrips}
-use Rattle.osm_ids.specs.Strips.{IsNamed, Marks, NamesAll, named_at}
-use Rattle.osm_ids.proofs.StripLemmas.{marks_fewer, not_named}
+use Rattle.osm_ids.specs.Strips.{IsNamed, MarksNamed, NamesAll}
+use Rattle.osm_ids.proofs.StripLemmas.{marks_fewer}
 use Rattle.osm_ways.specs.declared.choice_strips.ChoiceStrips.{ChoiceStrips}
 use Rattle.osm_ways.specs.Added.{AddedSets, added_or_none}
-use Rattle.osm_ways.specs.ChoiceStrips.{IsNamedBy, MarksKeepers, MarksNamed, NamesChoice, names_member}
+use Rattle.osm_ways.specs.ChoiceStrips.{IsNamedBy, MarksKeepers, NamesChoice, names_member}
 use Rattle.osm_ways.specs.Phases.{Ids, KeptSets, ids_or_none, is_taken, keeps_id}
+use Rattle.osm_ways.proofs.MarkingLemmas.{IsPassed, passed_more}
 use Rattle.osm_ways.specs.Selection.{MemberSeen, node_member, way_member, relation_member, a_way, a_relation, is_kept_relation, is_kept_way, is_selecting}
 
 -- ---- what is kept is named
@@ -47,20 +48,6 @@ named_relation strips number sets (member ∷ members) names kept =
       | inr more ↦ or_right (names_member strips number member) (list_any (names_member strips number) members) (named_relation strips number sets members names more)
     ]
 
--- ---- what marks the keepers
-
-pub node_keepers : (strips : ChoiceStrips) (id : ℤ) (old new : List Bool) (some : Bool) → Marks (IsNamed strips.nodes id) old new → (some ≡ false → named_at strips.nodes id ≡ []) → MarksKeepers strips (λ sets. keeps_id sets id) old new some
-node_keepers strips id old new some marks none = record {
-  marked = marks_fewer _ (IsNamed strips.nodes id) old new (λ number keeps. named_node strips number keeps.0 id keeps.1 keeps.2) marks;
-  none = λ told number keeps. not_named strips.nodes id number (none told) (named_node strips number keeps.0 id keeps.1 keeps.2);
-}
-
-pub way_keepers : (strips : ChoiceStrips) (id : ℤ) (refs : List ℤ) (old new : List Bool) (some : Bool) → Marks (IsNamed strips.ways id) old new → (some ≡ false → named_at strips.ways id ≡ []) → MarksKeepers strips (λ sets. is_taken sets (a_way id refs)) old new some
-way_keepers strips id refs old new some marks none = record {
-  marked = marks_fewer _ (IsNamed strips.ways id) old new (λ number keeps. named_way strips number keeps.0 id refs keeps.1 keeps.2) marks;
-  none = λ told number keeps. not_named strips.ways id number (none told) (named_way strips number keeps.0 id refs keeps.1 keeps.2);
-}
-
 -- ---- sets that are named together
 
 pub union_named : (strips : IdStrips) (number : ℕ) (some more : Ids) → NamesAll strips number some → NamesAll strips number more → NamesAll strips number (set.union some more)
@@ -84,44 +71,9 @@ no_relations strips number ids none = rw none (none_named strips number)
 
 -- ---- marking for one member after another
 
--- this choice is named for one of the members, and for none of those that are left
-abbrev pub IsPassed : ChoiceStrips → (all left : List MemberSeen) → ℕ → Type 0
-IsPassed strips all left number = (list_any (names_member strips number) all ≡ true) × (list_any (names_member strips number) left ≡ false)
-
-pub passed_none : (strips : ChoiceStrips) (all : List MemberSeen) (marks : List Bool) → MarksNamed (IsPassed strips all all) marks marks false
-passed_none strips all marks = record {
-  marked = record {
-    set = λ number passed. absurd (true≢false (sym passed.0 ∙ passed.1));
-    kept = λ number is. is;
-    as_many = refl;
-  };
-  none = λ none number passed. absurd (true≢false (sym passed.0 ∙ passed.1));
-}
-
--- the next member: either the choice is named for it, or it was passed before
-pub passed_more : (strips : ChoiceStrips) (all left : List MemberSeen) (member : MemberSeen) (old now new : List Bool) (some more : Bool) → MarksNamed (IsPassed strips all (member ∷ left)) old now some → MarksNamed (IsNamedBy strips member) now new more → MarksNamed (IsPassed strips all left) old new (some || more)
-passed_more strips all left member old now new some more so_far next = record {
-  marked = record {
-    set = λ number passed. elim (cases_Bool (names_member strips number member)) [
-      | inl e ↦ next.marked.set number e
-      | inr e ↦ next.marked.kept number (so_far.marked.set number (passed.0, or_from _ _ e passed.1))
-    ];
-    kept = λ number is. next.marked.kept number (so_far.marked.kept number is);
-    as_many = next.marked.as_many ∙ so_far.marked.as_many;
-  };
-  none = λ none number passed. elim (cases_Bool (names_member strips number member)) [
-    | inl e ↦ next.none (or_parts some more none).1 number e
-    | inr e ↦ so_far.none (or_parts some more none).0 number (passed.0, or_from _ _ e passed.1)
-  ];
-}
+pub member_more : (strips : ChoiceStrips) (all left : List MemberSeen) (member : MemberSeen) (old now new : List Bool) (some more : Bool) → MarksNamed (IsPassed (names_member strips) all (member ∷ left)) old now some → MarksNamed (IsNamedBy strips member) now new more → MarksNamed (IsPassed (names_member strips) all left) old new (some || more)
+member_more strips all left member old now new some more so_far next = passed_more (names_member strips) all (member ∷ left) left member old now new some more (λ number first later. or_from _ _ first later) so_far next
 
 -- no member is left
-pub passed_all : (strips : ChoiceStrips) (all : List MemberSeen) (id : ℤ) (whole : Bool) (old new : List Bool) (some : Bool) → MarksNamed (IsPassed strips all []) old new some → MarksKeepers strips (λ sets. is_taken sets (a_relation id whole all)) old new some
-passed_all strips all id whole old new some so_far = record {
-  marked = record {
-    set = λ number keeps. so_far.marked.set number (named_relation strips number keeps.0 all keeps.1 keeps.2, refl);
-    kept = so_far.marked.kept;
-    as_many = so_far.marked.as_many;
-  };
-  none = λ none number keeps. so_far.none none number (named_relation strips number keeps.0 all keeps.1 keeps.2, refl);
-}
+pub members_all : (strips : ChoiceStrips) (all : List MemberSeen) (id : ℤ) (whole : Bool) (old new : List Bool) (some : Bool) → MarksNamed (IsPassed (names_member strips) all []) old new some → MarksKeepers strips (λ sets. is_taken sets (a_relation id whole all)) old new some
+members_all strips all id whole old new some so_far = marks_fewer _ (IsPassed (names_member strips) all []) old new some (λ number keeps. (named_relation strips number keeps.0 all keeps.1 keeps.2, refl)) so_far

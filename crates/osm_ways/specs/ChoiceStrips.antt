@@ -1,7 +1,7 @@
 -- Which of several choices may keep an entity, by strips of ids.
 use Rattle.std.specs.Prelude.{◌≡◌, ℕ, Bool, true, false, List, nat_eq}
 use Rattle.std.specs.List.{list_any}
-use Rattle.osm_ids.specs.Strips.{Marks, NamesAll, named_at}
+use Rattle.osm_ids.specs.Strips.{MarksNamed, NamesAll, named_at}
 use Rattle.osm_ways.specs.declared.choice_strips.ChoiceStrips.{ChoiceStrips}
 use Rattle.osm_ways.specs.Phases.{KeptSets}
 use Rattle.osm_ways.specs.Selection.{MemberSeen, node_member, way_member, relation_member}
@@ -21,11 +21,6 @@ StillNamesChoices old new = (number : ℕ) (sets : KeptSets) → NamesChoice old
 -- a choice with this number is named that keeps what is tested
 abbrev pub MayKeep : ChoiceStrips → (KeptSets → Bool) → ℕ → Type 0
 MayKeep strips test number = (sets : KeptSets) × NamesChoice strips number sets × (test sets ≡ true)
-
--- the choices that are named were marked; if this is false, none is
-pub record MarksNamed (named : ℕ → Type 0) (old new : List Bool) (some : Bool) : Type 0 where
-  pub marked : Marks named old new
-  pub none : some ≡ false → (number : ℕ) → named number → ⊥
 
 -- those that may keep it were marked; if this is false, there are none
 abbrev pub MarksKeepers : ChoiceStrips → (KeptSets → Bool) → (old new : List Bool) → Bool → Type 0

@@ -3,8 +3,8 @@
 ghost use Rattle.std.specs.Prelude.{OnOk};
 ghost use Rattle.osm_entity.specs.Sources.{lent_member};
 ghost use Rattle.osm_entity.specs.Views.{relation_of};
-ghost use Rattle.osm_ids.specs.Strips.{NamesAll, StillNames};
-ghost use Rattle.osm_ways.specs.ChoiceStrips.{IsNamedBy, MarksKeepers, MarksNamed, NamesChoice, StillNamesChoices};
+ghost use Rattle.osm_ids.specs.Strips.{MarksNamed, NamesAll, StillNames};
+ghost use Rattle.osm_ways.specs.ChoiceStrips.{IsNamedBy, MarksKeepers, NamesChoice, StillNamesChoices};
 ghost use Rattle.osm_ways.specs.Phases.{is_taken};
 ghost use Rattle.osm_ways.specs.Seen.{seen_member, seen_relation};
 

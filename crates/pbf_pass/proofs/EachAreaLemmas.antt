@@ -19,7 +19,7 @@ use Rattle.osm_ways.specs.Selection.{Seen, a_node}
 use Rattle.pbf_dense.specs.declared.places.Place.{Place}
 use Rattle.pbf_dense.specs.Places.{node_place, places_left}
 use Rattle.pbf_dense.specs.declared.places.Places.{Places}
-use Rattle.pbf_pass.specs.EachArea.{AreEnough, HasPlace, IsBounded, IsReady, MayAsk, member_areas, node_placed}
+use Rattle.pbf_pass.specs.EachArea.{AreEnough, HasPlace, IsBounded, IsReady, StripsSuffice, member_areas, node_placed}
 use Rattle.pbf_pass.specs.Pass.{with_seen_in}
 
 -- ---- lists
@@ -122,7 +122,7 @@ module _ (lon : ℤ) (test : BoundingBox → Bool) where
   all_areas [] bounded all = tt
   all_areas (a ∷ areas) bounded all = ((λ has. all.0 (has_lon a bounded.0 has)), all_areas areas bounded.1 all.1)
 
-pub asks_areas : (areas : List AreaSpec) (made : AreaStrips) (boxes : List BoundingBox) → boxes ≡ map (λ area. area.bounds) areas → AllByRecursion IsBounded areas → strips.AskEnough boxes made → MayAsk areas (Some made)
+pub asks_areas : (areas : List AreaSpec) (made : AreaStrips) (boxes : List BoundingBox) → boxes ≡ map (λ area. area.bounds) areas → AllByRecursion IsBounded areas → strips.AskEnough boxes made → StripsSuffice areas (Some made)
 asks_areas areas made boxes are bounded asks lon =
     let one = subst (λ (l : List BoundingBox). Asks (HasLon lon) 0 l (asked_at made lon)) are (asks lon) in
     record {
@@ -142,13 +142,13 @@ module _ {A S : Type 0} (area : A → AreaSpec) (step : S → Seen → S) where
   area_folded [] of = refl
   area_folded (e ∷ es) of = area_folded es (with_seen_in area step of e)
 
-  may_still : (olds news : List (InArea A S)) (before now : Option AreaStrips) → member_areas area news ≡ member_areas area olds → now ≡ before → MayAsk (member_areas area olds) before → MayAsk (member_areas area news) now
-  may_still olds news before now areas same asks = subst (λ (l : List AreaSpec). MayAsk l now) (sym areas) (subst (λ (s : Option AreaStrips). MayAsk (member_areas area olds) s) (sym same) asks)
+  may_still : (olds news : List (InArea A S)) (before now : Option AreaStrips) → member_areas area news ≡ member_areas area olds → now ≡ before → StripsSuffice (member_areas area olds) before → StripsSuffice (member_areas area news) now
+  may_still olds news before now areas same asks = subst (λ (l : List AreaSpec). StripsSuffice l now) (sym areas) (subst (λ (s : Option AreaStrips). StripsSuffice (member_areas area olds) s) (sym same) asks)
 
-  pub still_one : (e : EntitySpec) (olds news : List (InArea A S)) (before now : Option AreaStrips) → news ≡ map (λ of. with_seen_in area step of e) olds → now ≡ before → MayAsk (member_areas area olds) before → MayAsk (member_areas area news) now
+  pub still_one : (e : EntitySpec) (olds news : List (InArea A S)) (before now : Option AreaStrips) → news ≡ map (λ of. with_seen_in area step of e) olds → now ≡ before → StripsSuffice (member_areas area olds) before → StripsSuffice (member_areas area news) now
   still_one e olds news before now is = may_still olds news before now (ap (member_areas area) is ∙ areas_stay (λ of. with_seen_in area step of e) (λ of. refl) olds)
 
-  pub still_all : (es : List EntitySpec) (olds news : List (InArea A S)) (before now : Option AreaStrips) → news ≡ map (λ of. fold (with_seen_in area step) of es) olds → now ≡ before → MayAsk (member_areas area olds) before → MayAsk (member_areas area news) now
+  pub still_all : (es : List EntitySpec) (olds news : List (InArea A S)) (before now : Option AreaStrips) → news ≡ map (λ of. fold (with_seen_in area step) of es) olds → now ≡ before → StripsSuffice (member_areas area olds) before → StripsSuffice (member_areas area news) now
   still_all es olds news before now is = may_still olds news before now (ap (member_areas area) is ∙ areas_stay (λ of. fold (with_seen_in area step) of es) (area_folded es) olds)
 
   -- ---- a node outside, and then any

@@ -1,11 +1,11 @@
 -- The first phases of several areas, of which only those take a place that it may lie in.
-use Rattle.std.specs.Prelude.{◌≡◌, ◌≤◌, ◌+◌, ℕ, ℤ, Bool, true, false, ⊤, List, [], ◌∷◌, Option, Some, None, length, map, nat_eq}
-use Rattle.std.specs.List.{AllByRecursion, AllZip, list_any}
+use Rattle.std.specs.Prelude.{◌≡◌, ◌≤◌, ◌+◌, ℕ, ℤ, Bool, true, false, ⊤, List, [], ◌∷◌, Option, Some, None, length, map}
+use Rattle.std.specs.List.{AllByRecursion, AllZip}
 use Rattle.osm_area.specs.Area.{AreaSpec, IsAreaWithin, box_area}
 use Rattle.osm_area.specs.Strips.{Asks, asked_at}
 use Rattle.osm_area.specs.declared.strips.AreaStrips.{AreaStrips}
 use Rattle.osm_box.specs.declared.bounding_box.BoundingBox.{BoundingBox}
-use Rattle.osm_ids.specs.Strips.{Marks, NamesAll, named_at}
+use Rattle.osm_ids.specs.Strips.{Marks, NamesAll, NamesAny}
 use Rattle.osm_ids.specs.declared.strips.IdStrips.{IdStrips}
 use Rattle.osm_ways.specs.declared.in_area.InArea.{InArea}
 use Rattle.osm_ways.specs.InArea.{stepped}
@@ -30,9 +30,9 @@ abbrev pub AreEnough : ℤ → (number : ℕ) → List AreaSpec → List ℕ →
 AreEnough lon number areas asked = Asks (HasPlace lon) number areas asked
 
 -- whatever the longitude, strips name such areas, if there are strips
-abbrev pub MayAsk : List AreaSpec → Option AreaStrips → Type 0
-MayAsk areas None = ⊤
-MayAsk areas (Some strips) = (lon : ℤ) → AreEnough lon 0 areas (asked_at strips lon)
+abbrev pub StripsSuffice : List AreaSpec → Option AreaStrips → Type 0
+StripsSuffice areas None = ⊤
+StripsSuffice areas (Some strips) = (lon : ℤ) → AreEnough lon 0 areas (asked_at strips lon)
 
 -- each place of the area lies in the box that a header names for it
 abbrev pub IsBounded : AreaSpec → Type 0
@@ -60,43 +60,35 @@ abbrev pub NamesEachSet : IdStrips → (number : ℕ) → List Ids → Type 0
 NamesEachSet strips number [] = ⊤
 NamesEachSet strips number (ids ∷ others) = NamesAll strips number ids × NamesEachSet strips (number + 1) others
 
--- whether the set of this number is named for one of the refs
-abbrev pub is_asked : IdStrips → List ℤ → ℕ → Bool
-is_asked strips refs number = list_any (λ id. list_any (nat_eq number) (named_at strips id)) refs
-
--- the sets that are named for one of the refs were marked, and no mark was cleared
-abbrev pub MarksRefs : IdStrips → List ℤ → (old new : List Bool) → Type 0
-MarksRefs strips refs old new = Marks (λ number. is_asked strips refs number ≡ true) old new
-
 -- a way without a ref to a node in its area changes nothing
 abbrev pub SkipsWays : {A S : Type 0} → (S → Seen → S) → (S → Ids) → InArea A S → Type 0
 SkipsWays step inside of = LeavesOutWays step inside of.phase
 
 -- if strips are made, they name all phases to which a way may matter, and each phase has a mark
-abbrev pub MayFind : {A S : Type 0} → (S → Seen → S) → (S → Ids) → List (InArea A S) → WayStrips → Type 0
-MayFind step inside members (Made made) = AllByRecursion (SkipsWays step inside) members × NamesEachSet made.strips 0 (member_ids inside members) × (length made.marks.items ≡ length members)
-MayFind step inside members _ = ⊤
+abbrev pub StripsFindAll : {A S : Type 0} → (S → Seen → S) → (S → Ids) → List (InArea A S) → WayStrips → Type 0
+StripsFindAll step inside members (Made made) = AllByRecursion (SkipsWays step inside) members × NamesEachSet made.strips 0 (member_ids inside members) × (length made.marks.items ≡ length members)
+StripsFindAll step inside members _ = ⊤
 
 -- no strips are made
-abbrev pub HasNone : WayStrips → Type 0
-HasNone (Made made) = ⊥
-HasNone _ = ⊤
+abbrev pub IsUnmade : WayStrips → Type 0
+IsUnmade (Made made) = ⊥
+IsUnmade _ = ⊤
 
 -- the sets that are named for one of the refs were marked, if strips are made
-abbrev pub HasMarked : List ℤ → (old new : WayStrips) → Type 0
-HasMarked refs (Made old) (Made new) = (new.strips ≡ old.strips) × MarksRefs old.strips refs old.marks.items new.marks.items
-HasMarked refs old new = new ≡ old
+abbrev pub MarksWay : List ℤ → (old new : WayStrips) → Type 0
+MarksWay refs (Made old) (Made new) = (new.strips ≡ old.strips) × Marks (NamesAny old.strips refs) old.marks.items new.marks.items
+MarksWay refs old new = new ≡ old
 
 -- strips are made, and name no set for these refs
-abbrev pub NamesNone : List ℤ → WayStrips → Type 0
-NamesNone refs (Made made) = (number : ℕ) → is_asked made.strips refs number ≡ false
-NamesNone refs _ = ⊥
+abbrev pub FindsNobody : List ℤ → WayStrips → Type 0
+FindsNobody refs (Made made) = (number : ℕ) → NamesAny made.strips refs number → ⊥
+FindsNobody refs _ = ⊥
 
 -- a phase without a mark needn't take the way: that changes nothing, and neither does a later one without a ref to a node in its area
 abbrev pub CanSkip : {A S : Type 0} → (S → Seen → S) → (S → Ids) → Seen → InArea A S → (mark : Bool) → Type 0
 CanSkip step inside seen of mark = mark ≡ false → (step of.phase seen ≡ of.phase) × SkipsWays step inside of
 
 -- of all phases, if strips are made
-abbrev pub MaySkip : {A S : Type 0} → (S → Seen → S) → (S → Ids) → Seen → List (InArea A S) → WayStrips → Type 0
-MaySkip step inside seen members (Made made) = AllZip (CanSkip step inside seen) members made.marks.items × NamesEachSet made.strips 0 (member_ids inside members)
-MaySkip step inside seen members _ = ⊤
+abbrev pub CanSkipEach : {A S : Type 0} → (S → Seen → S) → (S → Ids) → Seen → List (InArea A S) → WayStrips → Type 0
+CanSkipEach step inside seen members (Made made) = AllZip (CanSkip step inside seen) members made.marks.items × NamesEachSet made.strips 0 (member_ids inside members)
+CanSkipEach step inside seen members _ = ⊤

@@ -8,7 +8,7 @@ ghost use Rattle.osm_ways.specs.InArea.{stepped};
 ghost use Rattle.osm_ways.specs.Selection.{a_node};
 ghost use Rattle.pbf_dense.specs.Cursors.{dense_left};
 ghost use Rattle.pbf_pass.specs.Each.{each_gathered};
-ghost use Rattle.pbf_pass.specs.EachArea.{AreEnough, IsBounded, IsReady, MayAsk, member_areas, node_placed};
+ghost use Rattle.pbf_pass.specs.EachArea.{AreEnough, IsBounded, IsReady, StripsSuffice, member_areas, node_placed};
 ghost use Rattle.pbf_pass.specs.Pass.{with_seen_in};
 
 use crate::each::{gather_dense_each, gather_each};
@@ -38,14 +38,14 @@ pub struct EachArea<A: Area, P: NodeTaker> {
 impl<A: Area, P: NodeTaker> Model for EachArea<A, P> {
     ghost use Rattle.std.specs.Prelude.{List};
     ghost use Rattle.osm_ways.specs.declared.in_area.InArea as in_area;
-    ghost use Rattle.pbf_pass.specs.EachArea.{MayAsk, MayFind, member_areas};
+    ghost use Rattle.pbf_pass.specs.EachArea.{StripsFindAll, StripsSuffice, member_areas};
 
     ghost Value = { List (in_area.InArea A P) };
 
     ghost view = { λ each. each.members.items };
 
-    ghost invariant = { λ each. MayAsk (member_areas A.area each.members.items) each.strips
-        × MayFind P.step P.inside each.members.items each.ways };
+    ghost invariant = { λ each. StripsSuffice (member_areas A.area each.members.items) each.strips
+        × StripsFindAll P.step P.inside each.members.items each.ways };
 }
 
 /// The boxes of the areas of phases.
@@ -71,7 +71,7 @@ fn strips_for<A: Area, P>(
     alloc: Global,
     members: &[InArea<A, P>],
 ) -> Result<Option<AreaStrips>, AllocError>
-    ensures { IfOk result (MayAsk (member_areas A.area members.now)) }
+    ensures { IfOk result (StripsSuffice (member_areas A.area members.now)) }
 {
     if members.len() < FEW_AREAS {
         return Ok(None);
@@ -95,7 +95,7 @@ impl<A: Area, P: NodeTaker> EachArea<A, P> {
         ensures { IfOk result (λ each. each ≡ members.items) }
     {
         let strips = strips_for(alloc, members.as_slice())?;
-        let ways = WayStrips::beside(&strips, alloc);
+        let ways = WayStrips::if_many(&strips, alloc);
         Ok(EachArea {
             members,
             strips,
@@ -192,7 +192,7 @@ fn take_dense_each<A: Area, P: NodeTaker>(
     strips: &Option<AreaStrips>,
     dense: &Dense<'_>,
 ) -> Result<(), AllocError>
-    requires { MayAsk (member_areas A.area members.old) strips.now }
+    requires { StripsSuffice (member_areas A.area members.old) strips.now }
     ensures { OnOk result (members.new ≡ map (λ of. fold (with_seen_in A.area P.step) of
         (map node (dense_left dense.now))) members.old) }
 {
@@ -213,7 +213,7 @@ impl<A: Area, P: NodeTaker> Gather for EachArea<A, P> {
     /// If memory is refused, no strips are left: then nothing is known of the areas.
     #[tactic(auto, using(crate::proofs::EachLemmas::all_back))]
     fn gather(&mut self, entity: &EntityRef<'_>) -> Result<(), AllocError> {
-        self.ways.end();
+        self.ways.drop_made();
         let strips = self.strips.take();
         gather_each(&mut self.members, entity)?;
         self.strips = strips;
@@ -223,7 +223,7 @@ impl<A: Area, P: NodeTaker> Gather for EachArea<A, P> {
     /// Of most ways no ref is near a node of an area: then no phase is asked.
     #[tactic(auto, using(crate::proofs::EachLemmas::all_back))]
     fn gather_way(&mut self, unmade: &Unmade<'_>) -> Result<(), AllocError> {
-        if self.ways.leave_out(unmade) {
+        if !self.ways.mark_way(unmade) {
             return Ok(());
         }
         let strips = self.strips.take();
@@ -235,7 +235,7 @@ impl<A: Area, P: NodeTaker> Gather for EachArea<A, P> {
 
     #[tactic(auto, using(crate::proofs::EachLemmas::all_back, crate::proofs::EachLemmas::fold_each))]
     fn gather_dense(&mut self, dense: &Dense<'_>) -> Result<(), AllocError> {
-        self.ways.end();
+        self.ways.drop_made();
         let strips = self.strips.take();
         take_dense_each(&mut self.members, &strips, dense)?;
         self.strips = strips;

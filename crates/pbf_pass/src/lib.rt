@@ -30,4 +30,3 @@ pub use pbf_block::Counts;
 pub use receipt::{Halt, InputReceipt, Passes, Refusal};
 pub use unjudged::{Later, gather_unjudged, step_unjudged};
 pub use visit::{FileRead, Visit, pass_over, step, visit_rest};
-pub use way_strips::mark_refs;

@@ -3,21 +3,19 @@
 ghost use Rattle.std.specs.Prelude.{◌≡◌, ◌<◌, ◌+◌, ◌^◌, ℕ, false, true, IfOk, OnOk, length, map};
 ghost use Rattle.std.specs.List.{AllByRecursion, AllZip};
 ghost use Rattle.osm_entity.specs.Entity.{way};
-ghost use Rattle.osm_entity.specs.Sources.{refs_left};
 ghost use Rattle.osm_ids.specs.Strips.{StillNames};
 ghost use Rattle.osm_ways.specs.InArea.{stepped};
 ghost use Rattle.osm_ways.specs.Seen.{seen_refs, seen_way};
 ghost use Rattle.pbf_block.specs.Runs.{way_from};
-ghost use Rattle.pbf_pass.specs.EachArea.{CanSkip, HasMarked, HasNone, MarksRefs, MayFind, MaySkip, NamesEachSet, NamesNone, SkipsWays, is_asked, member_ids};
+ghost use Rattle.pbf_pass.specs.EachArea.{CanSkip, CanSkipEach, FindsNobody, IsUnmade, MarksWay, NamesEachSet, SkipsWays, StripsFindAll, member_ids};
 ghost use Rattle.pbf_pass.specs.Pass.{with_seen_in};
 ghost use Rattle.pbf_pass.specs.declared.way_strips.WayStrips.TheVariants.{Made};
 
 use crate::each::gather_way_each;
 use crate::pass::seen;
 use osm_area::{Area, AreaStrips};
-use osm_entity::Refs;
 use osm_ids::IdStrips;
-use osm_ways::{InArea, NodeTaker, SeenWay};
+use osm_ways::{InArea, NodeTaker, SeenWay, mark_ids};
 use pbf_block::Unmade;
 use std::alloc::{AllocError, Global};
 
@@ -42,26 +40,10 @@ pub(crate) enum WayStrips {
     Never,
 }
 
-/// Marks the phases that may have one of these refs; `false` means that there are none. `true` says nothing, and others may be marked too.
-pub fn mark_refs(strips: &IdStrips, marks: &mut [bool], refs: Refs<'_>) -> bool
-    ensures marked { MarksRefs strips.now (refs_left refs.entry) marks.old marks.new }
-    ensures none { result ≡ false
-        → (number : ℕ) → is_asked strips.now (refs_left refs.entry) number ≡ false }
-{
-    let mut is_any = false;
-    let mut rest = refs;
-    'refs: while let Some(id) = rest.next() {
-        is_any |= strips.mark(id, marks);
-        // Refs of the same strip are mostly together: they needn't be looked up.
-        rest.pass_inside(strips.alike(id));
-    }
-    is_any
-}
-
 impl WayStrips {
     /// They will be made at the first way, of this memory, if the strips of the areas are.
-    pub(crate) fn beside(areas: &Option<AreaStrips>, alloc: Global) -> WayStrips
-        ensures { HasNone result }
+    pub(crate) fn if_many(areas: &Option<AreaStrips>, alloc: Global) -> WayStrips
+        ensures { IsUnmade result }
     {
         match areas {
             Some(_) => WayStrips::Unmade(alloc),
@@ -69,23 +51,23 @@ impl WayStrips {
         }
     }
 
-    /// Marks the phases that may have one of the way's refs, and maybe others. Whether it is known that there are none: then the way changes
-    /// nothing.
-    pub(crate) fn leave_out(&mut self, unmade: &Unmade<'_>) -> bool
-        ensures marked { HasMarked (way_from unmade.now).refs self.old self.new }
-        ensures none { result ≡ true → NamesNone (way_from unmade.now).refs self.old }
+    /// Marks the phases that may have one of the way's refs; `false` means that there are none, so that the way changes nothing. `true` says
+    /// nothing, and others may be marked too. `take_way_each` must take the same way then.
+    pub(crate) fn mark_way(&mut self, unmade: &Unmade<'_>) -> bool
+        ensures marked { MarksWay (way_from unmade.now).refs self.old self.new }
+        ensures none { result ≡ false → FindsNobody (way_from unmade.now).refs self.old }
     {
         match self {
             WayStrips::Made(made) => {
-                !mark_refs(&made.strips, made.marks.as_mut_slice(), unmade.refs())
+                mark_ids(&made.strips, unmade.refs(), made.marks.as_mut_slice())
             }
-            WayStrips::Unmade(_) | WayStrips::Never => false,
+            WayStrips::Unmade(_) | WayStrips::Never => true,
         }
     }
 
     /// A node or a relation comes: if strips are made, they are dropped.
-    pub(crate) fn end(&mut self)
-        ensures { HasNone self.new }
+    pub(crate) fn drop_made(&mut self)
+        ensures { IsUnmade self.new }
     {
         let is_made = matches!(self, WayStrips::Made(_));
         if is_made {
@@ -164,14 +146,14 @@ fn count_inside<A: Area, P: NodeTaker>(members: &[InArea<A, P>]) -> u64 {
 }
 
 /// Takes a way by each of the phases, and makes the strips.
-fn take_first<A: Area, P: NodeTaker>(
+fn take_and_name<A: Area, P: NodeTaker>(
     alloc: Global,
     members: &mut [InArea<A, P>],
     way: &SeenWay<'_>,
 ) -> Result<MadeStrips, AllocError>
     ensures taken { OnOk result (members.new
         ≡ map (λ of. stepped P.step of (seen_refs way.now)) members.old) }
-    ensures find { IfOk result (λ made. MayFind P.step P.inside members.new (Made made)) }
+    ensures find { IfOk result (λ made. StripsFindAll P.step P.inside members.new (Made made)) }
 {
     let mut marks = vec![in alloc; true; members.len()]?;
     take_marked(members, marks.as_mut_slice(), way)?;
@@ -181,15 +163,15 @@ fn take_first<A: Area, P: NodeTaker>(
 }
 
 /// Takes a way by the phases that are marked.
-fn take_found<A: Area, P: NodeTaker>(
+fn take_named<A: Area, P: NodeTaker>(
     members: &mut [InArea<A, P>],
     made: MadeStrips,
     way: &SeenWay<'_>,
 ) -> Result<MadeStrips, AllocError>
-    requires { MaySkip P.step P.inside (seen_refs way.now) members.old (Made made) }
+    requires { CanSkipEach P.step P.inside (seen_refs way.now) members.old (Made made) }
     ensures taken { OnOk result (members.new
         ≡ map (λ of. stepped P.step of (seen_refs way.now)) members.old) }
-    ensures find { IfOk result (λ made. MayFind P.step P.inside members.new (Made made)) }
+    ensures find { IfOk result (λ made. StripsFindAll P.step P.inside members.new (Made made)) }
 {
     let MadeStrips { strips, mut marks } = made;
     take_marked(members, marks.as_mut_slice(), way)?;
@@ -202,18 +184,18 @@ pub(crate) fn take_way_each<A: Area, P: NodeTaker>(
     strips: WayStrips,
     unmade: &Unmade<'_>,
 ) -> Result<WayStrips, AllocError>
-    requires { MaySkip P.step P.inside (seen_way (way_from unmade.now)) members.old strips }
+    requires { CanSkipEach P.step P.inside (seen_way (way_from unmade.now)) members.old strips }
     ensures taken { OnOk result (members.new
         ≡ map (λ of. with_seen_in A.area P.step of (way (way_from unmade.now))) members.old) }
-    ensures find { IfOk result (MayFind P.step P.inside members.new) }
+    ensures find { IfOk result (StripsFindAll P.step P.inside members.new) }
 {
     match strips {
         WayStrips::Unmade(alloc) => {
-            let made = take_first(alloc, members, &seen(unmade))?;
+            let made = take_and_name(alloc, members, &seen(unmade))?;
             Ok(WayStrips::Made(made))
         }
         WayStrips::Made(made) => {
-            let made = take_found(members, made, &seen(unmade))?;
+            let made = take_named(members, made, &seen(unmade))?;
             Ok(WayStrips::Made(made))
         }
         WayStrips::Never => {

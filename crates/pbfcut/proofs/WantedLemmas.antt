@@ -1,28 +1,28 @@
 -- What several areas want of a block.
-use Rattle.std.proofs.Common.{◌≡◌, ◌<◌, ◌+◌, ◌⊎◌, inl, inr, ℕ, ℤ, suc, List, [], ◌∷◌, ◌++◌, Bool, true, false, if◌then◌else◌, length, take, drop, get_or, map, nat_eq, append-nil, append_assoc, sym, ap, subst, ◌∙◌, refl, arith}
+use Rattle.std.proofs.Common.{◌≡◌, ◌<◌, ◌+◌, ◌||◌, inl, inr, ℕ, ℤ, suc, List, [], ◌∷◌, ◌++◌, Bool, true, false, true≢false, if◌then◌else◌, length, take, drop, get_or, map, nat_eq, append-nil, append_assoc, sym, ap, subst, ◌∙◌, refl, arith}
 use Rattle.std.specs.List.{AllByRecursion, AllZip, filter, flat_map, list_any}
 use Rattle.std.specs.Global.{Vec}
+use Rattle.std.proofs.lemmas.Bool.{or_cases, or_left, or_parts, or_right}
 use Rattle.std.proofs.lemmas.List.{length-take-le, take_more, take-append-drop}
 use Rattle.std.proofs.lemmas.List.Elements.{filter-append}
 use Rattle.std.proofs.lemmas.List.Concat.{flat_map-append}
 use Rattle.osm_entity.specs.Entity.{EntitySpec, NodeSpec, WaySpec, RelationSpec, node, way, relation}
 use Rattle.osm_entity.specs.Ranges.{EntityFits}
-use Rattle.osm_ids.specs.declared.strips.IdStrips.{IdStrips}
-use Rattle.osm_ids.specs.Strips.{IsMarked, IsNamed, Marks, named_at}
+use Rattle.osm_ids.specs.Strips.{IsNamed, MarksNamed, NamesAny, named_at, names_any}
+use Rattle.osm_ids.proofs.StripLemmas.{marks_fewer}
 use Rattle.osm_ways.specs.declared.choice_strips.ChoiceStrips.{ChoiceStrips}
 use Rattle.osm_ways.specs.ChoiceStrips.{MarksKeepers, MayKeep, NamesChoice, StillNamesChoices}
 use Rattle.pbfcut.specs.declared.carrying.AreaChoice.{AreaChoice}
-use Rattle.osm_ways.specs.Phases.{KeptSets, is_taken, keeps_id}
+use Rattle.osm_ways.specs.Phases.{KeptSets, is_taken}
 use Rattle.osm_ways.specs.Seen.{seen_relation}
 use Rattle.osm_ways.proofs.ChoiceStripLemmas.{named_node, named_way}
 use Rattle.pbf_block.specs.declared.runs.Run.{Run}
 use Rattle.pbf_block.specs.Runs.{run_entities}
 use Rattle.pbf_dense.specs.Places.{BeginWithIds, id_of}
-use Rattle.pbf_pass.specs.EachArea.{MarksRefs, is_asked}
 use Rattle.pbfcut.specs.Pick.{Pick, taken_by}
-use Rattle.pbfcut.proofs.SeveralLemmas.{all_less, three_length}
+use Rattle.pbfcut.proofs.SeveralLemmas.{three_length}
 use Rattle.pbfcut.specs.Several.{AllThree}
-use Rattle.pbfcut.specs.Wanted.{AllFrom, AreWanted, AreWantedEach, IsShared, MarksTakers, MayTake, TakesNone, WantedLists, listed_entities}
+use Rattle.pbfcut.specs.Wanted.{AllFrom, AreWanted, AreWantedEach, IsShared, MarksTakers, WantedLists, listed_entities}
 
 -- one run more
 pub listed_more : (runs : List Run) (i : ℕ) (one : Run) → i < length runs → one ≡ get_or runs i one → listed_entities (take (i + 1) runs) ≡ listed_entities (take i runs) ++ run_entities one
@@ -64,92 +64,53 @@ wanted_more pick es run wanted are = record {
 
 -- ---- which choices are marked
 
--- either nothing of these is kept, or this follows from one that is
-takes_or : (sets : KeptSets) (Q : Type 0) (es : List EntitySpec) → AllByRecursion (λ e. taken_by sets e ≡ true → Q) es → TakesNone es sets ⊎ Q
-takes_or sets Q [] h = inl refl
-takes_or sets Q (e ∷ es) h = by (taken_by sets e) refl (takes_or sets Q es h.1) where
-  by : (b : Bool) → taken_by sets e ≡ b → TakesNone es sets ⊎ Q → TakesNone (e ∷ es) sets ⊎ Q
-  by true is rest = inr (h.0 is)
-  by false is (inl none) = inl (ap (λ (b : Bool). if b then e ∷ filter (taken_by sets) es else filter (taken_by sets) es) is ∙ none)
-  by false is (inr q) = inr q
+-- nothing of these is kept by a choice
+abbrev TakesNone : List EntitySpec → KeptSets → Type 0
+TakesNone es sets = filter (taken_by sets) es ≡ []
 
--- what marks the choices by ids marks those that keep one of these entities
-pub marks_takers : (strips : ChoiceStrips) (es : List EntitySpec) (old new : List Bool) (some : Bool)
-    → ((number : ℕ) → MayTake strips es number → IsMarked new number)
-    → ((number : ℕ) → IsMarked old number → IsMarked new number) → length new ≡ length old
-    → (some ≡ false → (number : ℕ) (sets : KeptSets) → NamesChoice strips number sets → TakesNone es sets)
-    → MarksTakers strips es old new some
-marks_takers strips es old new some set kept as_many none = record { marked = record { set = set; kept = kept; as_many = as_many }; none = none }
+takes_none : (sets : KeptSets) (es : List EntitySpec) → list_any (taken_by sets) es ≡ false → TakesNone es sets
+takes_none sets [] none = refl
+takes_none sets (e ∷ es) none =
+    let parts = or_parts (taken_by sets e) (list_any (taken_by sets) es) none in
+    ap (λ (b : Bool). if b then e ∷ filter (taken_by sets) es else filter (taken_by sets) es) parts.0 ∙ takes_none sets es parts.1
 
--- if each that is kept has a choice named, and those are marked
-by_names : (strips : ChoiceStrips) (es : List EntitySpec) (old new : List Bool) (some : Bool)
-    → ((number : ℕ) (sets : KeptSets) → NamesChoice strips number sets → AllByRecursion (λ e. taken_by sets e ≡ true → IsMarked new number) es)
-    → ((number : ℕ) → IsMarked old number → IsMarked new number) → length new ≡ length old
-    → (some ≡ false → (number : ℕ) (sets : KeptSets) → NamesChoice strips number sets → AllByRecursion (λ e. taken_by sets e ≡ true → ⊥) es)
-    → MarksTakers strips es old new some
-by_names strips es old new some set kept as_many none = marks_takers strips es old new some is_set kept as_many is_none where
-  is_set : (number : ℕ) → MayTake strips es number → IsMarked new number
-  is_set number may = of (takes_or may.0 (IsMarked new number) es (set number may.0 may.1)) where
-    of : TakesNone es may.0 ⊎ IsMarked new number → IsMarked new number
-    of (inl nothing) = absurd (may.2 nothing)
-    of (inr marked) = marked
-
-  is_none : some ≡ false → (number : ℕ) (sets : KeptSets) → NamesChoice strips number sets → TakesNone es sets
-  is_none is number sets named = of (takes_or sets ⊥ es (none is number sets named)) where
-    of : TakesNone es sets ⊎ ⊥ → TakesNone es sets
-    of (inl nothing) = nothing
-    of (inr bad) = absurd bad
-
--- a list that names none has none
-not_named : (strips : IdStrips) (id : ℤ) (number : ℕ) → named_at strips id ≡ [] → IsNamed strips id number → ⊥
-not_named strips id number none named = grind (arith, none, named)
-
--- nodes by ids that they begin with
-dense_each : (P : ℤ → Type 0) (Q : EntitySpec → Type 0) → ((n : NodeSpec) → P n.id → Q (node n)) → (ids : List ℤ) (ns : List NodeSpec) → BeginWithIds ids ns → AllByRecursion P ids → AllByRecursion Q (map node ns)
-dense_each P Q h ids [] begin all = tt
-dense_each P Q h ids (n ∷ ns) begin all = let here = subst (AllByRecursion P) begin.1 all in (h n here.0, dense_each P Q h (map id_of ns ++ begin.0) ns (begin.0, refl) here.1)
-
--- one of a list that passes a test
-first_any : {X : Type 0} (P : X → Bool) (x : X) (xs : List X) → P x ≡ true → list_any P (x ∷ xs) ≡ true
-first_any P x xs is = grind (arith, is)
-
-later_any : {X : Type 0} (P : X → Bool) (x : X) (xs : List X) → list_any P xs ≡ true → list_any P (x ∷ xs) ≡ true
-later_any P x xs is = grind (arith, is)
-
-each_any : {X : Type 0} (P : X → Bool) (xs : List X) → AllByRecursion (λ x. P x ≡ true → list_any P xs ≡ true) xs
-each_any P [] = tt
-each_any P (x ∷ xs) = (first_any P x xs, all_less (λ y. P y ≡ true → list_any P xs ≡ true) (λ y. P y ≡ true → list_any P (x ∷ xs) ≡ true) (λ y h is. later_any P x xs (h is)) xs (each_any P xs))
+-- a choice that keeps one of these nodes is named for one of the ids that they begin with
+node_among : (strips : ChoiceStrips) (number : ℕ) (sets : KeptSets) (ids : List ℤ) (ns : List NodeSpec) → BeginWithIds ids ns → NamesChoice strips number sets → list_any (taken_by sets) (map node ns) ≡ true → NamesAny strips.nodes ids number
+node_among strips number sets ids [] begin named kept = absurd (true≢false (sym kept))
+node_among strips number sets ids (n ∷ ns) begin named kept =
+    let more = map id_of ns ++ begin.0 in
+    subst (λ (l : List ℤ). NamesAny strips.nodes l number) (sym begin.1) (elim (or_cases (taken_by sets (node n)) (list_any (taken_by sets) (map node ns)) kept) [
+      | inl e ↦ or_left (list_any (nat_eq number) (named_at strips.nodes n.id)) (names_any strips.nodes more number) (named_node strips number sets n.id named e)
+      | inr e ↦ or_right (list_any (nat_eq number) (named_at strips.nodes n.id)) (names_any strips.nodes more number) (node_among strips number sets more ns (begin.0, refl) named e)
+    ])
 
 -- the marks of nodes by ids that they begin with
-pub dense_takers : (strips : ChoiceStrips) (ids : List ℤ) (ns : List NodeSpec) (old new : List Bool) (some : Bool) → BeginWithIds ids ns → MarksRefs strips.nodes ids old new → (some ≡ false → (number : ℕ) → is_asked strips.nodes ids number ≡ false) → MarksTakers strips (map node ns) old new some
-dense_takers strips ids ns old new some begin m none = by_names strips (map node ns) old new some
-    (λ number sets named. each number sets named (IsMarked new number) (m.set number)) m.kept m.as_many
-    (λ is number sets named. each number sets named ⊥ (λ asked. not_both asked (none is number))) where
-      not_both : {b : Bool} → b ≡ true → b ≡ false → ⊥
-      not_both is not = grind (arith, is, not)
-
-      each : (number : ℕ) (sets : KeptSets) → NamesChoice strips number sets → (Q : Type 0) → (is_asked strips.nodes ids number ≡ true → Q) → AllByRecursion (λ e. taken_by sets e ≡ true → Q) (map node ns)
-      each number sets named Q q = dense_each (λ id. IsNamed strips.nodes id number → is_asked strips.nodes ids number ≡ true) (λ e. taken_by sets e ≡ true → Q) (λ n h kept. q (h (named_node strips number sets n.id named kept))) ids ns begin (each_any (λ id. list_any (nat_eq number) (named_at strips.nodes id)) ids)
+pub dense_takers : (strips : ChoiceStrips) (ids : List ℤ) (ns : List NodeSpec) (old new : List Bool) (some : Bool) → BeginWithIds ids ns → MarksNamed (NamesAny strips.nodes ids) old new some → MarksTakers strips (map node ns) old new some
+dense_takers strips ids ns old new some begin m = marks_fewer _ (NamesAny strips.nodes ids) old new some (λ number keeps. node_among strips number keeps.0 ids ns begin keeps.1 keeps.2) m
 
 -- one entity
-pub one_takers : (strips : ChoiceStrips) (e : EntitySpec) (old new : List Bool) (some : Bool) (Named : ℕ → Type 0)
+one_takers : (strips : ChoiceStrips) (e : EntitySpec) (old new : List Bool) (some : Bool) (Named : ℕ → Type 0)
     → ((number : ℕ) (sets : KeptSets) → NamesChoice strips number sets → taken_by sets e ≡ true → Named number)
-    → Marks Named old new → (some ≡ false → (number : ℕ) → Named number → ⊥) → MarksTakers strips (e ∷ []) old new some
-one_takers strips e old new some Named h m none = by_names strips (e ∷ []) old new some
-    (λ number sets named. (λ is. m.set number (h number sets named is), tt)) m.kept m.as_many
-    (λ is number sets named. (λ kept. none is number (h number sets named kept), tt))
+    → MarksNamed Named old new some → MarksTakers strips (e ∷ []) old new some
+one_takers strips e old new some Named h m = marks_fewer _ Named old new some (λ number keeps. h number keeps.0 keeps.1 (alone (taken_by keeps.0 e) keeps.2)) m where
+  alone : (b : Bool) → (b || false) ≡ true → b ≡ true
+  alone true is = refl
+  alone false is = is
 
-pub node_takers : (strips : ChoiceStrips) (n : NodeSpec) (old new : List Bool) (some : Bool) → Marks (IsNamed strips.nodes n.id) old new → (some ≡ false → named_at strips.nodes n.id ≡ []) → MarksTakers strips (node n ∷ []) old new some
-node_takers strips n old new some m none = one_takers strips (node n) old new some (IsNamed strips.nodes n.id) (λ number sets named is. named_node strips number sets n.id named is) m (λ is number named. not_named strips.nodes n.id number (none is) named)
+pub node_takers : (strips : ChoiceStrips) (n : NodeSpec) (old new : List Bool) (some : Bool) → MarksNamed (IsNamed strips.nodes n.id) old new some → MarksTakers strips (node n ∷ []) old new some
+node_takers strips n old new some m = one_takers strips (node n) old new some (IsNamed strips.nodes n.id) (λ number sets named is. named_node strips number sets n.id named is) m
 
-pub way_takers : (strips : ChoiceStrips) (w : WaySpec) (old new : List Bool) (some : Bool) → Marks (IsNamed strips.ways w.id) old new → (some ≡ false → named_at strips.ways w.id ≡ []) → MarksTakers strips (way w ∷ []) old new some
-way_takers strips w old new some m none = one_takers strips (way w) old new some (IsNamed strips.ways w.id) (λ number sets named is. named_way strips number sets w.id w.refs named is) m (λ is number named. not_named strips.ways w.id number (none is) named)
+pub way_takers : (strips : ChoiceStrips) (w : WaySpec) (old new : List Bool) (some : Bool) → MarksNamed (IsNamed strips.ways w.id) old new some → MarksTakers strips (way w ∷ []) old new some
+way_takers strips w old new some m = one_takers strips (way w) old new some (IsNamed strips.ways w.id) (λ number sets named is. named_way strips number sets w.id w.refs named is) m
 
 pub relation_takers : (strips : ChoiceStrips) (r : RelationSpec) (old new : List Bool) (some : Bool) → MarksKeepers strips (λ sets. is_taken sets (seen_relation r)) old new some → MarksTakers strips (relation r ∷ []) old new some
-relation_takers strips r old new some m = one_takers strips (relation r) old new some (MayKeep strips (λ sets. is_taken sets (seen_relation r))) (λ number sets named is. (sets, named, is)) m.marked m.none
+relation_takers strips r old new some m = one_takers strips (relation r) old new some (MayKeep strips (λ sets. is_taken sets (seen_relation r))) (λ number sets named is. (sets, named, is)) m
 
 pub no_takers : (strips : ChoiceStrips) (marks : List Bool) → MarksTakers strips [] marks marks false
-no_takers strips marks = by_names strips [] marks marks false (λ number sets named. tt) (λ number is. is) refl (λ is number sets named. tt)
+no_takers strips marks = record {
+  marked = record { set = λ number keeps. absurd (true≢false (sym keeps.2)); kept = λ number is. is; as_many = refl };
+  none = λ told number keeps. absurd (true≢false (sym keeps.2));
+}
 
 -- ---- lists
 
@@ -169,10 +130,10 @@ zip_left strips es (c ∷ cs) [] k same named h = (let bad : ⊥ = omega (arith,
 
 -- the same from what was marked
 unmarked : (strips : ChoiceStrips) (es : List EntitySpec) (old new : List Bool) (some : Bool) → MarksTakers strips es old new some → (i : ℕ) (sets : KeptSets) → i < length new → NamesChoice strips i sets → get_or new i false ≡ false → TakesNone es sets
-unmarked strips es old new some m i sets lt named left = by (filter (taken_by sets) es) refl where
-  by : (l : List EntitySpec) → filter (taken_by sets) es ≡ l → TakesNone es sets
-  by [] is = is
-  by (x ∷ xs) is = (let marked = m.marked.set i (sets, named, λ none. (let bad : x ∷ xs ≡ [] = sym is ∙ none in absurd (grind (arith, bad)))) lt in absurd (grind (arith, marked, left)))
+unmarked strips es old new some m i sets lt named left = takes_none sets es (by (list_any (taken_by sets) es) refl) where
+  by : (b : Bool) → list_any (taken_by sets) es ≡ b → b ≡ false
+  by false is = refl
+  by true is = (let marked = m.marked.set i (sets, named, is) lt in absurd (true≢false (sym marked ∙ left)))
 
 pub left_out : (strips : ChoiceStrips) (es : List EntitySpec) (choices : List KeptSets) (old new : List Bool) (some : Bool) → length choices ≡ length new → AllFrom (NamesChoice strips) 0 choices → MarksTakers strips es old new some → AllZip (λ sets mark. mark ≡ false → TakesNone es sets) choices new
 left_out strips es choices old new some same named m = zip_left strips es choices new 0 same named (λ i sets lt is left. unmarked strips es old new some m i sets lt (subst (λ n. NamesChoice strips n sets) (omega arith) is) left)
@@ -208,7 +169,12 @@ nobody_each strips gone es [] (l ∷ ls) k named none are = absurd are
 nobody_each strips gone es (c ∷ cs) [] k named none are = absurd are
 
 pub wanted_nobody : (strips : ChoiceStrips) (gone es : List EntitySpec) (start marks : List Bool) (some : Bool) (lists : List (Vec Run)) → some ≡ false → MarksTakers strips es start marks some → WantedLists strips gone lists → WantedLists strips (gone ++ es) lists
-wanted_nobody strips gone es start marks some lists is m are choices same named = nobody_each strips gone es choices lists 0 named (m.none is) (are choices same named)
+wanted_nobody strips gone es start marks some lists is m are choices same named = nobody_each strips gone es choices lists 0 named none (are choices same named) where
+  none : (number : ℕ) (sets : KeptSets) → NamesChoice strips number sets → TakesNone es sets
+  none number sets named = takes_none sets es (by (list_any (taken_by sets) es) refl) where
+    by : (b : Bool) → list_any (taken_by sets) es ≡ b → b ≡ false
+    by false kept = refl
+    by true kept = absurd (m.none is number (sets, named, kept))
 
 -- of no runs nothing is wanted
 pub wanted_empty : (strips : ChoiceStrips) (lists : List (Vec Run)) → AllByRecursion (λ list. list.items ≡ []) lists → WantedLists strips [] lists

@@ -1,12 +1,11 @@
 -- What several areas want of a block, which is read once for all of them.
-use Rattle.std.specs.Prelude.{◌≡◌, ◌+◌, ℕ, Bool, true, false, if◌then◌else◌, List, [], ◌∷◌, ◌++◌, length}
-use Rattle.std.specs.List.{AllByRecursion, AllZip, filter, flat_map}
+use Rattle.std.specs.Prelude.{◌≡◌, ◌+◌, ℕ, Bool, if◌then◌else◌, List, [], ◌∷◌, ◌++◌, length}
+use Rattle.std.specs.List.{AllByRecursion, AllZip, filter, flat_map, list_any}
 use Rattle.std.specs.Global.{Vec}
 use Rattle.osm_entity.specs.Entity.{EntitySpec}
 use Rattle.osm_entity.specs.Ranges.{EntityFits}
-use Rattle.osm_ids.specs.Strips.{Marks}
 use Rattle.osm_ways.specs.declared.choice_strips.ChoiceStrips.{ChoiceStrips}
-use Rattle.osm_ways.specs.ChoiceStrips.{NamesChoice}
+use Rattle.osm_ways.specs.ChoiceStrips.{MarksKeepers, NamesChoice}
 use Rattle.osm_ways.specs.Phases.{KeptSets}
 use Rattle.pbf_block.specs.declared.runs.Run.{Run}
 use Rattle.pbf_block.specs.Runs.{run_entities}
@@ -14,18 +13,9 @@ use Rattle.pbfcut.specs.Pick.{Pick, taken_by}
 
 -- ---- which choices are marked
 
--- nothing of these is kept by a choice, in the file that it was made from
-abbrev pub TakesNone : List EntitySpec → KeptSets → Type 0
-TakesNone es sets = filter (taken_by sets) es ≡ []
-
--- the choice with this number is named, and keeps one of these
-abbrev pub MayTake : ChoiceStrips → List EntitySpec → ℕ → Type 0
-MayTake strips es number = (sets : KeptSets) × NamesChoice strips number sets × (TakesNone es sets → ⊥)
-
--- those that keep one of these were marked; if this is false, there are none
-pub record MarksTakers (strips : ChoiceStrips) (es : List EntitySpec) (old new : List Bool) (some : Bool) : Type 0 where
-  pub marked : Marks (MayTake strips es) old new
-  pub none : some ≡ false → (number : ℕ) (sets : KeptSets) → NamesChoice strips number sets → TakesNone es sets
+-- those that keep one of these, in the file that they were made from, were marked; if this is false, there are none
+abbrev pub MarksTakers : ChoiceStrips → List EntitySpec → (old new : List Bool) → Bool → Type 0
+MarksTakers strips es = MarksKeepers strips (λ sets. list_any (taken_by sets) es)
 
 -- this holds of each element with its number, counted from this one
 abbrev pub AllFrom : {X : Type 0} → (ℕ → X → Type 0) → ℕ → List X → Type 0

@@ -11,10 +11,9 @@ ghost use Rattle.pbfcut.specs.Wanted.{AllFrom, IsShared, MarksTakers, WantedList
 
 use crate::carrying::AreaChoice;
 use osm_entity::Refs;
-use osm_ways::ChoiceStrips;
+use osm_ways::{ChoiceStrips, mark_ids};
 use pbf_block::{Run, Runs, Unmade};
 use pbf_dense::Dense;
-use pbf_pass::mark_refs;
 use std::alloc::{AllocError, Global};
 
 /// At most so many runs are listed: a block of which more is wanted is read for each area by itself.
@@ -48,7 +47,7 @@ pub(crate) fn name_choices(
 fn mark_dense(strips: &ChoiceStrips, dense: &Dense<'_>, marks: &mut [bool]) -> bool
     ensures { MarksTakers strips.now (map node (dense_left dense.now)) marks.old marks.new result }
 {
-    mark_refs(&strips.nodes, marks, Refs::Summed(dense.ids()))
+    mark_ids(&strips.nodes, Refs::Summed(dense.ids()), marks)
 }
 
 /// The same of a node that is not made yet. It is a call, so that its room is cleared only here.

@@ -13,5 +13,5 @@ invariant_of-self-2 g c =
     let taken : news ≡ map (λ of. with_seen_in g.A.Area.area g.P.NodeTaker.step of (entity_of c.args.entity.now)) olds = search rules in
     let back : take c.self.inside.members.len (news ++ drop (length news) olds) ≡ news = all_back c.self.inside.members.len olds news (search rules) (search rules) in (
       still_one g.A.Area.area g.P.NodeTaker.step (entity_of c.args.entity.now) olds (take c.self.inside.members.len (news ++ drop (length news) olds)) c.self.inside.strips c.take-strips.result (back ∙ taken) (search rules) c.self.invariant.0,
-      find_none g.P.NodeTaker.step g.P.NodeTaker.inside _ c.end.new.self c.end.ensures,
+      find_none g.P.NodeTaker.step g.P.NodeTaker.inside _ c.drop_made.new.self c.drop_made.ensures,
     )

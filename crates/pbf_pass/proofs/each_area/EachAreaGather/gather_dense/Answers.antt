@@ -16,7 +16,7 @@ invariant_of-self-2 g c =
     let taken : news ≡ map (λ of. fold (with_seen_in g.A.Area.area g.P.NodeTaker.step) of (map node (dense_left c.args.dense.now))) olds = c.in_ok-take_dense_each.ensures ∙ ap (map (λ of. fold (with_seen_in g.A.Area.area g.P.NodeTaker.step) of (map node (dense_left c.args.dense.now)))) c.deref_mut.ensures.value in
     let back : take c.self.inside.members.len (news ++ drop (length news) olds) ≡ news = all_back c.self.inside.members.len olds news (search rules) (search rules) in (
       still_all g.A.Area.area g.P.NodeTaker.step (map node (dense_left c.args.dense.now)) olds (take c.self.inside.members.len (news ++ drop (length news) olds)) c.self.inside.strips c.take-strips.result (back ∙ taken) (search rules) c.self.invariant.0,
-      find_none g.P.NodeTaker.step g.P.NodeTaker.inside _ c.end.new.self c.end.ensures,
+      find_none g.P.NodeTaker.step g.P.NodeTaker.inside _ c.drop_made.new.self c.drop_made.ensures,
     )
 
 pub returns : goal.returns

@@ -3,7 +3,7 @@ use Rattle.osm_entity.specs.Entity.{way}
 use Rattle.osm_ways.specs.Seen.{seen_way}
 use Rattle.pbf_block.specs.Runs.{way_from}
 use Rattle.pbf_pass.specs.Each.{each_gathered}
-use Rattle.pbf_pass.specs.EachArea.{MayFind, MaySkip}
+use Rattle.pbf_pass.specs.EachArea.{CanSkipEach, StripsFindAll}
 use Rattle.pbf_pass.specs.Pass.{with_seen_in}
 use Rattle.pbf_pass.proofs.EachLemmas.{all_back}
 use Rattle.pbf_pass.proofs.EachAreaLemmas.{still_one}
@@ -15,9 +15,9 @@ take_way_each-requires g c =
     let step = g.P.NodeTaker.step in
     let inside = g.P.NodeTaker.inside in
     let w = way_from c.args.unmade.now in
-    let skip = may_skip step inside c.self.inside.members.items w.id w.refs c.self.inside.ways c.leave_out.new.self c.leave_out.ensures.marked c.self.invariant.1 in
-    subst (λ l. MaySkip step inside (seen_way w) l c.replace-ways.result) (sym c.deref_mut.ensures.value)
-    (subst (MaySkip step inside (seen_way w) c.self.inside.members.items) (sym c.replace-ways.ensures.value) skip)
+    let skip = may_skip step inside c.self.inside.members.items w.id w.refs c.self.inside.ways c.mark_way.new.self c.mark_way.ensures.marked c.self.invariant.1 in
+    subst (λ l. CanSkipEach step inside (seen_way w) l c.replace-ways.result) (sym c.deref_mut.ensures.value)
+    (subst (CanSkipEach step inside (seen_way w) c.self.inside.members.items) (sym c.replace-ways.ensures.value) skip)
 
 pub invariant_of-self-2 : goal.invariant_of-self-2
 invariant_of-self-2 g c =
@@ -29,12 +29,12 @@ invariant_of-self-2 g c =
     let taken : news ≡ map (λ of. with_seen_in area step of e) olds = c.in_ok-self-inside.ensures.taken ∙ ap (map (λ of. with_seen_in area step of e)) c.deref_mut.ensures.value in
     let back : take c.self.inside.members.len (news ++ drop (length news) olds) ≡ news = all_back c.self.inside.members.len olds news (search rules) (search rules) in (
       still_one area step e olds (take c.self.inside.members.len (news ++ drop (length news) olds)) c.self.inside.strips c.take-strips.result (back ∙ taken) c.take-strips.ensures.value c.self.invariant.0,
-      subst (λ l. MayFind step g.P.NodeTaker.inside l c.in_ok-self-inside.field-0) (sym back) c.in_ok-self-inside.ensures.find,
+      subst (λ l. StripsFindAll step g.P.NodeTaker.inside l c.in_ok-self-inside.field-0) (sym back) c.in_ok-self-inside.ensures.find,
     )
 
-pub returns-then-leave_out : goal.returns-then-leave_out
-returns-then-leave_out g c =
+pub returns-then-not-mark_way : goal.returns-then-not-mark_way
+returns-then-not-mark_way g c =
     let step = g.P.NodeTaker.step in
     let w = way_from c.args.unmade.now in
-    all_left_out step g.P.NodeTaker.inside c.self.inside.members.items w.id w.refs c.self.inside.ways (c.leave_out.ensures.none c.if-leave_out.true) c.self.invariant.1
+    all_left_out step g.P.NodeTaker.inside c.self.inside.members.items w.id w.refs c.self.inside.ways (c.mark_way.ensures.none (search rules)) c.self.invariant.1
     ∙ ap (λ l. each_gathered (with_seen_in g.A.Area.area step) l (way w)) c.self.view_is

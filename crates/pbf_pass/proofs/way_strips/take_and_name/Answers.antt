@@ -4,7 +4,7 @@ use Rattle.std.specs.List.{AllZip}
 use Rattle.osm_ways.specs.Seen.{seen_refs}
 use Rattle.pbf_pass.specs.EachArea.{CanSkip}
 use Rattle.pbf_pass.proofs.WayStripLemmas.{all_marked}
-use Rattle.pbf_pass.proofs.way_strips.take_first.Goals as goal
+use Rattle.pbf_pass.proofs.way_strips.take_and_name.Goals as goal
 
 pub take_marked-requires : goal.take_marked-requires
 take_marked-requires g c =

@@ -4,7 +4,7 @@ use Rattle.osm_ways.specs.Seen.{seen_refs}
 use Rattle.pbf_pass.specs.EachArea.{CanSkip, NamesEachSet, member_ids}
 use Rattle.pbf_pass.proofs.EachLemmas.{all_back}
 use Rattle.pbf_pass.proofs.WayStripLemmas.{as_many_zipped}
-use Rattle.pbf_pass.proofs.way_strips.take_found.Goals as goal
+use Rattle.pbf_pass.proofs.way_strips.take_named.Goals as goal
 
 pub returns-clause-find : goal.returns-clause-find
 returns-clause-find g c =
