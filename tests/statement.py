@@ -108,6 +108,16 @@ def compare_counts(page: str, made: str):
         fail(f"{PAGE} doesn't have the counts of tools/statement.py: tests/statement.py --write")
 
 
+def shares(page: str, sources: Sources):
+    """Whose the definitions under the law are that says what a user finds after an extract."""
+    definitions = Statement(sources, "pbfcut_program::run_of_extract").definitions
+    of = {crate: sum(definition.module.startswith(crate + ".") for definition in definitions) for crate in ("pbfcut_program", "pbfcut_cli", "osm_polygon")}
+    sentence = f"of the {len(definitions)} definitions under `run_of_extract` {of['pbfcut_program']} are the program's, {of['pbfcut_cli']} the command line's, " \
+               f"{of['osm_polygon']} those of polygons"
+    if sentence not in " ".join(page.split()):
+        fail(f"{PAGE} doesn't say '{sentence}'")
+
+
 def run(*words: str) -> tuple:
     done = subprocess.run([sys.executable, "-B", SCRIPT, *words], stdout=subprocess.PIPE, stderr=subprocess.PIPE, encoding="utf-8")
     return done.returncode, done.stdout, done.stderr
@@ -158,6 +168,7 @@ def main():
     quoted, linked = quotes(page), links(page)
     if page.count("\n") > MOST_LINES:
         fail(f"{PAGE} has more than {MOST_LINES} lines")
+    shares(page, sources)
     known(sources)
     script(sources, found)
     print(f"tests/statement.py: {quoted} quotes and {linked} definitions of {PAGE} are in the sources, and {len(CALLS)} calls have its counts")
