@@ -178,8 +178,8 @@ pub fn failure_of_extracts()
         → ((path : List ℕ) → after events disk path ≡ disk path)
         ⊎ ((parents : Bool) × (files : ConfigFiles)
         × ReadsAs (codes "extract") rows (ExtractEach parents files)
-        × LeavesSeveral (manner_in Pbfcutz (ExtractEach parents files)) (strategy_with parents) files
-        file events disk) }
+        × LeavesSeveral (manner_in Pbfcutz (ExtractEach parents files)) (strategy_with parents)
+        files file events disk) }
 {}
 
 /// What status 0 of `convert` says of them: OUT has bytes that mean a conversion of what those of IN mean. The rest is as after
