@@ -28,7 +28,7 @@ ids-preserved c =
     let marked : MarksNamed (IsNamed strips id) l.marks new c.mark-some.result = subst (λ (z : ℤ). MarksNamed (IsNamed strips z) l.marks new c.mark-some.result) same c.mark-some.ensures in
     subst (λ (left : List ℤ). MarksNamed (IsPassed (is_named strips) all left) c.args.marks.now new (l.some || c.mark-some.result)) (sym c.pass_inside.ensures.passed)
     (passed_more (is_named strips) all (refs_left l.rest) (drop k next) id c.args.marks.now l.marks new l.some c.mark-some.result
-        (λ number none left. id_passed strips id number span none alike (refs_left l.rest) next k turn c.pass_inside.ensures.inside left) l.invariant marked)
+    (λ number none left. id_passed strips id number span none alike (refs_left l.rest) next k turn c.pass_inside.ensures.inside left) l.invariant marked)
 
 pub returns : goal.returns
 returns c =
