@@ -1,5 +1,5 @@
 -- What a program does with its host, and what came of it, in order.
-use Rattle.std.specs.Prelude.{ℕ, ◌+◌, List, [], ◌∷◌, ◌++◌, Bool, Option}
+use Rattle.std.specs.Prelude.{◌≡◌, ℕ, ◌+◌, List, [], ◌∷◌, ◌++◌, Bool, Option}
 use Rattle.std.specs.Option.{option_map}
 use Rattle.pbfcut_program.specs.declared.host.CreateFault.{CreateFault}
 use Rattle.pbfcut_program.specs.declared.host.FinishFault.{FinishFault}
@@ -68,6 +68,10 @@ then_all before events = option_map (λ past. past ++ events) before
 
 abbrev pub then_one : Option (List Event) → Event → Option (List Event)
 then_one before event = then_all before (event ∷ [])
+
+-- between these two reports something happened of which this holds
+abbrev pub Logs : (before after : Option (List Event)) → (List Event → Type 0) → Type 0
+Logs before after happens = (events : List Event) × (after ≡ then_all before events) × happens events
 
 -- IN is opened for each pass, from this one on
 abbrev pub openings : (input : List ℕ) → ℕ → List (Option (List ℕ)) → List Event

@@ -25,7 +25,7 @@ use Rattle.pbfcut_program.specs.declared.host.FinishFault.TheVariants as finishi
 use Rattle.pbfcut_program.specs.declared.host.NameFault.TheVariants as naming
 use Rattle.pbfcut_program.specs.declared.host.OpenFault.TheVariants as opening
 use Rattle.pbfcut_program.specs.declared.host.PrintFault.TheVariants as line
-use Rattle.pbfcut_program.specs.Events.{Event, Reading, text_read, text_not_read, looked, opened, not_opened, seeded, made, not_made, linked, moved, renamed, removed, stays, not_named, not_synced, read, wrote, printed, told, advised}
+use Rattle.pbfcut_program.specs.Events.{Event, Logs, Reading, text_read, text_not_read, looked, opened, not_opened, seeded, made, not_made, linked, moved, renamed, removed, stays, not_named, not_synced, read, wrote, printed, told, advised}
 use Rattle.pbfcut_program.specs.Manner.{Form, Manner, input_form, meant_known, output_form, packed_file, raw_file}
 use Rattle.pbfcut_program.specs.Readings.{ShowsFault, IsOther}
 use Rattle.pbfcut.specs.Tasks.{Task, judge_of}
@@ -176,6 +176,10 @@ CauseOfOpening _ events = ⊥
 
 abbrev pub FailsOpening : Ending → List Event → Type 0
 FailsOpening how events = Each Calm events × CauseOfOpening how events
+
+-- between these two reports that happened, and nothing else
+abbrev pub StopsOpening : (before after : Option (List Event)) → Ending → Type 0
+StopsOpening before after how = Logs before after (FailsOpening how)
 
 -- OUT has nearly as many bytes as a file may have, if it reports what it took
 abbrev pub NearsLimit : Event → Type 0

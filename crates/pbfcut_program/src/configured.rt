@@ -5,8 +5,8 @@ ghost use Rattle.osm_config.specs.Paths.{extracts_of_text};
 ghost use Rattle.osm_config.specs.Readings as config;
 ghost use Rattle.pbfcut_program.specs.Configured.{FailsConfig, FailsText, MeansConfig, MeansConfigured, MeansEach};
 ghost use Rattle.pbfcut_program.specs.ConfiguredCuts.{output_area_of};
-ghost use Rattle.pbfcut_program.specs.Events.{Event, text_read, then_all};
-ghost use Rattle.pbfcut_program.specs.Fails.{FailsOpening};
+ghost use Rattle.pbfcut_program.specs.Events.{Event, Logs, text_read, then_all};
+ghost use Rattle.pbfcut_program.specs.Fails.{FailsOpening, StopsOpening};
 ghost use Rattle.pbfcut_program.specs.Jobs.{area_of};
 
 use crate::host::{Host, TextFault};
@@ -55,11 +55,9 @@ fn read_configured_area<H: Host>(
     host: &mut H,
     area: &ConfiguredArea,
 ) -> Result<Cut, Ending>
-    ensures ok { IfOk result (λ cut. (events : List Event)
-        × (H.log host.new ≡ then_all (H.log host.old) events)
-        × MeansConfigured (config.area_member_of area.now) events (area_of cut)) }
-    ensures err { IfErr result (λ how. (events : List Event)
-        × (H.log host.new ≡ then_all (H.log host.old) events) × FailsOpening how events) }
+    ensures ok { IfOk result (λ cut. Logs (H.log host.old) (H.log host.new) (λ events.
+        MeansConfigured (config.area_member_of area.now) events (area_of cut))) }
+    ensures err { IfErr result (StopsOpening (H.log host.old) (H.log host.new)) }
 {
     match area {
         ConfiguredArea::InBox(bounds) => Ok(Cut::Box(*bounds)),
@@ -80,11 +78,9 @@ fn read_extract<H: Host>(
     host: &mut H,
     extract: &ConfiguredExtract,
 ) -> Result<OutputCut, Ending>
-    ensures ok { IfOk result (λ out. (events : List Event)
-        × (H.log host.new ≡ then_all (H.log host.old) events)
-        × MeansEach (config.extract_member_of extract.now ∷ []) events (output_area_of out ∷ [])) }
-    ensures err { IfErr result (λ how. (events : List Event)
-        × (H.log host.new ≡ then_all (H.log host.old) events) × FailsOpening how events) }
+    ensures ok { IfOk result (λ out. Logs (H.log host.old) (H.log host.new) (λ events.
+        MeansEach (config.extract_member_of extract.now ∷ []) events (output_area_of out ∷ []))) }
+    ensures err { IfErr result (StopsOpening (H.log host.old) (H.log host.new)) }
 {
     let cut = read_configured_area(alloc, host, &extract.area)?;
     let output = String::from_str(alloc, extract.output.as_str())?;
@@ -97,12 +93,10 @@ fn read_each<H: Host>(
     host: &mut H,
     extracts: &[ConfiguredExtract],
 ) -> Result<Vec<OutputCut>, Ending>
-    ensures ok { IfOk result (λ outs. (events : List Event)
-        × (H.log host.new ≡ then_all (H.log host.old) events)
-        × MeansEach (map config.extract_member_of extracts.now) events
-        (map output_area_of outs.items)) }
-    ensures err { IfErr result (λ how. (events : List Event)
-        × (H.log host.new ≡ then_all (H.log host.old) events) × FailsOpening how events) }
+    ensures ok { IfOk result (λ outs. Logs (H.log host.old) (H.log host.new) (λ events.
+        MeansEach (map config.extract_member_of extracts.now) events
+        (map output_area_of outs.items))) }
+    ensures err { IfErr result (StopsOpening (H.log host.old) (H.log host.new)) }
 {
     let mut outs = Vec::new(alloc);
     let mut rest = extracts;
@@ -124,10 +118,9 @@ pub(crate) fn read_configured<H: Host>(
     path: &str,
     folder: Option<&str>,
 ) -> Result<Vec<OutputCut>, Ending>
-    ensures ok { IfOk result (λ outs. (events : List Event)
-        × (H.log host.new ≡ then_all (H.log host.old) events)
-        × MeansConfig path.now (option_map (λ s. s.now) folder.entry) events
-        (map output_area_of outs.items)) }
+    ensures ok { IfOk result (λ outs. Logs (H.log host.old) (H.log host.new) (λ events.
+        MeansConfig path.now (option_map (λ s. s.now) folder.entry) events
+        (map output_area_of outs.items))) }
     ensures err { IfErr result (λ how. (events : List Event)
         × (H.log host.new ≡ then_all (H.log host.old) events) × FailsOpening how events
         × FailsConfig path.now (option_map (λ s. s.now) folder.entry) how events) }

@@ -8,8 +8,8 @@ ghost use Rattle.osm_polygon.specs.Texts.{polygons_of_text};
 ghost use Rattle.osm_ways.specs.Selection.{all_parents, complete_ways};
 ghost use Rattle.pbfcut.specs.Tasks.{extracting, passes_of};
 ghost use Rattle.pbfcut_program.specs.Devices.{AreFresh, CloseAll, RunsTask};
-ghost use Rattle.pbfcut_program.specs.Events.{Event, text_read, then_all, openings};
-ghost use Rattle.pbfcut_program.specs.Fails.{FailsOpening};
+ghost use Rattle.pbfcut_program.specs.Events.{Logs, text_read, then_all, openings};
+ghost use Rattle.pbfcut_program.specs.Fails.{StopsOpening};
 ghost use Rattle.pbfcut_program.specs.Inputs.{AreReady, feeds_in};
 ghost use Rattle.pbfcut_program.specs.Jobs.{IsReadyFor, area_of, feeds_of, plan_of, task_of};
 ghost use Rattle.pbfcut_program.specs.Manner.{check_in, manner_of};
@@ -46,8 +46,7 @@ pub(crate) fn read_area<H: Host>(
         × (H.log host.new ≡ then_all (H.log host.old) (text_read path.now text ∷ []))
         × (polygons_of_text text ≡ Ok polygons)
         × (clusters_area area ≡ polygons_area (polygons_of polygons))) }
-    ensures err { IfErr result (λ how. (events : List Event)
-        × (H.log host.new ≡ then_all (H.log host.old) events) × FailsOpening how events) }
+    ensures err { IfErr result (StopsOpening (H.log host.old) (H.log host.new)) }
 {
     let text = match host.read_text(path) {
         Ok(text) => text,
@@ -67,11 +66,9 @@ pub(crate) fn read_region<H: Host>(
     host: &mut H,
     region: &Region<'_>,
 ) -> Result<Cut, Ending>
-    ensures ok { IfOk result (λ cut. (events : List Event)
-        × (H.log host.new ≡ then_all (H.log host.old) events)
-        × MeansArea region.now events (area_of cut)) }
-    ensures err { IfErr result (λ how. (events : List Event)
-        × (H.log host.new ≡ then_all (H.log host.old) events) × FailsOpening how events) }
+    ensures ok { IfOk result (λ cut. Logs (H.log host.old) (H.log host.new) (λ events.
+        MeansArea region.now events (area_of cut))) }
+    ensures err { IfErr result (StopsOpening (H.log host.old) (H.log host.new)) }
 {
     match region {
         Region::Box(area) => Ok(Cut::Box(*area)),
@@ -121,8 +118,7 @@ pub(crate) fn open_plan<H: Host>(
         (openings path.now 1 (map H.In.remaining feeds.items))) }
     ensures fresh { IfOk result (λ feeds. AreFresh H.In.Feed feeds.items) }
     ensures count { IfOk result (λ feeds. length feeds.items ≡ passes_of (plan_of plan.now)) }
-    ensures failed { IfErr result (λ how. (events : List Event)
-        × (H.log host.new ≡ then_all (H.log host.old) events) × FailsOpening how events) }
+    ensures failed { IfErr result (StopsOpening (H.log host.old) (H.log host.new)) }
 {
     let input = Input {
         path,

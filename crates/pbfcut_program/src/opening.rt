@@ -1,10 +1,10 @@
 //! What is opened before a command begins.
 
-ghost use Rattle.std.specs.Prelude.{◌≡◌, ◌∷◌, [], List, length, map, IfOk, IfErr, Some, true};
+ghost use Rattle.std.specs.Prelude.{◌≡◌, ◌∷◌, [], length, map, IfOk, IfErr, Some, true};
 ghost use Rattle.pbf_published.specs.PublishedTasks.{below_of};
 ghost use Rattle.pbfcut_program.specs.Events.{Event, opened, screened, seeded, then_all, then_one, openings};
 ghost use Rattle.pbfcut_program.specs.Devices.{AreFresh, CloseAll, IsFreshFeed, IsFreshOut};
-ghost use Rattle.pbfcut_program.specs.Fails.{FailsOpening};
+ghost use Rattle.pbfcut_program.specs.Fails.{FailsOpening, StopsOpening};
 ghost use Rattle.pbfcut_program.specs.Inputs.{AreReady, feeds_in};
 ghost use Rattle.pbfcut_program.specs.Manner.{check_in};
 ghost use Rattle.pbfcut_program.specs.Program.{draws};
@@ -64,8 +64,7 @@ pub(crate) fn open_passes<H: Host>(
         (openings input.now.path.now 1 (map H.In.remaining feeds.items))) }
     ensures fresh { IfOk result (λ feeds. AreFresh H.In.Feed feeds.items) }
     ensures count { IfOk result (λ feeds. length feeds.items ≡ input.now.passes) }
-    ensures failed { IfErr result (λ how. (events : List Event)
-        × (H.log host.new ≡ then_all (H.log host.old) events) × FailsOpening how events) }
+    ensures failed { IfErr result (StopsOpening (H.log host.old) (H.log host.new)) }
 {
     let mut feeds = Vec::with_capacity(alloc, usize::from(input.passes))?;
     'passes: for pass in 0..input.passes {
@@ -130,8 +129,7 @@ pub(crate) fn close_inputs<H: Host>(host: &mut H, inputs: Inputs<H::In>)
 pub(crate) fn open_screen<H: Host>(host: &mut H) -> Result<H::Out, Ending>
     ensures opened { IfOk result (λ out. (H.log host.new ≡ then_one (H.log host.old) (screened true))
         × IsFreshOut H.Out.Drain out) }
-    ensures failed { IfErr result (λ how. (events : List Event)
-        × (H.log host.new ≡ then_all (H.log host.old) events) × FailsOpening how events) }
+    ensures failed { IfErr result (StopsOpening (H.log host.old) (H.log host.new)) }
 {
     match host.screen() {
         Ok(out) => Ok(out),
@@ -143,8 +141,7 @@ pub(crate) fn open_screen<H: Host>(host: &mut H) -> Result<H::Out, Ending>
 pub(crate) fn draw_seed<H: Host>(host: &mut H) -> Result<Seed<H::Hasher>, Ending>
     ensures ok { IfOk result (λ seed. H.log host.new
         ≡ then_one (H.log host.old) (seeded (Some seed.key))) }
-    ensures err { IfErr result (λ how. (events : List Event)
-        × (H.log host.new ≡ then_all (H.log host.old) events) × FailsOpening how events) }
+    ensures err { IfErr result (StopsOpening (H.log host.old) (H.log host.new)) }
 {
     match host.seed() {
         Ok(seed) => Ok(seed),
@@ -157,8 +154,7 @@ pub(crate) fn draw_seed<H: Host>(host: &mut H) -> Result<Seed<H::Hasher>, Ending
 pub(crate) fn draw_key<H: Host>(host: &mut H, program: Program) -> Result<u128, Ending>
     ensures ok { IfOk result (λ key. H.log host.new
         ≡ then_all (H.log host.old) (draws program key)) }
-    ensures err { IfErr result (λ how. (events : List Event)
-        × (H.log host.new ≡ then_all (H.log host.old) events) × FailsOpening how events) }
+    ensures err { IfErr result (StopsOpening (H.log host.old) (H.log host.new)) }
 {
     if program == Program::Pbfcut {
         return Ok(0);
