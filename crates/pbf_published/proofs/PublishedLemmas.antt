@@ -17,7 +17,7 @@ use Rattle.pbf_pass.specs.declared.receipt.InputReceipt.{InputReceipt}
 use Rattle.pbf_pass.specs.Refused.{Halts, stop_of}
 use Rattle.pbf_pass.specs.Stops.{Caused, FaultOf, ReadFailed}
 use Rattle.pbf_unpack.specs.declared.feed.UnpackedFeed.{UnpackedFeed}
-use Rattle.pbf_unpack.specs.declared.feed.State.{State}
+use Rattle.pbf_unpack.specs.declared.feed.FeedState.{FeedState}
 use Rattle.pbf_unpack.specs.Reports.{has_all, stop_in}
 use Rattle.pbf_unpack.specs.Supplying.{unless_failed}
 use Rattle.pbf_unpack.specs.Unpacked.{unpacked}
@@ -67,7 +67,7 @@ pub not_both : (b : Bool) → b ≡ true → b ≡ false → ⊥
 not_both b h1 h2 = grind arith
 
 -- if nothing is left of what a feed unpacks, nothing is left below, unless it failed
-pub end_below : (s : State) (meaning : List ℕ → List ℕ) (known : Option (List ℕ)) → stop_in s ≡ None → (unless_failed s (option_map meaning known) ≡ Some [] → known ≡ Some []) → IsAtEnd (unless_failed s (option_map meaning known)) → IsAtEnd known
+pub end_below : (s : FeedState) (meaning : List ℕ → List ℕ) (known : Option (List ℕ)) → stop_in s ≡ None → (unless_failed s (option_map meaning known) ≡ Some [] → known ≡ Some []) → IsAtEnd (unless_failed s (option_map meaning known)) → IsAtEnd known
 end_below s meaning known h3 h4 h5 = grind (arith, same_Some, ended)
 
 -- a feed that has all that it unpacked has not failed
